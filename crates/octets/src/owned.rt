@@ -1,0 +1,132 @@
+// The owned octet string.
+ghost use Rattle.std.specs.Prelude.{◌≡◌, ◌==◌, ℕ, List, length, nat_eq, refl, Some};
+ghost use Rattle.std.specs.Ordering.{nat_cmp};
+ghost use Rattle.std.specs.Cmp.Lexicographic.{pointwise, slice_cmp, nat_list_eq_equiv, nat_list_cmp_total, texts_ties, texts_po};
+ghost use Rattle.std.specs.Cmp.{partial_equiv_from_equiv};
+
+use std::alloc::AllocError;
+use std::cmp::Ordering;
+use std::convert::AsSlice;
+use std::marker::Model;
+use std::ops::DerefSlice;
+
+/// An owned string of octets. A contract sees the list of the octets.
+#[derive(Debug, Drop)]
+pub struct Octets {
+    items: Vec<u8>,
+}
+
+impl Model for Octets {
+    ghost Value = { List ℕ };
+
+    ghost view = { λ o. o.items.items };
+}
+
+impl Octets {
+    /// The octets of the vector, which is taken over as it is.
+    pub fn from_vec(items: Vec<u8>) -> Octets
+        ensures { result ≡ items.items }
+    {
+        Octets { items }
+    }
+
+    /// The vector of the octets, handed over as it is.
+    pub fn into_vec(self) -> Vec<u8>
+        ensures { result.items ≡ self }
+    {
+        self.items
+    }
+
+    /// The octets.
+    pub fn as_slice(&self) -> &[u8]
+        ensures { result.now ≡ self.now }
+    {
+        self.items.as_slice()
+    }
+
+    /// How many octets there are.
+    pub fn len(&self) -> usize
+        ensures { result ≡ length self.now }
+    {
+        self.items.len()
+    }
+
+    /// Whether there is no octet.
+    pub fn is_empty(&self) -> bool
+        ensures { result ≡ (length self.now == 0) }
+    {
+        self.items.is_empty()
+    }
+}
+
+impl From<Vec<u8>> for Octets {
+    ghost from_gives = { λ v o. o ≡ v.items };
+
+    fn from(items: Vec<u8>) -> Octets {
+        Octets::from_vec(items)
+    }
+}
+
+impl AsSlice<u8> for Octets {
+    ghost items = { λ o. o };
+
+    fn as_slice(&self) -> &[u8] {
+        Octets::as_slice(self)
+    }
+}
+
+impl DerefSlice for Octets {
+    type Elem = u8;
+
+    ghost deref_gives = { λ o xs. xs ≡ o };
+
+    fn deref(&self) -> &[u8] {
+        Octets::as_slice(self)
+    }
+}
+
+impl Clone for Octets {
+    ghost is_clone = { λ o copy. copy ≡ o };
+
+    fn clone(&self) -> Result<Octets, AllocError> {
+        Ok(Octets::from_vec(self.items.clone()?))
+    }
+}
+
+impl PartialEq for Octets {
+    ghost eq = { pointwise nat_eq };
+
+    ghost laws = { partial_equiv_from_equiv nat_list_eq_equiv };
+
+    fn eq(&self, other: &Octets) -> bool {
+        self.as_slice() == other.as_slice()
+    }
+}
+
+impl Eq for Octets {
+    ghost laws = { nat_list_eq_equiv };
+}
+
+impl PartialOrd for Octets {
+    ghost partial_cmp = { λ a b. Some (slice_cmp nat_cmp a b) };
+
+    ghost laws = { texts_po };
+
+    fn partial_cmp(&self, other: &Octets) -> Option<Ordering> {
+        Some(self.cmp(other))
+    }
+}
+
+impl Ord for Octets {
+    ghost cmp = { slice_cmp nat_cmp };
+
+    ghost total = { nat_list_cmp_total };
+
+    ghost matches_partial_cmp = { λ _ _. refl };
+
+    ghost matches_eq = { texts_ties };
+
+    fn cmp(&self, other: &Octets) -> Ordering {
+        self.as_slice().cmp(other.as_slice())
+    }
+}
