@@ -1,0 +1,33 @@
+// Why there is no program.
+ghost use Rattle.std.specs.Prelude.{◌≡◌};
+ghost use Rattle.bytecode_format.specs.declared.error.FormatError.TheVariants.{Memory};
+
+use std::alloc::{AllocError, AllocFailed};
+use thiserror::Error;
+
+/// Why octets or parts are no program.
+#[derive(Debug, Drop, Error)]
+pub enum FormatError {
+    /// A growth was refused.
+    #[error("refused 1 Memory")]
+    Memory,
+    /// The octets spell no program, or the parts exceed a program's limits.
+    #[error("refused 20 Spelling")]
+    Spelling,
+}
+
+impl From<AllocError> for FormatError {
+    ghost from_gives = { λ _ e. e ≡ Memory };
+
+    fn from(_refused: AllocError) -> FormatError {
+        FormatError::Memory
+    }
+}
+
+impl<T: Drop> From<AllocFailed<T>> for FormatError {
+    ghost from_gives = { λ _ e. e ≡ Memory };
+
+    fn from(_refused: AllocFailed<T>) -> FormatError {
+        FormatError::Memory
+    }
+}

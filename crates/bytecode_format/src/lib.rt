@@ -1,0 +1,16 @@
+//! The bytecode of mail filters: programs as values and as octets, and the actions of a run.
+//!
+//! A [`Program`] is read from octets exactly where they are the spelling of a program
+//! (`specs/Spelling`), and written as that spelling; octets spell at most one program.
+//! [`ActionList`] keeps the actions of a run, and makes them final (`specs/Actions`).
+#![tactic(auto)]
+
+mod error;
+mod instruction;
+mod operation;
+mod program;
+
+pub use error::FormatError;
+pub use instruction::Instruction;
+pub use operation::Operation;
+pub use program::Program;

@@ -1,0 +1,57 @@
+// A program as a value.
+ghost use Rattle.std.specs.Prelude.{◌≡◌};
+
+use crate::instruction::Instruction;
+use octets::Octets;
+use std::marker::Model;
+
+/// A program within the limits of the format. A contract sees its `Code`.
+#[derive(Debug, Drop)]
+pub struct Program {
+    version: u8,
+    variables: u16,
+    numbers: Vec<u64>,
+    strings: Vec<Octets>,
+    instructions: Vec<Instruction>,
+}
+
+impl Model for Program {
+    ghost use Rattle.bytecode_format.specs.Code.{Code};
+    ghost use Rattle.bytecode_format.specs.Spelling.{IsProgram};
+
+    ghost Value = { Code };
+
+    ghost view = { λ p. record { version = p.version; variables = p.variables; numbers = p.numbers.items; strings = p.strings.items; instructions = p.instructions.items } };
+
+    ghost invariant = { λ p. IsProgram (record { version = p.version; variables = p.variables; numbers = p.numbers.items; strings = p.strings.items; instructions = p.instructions.items }) };
+}
+
+impl Program {
+    /// How many variables the program has: 0 to 128.
+    pub fn variables(&self) -> u16
+        ensures { result ≡ self.now.variables }
+    {
+        self.variables
+    }
+
+    /// The table of numbers.
+    pub fn numbers(&self) -> &[u64]
+        ensures { result.now ≡ self.now.numbers }
+    {
+        self.numbers.as_slice()
+    }
+
+    /// The table of strings, each of at most 16,384 octets.
+    pub fn strings(&self) -> &[Octets]
+        ensures { result.now ≡ self.now.strings }
+    {
+        self.strings.as_slice()
+    }
+
+    /// The instructions, at most 65,536.
+    pub fn instructions(&self) -> &[Instruction]
+        ensures { result.now ≡ self.now.instructions }
+    {
+        self.instructions.as_slice()
+    }
+}
