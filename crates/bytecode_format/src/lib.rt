@@ -9,6 +9,7 @@ mod error;
 mod instruction;
 mod operation;
 mod program;
+mod reading;
 
 pub use error::FormatError;
 pub use instruction::Instruction;

@@ -5,6 +5,9 @@ use crate::instruction::Instruction;
 use octets::Octets;
 use std::marker::Model;
 
+/// The one version of the format.
+pub(crate) const VERSION: u8 = 1;
+
 /// A program within the limits of the format. A contract sees its `Code`.
 #[derive(Debug, Drop)]
 pub struct Program {
@@ -27,6 +30,22 @@ impl Model for Program {
 }
 
 impl Program {
+    ghost use Rattle.bytecode_format.specs.Spelling.{IsProgram};
+
+    /// A program of parts that are known to be within the limits.
+    pub(crate) fn assemble(variables: u16, numbers: Vec<u64>, strings: Vec<Octets>, instructions: Vec<Instruction>) -> Program
+        requires { IsProgram (record { version = 1; variables = variables; numbers = numbers.items; strings = strings.items; instructions = instructions.items }) }
+        ensures { result ≡ record { version = 1; variables = variables; numbers = numbers.items; strings = strings.items; instructions = instructions.items } }
+    {
+        Program {
+            version: VERSION,
+            variables,
+            numbers,
+            strings,
+            instructions,
+        }
+    }
+
     /// How many variables the program has: 0 to 128.
     pub fn variables(&self) -> u16
         ensures { result ≡ self.now.variables }
