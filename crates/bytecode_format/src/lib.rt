@@ -10,6 +10,7 @@ mod instruction;
 mod operation;
 mod program;
 mod reading;
+mod writing;
 
 pub use error::FormatError;
 pub use instruction::Instruction;

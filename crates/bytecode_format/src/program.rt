@@ -6,7 +6,10 @@ use octets::Octets;
 use std::marker::Model;
 
 /// The one version of the format.
-pub(crate) const VERSION: u8 = 1;
+const VERSION: u8 = 1;
+
+/// What a program's octets begin with: the name of the format and its version.
+pub(crate) const OPENING: [u8; 5] = *b"SVBC\x01";
 
 /// A program within the limits of the format. A contract sees its `Code`.
 #[derive(Debug, Drop)]
@@ -48,28 +51,32 @@ impl Program {
 
     /// How many variables the program has: 0 to 128.
     pub fn variables(&self) -> u16
-        ensures { result ≡ self.now.variables }
+        ensures value { result ≡ self.now.variables }
+        ensures program { IsProgram self.now }
     {
         self.variables
     }
 
     /// The table of numbers.
     pub fn numbers(&self) -> &[u64]
-        ensures { result.now ≡ self.now.numbers }
+        ensures value { result.now ≡ self.now.numbers }
+        ensures program { IsProgram self.now }
     {
         self.numbers.as_slice()
     }
 
     /// The table of strings, each of at most 16,384 octets.
     pub fn strings(&self) -> &[Octets]
-        ensures { result.now ≡ self.now.strings }
+        ensures value { result.now ≡ self.now.strings }
+        ensures program { IsProgram self.now }
     {
         self.strings.as_slice()
     }
 
     /// The instructions, at most 65,536.
     pub fn instructions(&self) -> &[Instruction]
-        ensures { result.now ≡ self.now.instructions }
+        ensures value { result.now ≡ self.now.instructions }
+        ensures program { IsProgram self.now }
     {
         self.instructions.as_slice()
     }

@@ -7,12 +7,9 @@ ghost use Rattle.bytecode_format.specs.Reading.{Gives, after, octet_at, number_a
 
 use crate::error::FormatError;
 use crate::instruction::Instruction;
-use crate::program::Program;
+use crate::program::{OPENING, Program};
 use octets::Octets;
 use std::alloc::Global;
-
-/// What a program's octets begin with: the name of the format and its version.
-const OPENING: [u8; 5] = *b"SVBC\x01";
 
 /// The most octets that a program has.
 const MAX_PROGRAM: usize = 4_194_304;
