@@ -1,3 +1,4 @@
 pub mod Loop
 pub mod Fields
 pub mod Laws
+pub mod Lengths

@@ -5,6 +5,7 @@
 //! [`ActionList`] keeps the actions of a run, and makes them final (`specs/Actions`).
 #![tactic(auto)]
 
+mod building;
 mod error;
 mod instruction;
 mod operation;
