@@ -5,6 +5,7 @@
 //! [`ActionList`] keeps the actions of a run, and makes them final (`specs/Actions`).
 #![tactic(auto)]
 
+mod action;
 mod building;
 mod error;
 mod instruction;
@@ -13,6 +14,7 @@ mod program;
 mod reading;
 mod writing;
 
+pub use action::Action;
 pub use error::FormatError;
 pub use instruction::Instruction;
 pub use operation::Operation;
