@@ -2,3 +2,4 @@ pub mod Loop
 pub mod Fields
 pub mod Laws
 pub mod Lengths
+pub mod ActionLemmas

@@ -6,6 +6,7 @@
 #![tactic(auto)]
 
 mod action;
+mod action_list;
 mod building;
 mod error;
 mod instruction;
@@ -15,6 +16,7 @@ mod reading;
 mod writing;
 
 pub use action::Action;
+pub use action_list::{ActionList, final_actions};
 pub use error::FormatError;
 pub use instruction::Instruction;
 pub use operation::Operation;
