@@ -1,7 +1,6 @@
 -- First occurrences, one action at a time.
 use Rattle.std.proofs.Common.{◌≡◌, Bool, true, false, cond, List, [], ◌∷◌, ◌++◌, refl, sym, ap, ◌∙◌, rules}
 use Rattle.std.specs.Prelude.{not, filter, ◌||◌}
-use Rattle.std.specs.List.{list_any}
 use Rattle.std.specs.Cmp.{IsEquivalence}
 use Rattle.std.specs.Cmp.Rules.{comparing}
 use Rattle.std.specs.Ordering.{is_eq}
@@ -48,13 +47,13 @@ push_step x action listed false true e f =
 push_step x action listed true false e f =
     let turned : is_same action x ≡ true = equal_actions.symm action x ∙ e in
     let dropped : filter (λ y. not (is_same x y)) (listed ++ action ∷ []) ≡ filter (λ y. not (is_same x y)) listed =
-      filter-append (λ y. not (is_same x y)) listed (action ∷ []) ∙ rw e (append-nil (filter (λ y. not (is_same x y)) listed)) in
+    filter-append (λ y. not (is_same x y)) listed (action ∷ []) ∙ rw e (append-nil (filter (λ y. not (is_same x y)) listed)) in
     ap (λ (l : List Action). x ∷ l) dropped ∙ sym (rw turned refl)
 push_step x action listed false false e f =
     let turned : is_same action x ≡ false = equal_actions.symm action x ∙ e in
     let still : is_listed action (filter (λ y. not (is_same x y)) listed) ≡ false = is_listed-others x action listed e ∙ f in
     let kept : filter (λ y. not (is_same x y)) (listed ++ action ∷ []) ≡ filter (λ y. not (is_same x y)) listed ++ action ∷ [] =
-      filter-append (λ y. not (is_same x y)) listed (action ∷ []) ∙ rw e refl in
+    filter-append (λ y. not (is_same x y)) listed (action ∷ []) ∙ rw e refl in
     ap (λ (l : List Action). x ∷ l) kept ∙ sym (rw (turned, still) refl)
 
 -- one more action at the end
@@ -62,7 +61,7 @@ pub first_occurrences-push : (actions : List Action) (action : Action) → first
 first_occurrences-push [] action = refl
 first_occurrences-push (x ∷ xs) action =
     ap (λ (l : List Action). x ∷ filter (λ y. not (is_same x y)) l) (first_occurrences-push xs action)
-      ∙ push_step x action (first_occurrences xs) (is_same x action) (is_listed action (first_occurrences xs)) refl refl
+    ∙ push_step x action (first_occurrences xs) (is_same x action) (is_listed action (first_occurrences xs)) refl refl
 
 -- a set with one more action has what the list with it lists
 pub is_listed-push : (action asked : Action) (listed : List Action) (was : Bool) → was ≡ is_listed asked listed → cond (is_eq (action_cmp action asked)) true was ≡ is_listed asked (listed ++ action ∷ [])

@@ -75,7 +75,9 @@ impl PartialEq for Action {
     ghost laws = { Prim.search (comparing, rules) };
 
     fn eq(&self, other: &Action) -> bool {
-        self.kind() == other.kind() && self.folder() == other.folder() && self.part() == other.part()
+        self.kind() == other.kind()
+            && self.folder() == other.folder()
+            && self.part() == other.part()
     }
 }
 
@@ -107,8 +109,10 @@ impl Ord for Action {
     ghost matches_eq = { Prim.search (comparing, rules) };
 
     fn cmp(&self, other: &Action) -> Ordering {
-        self.kind()
-            .cmp(&other.kind())
-            .then(self.folder().cmp(other.folder()).then(self.part().cmp(&other.part())))
+        self.kind().cmp(&other.kind()).then(
+            self.folder()
+                .cmp(other.folder())
+                .then(self.part().cmp(&other.part())),
+        )
     }
 }

@@ -78,7 +78,11 @@ ghost use Rattle.bytecode_format.specs.Actions.{final_actions};
 /// implicit keep stands and no Keep is listed.
 ///
 /// An error comes only where memory was refused.
-pub fn final_actions(alloc: Global, actions: Vec<Action>, implicit_keep: bool) -> Result<Vec<Action>, AllocError>
+pub fn final_actions(
+    alloc: Global,
+    actions: Vec<Action>,
+    implicit_keep: bool,
+) -> Result<Vec<Action>, AllocError>
     ensures { IfOk result (λ v. v.items ≡ final_actions actions.items implicit_keep) }
 {
     let mut list = ActionList::new(alloc);

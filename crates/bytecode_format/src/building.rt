@@ -6,7 +6,9 @@ ghost use Rattle.bytecode_format.specs.Spelling.{string, Fits, IsProgram};
 
 use crate::error::FormatError;
 use crate::instruction::Instruction;
-use crate::program::{MAX_INSTRUCTIONS, MAX_PROGRAM, MAX_STRING, MAX_TABLE, MAX_VARIABLES, OPENING, Program, VERSION};
+use crate::program::{
+    MAX_INSTRUCTIONS, MAX_PROGRAM, MAX_STRING, MAX_TABLE, MAX_VARIABLES, OPENING, Program, VERSION,
+};
 use octets::Octets;
 
 /// How many octets the four counts take.
@@ -39,14 +41,12 @@ fn strings_len(strings: &[Octets]) -> usize
 // What the types say of numbers.
 fn numbers_fit(numbers: &[u64])
     ensures { All (λ n. n < 2 ^ 64) numbers.now }
-{
-}
+{}
 
 // What the types say of an instruction.
 fn instruction_fits(i: Instruction)
     ensures { Fits i }
-{
-}
+{}
 
 // What the types say of instructions; the loop leaves no code.
 fn instructions_fit(instructions: &[Instruction])
@@ -62,14 +62,23 @@ impl Program {
     ///
     /// `Spelling` comes exactly where they are outside the limits of a program; no other error comes,
     /// and no memory is taken.
-    pub fn build(version: u8, variables: u16, numbers: Vec<u64>, strings: Vec<Octets>, instructions: Vec<Instruction>) -> Result<Program, FormatError>
+    pub fn build(
+        version: u8,
+        variables: u16,
+        numbers: Vec<u64>,
+        strings: Vec<Octets>,
+        instructions: Vec<Instruction>,
+    ) -> Result<Program, FormatError>
         ensures built { let code : Code = record { version = version; variables = variables; numbers = numbers.items; strings = strings.items; instructions = instructions.items } in IfOk result (λ p. (p ≡ code) × IsProgram code) }
         ensures refused { let code : Code = record { version = version; variables = variables; numbers = numbers.items; strings = strings.items; instructions = instructions.items } in IfErr result (λ e. (e ≡ FormatError.Spelling) × ¬ IsProgram code) }
     {
         if version != VERSION || variables > MAX_VARIABLES {
             return Err(FormatError::Spelling);
         }
-        if numbers.len() > MAX_TABLE || strings.len() > MAX_TABLE || instructions.len() > MAX_INSTRUCTIONS {
+        if numbers.len() > MAX_TABLE
+            || strings.len() > MAX_TABLE
+            || instructions.len() > MAX_INSTRUCTIONS
+        {
             return Err(FormatError::Spelling);
         }
         if !are_short(&strings) {

@@ -10,6 +10,7 @@ mod action_list;
 mod building;
 mod error;
 mod instruction;
+pub mod laws;
 mod operation;
 mod program;
 mod reading;

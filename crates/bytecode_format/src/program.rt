@@ -51,7 +51,12 @@ impl Program {
     ghost use Rattle.bytecode_format.specs.Spelling.{IsProgram};
 
     /// A program of parts that are known to be within the limits.
-    pub(crate) fn assemble(variables: u16, numbers: Vec<u64>, strings: Vec<Octets>, instructions: Vec<Instruction>) -> Program
+    pub(crate) fn assemble(
+        variables: u16,
+        numbers: Vec<u64>,
+        strings: Vec<Octets>,
+        instructions: Vec<Instruction>,
+    ) -> Program
         requires { IsProgram (record { version = 1; variables = variables; numbers = numbers.items; strings = strings.items; instructions = instructions.items }) }
         ensures { result ≡ record { version = 1; variables = variables; numbers = numbers.items; strings = strings.items; instructions = instructions.items } }
     {

@@ -133,7 +133,11 @@ fn strings_of(alloc: Global, count: u16, octets: &[u8]) -> Result<(Vec<Octets>, 
     Ok((strings, rest))
 }
 
-fn instructions_of(alloc: Global, count: u32, octets: &[u8]) -> Result<(Vec<Instruction>, &[u8]), FormatError>
+fn instructions_of(
+    alloc: Global,
+    count: u32,
+    octets: &[u8],
+) -> Result<(Vec<Instruction>, &[u8]), FormatError>
     ensures { Gives (λ x. (x.0.items, x.1.now)) result (many_at instruction_at count octets.now) }
 {
     let mut instructions = Vec::new(alloc);
