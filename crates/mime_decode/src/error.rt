@@ -1,0 +1,33 @@
+// Why a message can't be read.
+ghost use Rattle.std.specs.Prelude.{◌≡◌};
+ghost use Rattle.mime_decode.specs.declared.error.MessageError.TheVariants.{Memory};
+
+use std::alloc::{AllocError, AllocFailed};
+use thiserror::Error;
+
+/// Why octets can't be read as a message.
+#[derive(Debug, Drop, Error)]
+pub enum MessageError {
+    /// A growth was refused.
+    #[error("refused 1 Memory")]
+    Memory,
+    /// More octets than [`MAX_MESSAGE`](crate::MAX_MESSAGE).
+    #[error("refused 2 MessageTooLarge")]
+    MessageTooLarge,
+}
+
+impl From<AllocError> for MessageError {
+    ghost from_gives = { λ _ e. e ≡ Memory };
+
+    fn from(_refused: AllocError) -> MessageError {
+        MessageError::Memory
+    }
+}
+
+impl<T: Drop> From<AllocFailed<T>> for MessageError {
+    ghost from_gives = { λ _ e. e ≡ Memory };
+
+    fn from(_refused: AllocFailed<T>) -> MessageError {
+        MessageError::Memory
+    }
+}

