@@ -1,3 +1,4 @@
 pub mod Operations
 pub mod Code
 pub mod Spelling
+pub mod Reading

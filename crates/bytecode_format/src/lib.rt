@@ -9,6 +9,8 @@ mod error;
 mod instruction;
 mod operation;
 mod program;
+mod reading;
+mod writing;
 
 pub use error::FormatError;
 pub use instruction::Instruction;
