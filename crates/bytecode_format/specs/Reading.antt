@@ -68,8 +68,8 @@ counts_at octets = do
   strings ← number_at w16 numbers.1
   instructions ← number_at w32 strings.1
   if nat_lt 128 variables.0 || nat_lt 65536 instructions.0
-    then None
-    else Some (record { variables = variables.0; numbers = numbers.0; strings = strings.0; instructions = instructions.0 }, instructions.1)
+      then None
+      else Some (record { variables = variables.0; numbers = numbers.0; strings = strings.0; instructions = instructions.0 }, instructions.1)
 
 -- the version's octet behind the name of the format
 abbrev pub opening : List ℕ
@@ -79,12 +79,12 @@ opening = codes "SVBC" ++ 1 ∷ []
 unfoldable pub program_at : List ℕ → Option Code
 program_at octets =
     if nat_lt 4194304 (length octets)
-      then None
-      else after opening octets
-        >>= λ counted. counts_at counted
-        >>= λ counts. many_at (number_at w64) counts.0.numbers counts.1
-        >>= λ numbers. many_at string_at counts.0.strings numbers.1
-        >>= λ strings. many_at instruction_at counts.0.instructions strings.1
-        >>= λ instructions. if length instructions.1 == 0
-          then Some (record { version = 1; variables = counts.0.variables; numbers = numbers.0; strings = strings.0; instructions = instructions.0 })
-          else None
+    then None
+    else after opening octets
+    >>= λ counted. counts_at counted
+    >>= λ counts. many_at (number_at w64) counts.0.numbers counts.1
+    >>= λ numbers. many_at string_at counts.0.strings numbers.1
+    >>= λ strings. many_at instruction_at counts.0.instructions strings.1
+    >>= λ instructions. if length instructions.1 == 0
+    then Some (record { version = 1; variables = counts.0.variables; numbers = numbers.0; strings = strings.0; instructions = instructions.0 })
+    else None

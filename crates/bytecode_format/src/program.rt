@@ -6,7 +6,22 @@ use octets::Octets;
 use std::marker::Model;
 
 /// The one version of the format.
-const VERSION: u8 = 1;
+pub(crate) const VERSION: u8 = 1;
+
+/// The most octets that a program has.
+pub(crate) const MAX_PROGRAM: usize = 4_194_304;
+
+/// The most variables that a program has.
+pub(crate) const MAX_VARIABLES: u16 = 128;
+
+/// The most numbers that a program has, and the most strings.
+pub(crate) const MAX_TABLE: usize = 65_535;
+
+/// The most octets that a string has.
+pub(crate) const MAX_STRING: usize = 16_384;
+
+/// The most instructions that a program has.
+pub(crate) const MAX_INSTRUCTIONS: usize = 65_536;
 
 /// What a program's octets begin with: the name of the format and its version.
 pub(crate) const OPENING: [u8; 5] = *b"SVBC\x01";
@@ -36,7 +51,12 @@ impl Program {
     ghost use Rattle.bytecode_format.specs.Spelling.{IsProgram};
 
     /// A program of parts that are known to be within the limits.
-    pub(crate) fn assemble(variables: u16, numbers: Vec<u64>, strings: Vec<Octets>, instructions: Vec<Instruction>) -> Program
+    pub(crate) fn assemble(
+        variables: u16,
+        numbers: Vec<u64>,
+        strings: Vec<Octets>,
+        instructions: Vec<Instruction>,
+    ) -> Program
         requires { IsProgram (record { version = 1; variables = variables; numbers = numbers.items; strings = strings.items; instructions = instructions.items }) }
         ensures { result ≡ record { version = 1; variables = variables; numbers = numbers.items; strings = strings.items; instructions = instructions.items } }
     {

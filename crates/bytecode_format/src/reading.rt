@@ -7,21 +7,9 @@ ghost use Rattle.bytecode_format.specs.Reading.{Gives, after, octet_at, number_a
 
 use crate::error::FormatError;
 use crate::instruction::Instruction;
-use crate::program::{OPENING, Program};
+use crate::program::{MAX_INSTRUCTIONS, MAX_PROGRAM, MAX_STRING, MAX_VARIABLES, OPENING, Program};
 use octets::Octets;
 use std::alloc::Global;
-
-/// The most octets that a program has.
-const MAX_PROGRAM: usize = 4_194_304;
-
-/// The most octets that a string has.
-const MAX_STRING: usize = 16_384;
-
-/// The most variables that a program has.
-const MAX_VARIABLES: u16 = 128;
-
-/// The most instructions that a program has.
-const MAX_INSTRUCTIONS: u32 = 65_536;
 
 /// The counts of a program's tables.
 #[derive(Clone, Copy)]
@@ -107,7 +95,7 @@ fn counts_of(octets: &[u8]) -> Result<(Counts, &[u8]), FormatError>
     let (numbers, rest) = u16_of(rest)?;
     let (strings, rest) = u16_of(rest)?;
     let (instructions, rest) = u32_of(rest)?;
-    if variables > MAX_VARIABLES || instructions > MAX_INSTRUCTIONS {
+    if variables > MAX_VARIABLES || instructions as usize > MAX_INSTRUCTIONS {
         return Err(FormatError::Spelling);
     }
     let counts = Counts {
@@ -145,7 +133,11 @@ fn strings_of(alloc: Global, count: u16, octets: &[u8]) -> Result<(Vec<Octets>, 
     Ok((strings, rest))
 }
 
-fn instructions_of(alloc: Global, count: u32, octets: &[u8]) -> Result<(Vec<Instruction>, &[u8]), FormatError>
+fn instructions_of(
+    alloc: Global,
+    count: u32,
+    octets: &[u8],
+) -> Result<(Vec<Instruction>, &[u8]), FormatError>
     ensures { Gives (λ x. (x.0.items, x.1.now)) result (many_at instruction_at count octets.now) }
 {
     let mut instructions = Vec::new(alloc);

@@ -1,7 +1,6 @@
 use Rattle.std.proofs.Common.{arith}
 use Rattle.std.proofs.lemmas.Result.{err_from_is_err_and}
-use Rattle.bytecode_format.specs.Spelling.{IsProgram, spelling}
-use Rattle.bytecode_format.proofs.Laws.{program_takes, is_refused}
+use Rattle.bytecode_format.proofs.FormatLemmas.{program_takes, is_refused}
 use Rattle.bytecode_format.proofs.program.Program.read.Goals as goal
 
 pub returns-in_err-parts-clause-refused : goal.returns-in_err-parts-clause-refused

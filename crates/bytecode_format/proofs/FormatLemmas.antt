@@ -1,18 +1,18 @@
 -- The two laws: what is read is spelled so, and what is spelled so is read.
-use Rattle.std.proofs.Common.{◌≡◌, ◌≢◌, ℕ, zero, suc, ◌^◌, ◌<◌, ◌≤◌, Bool, true, false, cond, eqb, ltb, List, [], ◌∷◌, ◌++◌, length, drop, take, Option, Some, None, refl, sym, ap, subst, ◌∙◌, append_assoc, arith, All}
-use Rattle.std.specs.Prelude.{◌||◌, nat_eq, codes}
+use Rattle.std.proofs.Common.{◌≡◌, ◌≢◌, ℕ, suc, ◌^◌, ◌<◌, ◌≤◌, Bool, true, false, cond, eqb, ltb, List, [], ◌∷◌, ◌++◌, length, drop, take, Option, Some, None, refl, sym, ap, subst, ◌∙◌, append_assoc, arith, All}
+use Rattle.std.specs.Prelude.{◌||◌, nat_eq}
 use Rattle.std.specs.List.{flat_map, AllByRecursion}
 use Rattle.std.specs.Int.{w16, w32, w64}
 use Rattle.std.specs.Cmp.Lexicographic.{pointwise}
 use Rattle.std.proofs.lemmas.Bool.{ltb-false, le-ltb, eqb-true}
-use Rattle.std.proofs.lemmas.List.{append-nil, nil_from_length, take-append-drop, length-take, take_at, drop_at}
+use Rattle.std.proofs.lemmas.List.{append-nil, nil_from_length, take-append-drop, take_at, drop_at}
 use Rattle.std.proofs.lemmas.Slice.Eq.{bytes_eq-Decides}
 use Rattle.std.proofs.lemmas.List.Elements.{All-from_recursion}
 use Rattle.bytecode_format.specs.declared.instruction.Instruction.{Instruction}
 use Rattle.bytecode_format.specs.declared.error.FormatError.{FormatError}
 use Rattle.bytecode_format.specs.declared.error.FormatError.TheVariants.{Memory, Spelling}
 use Rattle.bytecode_format.specs.Code.{Code}
-use Rattle.bytecode_format.specs.Spelling.{octet, two_octets, four_octets, eight_octets, string, instruction, heading, spelling, Fits, IsProgram}
+use Rattle.bytecode_format.specs.Spelling.{two_octets, four_octets, eight_octets, string, instruction, spelling, Fits, IsProgram}
 use Rattle.bytecode_format.specs.Reading.{◌>>=◌, Fails, after, opening, number_at, string_at, instruction_at, many_at, Counts, counts_at, program_at}
 use Rattle.bytecode_format.proofs.Fields.{AreOctets, AreOctets-drop, bind_some, guard_some, some_is, neither, Takes, Takes-then, reads_two, reads_four, reads_eight, reads_string, reads_instruction, many_takes, many_again}
 
@@ -61,7 +61,7 @@ counts_again counts rest fits =
     let few : ltb 128 counts.variables ≡ false = le-ltb _ _ fits.variables in
     let short : ltb 65536 counts.instructions ≡ false = le-ltb _ _ fits.instructions in
     ap counts_at regrouped
-      ∙ rw (reads_two.again counts.variables n (omega (arith, fits.variables)), reads_two.again counts.numbers s fits.numbers, reads_two.again counts.strings i fits.strings, reads_four.again counts.instructions rest (omega (arith, fits.instructions)), few, short) refl
+    ∙ rw (reads_two.again counts.variables n (omega (arith, fits.variables)), reads_two.again counts.numbers s fits.numbers, reads_two.again counts.strings i fits.strings, reads_four.again counts.instructions rest (omega (arith, fits.instructions)), few, short) refl
 
 -- ---- what stands before the counts
 
@@ -137,8 +137,8 @@ program_takes octets code fits e =
     let counted : counts_of p ≡ c.0.0 = counts_equal c.0.0 (length n.0.0) (length s.0.0) (length i.0.0) t2.1 t3.1 t4.1 in
     let spelt : octets ≡ spelling p = o5 ∙ ap (λ (k : Counts). opening ++ (counts_text k ++ (flat_map eight_octets n.0.0 ++ (flat_map string s.0.0 ++ flat_map instruction i.0.0)))) (sym counted) ∙ sym (spelling-parts p refl) in
     let short : length octets ≤ 4194304 = ltb-false _ _ g.0 in
-    subst (λ (k : Code). IsProgram k × (octets ≡ spelling k)) end.1
-      (record {
+    subst (λ (k : Code). IsProgram k × (octets ≡ spelling k)) end.1 (
+      record {
         version = refl;
         variables = t1.1.variables;
         numbers = rw t2.1 t1.1.numbers;
@@ -148,7 +148,9 @@ program_takes octets code fits e =
         instructions = rw t4.1 t1.1.instructions;
         each_instruction = All-from_recursion Fits i.0.0 t4.2;
         octets = subst (λ (t : List ℕ). length t ≤ 4194304) spelt short;
-      }, spelt)
+      },
+      spelt,
+    )
 
 pub program_again : (code : Code) → IsProgram code → program_at (spelling code) ≡ Some code
 unfolding program_at
@@ -159,7 +161,7 @@ program_again code fits =
     let short : ltb 4194304 (length (spelling code)) ≡ false = le-ltb _ _ fits.octets in
     let counts : CountsFit (counts_of code) = record { variables = fits.variables; numbers = fits.numbers; strings = fits.strings; instructions = fits.instructions } in
     let last : many_at instruction_at (length code.instructions) is ≡ Some (code.instructions, []) =
-      ap (many_at instruction_at (length code.instructions)) (sym (append-nil is)) ∙ many_again reads_instruction code.instructions [] (All-to_recursion Fits code.instructions fits.each_instruction) in
+    ap (many_at instruction_at (length code.instructions)) (sym (append-nil is)) ∙ many_again reads_instruction code.instructions [] (All-to_recursion Fits code.instructions fits.each_instruction) in
     let opened : after opening (spelling code) ≡ Some (counts_text (counts_of code) ++ ns) = ap (after opening) (spelling-parts code fits.version) ∙ after_again opening (counts_text (counts_of code) ++ ns) in
     let same : (let k : Code = record { version = 1; variables = code.variables; numbers = code.numbers; strings = code.strings; instructions = code.instructions } in k) ≡ code = ap (λ (v : ℕ). (let k : Code = record { version = v; variables = code.variables; numbers = code.numbers; strings = code.strings; instructions = code.instructions } in k)) (sym fits.version) in
     rw (short, opened, counts_again (counts_of code) ns counts, many_again reads_eight code.numbers ss (All-to_recursion (λ n. n < 2 ^ 64) code.numbers fits.each_number), many_again reads_string code.strings is (All-to_recursion (λ text. length text ≤ 16384) code.strings fits.each_string), last) (ap (λ (k : Code). Some k) same)
@@ -172,3 +174,7 @@ is_refused Spelling octets given is code fits same =
     let none : program_at (spelling code) ≡ None = subst (λ (t : List ℕ). program_at t ≡ None) same given in
     let some : program_at (spelling code) ≡ Some code = program_again code fits in
     absurd cc
+
+-- octets spell at most one program
+pub one_program : (p q : Code) → IsProgram p → IsProgram q → spelling p ≡ spelling q → p ≡ q
+one_program p q first second same = some_is p q (sym (program_again p first) ∙ ap program_at same ∙ program_again q second)
