@@ -1,0 +1,31 @@
+use Rattle.std.specs.Prelude.{◌≡◌, ℕ, ◌+◌, ◌*◌, ◌^◌, ◌<◌, List, [], ◌∷◌, length, All, slice_index, slice_set}
+
+-- a version, and for each number of open loops the sum of the fixed caps and that of the caps for each octet
+pub record Sums : Type 0 where
+  pub version : ℕ
+  pub fixed : List ℕ
+  pub scaled : List ℕ
+
+-- there are four numbers of open loops, none to three, and each sum is below 2^63
+pub record IsBudget (sums : Sums) : Type 0 where
+  pub fixed_levels : length sums.fixed ≡ 4
+  pub scaled_levels : length sums.scaled ≡ 4
+  pub each_fixed : All (λ sum. sum < 2 ^ 63) sums.fixed
+  pub each_scaled : All (λ sum. sum < 2 ^ 63) sums.scaled
+
+-- eight sums of 0
+abbrev pub no_sums : ℕ → Sums
+no_sums version = record { version = version; fixed = 0 ∷ 0 ∷ 0 ∷ 0 ∷ []; scaled = 0 ∷ 0 ∷ 0 ∷ 0 ∷ [] }
+
+-- the sums with one more cap inside k open loops
+abbrev pub with_cap : Sums → ℕ → ℕ → ℕ → Sums
+with_cap sums k fixed scaled =
+    record sums { fixed = slice_set sums.fixed k (slice_index sums.fixed k + fixed); scaled = slice_set sums.scaled k (slice_index sums.scaled k + scaled) }
+
+-- what the instructions inside k open loops may charge at a message of n octets and p parts: their caps, for p turns of each loop
+abbrev pub term_at : Sums → ℕ → ℕ → ℕ → ℕ
+term_at sums n p k = (slice_index sums.fixed k + slice_index sums.scaled k * (n + 1)) * p ^ k
+
+-- the budget at a message of n octets and p parts
+abbrev pub budget_at : Sums → ℕ → ℕ → ℕ
+budget_at sums n p = term_at sums n p 0 + term_at sums n p 1 + term_at sums n p 2 + term_at sums n p 3

@@ -1,0 +1,15 @@
+use Rattle.std.specs.Prelude.{ℕ, List, ◌++◌, codes, slice_index}
+use Rattle.std.specs.Fmt.{decimal}
+use Rattle.bytecode_cost.specs.Sums.{Sums}
+
+-- the sums of k open loops, as A0=2 B0=0
+unfoldable pub level_text : ℕ → ℕ → ℕ → List ℕ
+level_text k fixed scaled = codes "A" ++ decimal k ++ codes "=" ++ decimal fixed ++ codes " B" ++ decimal k ++ codes "=" ++ decimal scaled
+
+-- the sums of k open loops among others
+abbrev pub level_of : Sums → ℕ → List ℕ
+level_of sums k = level_text k (slice_index sums.fixed k) (slice_index sums.scaled k)
+
+-- the printed line, without its end
+abbrev pub budget_text : Sums → List ℕ
+budget_text sums = level_of sums 0 ++ codes " " ++ level_of sums 1 ++ codes " " ++ level_of sums 2 ++ codes " " ++ level_of sums 3

@@ -1,0 +1,121 @@
+// The eight sums of a program.
+ghost use Rattle.std.specs.Prelude.{◌≡◌, ◌+◌, ◌*◌, ◌^◌, ◌<◌, ◌≤◌, slice_index, Some};
+ghost use Rattle.bytecode_cost.specs.Sums.{no_sums, with_cap, budget_at, term_at};
+ghost use Rattle.bytecode_cost.specs.Text.{budget_text, level_text};
+
+use std::fmt::{self, Display};
+use std::marker::Model;
+
+/// How many numbers of open loops there are: none to three.
+const LEVELS: usize = 4;
+
+/// The budget of a program: for each number of open loops, none to three, what the instructions
+/// there may charge however long the message is, and what they may charge for each of its octets.
+///
+/// A contract sees the version and the eight sums.
+#[derive(Debug, Drop)]
+pub struct Budget {
+    version: u8,
+    fixed: [u64; LEVELS],
+    scaled: [u64; LEVELS],
+}
+
+impl Model for Budget {
+    ghost use Rattle.bytecode_cost.specs.Sums.{Sums, IsBudget};
+
+    ghost Value = { Sums };
+
+    ghost view = { λ b. record { version = b.version; fixed = b.fixed; scaled = b.scaled } };
+
+    ghost invariant = { λ b. IsBudget (record { version = b.version; fixed = b.fixed; scaled = b.scaled }) };
+}
+
+impl Budget {
+    /// The budget without instructions: eight sums of 0.
+    pub fn new(version: u8) -> Budget
+        ensures { result ≡ no_sums version }
+    {
+        Budget {
+            version,
+            fixed: [0; LEVELS],
+            scaled: [0; LEVELS],
+        }
+    }
+
+    /// Adds the cap of an instruction inside `k` open loops: `a` charges, and `b` for each octet of
+    /// the message and one more.
+    pub fn add(&mut self, k: usize, a: u128, b: u128)
+        requires level { k < 4 }
+        requires fixed { slice_index self.old.fixed k + a < 2 ^ 63 }
+        requires scaled { slice_index self.old.scaled k + b < 2 ^ 63 }
+        ensures { self.new ≡ with_cap self.old k a b }
+    {
+        self.fixed[k] += a as u64;
+        self.scaled[k] += b as u64;
+    }
+
+    /// The budget at a message of `n` octets and `p` parts, exactly.
+    pub fn at(&self, n: u64, p: u64) -> u128
+        requires octets { n ≤ 2 ^ 26 }
+        requires parts { p ≤ 4096 }
+        ensures { result ≡ budget_at self.now n p }
+    {
+        let one = p as u128;
+        let two = one * one;
+        self.term(0, n, 1)
+            + self.term(1, n, one)
+            + self.term(2, n, two)
+            + self.term(3, n, two * one)
+    }
+
+    // What `k` open loops allow at a message of `n` octets, `turns` times.
+    fn term(&self, k: usize, n: u64, turns: u128) -> u128
+        requires level { k < 4 }
+        requires octets { n ≤ 2 ^ 26 }
+        requires turns { turns ≤ 2 ^ 36 }
+        ensures value { result ≡ (slice_index self.now.fixed k + slice_index self.now.scaled k * (n + 1)) * turns }
+        ensures bound { result < 2 ^ 126 }
+    {
+        let octets = n as u128 + 1;
+        (self.fixed[k] as u128 + self.scaled[k] as u128 * octets) * turns
+    }
+
+    // The sums of `k` open loops, to be printed.
+    fn level(&self, k: usize) -> Level
+        requires { k < 4 }
+        ensures { result ≡ record { k = k; fixed = slice_index self.now.fixed k; scaled = slice_index self.now.scaled k } }
+    {
+        Level {
+            k,
+            fixed: self.fixed[k],
+            scaled: self.scaled[k],
+        }
+    }
+}
+
+impl Display for Budget {
+    ghost output = { λ b. Some (budget_text b) };
+
+    fn fmt<W: fmt::Write>(&self, f: &mut fmt::Formatter<W>) -> fmt::Result {
+        let (none, one, two, three) = (self.level(0), self.level(1), self.level(2), self.level(3));
+        write!(f, "{none} {one} {two} {three}")
+    }
+}
+
+// The two sums of one number of open loops.
+#[derive(Drop)]
+struct Level {
+    k: usize,
+    fixed: u64,
+    scaled: u64,
+}
+
+impl Display for Level {
+    ghost output = { λ l. Some (level_text l.k l.fixed l.scaled) };
+
+    #[tactic(auto, unfolding(crate::specs::Text::level_text))]
+    fn fmt<W: fmt::Write>(&self, f: &mut fmt::Formatter<W>) -> fmt::Result {
+        let Level { k, fixed, scaled } = self;
+        write!(f, "A{k}={fixed} B{k}={scaled}")
+    }
+}

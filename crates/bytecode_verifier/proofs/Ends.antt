@@ -1,0 +1,103 @@
+-- What holds at the end of the program.
+use Rattle.std.proofs.Common.{◌≡◌, ℕ, zero, suc, ◌+◌, ◌-◌, ◌<◌, ◌≤◌, Bool, true, false, not, ◌&&◌, List, [], Option, Some, None, is_some, is_none, length, slice_get, refl, sym, ap, ◌∙◌, inl, inr, ◌≢◌, ◌==◌, get_or, take, length-take-le, arith, rules}
+use Rattle.std.proofs.lemmas.Bool.{cases_lt, ne_eqb}
+use Rattle.std.proofs.lemmas.Option.{slice_get_past, slice_get-get_or}
+use Rattle.std.specs.Bool.{then_some}
+use Rattle.std.specs.Option.{option_or, option_map, option_map_or, option_and_then}
+use Rattle.bytecode_format.specs.declared.instruction.Instruction.{Instruction}
+use Rattle.bytecode_format.specs.declared.operation.Operation.{Operation}
+use Rattle.bytecode_format.specs.Operations.{operation_of}
+use Rattle.bytecode_format.specs.Code.{Code}
+use Rattle.bytecode_verifier.specs.declared.error.Refusal.{Refusal}
+use Rattle.bytecode_verifier.specs.declared.error.Refusal.TheVariants.{Index, Form, End, Loop, Jump, NoPart, Stack}
+use Rattle.bytecode_verifier.specs.declared.pass.Pass.{Pass}
+use Rattle.bytecode_verifier.specs.Places.{holds_at, least_below, least_place}
+use Rattle.bytecode_verifier.specs.Loops.{loops}
+use Rattle.bytecode_verifier.specs.Shape.{Entries, shape_beyond, shape_at}
+use Rattle.bytecode_verifier.specs.Rules.{is_halt, needs_part, misses_loop, breaks_index, breaks_form, breaks_end, breaks_loop, breaks_jump, breaks_no_part, breaks_stack}
+use Rattle.bytecode_verifier.specs.Acceptance.{refusal_of}
+use Rattle.bytecode_verifier.specs.Pass.{HasPassed}
+use Rattle.bytecode_verifier.proofs.Least.{least_none, least_of_none, least_at_end, or_none_right}
+use Rattle.bytecode_verifier.proofs.Loopless.{misses_no_loop, needs_no_part, form_at, no_loops}
+
+-- behind the last instruction no test holds
+pub past_rule : (code : Code) (place : ℕ) (test : Instruction → Bool) → length code.instructions ≤ place → holds_at code place test ≡ false
+past_rule code place test h = rw (slice_get_past code.instructions place h) refl
+
+stays : (code : Code) (place : ℕ) (o : Option Entries) → (is_some o && is_none (option_and_then (shape_beyond code place None) o)) ≡ false
+stays code place None = refl
+stays code place (Some entries) = refl
+
+-- nor does the shape fail there
+pub past_stack : (code : Code) (place : ℕ) → length code.instructions ≤ place → breaks_stack code place ≡ false
+past_stack code place h = rw (slice_get_past code.instructions place h) (stays code place (shape_at code place))
+
+none_passes : (o : Option Instruction) (test : Instruction → Bool) → ((i : Instruction) → o ≡ Some i → test i ≡ false) → option_map_or test o false ≡ false
+none_passes None test h = refl
+none_passes (Some i) test h = h i refl
+
+-- a rule that no instruction breaks
+pub nowhere : (code : Code) (place : ℕ) (test : Instruction → Bool) → ((i : Instruction) → slice_get code.instructions place ≡ Some i → test i ≡ false) → holds_at code place test ≡ false
+nowhere code place test h = none_passes (slice_get code.instructions place) test h
+
+-- a rule that isn't broken up to the end, nor behind it, is broken nowhere
+pub anywhere : (test : ℕ → Bool) (code : Code) → least_place test code ≡ None → ((place : ℕ) → length code.instructions < place → test place ≡ false) → (place : ℕ) → test place ≡ false
+anywhere test code none past place =
+    elim (cases_lt place (suc (length code.instructions))) [
+      | inl lt ↦ least_none test (suc (length code.instructions)) none place lt
+      | inr le ↦ past place (omega arith)
+    ]
+
+chain : (i f e l j p s : Option ℕ) → i ≡ None → f ≡ None → e ≡ None → l ≡ None → p ≡ None
+    → option_or (option_map Index i) (option_or (option_map Form f) (option_or (option_map End e) (option_or (option_map Loop l) (option_or (option_map Jump j) (option_or (option_map NoPart p) (option_map Stack s))))))
+    ≡ option_or (option_map Jump j) (option_map Stack s)
+chain i f e l j p s hi hf he hl hp = rw (hi, hf, he, hl, hp) refl
+
+-- where each instruction has its form
+pub forms : (code : Code) → least_place (breaks_form code) code ≡ None → (place : ℕ) → breaks_form code place ≡ false
+forms code none = anywhere (breaks_form code) code none (λ place past. past_rule code place _ (omega arith))
+
+no_loop_broken : (code : Code) → ((place : ℕ) → breaks_form code place ≡ false) → (place : ℕ) → breaks_loop code place ≡ false
+no_loop_broken code form place = nowhere code place _ (λ i here. misses_no_loop code place (operation_of i.op) i (form_at code place i (form place) here))
+
+no_part_needed : (code : Code) → ((place : ℕ) → breaks_form code place ≡ false) → (place : ℕ) → breaks_no_part code place ≡ false
+no_part_needed code form place = nowhere code place _ (λ i here. rw (needs_no_part (operation_of i.op) i (form_at code place i (form place) here)) refl)
+
+-- what the pass has found at the end
+module _ (code : Code) (pass : Pass) (passed : HasPassed code (length code.instructions) pass) (form : pass.form ≡ None) where
+  form_none : least_place (breaks_form code) code ≡ None
+  form_none = least_at_end (breaks_form code) code (past_rule code (length code.instructions) _ (omega arith)) ∙ sym passed.form ∙ form
+
+  pub no_loops_found : loops code ≡ []
+  no_loops_found = no_loops code (forms code form_none)
+
+  -- the refusal, where neither an index nor a form nor the end is refused
+  pub refusal_found : pass.index ≡ None → least_place (breaks_end code) code ≡ None → refusal_of code ≡ option_or (option_map Jump pass.jump) (option_map Stack pass.stack)
+  refusal_found index end =
+      let indexes : least_place (breaks_index code) code ≡ None = least_at_end (breaks_index code) code (past_rule code (length code.instructions) _ (omega arith)) ∙ sym passed.index ∙ index in
+      let loop : least_place (breaks_loop code) code ≡ None = least_of_none (breaks_loop code) (suc (length code.instructions)) (λ p lt. no_loop_broken code (forms code form_none) p) in
+      let part : least_place (breaks_no_part code) code ≡ None = least_of_none (breaks_no_part code) (suc (length code.instructions)) (λ p lt. no_part_needed code (forms code form_none) p) in
+      let jump : least_place (breaks_jump code) code ≡ pass.jump = least_at_end (breaks_jump code) code (past_rule code (length code.instructions) _ (omega arith)) ∙ sym (passed.jump no_loops_found) in
+      let stack : least_place (breaks_stack code) code ≡ pass.stack = least_at_end (breaks_stack code) code (past_stack code (length code.instructions) (omega arith)) ∙ sym passed.stack in
+      chain _ _ _ _ (least_place (breaks_jump code) code) _ (least_place (breaks_stack code) code) indexes form_none end loop part
+          ∙ ap (λ j. option_or (option_map Jump j) (option_map Stack (least_place (breaks_stack code) code))) jump
+          ∙ ap (λ s. option_or (option_map Jump pass.jump) (option_map Stack s)) stack
+
+-- the least number that passes a test which no number but one can pass
+single : (test : ℕ → Bool) (last n : ℕ) → n ≡ suc last → ((p : ℕ) → p ≢ last → test p ≡ false) → least_below test (suc n) ≡ then_some (test last) last
+single test last n e h =
+    rw (e, least_of_none test last (λ p lt. h p (λ same. omega arith)), h (suc last) (λ same. omega arith)) (or_none_right _)
+
+same_place : (n : ℕ) → (n == n) ≡ true
+same_place n = search rules
+
+-- the end is missed at the last place, where there is one
+pub end_last : (code : Code) (xs : List Instruction) (d : Instruction) (o : Option Operation) (halt : Bool) (missing : Option ℕ) → xs ≡ code.instructions → 1 ≤ length xs
+    → o ≡ operation_of (get_or xs (length xs - 1) d).op → halt ≡ is_halt o → missing ≡ then_some (not halt) (length (take (length xs - 1) xs)) → missing ≡ least_place (breaks_end code) code
+end_last code xs d o halt missing is some op ends e =
+    let last : length (take (length xs - 1) xs) ≡ length xs - 1 = length-take-le (length xs - 1) xs (omega arith) in
+    let here : slice_get xs (length xs - 1) ≡ Some (get_or xs (length xs - 1) d) = slice_get-get_or xs (length xs - 1) d (omega arith) in
+    let at_last : breaks_end code (length xs - 1) ≡ not halt = rw (← is, here, same_place (length xs - 1), ends, op) refl in
+    let elsewhere : (p : ℕ) → p ≢ length xs - 1 → breaks_end code p ≡ false = λ p other. rw (← is, ne_eqb p (length xs - 1) other) refl in
+    let least : least_below (breaks_end code) (suc (length xs)) ≡ then_some (breaks_end code (length xs - 1)) (length xs - 1) = single (breaks_end code) (length xs - 1) (length xs) (omega arith) elsewhere in
+    e ∙ ap (then_some (not halt)) last ∙ ap (λ b. then_some b (length xs - 1)) (sym at_last) ∙ sym least ∙ ap (λ ys. least_below (breaks_end code) (suc (length ys))) is

@@ -1,0 +1,47 @@
+-- Programs whose operations have all come: there are no loops yet.
+use Rattle.std.proofs.Common.{◌≡◌, ℕ, zero, suc, ◌+◌, ◌<◌, ◌≤◌, Bool, true, false, not, List, [], ◌∷◌, Option, Some, None, length, slice_get, refl, sym, ap, ◌∙◌, arith}
+use Rattle.std.specs.List.{filter_map, enumerate_from}
+use Rattle.bytecode_format.specs.declared.instruction.Instruction.{Instruction}
+use Rattle.bytecode_format.specs.declared.operation.Operation.{Operation}
+use Rattle.bytecode_format.specs.declared.operation.Operation.TheVariants.{PartSize, PartBody, PartDigest, Store, Each, Next, Break}
+use Rattle.bytecode_format.specs.Operations.{operation_of}
+use Rattle.bytecode_format.specs.Code.{Code}
+use Rattle.bytecode_verifier.specs.Loops.{Loop, opens, loop_from, loops, open_loops, same_loops}
+use Rattle.bytecode_verifier.specs.Form.{is_well_formed}
+use Rattle.bytecode_verifier.specs.Rules.{breaks_form, needs_part, misses_loop}
+
+pub opens_nothing : (o : Option Operation) (i : Instruction) → is_well_formed o i ≡ true → opens o ≡ false
+opens_nothing (Some Each) i h = absurd (cc)
+opens_nothing _ i h = refl
+
+pub needs_no_part : (o : Option Operation) (i : Instruction) → is_well_formed o i ≡ true → needs_part o ≡ false
+needs_no_part (Some PartSize) i h = absurd (cc)
+needs_no_part (Some PartBody) i h = absurd (cc)
+needs_no_part (Some PartDigest) i h = absurd (cc)
+needs_no_part (Some Store) i h = absurd (cc)
+needs_no_part _ i h = refl
+
+pub misses_no_loop : (code : Code) (place : ℕ) (o : Option Operation) (i : Instruction) → is_well_formed o i ≡ true → misses_loop code place o i ≡ false
+misses_no_loop code place (Some Each) i h = absurd (cc)
+misses_no_loop code place (Some Next) i h = absurd (cc)
+misses_no_loop code place (Some Break) i h = absurd (cc)
+misses_no_loop code place _ i h = refl
+
+not_false : (b : Bool) → not b ≡ false → b ≡ true
+not_false true h = refl
+not_false false h = absurd (cc)
+
+-- the form of the instruction at a place, where the rule isn't broken there
+pub form_at : (code : Code) (place : ℕ) (i : Instruction) → breaks_form code place ≡ false → slice_get code.instructions place ≡ Some i → is_well_formed (operation_of i.op) i ≡ true
+form_at code place i h e = not_false _ (rw e at h)
+
+loop_from_none : (instructions : List Instruction) (place : ℕ) (i : Instruction) → opens (operation_of i.op) ≡ false → loop_from instructions place i ≡ None
+loop_from_none instructions place i h = rw h refl
+
+no_loops_from : (instructions : List Instruction) (n : ℕ) (xs : List Instruction) → ((k : ℕ) (i : Instruction) → slice_get xs k ≡ Some i → opens (operation_of i.op) ≡ false) → filter_map (λ at. loop_from instructions at.0 at.1) (enumerate_from n xs) ≡ []
+no_loops_from instructions n [] h = refl
+no_loops_from instructions n (x ∷ xs) h = rw (loop_from_none instructions n x (h 0 x refl)) (no_loops_from instructions (n + 1) xs (λ k i e. h (suc k) i e))
+
+-- where every instruction has its form there is no loop
+pub no_loops : (code : Code) → ((place : ℕ) → breaks_form code place ≡ false) → loops code ≡ []
+no_loops code h = no_loops_from code.instructions 0 code.instructions (λ k i e. opens_nothing _ i (form_at code k i (h k) e))

@@ -1,0 +1,8 @@
+pub mod Places
+pub mod Loops
+pub mod Form
+pub mod Shape
+pub mod Rules
+pub mod Acceptance
+pub mod Budget
+pub mod Pass

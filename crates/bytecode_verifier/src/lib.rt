@@ -1,0 +1,17 @@
+//! The verifier: which programs are accepted, and what an accepted program may charge.
+//!
+//! A program is accepted where no rule of `specs/Rules` is broken; else [`verify`] answers the first
+//! broken rule, at the least place, and hands the program back. [`Verified`] is a program that is
+//! accepted, with its budget (`specs/Budget`): only `verify` makes one.
+#![tactic(auto)]
+
+mod error;
+pub mod laws;
+mod pass;
+mod rules;
+mod shape;
+mod targets;
+mod verified;
+
+pub use error::Refusal;
+pub use verified::{Verified, verify};

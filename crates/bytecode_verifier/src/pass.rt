@@ -1,0 +1,87 @@
+// One pass over the instructions.
+ghost use Rattle.std.specs.Prelude.{◌≡◌, ◌+◌, ◌<◌, ◌^◌, ◌&&◌, Some, None, is_some, is_none, IfOk, OnOk, slice_get};
+ghost use Rattle.std.specs.Bool.{then_some};
+ghost use Rattle.std.specs.Option.{option_or, option_and_then};
+ghost use Rattle.bytecode_format.specs.Code.{Code};
+ghost use Rattle.bytecode_format.specs.declared.instruction.Instruction.{Instruction};
+ghost use Rattle.bytecode_verifier.specs.Shape.{shape_behind, is_target};
+ghost use Rattle.bytecode_verifier.specs.Pass.{HasPassed, unless_failed};
+
+use crate::rules::{is_well_formed, misses_index, misses_target};
+use crate::shape::Shape;
+use bytecode_cost::Budget;
+use bytecode_format::{Instruction, Operation, Program};
+use std::alloc::{AllocError, Global};
+
+/// What is known of the instructions so far: for each rule the first place where it is broken, the
+/// shape as far as it goes, and the budget.
+#[derive(Drop)]
+pub struct Pass {
+    pub index: Option<usize>,
+    pub form: Option<usize>,
+    pub jump: Option<usize>,
+    pub stack: Option<usize>,
+    pub shape: Shape,
+    pub budget: Budget,
+}
+
+impl Pass {
+    /// Before the first instruction of a program.
+    pub fn new(alloc: Global, program: &Program) -> Pass
+        ensures { HasPassed program.now 0 result }
+    {
+        let _instructions = program.instructions();
+        Pass {
+            index: None,
+            form: None,
+            jump: None,
+            stack: None,
+            shape: Shape::new(alloc),
+            budget: Budget::new(VERSION),
+        }
+    }
+
+    /// Takes the instruction at a place, and whether a jump leads there.
+    pub fn take(&mut self, program: &Program, place: usize, instruction: &Instruction, targeted: bool) -> Result<(), AllocError>
+        requires small { place < 2 ^ 62 }
+        requires here { slice_get program.now.instructions place ≡ Some instruction.now }
+        requires target { targeted ≡ is_target program.now.instructions place }
+        requires before { HasPassed program.now place self.old }
+        ensures { OnOk result (HasPassed program.now (place + 1) self.new) }
+    {
+        let operation = Operation::of(instruction.op);
+        let count = program.instructions().len();
+        self.stack = advance(self.stack, &mut self.shape, place, targeted, operation)?;
+        self.index = first(self.index, misses_index(program, operation, instruction), place);
+        self.form = first(self.form, !is_well_formed(operation, instruction), place);
+        self.jump = first(self.jump, misses_target(count, place, operation, instruction), place);
+        self.budget.add(0, 1, 0);
+        Ok(())
+    }
+}
+
+/// The version of every program.
+const VERSION: u8 = 1;
+
+// The first place, where the rule was broken before or is broken at this one.
+fn first(before: Option<usize>, broken: bool, place: usize) -> Option<usize>
+    ensures { result ≡ option_or before (then_some broken place) }
+{
+    if before.is_none() && broken { Some(place) } else { before }
+}
+
+// Takes the shape over the instruction at a place: where it has failed, that place or one before.
+fn advance(failed: Option<usize>, shape: &mut Shape, place: usize, targeted: bool, operation: Option<Operation>) -> Result<Option<usize>, AllocError>
+    ensures place { IfOk result (λ after. after ≡ option_or failed (then_some (is_none failed && is_some after) place)) }
+    ensures shape { IfOk result (λ after. (code : Code) (i : Instruction) →
+        unless_failed after shape.new ≡ option_and_then (shape_behind code targeted operation i) (unless_failed failed shape.old)) }
+{
+    if failed.is_some() {
+        return Ok(failed);
+    }
+    if targeted && !shape.is_empty() {
+        return Ok(Some(place));
+    }
+    let fine = shape.advance(operation)?;
+    Ok((!fine).then_some(place))
+}

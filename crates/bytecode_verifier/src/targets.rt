@@ -1,0 +1,30 @@
+// The places that jumps lead to.
+ghost use Rattle.std.specs.Prelude.{◌≡◌, ℕ, ◌<◌, length, Some, IfOk, slice_get, slice_set, true};
+ghost use Rattle.bytecode_verifier.specs.Shape.{is_target};
+
+use crate::rules::is_jump;
+use bytecode_format::{Instruction, Operation};
+use std::alloc::{AllocError, Global};
+
+/// For each place of an instruction, whether a jump leads there.
+pub fn targets_of(alloc: Global, instructions: &[Instruction]) -> Result<Vec<bool>, AllocError>
+    ensures number { IfOk result (λ targets. length targets.items ≡ length instructions.now) }
+    ensures each { IfOk result (λ targets. (place : ℕ) → place < length instructions.now → slice_get targets.items place ≡ Some (is_target instructions.now place)) }
+{
+    let mut targets = vec![in alloc; false; instructions.len()]?;
+    for instruction in instructions {
+        if is_jump(Operation::of(instruction.op)) {
+            mark(&mut targets, instruction.c as usize);
+        }
+    }
+    Ok(targets)
+}
+
+// Marks a place, where there is one.
+fn mark(targets: &mut [bool], place: usize)
+    ensures { targets.new ≡ slice_set targets.old place true }
+{
+    if place < targets.len() {
+        targets[place] = true;
+    }
+}

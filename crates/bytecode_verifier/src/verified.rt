@@ -1,0 +1,123 @@
+// Programs that are accepted.
+ghost use Rattle.std.specs.Prelude.{◌≡◌, ◌≢◌, length, IfOk, IfErr, Some, None};
+ghost use Rattle.bytecode_verifier.specs.Acceptance.{IsAccepted, refusal_of};
+ghost use Rattle.bytecode_verifier.specs.Budget.{budget_of};
+ghost use Rattle.bytecode_verifier.specs.Pass.{HasPassed};
+ghost use Rattle.bytecode_verifier.specs.Places.{least_place};
+ghost use Rattle.bytecode_verifier.specs.Rules.{breaks_end};
+ghost use Rattle.bytecode_verifier.specs.declared.error.Refusal.TheVariants.{Memory};
+
+use crate::error::Refusal;
+use crate::pass::Pass;
+use crate::rules::is_halt;
+use crate::targets::targets_of;
+use bytecode_cost::Budget;
+use bytecode_format::{Operation, Program};
+use std::alloc::Global;
+use std::marker::Model;
+
+/// A program that is accepted. A contract sees its code.
+#[derive(Debug, Drop)]
+pub struct Verified {
+    program: Program,
+    budget: Budget,
+}
+
+impl Model for Verified {
+    ghost use Rattle.bytecode_format.specs.Code.{Code};
+    ghost use Rattle.bytecode_verifier.specs.Acceptance.{IsAccepted};
+    ghost use Rattle.bytecode_verifier.specs.Budget.{budget_of};
+    ghost use Rattle.std.specs.Prelude.{◌≡◌};
+
+    ghost Value = { Code };
+
+    ghost view = { λ v. v.program };
+
+    ghost invariant = { λ v. IsAccepted v.program × (v.budget ≡ budget_of v.program) };
+}
+
+impl Verified {
+    /// What a run of the program may charge.
+    pub fn budget(&self) -> &Budget
+        ensures { result.now ≡ budget_of self.now }
+    {
+        &self.budget
+    }
+
+    /// The program.
+    pub fn program(&self) -> &Program
+        ensures value { result.now ≡ self.now }
+        ensures accepted { IsAccepted self.now }
+    {
+        &self.program
+    }
+}
+
+/// The program as one that is accepted, or the first rule that it breaks, with the same program.
+///
+/// The rules come in the order of [`Refusal`], each with the least place where it is broken.
+/// [`Refusal::Memory`] comes only where memory was refused. The time is linear in the number of
+/// instructions, wherever the jumps lead.
+pub fn verify(alloc: Global, program: Program) -> Result<Verified, (Program, Refusal)>
+    ensures value { IfOk result (λ verified. verified ≡ program) }
+    ensures accepted { IfOk result (λ _. IsAccepted program) }
+    ensures same { IfErr result (λ e. e.0 ≡ program) }
+    ensures refused { IfErr result (λ e. e.1 ≢ Memory → refusal_of program ≡ Some e.1) }
+    ensures only { IfErr result (λ e. IsAccepted program → e.1 ≡ Memory) }
+{
+    match examine(alloc, &program) {
+        Ok(budget) => Ok(Verified { program, budget }),
+        Err(refusal) => Err((program, refusal)),
+    }
+}
+
+// The budget of a program that is accepted, or the first rule that it breaks.
+fn examine(alloc: Global, program: &Program) -> Result<Budget, Refusal>
+    ensures accepted { IfOk result (λ _. IsAccepted program.now) }
+    ensures budget { IfOk result (λ budget. budget ≡ budget_of program.now) }
+    ensures refused { IfErr result (λ e. e ≢ Memory → refusal_of program.now ≡ Some e) }
+{
+    let instructions = program.instructions();
+    let targets = targets_of(alloc, instructions)?;
+    let mut pass = Pass::new(alloc, program);
+    for (place, instruction) in instructions.iter().enumerate() {
+        pass.take(program, place, instruction, targets[place])?;
+    }
+    outcome(program, pass)
+}
+
+// The budget, or the first rule that is broken, when all instructions are passed.
+fn outcome(program: &Program, pass: Pass) -> Result<Budget, Refusal>
+    requires { HasPassed program.now (length program.now.instructions) pass }
+    ensures accepted { IfOk result (λ _. IsAccepted program.now) }
+    ensures budget { IfOk result (λ budget. budget ≡ budget_of program.now) }
+    ensures refused { IfErr result (λ e. refusal_of program.now ≡ Some e) }
+{
+    let Pass { index, form, jump, stack, budget, .. } = pass;
+    if let Some(place) = index {
+        return Err(Refusal::Index { place });
+    }
+    if let Some(place) = form {
+        return Err(Refusal::Form { place });
+    }
+    if let Some(place) = missing_end(program) {
+        return Err(Refusal::End { place });
+    }
+    if let Some(place) = jump {
+        return Err(Refusal::Jump { place });
+    }
+    if let Some(place) = stack {
+        return Err(Refusal::Stack { place });
+    }
+    Ok(budget)
+}
+
+// The place of the last instruction where that isn't Halt, 0 where there is no instruction.
+fn missing_end(program: &Program) -> Option<usize>
+    ensures { result ≡ least_place (breaks_end program.now) program.now }
+{
+    match program.instructions() {
+        [] => Some(0),
+        [before @ .., last] => (!is_halt(Operation::of(last.op))).then_some(before.len()),
+    }
+}
