@@ -1,0 +1,136 @@
+-- The potential: the caps of the instructions from a place on.
+use Rattle.std.proofs.Common.{◌≡◌, ℕ, zero, suc, ◌+◌, ◌*◌, ◌^◌, ◌<◌, ◌≤◌, Bool, true, false, ◌==◌, nat_le, nat_eq, leb, cond, List, [], ◌∷◌, Option, Some, None, length, slice_get, get_or, refl, sym, ap, subst, ◌∙◌, inl, inr, arith}
+use Rattle.std.proofs.lemmas.Bool.{cases_lt, le-leb, leb-true}
+use Rattle.std.proofs.lemmas.Option.{slice_get-get_or}
+use native.Mathlib.Numerals.{unary_clauses}
+use Rattle.bytecode_format.specs.declared.instruction.Instruction.{Instruction}
+use Rattle.bytecode_format.specs.Code.{Code}
+use Rattle.bytecode_verifier.specs.Places.{sum_below}
+use Rattle.bytecode_verifier.specs.Loops.{loops, open_loops, is_open}
+use Rattle.bytecode_verifier.specs.Budget.{Cap, cap_at, sum_inside, budget_of}
+use Rattle.bytecode_verifier.specs.Acceptance.{IsAccepted}
+use Rattle.bytecode_verifier.proofs.Loopless.{no_loops}
+use Rattle.bytecode_verifier.proofs.Consequences.{shape_known}
+use Rattle.bytecode_cost.specs.Sums.{budget_at}
+use Rattle.mime_decode.specs.Mail.{Mail}
+use Rattle.sieve_vm.specs.State.{State, start}
+use Rattle.sieve_vm.specs.Potential.{cap_value, weight_at, potential, limit_of}
+
+-- ---- sums over places
+
+sum-equal : (f g : ℕ → ℕ) (n : ℕ) → ((p : ℕ) → p < n → f p ≡ g p) → sum_below f n ≡ sum_below g n
+sum-equal f g zero h = refl
+sum-equal f g (suc n) h = omega (arith, sum-equal f g n (λ p lt. h p (omega arith)), h n (omega arith))
+
+sum-linear : (f g : ℕ → ℕ) (m n : ℕ) → sum_below (λ p. f p + g p * m) n ≡ sum_below f n + sum_below g n * m
+sum-linear f g m zero = omega arith
+sum-linear f g m (suc n) = omega (arith, sum-linear f g m n)
+
+sum-zero : (n : ℕ) → sum_below (λ p. 0) n ≡ 0
+sum-zero zero = refl
+sum-zero (suc n) = omega (arith, sum-zero n)
+
+-- the sum of f over the places from a first one on, below n
+abbrev from : (ℕ → ℕ) → ℕ → ℕ → ℕ
+from f first n = sum_below (λ p. cond (nat_le first p) (f p) 0) n
+
+counted : (f : ℕ → ℕ) (first p : ℕ) → first ≤ p → cond (nat_le first p) (f p) 0 ≡ f p
+counted f first p le = rw (le-leb first p le) refl
+
+uncounted : (f : ℕ → ℕ) (first p : ℕ) → p < first → cond (nat_le first p) (f p) 0 ≡ 0
+uncounted f first p lt = go (nat_le first p) refl
+  where
+    go : (b : Bool) → nat_le first p ≡ b → cond b (f p) 0 ≡ 0
+    go true e = absurd (omega (arith, leb-true first p e))
+    go false e = refl
+
+from-none : (f : ℕ → ℕ) (first n : ℕ) → n ≤ first → from f first n ≡ 0
+from-none f first n le = sum-equal (λ p. cond (nat_le first p) (f p) 0) (λ p. 0) n (λ p lt. uncounted f first p (omega arith)) ∙ sum-zero n
+
+from-all : (f : ℕ → ℕ) (n : ℕ) → from f 0 n ≡ sum_below f n
+from-all f n = sum-equal (λ p. cond (nat_le 0 p) (f p) 0) f n (λ p lt. counted f 0 p (omega arith))
+
+from-first : (f : ℕ → ℕ) (first n : ℕ) → first < n → from f first n ≡ f first + from f (suc first) n
+from-first f first zero lt = absurd (omega arith)
+from-first f first (suc n) lt =
+    elim (cases_lt first n) [
+      | inl below ↦ omega (arith, from-first f first n below, counted f first n (omega arith), counted f (suc first) n (omega arith))
+      | inr le ↦
+          let same : n ≡ first = omega arith in
+          let here : cond (nat_le first n) (f n) 0 ≡ f first = counted f first n (omega arith) ∙ ap f same in
+          omega (arith, from-none f first n (omega arith), from-none f (suc first) n (omega arith), here, uncounted f (suc first) n (omega arith))
+    ]
+
+from-later : (f : ℕ → ℕ) (first later n : ℕ) → first ≤ later → from f later n ≤ from f first n
+from-later f first later zero le = omega arith
+from-later f first later (suc n) le =
+    elim (cases_lt n later) [
+      | inl lt ↦ omega (arith, from-later f first later n le, uncounted f later n lt)
+      | inr ge ↦ omega (arith, from-later f first later n le, counted f later n ge, counted f first n (omega arith))
+    ]
+
+-- outside all loops an instruction runs once
+once : (cost parts : ℕ) → cost * parts ^ 0 ≡ cost
+once cost parts = simp unary_clauses (omega arith)
+
+never : (parts k : ℕ) → (0 + 0 * parts) * k ≡ 0
+never parts k = omega arith
+
+levels : (a b c d all : ℕ) → a ≡ all → b ≡ 0 → c ≡ 0 → d ≡ 0 → a + b + c + d ≡ all
+levels a b c d all p q r s = omega arith
+
+-- ---- the caps of an accepted program
+
+module _ (code : Code) (mail : Mail) (is : IsAccepted code) where
+  no_open : (place : ℕ) → open_loops code place ≡ []
+  no_open place = rw (no_loops code is.form) refl
+
+  cap-one : (place : ℕ) → place < length code.instructions → cap_at code place ≡ (let one : Cap = record { fixed = 1; scaled = 0 } in one)
+  cap-one place lt =
+      let shape = shape_known code is place in
+      rw (slice_get-get_or code.instructions place (record { op = 0; a = 0; b = 0; c = 0 }) lt, shape.1) refl
+
+  weight-one : (place : ℕ) → place < length code.instructions → weight_at code mail place ≡ 1
+  weight-one place lt = rw (cap-one place lt, no_open place) (once (1 + 0 * (mail.size + 1)) (length mail.parts) ∙ omega arith)
+
+  -- a step forward from a place lowers the potential by one at least
+  pub potential-forward : (before after : State) → before.place < length code.instructions → before.place < after.place → potential code mail after + 1 ≤ potential code mail before
+  potential-forward before after within forward =
+      let weight : ℕ → ℕ = weight_at code mail in
+      omega (arith, from-first weight before.place (length code.instructions) within, weight-one before.place within, from-later weight (suc before.place) after.place (length code.instructions) forward)
+
+  -- an instruction that is there may still charge
+  pub potential-positive : (state : State) → state.place < length code.instructions → 1 ≤ potential code mail state
+  potential-positive state within =
+      omega (arith, from-first (weight_at code mail) state.place (length code.instructions) within, weight-one state.place within)
+
+  outside : (part : Cap → ℕ) (k : ℕ) → nat_eq 0 k ≡ false → sum_inside part code (length code.instructions) k ≡ 0
+  outside part k other =
+      sum-equal (λ place. cond (nat_eq (length (open_loops code place)) k) (part (cap_at code place)) 0) (λ place. 0) (length code.instructions) (λ place lt. rw (no_open place, other) refl) ∙ sum-zero (length code.instructions)
+
+  inside : (part : Cap → ℕ) → sum_inside part code (length code.instructions) 0 ≡ sum_below (λ place. part (cap_at code place)) (length code.instructions)
+  inside part =
+      sum-equal (λ place. cond (nat_eq (length (open_loops code place)) 0) (part (cap_at code place)) 0) (λ place. part (cap_at code place)) (length code.instructions) (λ place lt. rw (no_open place) refl)
+
+  -- at the start the potential is the budget
+  pub potential-start : potential code mail (start code) ≡ limit_of code mail
+  potential-start =
+      let n : ℕ = length code.instructions in
+      let all : potential code mail (start code) ≡ sum_below (weight_at code mail) n = from-all (weight_at code mail) n in
+      let caps : sum_below (weight_at code mail) n ≡ sum_below (λ place. cap_value mail (cap_at code place)) n =
+        sum-equal (weight_at code mail) (λ place. cap_value mail (cap_at code place)) n (λ place lt. rw (no_open place) (once (cap_value mail (cap_at code place)) (length mail.parts))) in
+      let split : sum_below (λ place. cap_value mail (cap_at code place)) n ≡ sum_below (λ place. (cap_at code place).fixed) n + sum_below (λ place. (cap_at code place).scaled) n * (mail.size + 1) =
+        sum-linear (λ place. (cap_at code place).fixed) (λ place. (cap_at code place).scaled) (mail.size + 1) n in
+      let f : ℕ → ℕ = sum_inside (λ cap. cap.fixed) code n in
+      let g : ℕ → ℕ = sum_inside (λ cap. cap.scaled) code n in
+      let parts : ℕ = length mail.parts in
+      let none : (k : ℕ) → f k ≡ 0 → g k ≡ 0 → (f k + g k * (mail.size + 1)) * parts ^ k ≡ 0 = λ k a b. rw (a, b) (never (mail.size + 1) (parts ^ k)) in
+      let level0 : (f 0 + g 0 * (mail.size + 1)) * parts ^ 0 ≡ f 0 + g 0 * (mail.size + 1) = once (f 0 + g 0 * (mail.size + 1)) parts in
+      let level1 = none 1 (outside (λ cap. cap.fixed) 1 refl) (outside (λ cap. cap.scaled) 1 refl) in
+      let level2 = none 2 (outside (λ cap. cap.fixed) 2 refl) (outside (λ cap. cap.scaled) 2 refl) in
+      let level3 = none 3 (outside (λ cap. cap.fixed) 3 refl) (outside (λ cap. cap.scaled) 3 refl) in
+      let fixed : f 0 ≡ sum_below (λ place. (cap_at code place).fixed) n = inside (λ cap. cap.fixed) in
+      let scaled : g 0 ≡ sum_below (λ place. (cap_at code place).scaled) n = inside (λ cap. cap.scaled) in
+      let whole : potential code mail (start code) ≡ f 0 + g 0 * (mail.size + 1) = all ∙ caps ∙ split ∙ rw (fixed, scaled) refl in
+      let limit : limit_of code mail ≡ f 0 + g 0 * (mail.size + 1) = levels _ _ _ _ _ level0 level1 level2 level3 in
+      whole ∙ sym limit

@@ -1,0 +1,4 @@
+pub mod Reached
+pub mod Falls
+pub mod Bounds
+pub mod Steps

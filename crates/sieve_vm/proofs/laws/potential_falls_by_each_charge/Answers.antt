@@ -1,0 +1,12 @@
+use Rattle.sieve_vm.proofs.Bounds.{falls_along, falls_at_end}
+use Rattle.sieve_vm.proofs.Falls.{potential-start}
+use Rattle.sieve_vm.proofs.laws.potential_falls_by_each_charge.Goals as goal
+
+pub returns-clause-start : goal.returns-clause-start
+returns-clause-start c = λ code mail is. potential-start code mail is
+
+pub returns-clause-step : goal.returns-clause-step
+returns-clause-step c = λ code mail is _. falls_along code mail is
+
+pub returns-clause-end : goal.returns-clause-end
+returns-clause-end c = λ code mail is _. falls_at_end code mail is

@@ -1,0 +1,9 @@
+use Rattle.std.proofs.Common.{arith}
+use Rattle.sieve_vm.proofs.Bounds.{spent}
+use Rattle.sieve_vm.proofs.laws.runs_stay_within_the_budget.Goals as goal
+
+pub returns-clause-charge : goal.returns-clause-charge
+returns-clause-charge c = λ code mail is _ n s run. omega (arith, (spent code mail is n s run).0)
+
+pub returns-clause-steps : goal.returns-clause-steps
+returns-clause-steps c = λ code mail is _ n s run. omega (arith, (spent code mail is n s run).0, (spent code mail is n s run).1)

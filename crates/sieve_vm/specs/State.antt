@@ -1,0 +1,37 @@
+-- The state of the machine.
+use Rattle.std.specs.Prelude.{ℕ, Bool, true, List, [], replicate}
+use Rattle.bytecode_format.specs.declared.action.Action.{Action}
+use Rattle.bytecode_format.specs.Code.{Code}
+
+-- an entry of the stack
+pub data Value : Type 0 where
+  truth : Bool → Value
+  text : List ℕ → Value
+
+-- an open loop: the places of its Each and Next, the current part, and the parts not yet visited
+pub record Frame : Type 0 where
+  pub each : ℕ
+  pub next : ℕ
+  pub part : ℕ
+  pub rest : List ℕ
+
+-- the state before an instruction: the top of the stack and the innermost loop come first
+pub record State : Type 0 where
+  pub place : ℕ
+  pub stack : List Value
+  pub frames : List Frame
+  pub variables : List (List ℕ)
+  pub captures : List (List ℕ)
+  pub actions : List Action
+  pub implicit_keep : Bool
+  pub charge : ℕ
+
+-- what a step comes to: the next state, the end of the run, or a trap
+pub data Turn : Type 0 where
+  goes : State → Turn
+  ends : State → Turn
+  traps : Turn
+
+-- before the first instruction: variables and captures are empty, the implicit keep stands, the stack is empty, no loop is open
+abbrev pub start : Code → State
+start code = record { place = 0; stack = []; frames = []; variables = replicate code.variables []; captures = replicate 10 []; actions = []; implicit_keep = true; charge = 0 }

@@ -1,0 +1,12 @@
+//! The machine that runs the bytecode of mail filters.
+//!
+//! What a step does is defined in `specs/Machine`, what it costs in `specs/Charge`. The [`laws`] say
+//! that a run of an accepted program never traps, stays within the program's budget and reaches its
+//! end; [`run`] is that run.
+#![tactic(auto)]
+
+pub mod laws;
+mod machine;
+mod outcome;
+
+pub use outcome::{Outcome, run};

@@ -1,0 +1,39 @@
+// A whole run.
+ghost use Rattle.std.specs.Prelude.{IfOk};
+ghost use Rattle.sieve_vm.specs.Ending.{IsOutcome};
+
+use crate::machine::{Machine, Turn};
+use bytecode_format::Action;
+use bytecode_verifier::Verified;
+use mime_decode::Message;
+use std::alloc::{AllocError, Global};
+
+/// What a run came to.
+#[derive(Debug, Drop)]
+pub struct Outcome {
+    /// The final actions, in order.
+    pub actions: Vec<Action>,
+    /// What the run charged.
+    pub charged: u128,
+}
+
+/// Runs an accepted program on a message, up to its end.
+///
+/// The outcome is that of the one run that the definitions give. An error comes only where memory
+/// was refused. The run takes at most as many steps as the program's budget at the message.
+pub fn run(alloc: Global, verified: &Verified, message: &Message<'_>) -> Result<Outcome, AllocError>
+    ensures { IfOk result (λ outcome. IsOutcome verified.now message.now outcome.actions.items outcome.charged) }
+{
+    let program = verified.program();
+    let mut machine = Machine::new(alloc);
+    'steps: loop {
+        match machine.advance(program, message)? {
+            Turn::GoesOn => {}
+            Turn::Ends => break 'steps,
+        }
+    }
+    Ok(Outcome {
+        actions: machine.actions.into_final(machine.implicit_keep)?,
+        charged: machine.charged,
+    })
+}
