@@ -1,5 +1,5 @@
 -- A program is accepted exactly where it isn't refused.
-use Rattle.std.proofs.Common.{◌≡◌, ◌≢◌, ℕ, suc, ◌+◌, ◌-◌, ◌<◌, ◌≤◌, Bool, true, false, not, ◌&&◌, ◌==◌, ◌⊎◌, List, Option, Some, None, length, refl, sym, ap, ◌∙◌, inl, inr, arith}
+use Rattle.std.proofs.Common.{◌≡◌, ◌≢◌, ℕ, suc, ◌-◌, ◌<◌, Bool, false, ◌⊎◌, Option, Some, None, length, refl, inl, inr, arith}
 use Rattle.std.proofs.lemmas.Bool.{ne_eqb}
 use Rattle.std.specs.Option.{option_or, option_map}
 use Rattle.bytecode_format.specs.Code.{Code}
@@ -7,7 +7,7 @@ use Rattle.bytecode_verifier.specs.declared.error.Refusal.{Refusal}
 use Rattle.bytecode_verifier.specs.declared.error.Refusal.TheVariants.{Memory, Index, Form, End, Loop, Jump, NoPart, Stack}
 use Rattle.bytecode_verifier.specs.Places.{least_place}
 use Rattle.bytecode_verifier.specs.Rules.{breaks_index, breaks_form, breaks_end, breaks_loop, breaks_jump, breaks_no_part, breaks_stack}
-use Rattle.bytecode_verifier.specs.Acceptance.{IsAccepted, refused, refusal_of}
+use Rattle.bytecode_verifier.specs.Acceptance.{IsAccepted, refusal_of}
 use Rattle.bytecode_verifier.proofs.Least.{least_of_none}
 use Rattle.bytecode_verifier.proofs.Ends.{past_rule, past_stack, anywhere}
 
@@ -53,7 +53,7 @@ pub none_from_accepted : (code : Code) → IsAccepted code → refusal_of code �
 none_from_accepted code is =
     let least : (test : ℕ → Bool) → ((p : ℕ) → test p ≡ false) → least_place test code ≡ None = λ test h. least_of_none test (suc (length code.instructions)) (λ p lt. h p) in
     chain_none _ _ _ _ _ _ _ (least (breaks_index code) is.index) (least (breaks_form code) is.form) (least (breaks_end code) is.end) (least (breaks_loop code) is.loop)
-        (least (breaks_jump code) is.jump) (least (breaks_no_part code) is.no_part) (least (breaks_stack code) is.stack)
+    (least (breaks_jump code) is.jump) (least (breaks_no_part code) is.no_part) (least (breaks_stack code) is.stack)
 
 is_memory : (e : Refusal) → (e ≡ Memory) ⊎ (e ≢ Memory)
 is_memory Memory = inl refl

@@ -1,5 +1,5 @@
 -- What holds at the end of the program.
-use Rattle.std.proofs.Common.{◌≡◌, ℕ, zero, suc, ◌+◌, ◌-◌, ◌<◌, ◌≤◌, Bool, true, false, not, ◌&&◌, List, [], Option, Some, None, is_some, is_none, length, slice_get, refl, sym, ap, ◌∙◌, inl, inr, ◌≢◌, ◌==◌, get_or, take, length-take-le, arith, rules}
+use Rattle.std.proofs.Common.{◌≡◌, ℕ, suc, ◌-◌, ◌<◌, ◌≤◌, Bool, false, not, ◌&&◌, List, [], Option, Some, None, is_some, is_none, length, slice_get, refl, sym, ap, ◌∙◌, inl, inr, ◌≢◌, get_or, take, length-take-le, arith}
 use Rattle.std.proofs.lemmas.Bool.{cases_lt, ne_eqb}
 use Rattle.std.proofs.lemmas.Option.{slice_get_past, slice_get-get_or}
 use Rattle.std.specs.Bool.{then_some}
@@ -8,15 +8,15 @@ use Rattle.bytecode_format.specs.declared.instruction.Instruction.{Instruction}
 use Rattle.bytecode_format.specs.declared.operation.Operation.{Operation}
 use Rattle.bytecode_format.specs.Operations.{operation_of}
 use Rattle.bytecode_format.specs.Code.{Code}
-use Rattle.bytecode_verifier.specs.declared.error.Refusal.{Refusal}
 use Rattle.bytecode_verifier.specs.declared.error.Refusal.TheVariants.{Index, Form, End, Loop, Jump, NoPart, Stack}
 use Rattle.bytecode_verifier.specs.declared.pass.Pass.{Pass}
 use Rattle.bytecode_verifier.specs.Places.{holds_at, least_below, least_place}
 use Rattle.bytecode_verifier.specs.Loops.{loops}
 use Rattle.bytecode_verifier.specs.Shape.{Entries, shape_beyond, shape_at}
-use Rattle.bytecode_verifier.specs.Rules.{is_halt, needs_part, misses_loop, breaks_index, breaks_form, breaks_end, breaks_loop, breaks_jump, breaks_no_part, breaks_stack}
+use Rattle.bytecode_verifier.specs.Rules.{is_halt, breaks_index, breaks_form, breaks_end, breaks_loop, breaks_jump, breaks_no_part, breaks_stack}
 use Rattle.bytecode_verifier.specs.Acceptance.{refusal_of}
 use Rattle.bytecode_verifier.specs.Pass.{HasPassed}
+use Rattle.bytecode_verifier.proofs.Tests.{same_place}
 use Rattle.bytecode_verifier.proofs.Least.{least_none, least_of_none, least_at_end, or_none_right}
 use Rattle.bytecode_verifier.proofs.Loopless.{misses_no_loop, needs_no_part, form_at, no_loops}
 
@@ -80,16 +80,13 @@ module _ (code : Code) (pass : Pass) (passed : HasPassed code (length code.instr
       let jump : least_place (breaks_jump code) code ≡ pass.jump = least_at_end (breaks_jump code) code (past_rule code (length code.instructions) _ (omega arith)) ∙ sym (passed.jump no_loops_found) in
       let stack : least_place (breaks_stack code) code ≡ pass.stack = least_at_end (breaks_stack code) code (past_stack code (length code.instructions) (omega arith)) ∙ sym passed.stack in
       chain _ _ _ _ (least_place (breaks_jump code) code) _ (least_place (breaks_stack code) code) indexes form_none end loop part
-          ∙ ap (λ j. option_or (option_map Jump j) (option_map Stack (least_place (breaks_stack code) code))) jump
-          ∙ ap (λ s. option_or (option_map Jump pass.jump) (option_map Stack s)) stack
+      ∙ ap (λ j. option_or (option_map Jump j) (option_map Stack (least_place (breaks_stack code) code))) jump
+      ∙ ap (λ s. option_or (option_map Jump pass.jump) (option_map Stack s)) stack
 
 -- the least number that passes a test which no number but one can pass
 single : (test : ℕ → Bool) (last n : ℕ) → n ≡ suc last → ((p : ℕ) → p ≢ last → test p ≡ false) → least_below test (suc n) ≡ then_some (test last) last
 single test last n e h =
     rw (e, least_of_none test last (λ p lt. h p (λ same. omega arith)), h (suc last) (λ same. omega arith)) (or_none_right _)
-
-same_place : (n : ℕ) → (n == n) ≡ true
-same_place n = search rules
 
 -- the end is missed at the last place, where there is one
 pub end_last : (code : Code) (xs : List Instruction) (d : Instruction) (o : Option Operation) (halt : Bool) (missing : Option ℕ) → xs ≡ code.instructions → 1 ≤ length xs

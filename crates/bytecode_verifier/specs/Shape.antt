@@ -8,7 +8,7 @@ use Rattle.bytecode_format.specs.declared.operation.Operation.TheVariants.{Halt,
 use Rattle.bytecode_format.specs.Operations.{operation_of}
 use Rattle.bytecode_format.specs.Code.{Code}
 use Rattle.bytecode_verifier.specs.declared.shape.Entry.{Entry}
-use Rattle.bytecode_verifier.specs.declared.shape.Entry.TheVariants.{Truth, Text}
+use Rattle.bytecode_verifier.specs.declared.shape.Entry.TheVariants.{Truth}
 
 -- the entries, the top one first
 abbrev pub Entries : Type 0

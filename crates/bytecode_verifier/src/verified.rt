@@ -93,7 +93,14 @@ fn outcome(program: &Program, pass: Pass) -> Result<Budget, Refusal>
     ensures budget { IfOk result (λ budget. budget ≡ budget_of program.now) }
     ensures refused { IfErr result (λ e. refusal_of program.now ≡ Some e) }
 {
-    let Pass { index, form, jump, stack, budget, .. } = pass;
+    let Pass {
+        index,
+        form,
+        jump,
+        stack,
+        budget,
+        ..
+    } = pass;
     if let Some(place) = index {
         return Err(Refusal::Index { place });
     }
