@@ -32,6 +32,13 @@ stays code place (Some entries) = refl
 pub past_stack : (code : Code) (place : ℕ) → length code.instructions ≤ place → breaks_stack code place ≡ false
 past_stack code place h = rw (slice_get_past code.instructions place h) (stays code place (shape_at code place))
 
+-- behind the end, as a number above the count
+pub beyond : (code : Code) (place : ℕ) (test : Instruction → Bool) → length code.instructions < place → holds_at code place test ≡ false
+beyond code place test h = past_rule code place test (omega arith)
+
+pub beyond_stack : (code : Code) (place : ℕ) → length code.instructions < place → breaks_stack code place ≡ false
+beyond_stack code place h = past_stack code place (omega arith)
+
 none_passes : (o : Option Instruction) (test : Instruction → Bool) → ((i : Instruction) → o ≡ Some i → test i ≡ false) → option_map_or test o false ≡ false
 none_passes None test h = refl
 none_passes (Some i) test h = h i refl
@@ -55,7 +62,7 @@ chain i f e l j p s hi hf he hl hp = rw (hi, hf, he, hl, hp) refl
 
 -- where each instruction has its form
 pub forms : (code : Code) → least_place (breaks_form code) code ≡ None → (place : ℕ) → breaks_form code place ≡ false
-forms code none = anywhere (breaks_form code) code none (λ place past. past_rule code place _ (omega arith))
+forms code none = anywhere (breaks_form code) code none (λ place past. beyond code place _ past)
 
 no_loop_broken : (code : Code) → ((place : ℕ) → breaks_form code place ≡ false) → (place : ℕ) → breaks_loop code place ≡ false
 no_loop_broken code form place = nowhere code place _ (λ i here. misses_no_loop code place (operation_of i.op) i (form_at code place i (form place) here))
