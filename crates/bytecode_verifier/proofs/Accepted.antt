@@ -1,5 +1,5 @@
 -- A program is accepted exactly where it isn't refused.
-use Rattle.std.proofs.Common.{◌≡◌, ◌≢◌, ℕ, suc, ◌+◌, ◌-◌, ◌<◌, ◌≤◌, Bool, true, false, not, ◌&&◌, ◌==◌, ◌⊎◌, List, Option, Some, None, length, refl, sym, ap, ◌∙◌, inl, inr, arith}
+use Rattle.std.proofs.Common.{◌≡◌, ◌≢◌, ℕ, suc, ◌-◌, ◌<◌, Bool, false, ◌⊎◌, Option, Some, None, length, refl, inl, inr, arith}
 use Rattle.std.proofs.lemmas.Bool.{ne_eqb}
 use Rattle.std.specs.Option.{option_or, option_map}
 use Rattle.bytecode_format.specs.Code.{Code}
@@ -7,9 +7,9 @@ use Rattle.bytecode_verifier.specs.declared.error.Refusal.{Refusal}
 use Rattle.bytecode_verifier.specs.declared.error.Refusal.TheVariants.{Memory, Index, Form, End, Loop, Jump, NoPart, Stack}
 use Rattle.bytecode_verifier.specs.Places.{least_place}
 use Rattle.bytecode_verifier.specs.Rules.{breaks_index, breaks_form, breaks_end, breaks_loop, breaks_jump, breaks_no_part, breaks_stack}
-use Rattle.bytecode_verifier.specs.Acceptance.{IsAccepted, refused, refusal_of}
+use Rattle.bytecode_verifier.specs.Acceptance.{IsAccepted, refusal_of}
 use Rattle.bytecode_verifier.proofs.Least.{least_of_none}
-use Rattle.bytecode_verifier.proofs.Ends.{past_rule, past_stack, anywhere}
+use Rattle.bytecode_verifier.proofs.Ends.{beyond, beyond_stack, anywhere}
 
 first_none : (o p : Option Refusal) → option_or o p ≡ None → o ≡ None
 first_none None p h = refl
@@ -36,13 +36,13 @@ accepted_from_none code h =
     let part = second_none _ _ jump in
     let stack = second_none _ _ part in
     record {
-      index = anywhere (breaks_index code) code (place_none Index _ (first_none _ _ h)) (λ p past. past_rule code p _ (omega arith));
-      form = anywhere (breaks_form code) code (place_none Form _ (first_none _ _ form)) (λ p past. past_rule code p _ (omega arith));
+      index = anywhere (breaks_index code) code (place_none Index _ (first_none _ _ h)) (λ p past. beyond code p _ past);
+      form = anywhere (breaks_form code) code (place_none Form _ (first_none _ _ form)) (λ p past. beyond code p _ past);
       end = anywhere (breaks_end code) code (place_none End _ (first_none _ _ end)) (past_end code);
-      loop = anywhere (breaks_loop code) code (place_none Loop _ (first_none _ _ loop)) (λ p past. past_rule code p _ (omega arith));
-      jump = anywhere (breaks_jump code) code (place_none Jump _ (first_none _ _ jump)) (λ p past. past_rule code p _ (omega arith));
-      no_part = anywhere (breaks_no_part code) code (place_none NoPart _ (first_none _ _ part)) (λ p past. past_rule code p _ (omega arith));
-      stack = anywhere (breaks_stack code) code (place_none Stack _ stack) (λ p past. past_stack code p (omega arith));
+      loop = anywhere (breaks_loop code) code (place_none Loop _ (first_none _ _ loop)) (λ p past. beyond code p _ past);
+      jump = anywhere (breaks_jump code) code (place_none Jump _ (first_none _ _ jump)) (λ p past. beyond code p _ past);
+      no_part = anywhere (breaks_no_part code) code (place_none NoPart _ (first_none _ _ part)) (λ p past. beyond code p _ past);
+      stack = anywhere (breaks_stack code) code (place_none Stack _ stack) (beyond_stack code);
     }
 
 chain_none : (i f e l j p s : Option ℕ) → i ≡ None → f ≡ None → e ≡ None → l ≡ None → j ≡ None → p ≡ None → s ≡ None
@@ -53,7 +53,7 @@ pub none_from_accepted : (code : Code) → IsAccepted code → refusal_of code �
 none_from_accepted code is =
     let least : (test : ℕ → Bool) → ((p : ℕ) → test p ≡ false) → least_place test code ≡ None = λ test h. least_of_none test (suc (length code.instructions)) (λ p lt. h p) in
     chain_none _ _ _ _ _ _ _ (least (breaks_index code) is.index) (least (breaks_form code) is.form) (least (breaks_end code) is.end) (least (breaks_loop code) is.loop)
-        (least (breaks_jump code) is.jump) (least (breaks_no_part code) is.no_part) (least (breaks_stack code) is.stack)
+    (least (breaks_jump code) is.jump) (least (breaks_no_part code) is.no_part) (least (breaks_stack code) is.stack)
 
 is_memory : (e : Refusal) → (e ≡ Memory) ⊎ (e ≢ Memory)
 is_memory Memory = inl refl

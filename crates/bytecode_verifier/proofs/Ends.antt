@@ -1,5 +1,5 @@
 -- What holds at the end of the program.
-use Rattle.std.proofs.Common.{◌≡◌, ℕ, zero, suc, ◌+◌, ◌-◌, ◌<◌, ◌≤◌, Bool, true, false, not, ◌&&◌, List, [], Option, Some, None, is_some, is_none, length, slice_get, refl, sym, ap, ◌∙◌, inl, inr, ◌≢◌, ◌==◌, get_or, take, length-take-le, arith, rules}
+use Rattle.std.proofs.Common.{◌≡◌, ℕ, suc, ◌-◌, ◌<◌, ◌≤◌, Bool, false, not, ◌&&◌, List, [], Option, Some, None, is_some, is_none, length, slice_get, refl, sym, ap, ◌∙◌, inl, inr, ◌≢◌, get_or, take, length-take-le, arith}
 use Rattle.std.proofs.lemmas.Bool.{cases_lt, ne_eqb}
 use Rattle.std.proofs.lemmas.Option.{slice_get_past, slice_get-get_or}
 use Rattle.std.specs.Bool.{then_some}
@@ -8,15 +8,15 @@ use Rattle.bytecode_format.specs.declared.instruction.Instruction.{Instruction}
 use Rattle.bytecode_format.specs.declared.operation.Operation.{Operation}
 use Rattle.bytecode_format.specs.Operations.{operation_of}
 use Rattle.bytecode_format.specs.Code.{Code}
-use Rattle.bytecode_verifier.specs.declared.error.Refusal.{Refusal}
 use Rattle.bytecode_verifier.specs.declared.error.Refusal.TheVariants.{Index, Form, End, Loop, Jump, NoPart, Stack}
 use Rattle.bytecode_verifier.specs.declared.pass.Pass.{Pass}
 use Rattle.bytecode_verifier.specs.Places.{holds_at, least_below, least_place}
 use Rattle.bytecode_verifier.specs.Loops.{loops}
 use Rattle.bytecode_verifier.specs.Shape.{Entries, shape_beyond, shape_at}
-use Rattle.bytecode_verifier.specs.Rules.{is_halt, needs_part, misses_loop, breaks_index, breaks_form, breaks_end, breaks_loop, breaks_jump, breaks_no_part, breaks_stack}
+use Rattle.bytecode_verifier.specs.Rules.{is_halt, breaks_index, breaks_form, breaks_end, breaks_loop, breaks_jump, breaks_no_part, breaks_stack}
 use Rattle.bytecode_verifier.specs.Acceptance.{refusal_of}
 use Rattle.bytecode_verifier.specs.Pass.{HasPassed}
+use Rattle.bytecode_verifier.proofs.Tests.{same_place}
 use Rattle.bytecode_verifier.proofs.Least.{least_none, least_of_none, least_at_end, or_none_right}
 use Rattle.bytecode_verifier.proofs.Loopless.{misses_no_loop, needs_no_part, form_at, no_loops}
 
@@ -31,6 +31,13 @@ stays code place (Some entries) = refl
 -- nor does the shape fail there
 pub past_stack : (code : Code) (place : ℕ) → length code.instructions ≤ place → breaks_stack code place ≡ false
 past_stack code place h = rw (slice_get_past code.instructions place h) (stays code place (shape_at code place))
+
+-- behind the end, as a number above the count
+pub beyond : (code : Code) (place : ℕ) (test : Instruction → Bool) → length code.instructions < place → holds_at code place test ≡ false
+beyond code place test h = past_rule code place test (omega arith)
+
+pub beyond_stack : (code : Code) (place : ℕ) → length code.instructions < place → breaks_stack code place ≡ false
+beyond_stack code place h = past_stack code place (omega arith)
 
 none_passes : (o : Option Instruction) (test : Instruction → Bool) → ((i : Instruction) → o ≡ Some i → test i ≡ false) → option_map_or test o false ≡ false
 none_passes None test h = refl
@@ -55,7 +62,7 @@ chain i f e l j p s hi hf he hl hp = rw (hi, hf, he, hl, hp) refl
 
 -- where each instruction has its form
 pub forms : (code : Code) → least_place (breaks_form code) code ≡ None → (place : ℕ) → breaks_form code place ≡ false
-forms code none = anywhere (breaks_form code) code none (λ place past. past_rule code place _ (omega arith))
+forms code none = anywhere (breaks_form code) code none (λ place past. beyond code place _ past)
 
 no_loop_broken : (code : Code) → ((place : ℕ) → breaks_form code place ≡ false) → (place : ℕ) → breaks_loop code place ≡ false
 no_loop_broken code form place = nowhere code place _ (λ i here. misses_no_loop code place (operation_of i.op) i (form_at code place i (form place) here))
@@ -80,16 +87,13 @@ module _ (code : Code) (pass : Pass) (passed : HasPassed code (length code.instr
       let jump : least_place (breaks_jump code) code ≡ pass.jump = least_at_end (breaks_jump code) code (past_rule code (length code.instructions) _ (omega arith)) ∙ sym (passed.jump no_loops_found) in
       let stack : least_place (breaks_stack code) code ≡ pass.stack = least_at_end (breaks_stack code) code (past_stack code (length code.instructions) (omega arith)) ∙ sym passed.stack in
       chain _ _ _ _ (least_place (breaks_jump code) code) _ (least_place (breaks_stack code) code) indexes form_none end loop part
-          ∙ ap (λ j. option_or (option_map Jump j) (option_map Stack (least_place (breaks_stack code) code))) jump
-          ∙ ap (λ s. option_or (option_map Jump pass.jump) (option_map Stack s)) stack
+      ∙ ap (λ j. option_or (option_map Jump j) (option_map Stack (least_place (breaks_stack code) code))) jump
+      ∙ ap (λ s. option_or (option_map Jump pass.jump) (option_map Stack s)) stack
 
 -- the least number that passes a test which no number but one can pass
 single : (test : ℕ → Bool) (last n : ℕ) → n ≡ suc last → ((p : ℕ) → p ≢ last → test p ≡ false) → least_below test (suc n) ≡ then_some (test last) last
 single test last n e h =
     rw (e, least_of_none test last (λ p lt. h p (λ same. omega arith)), h (suc last) (λ same. omega arith)) (or_none_right _)
-
-same_place : (n : ℕ) → (n == n) ≡ true
-same_place n = search rules
 
 -- the end is missed at the last place, where there is one
 pub end_last : (code : Code) (xs : List Instruction) (d : Instruction) (o : Option Operation) (halt : Bool) (missing : Option ℕ) → xs ≡ code.instructions → 1 ≤ length xs

@@ -1,6 +1,9 @@
+pub mod Tests
 pub mod Least
 pub mod Loopless
 pub mod Steps
 pub mod Ends
 pub mod Marks
 pub mod Accepted
+pub mod Consequences
+pub mod Examples

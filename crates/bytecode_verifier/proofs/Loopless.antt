@@ -1,12 +1,12 @@
 -- Programs whose operations have all come: there are no loops yet.
-use Rattle.std.proofs.Common.{◌≡◌, ℕ, zero, suc, ◌+◌, ◌<◌, ◌≤◌, Bool, true, false, not, List, [], ◌∷◌, Option, Some, None, length, slice_get, refl, sym, ap, ◌∙◌, arith}
+use Rattle.std.proofs.Common.{◌≡◌, ℕ, suc, ◌+◌, Bool, true, false, not, List, [], ◌∷◌, Option, Some, None, slice_get, refl}
 use Rattle.std.specs.List.{filter_map, enumerate_from}
 use Rattle.bytecode_format.specs.declared.instruction.Instruction.{Instruction}
 use Rattle.bytecode_format.specs.declared.operation.Operation.{Operation}
 use Rattle.bytecode_format.specs.declared.operation.Operation.TheVariants.{PartSize, PartBody, PartDigest, Store, Each, Next, Break}
 use Rattle.bytecode_format.specs.Operations.{operation_of}
 use Rattle.bytecode_format.specs.Code.{Code}
-use Rattle.bytecode_verifier.specs.Loops.{Loop, opens, loop_from, loops, open_loops, same_loops}
+use Rattle.bytecode_verifier.specs.Loops.{opens, loop_from, loops}
 use Rattle.bytecode_verifier.specs.Form.{is_well_formed}
 use Rattle.bytecode_verifier.specs.Rules.{breaks_form, needs_part, misses_loop}
 

@@ -1,5 +1,5 @@
 -- The marks of the places that jumps lead to.
-use Rattle.std.proofs.Common.{◌≡◌, ℕ, ◌+◌, ◌<◌, ◌≤◌, Bool, true, false, ◌&&◌, ◌||◌, ◌==◌, List, Option, Some, length, set, take, get_or, slice_get, refl, sym, ap, ◌∙◌, inl, inr, arith, rules, length-set, get_or-set_same, get_or-set_other}
+use Rattle.std.proofs.Common.{◌≡◌, ℕ, ◌+◌, ◌<◌, Bool, true, false, ◌&&◌, ◌||◌, ◌==◌, List, Option, Some, length, set, take, get_or, slice_get, refl, sym, ap, ◌∙◌, inl, inr, length-set, get_or-set_same, get_or-set_other}
 use Rattle.std.proofs.lemmas.Bool.{cases_eq, ne_eqb}
 use Rattle.std.proofs.lemmas.Option.{slice_get-get_or, get_or_from_slice_get}
 use Rattle.std.proofs.lemmas.List.Folds.{list_any_more}
@@ -7,22 +7,12 @@ use Rattle.bytecode_format.specs.declared.instruction.Instruction.{Instruction}
 use Rattle.bytecode_format.specs.declared.operation.Operation.{Operation}
 use Rattle.bytecode_format.specs.Operations.{operation_of}
 use Rattle.bytecode_verifier.specs.Shape.{is_jump, is_target}
+use Rattle.bytecode_verifier.proofs.Tests.{same_place, or_false, or_true}
 
 -- one more instruction may jump to the place
 target_more : (xs : List Instruction) (n : ℕ) (d : Instruction) (place : ℕ) → n < length xs
     → is_target (take (n + 1) xs) place ≡ (is_target (take n xs) place || (is_jump (operation_of (get_or xs n d).op) && ((get_or xs n d).c == place)))
 target_more xs n d place lt = list_any_more (λ i. is_jump (operation_of i.op) && (i.c == place)) xs n d lt
-
-or_false : (b : Bool) → (b || false) ≡ b
-or_false true = refl
-or_false false = refl
-
-or_true : (b : Bool) → (b || true) ≡ true
-or_true true = refl
-or_true false = refl
-
-same_place : (n : ℕ) → (n == n) ≡ true
-same_place n = search rules
 
 -- no jump: the marks stay
 pub marks_stay : (xs : List Instruction) (n : ℕ) (d : Instruction) (o : Option Operation) (marks : List Bool) (place : ℕ) → n < length xs → o ≡ operation_of (get_or xs n d).op → is_jump o ≡ false

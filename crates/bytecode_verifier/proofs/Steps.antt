@@ -1,5 +1,5 @@
 -- How the pass goes on by one instruction.
-use Rattle.std.proofs.Common.{◌≡◌, ℕ, zero, suc, ◌+◌, ◌<◌, ◌≤◌, Bool, true, false, not, ◌&&◌, ◌||◌, nat_le, List, [], ◌∷◌, Option, Some, None, is_some, is_none, if◌then◌else◌, length, slice_get, slice_set, slice_index, refl, sym, ap, ◌∙◌, arith, add-one, add-zero}
+use Rattle.std.proofs.Common.{◌≡◌, ℕ, suc, ◌+◌, ◌≤◌, Bool, true, false, not, ◌&&◌, ◌||◌, nat_le, List, [], ◌∷◌, Option, Some, None, is_some, is_none, if◌then◌else◌, length, slice_get, slice_set, slice_index, refl, sym, ap, ◌∙◌, arith, add-one, add-zero}
 use Rattle.std.specs.Bool.{then_some}
 use Rattle.std.specs.Option.{option_or, option_and_then}
 use Rattle.bytecode_format.specs.declared.instruction.Instruction.{Instruction}
@@ -9,12 +9,13 @@ use Rattle.bytecode_format.specs.Code.{Code}
 use Rattle.bytecode_cost.specs.Sums.{Sums, with_cap}
 use Rattle.bytecode_verifier.specs.declared.pass.Pass.{Pass}
 use Rattle.bytecode_verifier.specs.Places.{least_below}
-use Rattle.bytecode_verifier.specs.Loops.{Loop, loops, open_loops}
+use Rattle.bytecode_verifier.specs.Loops.{loops, open_loops}
 use Rattle.bytecode_verifier.specs.Form.{is_well_formed}
 use Rattle.bytecode_verifier.specs.Shape.{Entries, is_empty, is_jump, is_target, shape_after, shape_behind, shape_at}
 use Rattle.bytecode_verifier.specs.Rules.{misses_index, breaks_index, breaks_form, breaks_jump, breaks_stack}
-use Rattle.bytecode_verifier.specs.Budget.{Cap, cap_of, cap_at, sum_inside, sums_inside, budget_below}
+use Rattle.bytecode_verifier.specs.Budget.{Cap, cap_of, cap_at, sums_inside, budget_below}
 use Rattle.bytecode_verifier.specs.Pass.{unless_failed, HasPassed}
+use Rattle.bytecode_verifier.proofs.Tests.{or_false}
 use Rattle.bytecode_verifier.proofs.Least.{or_none, least_more}
 
 -- the shape goes on from a place to the next
@@ -73,10 +74,6 @@ index_here code place i o b here op e = rw here (e ∙ ap (λ p. misses_index co
 pub form_here : (code : Code) (place : ℕ) (i : Instruction) (o : Option Operation) (b : Bool) → slice_get code.instructions place ≡ Some i → o ≡ operation_of i.op → b ≡ is_well_formed o i → not b ≡ breaks_form code place
 form_here code place i o b here op e = rw here (ap not e ∙ ap (λ p. not (is_well_formed p i)) op)
 
-or_false : (b : Bool) → (b || false) ≡ b
-or_false true = refl
-or_false false = refl
-
 pub jump_here : (code : Code) (place : ℕ) (i : Instruction) (o : Option Operation) (b : Bool) → slice_get code.instructions place ≡ Some i → o ≡ operation_of i.op
     → b ≡ (is_jump o && (nat_le i.c place || nat_le (length code.instructions) i.c)) → loops code ≡ [] → b ≡ breaks_jump code place
 jump_here code place i o b here op e none =
@@ -94,9 +91,9 @@ pub passed_more : (code : Code) (place : ℕ) (i : Instruction) (operation : Opt
     → HasPassed code (place + 1) new
 passed_more code place i operation old new targeted misses formed astray count here before target op counted missed index form_is form astray_is jump stack shape budget =
     let goes : shape_at code (place + 1) ≡ unless_failed new.stack new.shape =
-            shape_more code place i (unless_failed old.stack old.shape) (unless_failed new.stack new.shape) here before.shape
-                (shape ∙ ap (λ t. option_and_then (shape_behind code t operation i) (unless_failed old.stack old.shape)) target
-                    ∙ ap (λ o. option_and_then (shape_behind code (is_target code.instructions place) o i) (unless_failed old.stack old.shape)) op) in
+    shape_more code place i (unless_failed old.stack old.shape) (unless_failed new.stack new.shape) here before.shape
+    (shape ∙ ap (λ t. option_and_then (shape_behind code t operation i) (unless_failed old.stack old.shape)) target
+    ∙ ap (λ o. option_and_then (shape_behind code (is_target code.instructions place) o i) (unless_failed old.stack old.shape)) op) in
     let forward : astray ≡ (is_jump operation && (nat_le i.c place || nat_le (length code.instructions) i.c)) = astray_is ∙ ap (λ n. is_jump operation && (nat_le i.c place || nat_le n i.c)) counted in
     record {
       index = least_more (breaks_index code) place old.index new.index misses before.index (index_here code place i operation misses here op missed) index;

@@ -1,5 +1,5 @@
 -- The budget of a program: the sums of its instructions' caps, by the number of open loops.
-use Rattle.std.specs.Prelude.{ℕ, Option, Some, None, List, [], ◌∷◌, if◌then◌else◌, length, ◌==◌, slice_get}
+use Rattle.std.specs.Prelude.{ℕ, Option, List, [], ◌∷◌, if◌then◌else◌, length, ◌==◌, slice_get}
 use Rattle.std.specs.Option.{option_map_or}
 use Rattle.bytecode_format.specs.declared.instruction.Instruction.{Instruction}
 use Rattle.bytecode_format.specs.declared.operation.Operation.{Operation}

@@ -1,13 +1,13 @@
 -- The rules of acceptance: for each the places at which it is broken.
-use Rattle.std.specs.Prelude.{ℕ, suc, Bool, true, false, ◌&&◌, ◌||◌, not, List, Option, Some, length, ◌-◌, nat_lt, nat_le, ◌==◌, is_some, is_none}
+use Rattle.std.specs.Prelude.{ℕ, suc, Bool, true, false, ◌&&◌, ◌||◌, not, Option, Some, length, ◌-◌, nat_lt, nat_le, ◌==◌, is_some, is_none}
 use Rattle.std.specs.List.{list_any}
 use Rattle.bytecode_format.specs.declared.instruction.Instruction.{Instruction}
 use Rattle.bytecode_format.specs.declared.operation.Operation.{Operation}
-use Rattle.bytecode_format.specs.declared.operation.Operation.TheVariants.{Halt, Jump, JumpIfTrue, JumpIfFalse, Size, PartSize, PartBody, PartDigest, Store, Each, Next, Break}
+use Rattle.bytecode_format.specs.declared.operation.Operation.TheVariants.{Halt, Size, PartSize, PartBody, PartDigest, Store, Each, Next, Break}
 use Rattle.bytecode_format.specs.Operations.{operation_of}
 use Rattle.bytecode_format.specs.Code.{Code}
 use Rattle.bytecode_verifier.specs.Places.{holds_at}
-use Rattle.bytecode_verifier.specs.Loops.{Loop, loops, open_loops, same_loops}
+use Rattle.bytecode_verifier.specs.Loops.{loops, open_loops, same_loops}
 use Rattle.bytecode_verifier.specs.Form.{is_well_formed}
 use Rattle.bytecode_verifier.specs.Shape.{is_jump, shape_at}
 

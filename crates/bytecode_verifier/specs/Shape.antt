@@ -8,15 +8,19 @@ use Rattle.bytecode_format.specs.declared.operation.Operation.TheVariants.{Halt,
 use Rattle.bytecode_format.specs.Operations.{operation_of}
 use Rattle.bytecode_format.specs.Code.{Code}
 use Rattle.bytecode_verifier.specs.declared.shape.Entry.{Entry}
-use Rattle.bytecode_verifier.specs.declared.shape.Entry.TheVariants.{Truth, Text}
+use Rattle.bytecode_verifier.specs.declared.shape.Entry.TheVariants.{Truth}
 
 -- the entries, the top one first
 abbrev pub Entries : Type 0
 Entries = List Entry
 
+-- how many entries the stack takes at most
+abbrev pub room : ℕ
+room = 1024
+
 -- one more entry on top, where there is room for it
 abbrev pub with_entry : Entry → Entries → Option Entries
-with_entry entry entries = if nat_lt (length entries) 1024 then Some (entry ∷ entries) else None
+with_entry entry entries = if nat_lt (length entries) room then Some (entry ∷ entries) else None
 
 abbrev pub is_empty : Entries → Bool
 is_empty [] = true

@@ -13,6 +13,9 @@ use bytecode_cost::Budget;
 use bytecode_format::{Instruction, Operation, Program};
 use std::alloc::{AllocError, Global};
 
+/// The version of every program.
+const VERSION: u8 = 1;
+
 /// What is known of the instructions so far: for each rule the first place where it is broken, the
 /// shape as far as it goes, and the budget.
 #[derive(Drop)]
@@ -30,6 +33,7 @@ impl Pass {
     pub fn new(alloc: Global, program: &Program) -> Pass
         ensures { HasPassed program.now 0 result }
     {
+        // That a program has this version is known where it is read.
         let _instructions = program.instructions();
         Pass {
             index: None,
@@ -42,7 +46,13 @@ impl Pass {
     }
 
     /// Takes the instruction at a place, and whether a jump leads there.
-    pub fn take(&mut self, program: &Program, place: usize, instruction: &Instruction, targeted: bool) -> Result<(), AllocError>
+    pub fn take(
+        &mut self,
+        program: &Program,
+        place: usize,
+        instruction: &Instruction,
+        targeted: bool,
+    ) -> Result<(), AllocError>
         requires small { place < 2 ^ 62 }
         requires here { slice_get program.now.instructions place ≡ Some instruction.now }
         requires target { targeted ≡ is_target program.now.instructions place }
@@ -52,26 +62,38 @@ impl Pass {
         let operation = Operation::of(instruction.op);
         let count = program.instructions().len();
         self.stack = advance(self.stack, &mut self.shape, place, targeted, operation)?;
-        self.index = first(self.index, misses_index(program, operation, instruction), place);
+        self.index = first(
+            self.index,
+            misses_index(program, operation, instruction),
+            place,
+        );
         self.form = first(self.form, !is_well_formed(operation, instruction), place);
-        self.jump = first(self.jump, misses_target(count, place, operation, instruction), place);
+        self.jump = first(
+            self.jump,
+            misses_target(count, place, operation, instruction),
+            place,
+        );
+        // Outside all loops, one charge, however long the message is.
         self.budget.add(0, 1, 0);
         Ok(())
     }
 }
 
-/// The version of every program.
-const VERSION: u8 = 1;
-
 // The first place, where the rule was broken before or is broken at this one.
 fn first(before: Option<usize>, broken: bool, place: usize) -> Option<usize>
     ensures { result ≡ option_or before (then_some broken place) }
 {
-    if before.is_none() && broken { Some(place) } else { before }
+    before.or(broken.then_some(place))
 }
 
 // Takes the shape over the instruction at a place: where it has failed, that place or one before.
-fn advance(failed: Option<usize>, shape: &mut Shape, place: usize, targeted: bool, operation: Option<Operation>) -> Result<Option<usize>, AllocError>
+fn advance(
+    failed: Option<usize>,
+    shape: &mut Shape,
+    place: usize,
+    targeted: bool,
+    operation: Option<Operation>,
+) -> Result<Option<usize>, AllocError>
     ensures place { IfOk result (λ after. after ≡ option_or failed (then_some (is_none failed && is_some after) place)) }
     ensures shape { IfOk result (λ after. (code : Code) (i : Instruction) →
         unless_failed after shape.new ≡ option_and_then (shape_behind code targeted operation i) (unless_failed failed shape.old)) }

@@ -7,7 +7,11 @@ ghost use Rattle.bytecode_verifier.specs.Rules;
 use bytecode_format::{Instruction, Operation, Program};
 
 /// Whether the instruction's index isn't below the count of what it is an index of.
-pub fn misses_index(program: &Program, operation: Option<Operation>, instruction: &Instruction) -> bool
+pub fn misses_index(
+    program: &Program,
+    operation: Option<Operation>,
+    instruction: &Instruction,
+) -> bool
     ensures { result ≡ Rules.misses_index program.now operation instruction.now }
 {
     match operation {
@@ -21,9 +25,12 @@ pub fn is_well_formed(operation: Option<Operation>, instruction: &Instruction) -
     ensures { result ≡ Form.is_well_formed operation instruction.now }
 {
     match operation {
-        Some(Operation::Halt | Operation::Not | Operation::Keep | Operation::Discard) => has_no_field(instruction),
+        Some(Operation::Halt | Operation::Not | Operation::Keep | Operation::Discard) =>
+            has_no_field(instruction),
         Some(Operation::Bool) => instruction.a < 2 && instruction.b == 0 && instruction.c == 0,
-        Some(Operation::Jump | Operation::JumpIfTrue | Operation::JumpIfFalse) => has_c_alone(instruction),
+        Some(Operation::Jump | Operation::JumpIfTrue | Operation::JumpIfFalse) => has_c_alone(
+            instruction,
+        ),
         Some(Operation::Size) => instruction.a < 2 && instruction.b == 0,
         _ => false,
     }
@@ -47,7 +54,10 @@ fn has_c_alone(instruction: &Instruction) -> bool
 pub fn is_jump(operation: Option<Operation>) -> bool
     ensures { result ≡ Shape.is_jump operation }
 {
-    matches!(operation, Some(Operation::Jump | Operation::JumpIfTrue | Operation::JumpIfFalse))
+    matches!(
+        operation,
+        Some(Operation::Jump | Operation::JumpIfTrue | Operation::JumpIfFalse)
+    )
 }
 
 /// Whether the operation ends the run.
@@ -59,7 +69,12 @@ pub fn is_halt(operation: Option<Operation>) -> bool
 
 /// Whether the instruction at a place is a jump that isn't forward, or leads behind the last of
 /// `count` instructions.
-pub fn misses_target(count: usize, place: usize, operation: Option<Operation>, instruction: &Instruction) -> bool
+pub fn misses_target(
+    count: usize,
+    place: usize,
+    operation: Option<Operation>,
+    instruction: &Instruction,
+) -> bool
     ensures { result ≡ (Shape.is_jump operation && (nat_le instruction.now.c place || nat_le count instruction.now.c)) }
 {
     let target = instruction.c as usize;

@@ -55,7 +55,8 @@ impl Verified {
 
 /// The program as one that is accepted, or the first rule that it breaks, with the same program.
 ///
-/// The rules come in the order of [`Refusal`], each with the least place where it is broken.
+/// The rules come in the order of [`Refusal`], each with the least place where it is broken; places
+/// count instructions from 0.
 /// [`Refusal::Memory`] comes only where memory was refused. The time is linear in the number of
 /// instructions, wherever the jumps lead.
 pub fn verify(alloc: Global, program: Program) -> Result<Verified, (Program, Refusal)>
@@ -93,7 +94,14 @@ fn outcome(program: &Program, pass: Pass) -> Result<Budget, Refusal>
     ensures budget { IfOk result (λ budget. budget ≡ budget_of program.now) }
     ensures refused { IfErr result (λ e. refusal_of program.now ≡ Some e) }
 {
-    let Pass { index, form, jump, stack, budget, .. } = pass;
+    let Pass {
+        index,
+        form,
+        jump,
+        stack,
+        budget,
+        ..
+    } = pass;
     if let Some(place) = index {
         return Err(Refusal::Index { place });
     }

@@ -1,4 +1,4 @@
-use Rattle.std.proofs.Common.{◌≡◌, false, ◌&&◌, not, Option, Some, None, rules}
+use Rattle.std.proofs.Common.{◌≡◌, false, ◌&&◌, not, None, rules}
 use Rattle.bytecode_verifier.specs.Shape.{is_empty}
 use Rattle.bytecode_verifier.proofs.Steps.{shape_over}
 use Rattle.bytecode_verifier.proofs.pass.advance.Goals as goal

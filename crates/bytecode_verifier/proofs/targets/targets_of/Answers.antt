@@ -1,6 +1,5 @@
-use Rattle.std.proofs.Common.{◌≡◌, ◌<◌, length, set, get_or, slice_get, Some, true, ap, ◌∙◌, sym, length-set}
+use Rattle.std.proofs.Common.{length, set, slice_get, true, ap, ◌∙◌, sym, length-set}
 use Rattle.std.proofs.lemmas.List.{with_items_is}
-use Rattle.bytecode_verifier.specs.Shape.{is_target}
 use Rattle.bytecode_verifier.proofs.Marks.{marks_stay, marks_more}
 use Rattle.bytecode_verifier.proofs.targets.targets_of.Goals as goal
 use Rattle.bytecode_verifier.proofs.targets.targets_of.Goals.{then-is_jump, else-is_jump}
@@ -15,13 +14,13 @@ loop-instruction-preserved c =
             number = rw (items, length-set) c.loop-instruction.invariant.number;
             each = λ place within. rw items
                 (marks_more c.args.instructions.now c.loop-instruction.instruction-index _ c.of.result c.loop-instruction.targets.items place c.loop-instruction-test.true c.of.ensures (sym c.is_jump.ensures ∙ w.if-is_jump.true)
-                    (rw c.loop-instruction.invariant.number within) (c.loop-instruction.invariant.each place within));
+                (rw c.loop-instruction.invariant.number within) (c.loop-instruction.invariant.each place within));
           }
       | else-is_jump w ↦
           record {
             number = ap (λ v. length v.items) w.targets-is ∙ c.loop-instruction.invariant.number;
             each = λ place within. ap (λ v. slice_get v.items place) w.targets-is
                 ∙ marks_stay c.args.instructions.now c.loop-instruction.instruction-index _ c.of.result c.loop-instruction.targets.items place c.loop-instruction-test.true c.of.ensures (sym c.is_jump.ensures ∙ w.if-is_jump.false)
-                    (c.loop-instruction.invariant.each place within);
+                (c.loop-instruction.invariant.each place within);
           }
     ]

@@ -6,6 +6,6 @@ pub returns : goal.returns
 returns c =
     let count : length c.instructions-count.result.now ≡ length c.args.program.now.instructions = ap length c.instructions-count.ensures.value in
     passed_more c.args.program.now c.args.place c.args.instruction.now c.of-operation.result c.args.self.now _ c.args.targeted c.misses_index.result c.is_well_formed.result c.misses_target.result _
-        c.requires.here c.requires.before c.requires.target c.of-operation.ensures count
-        c.misses_index.ensures c.first-self.ensures c.is_well_formed.ensures c.first-self-2.ensures c.misses_target.ensures c.first-self-3.ensures
-        c.in_ok-self.ensures.place (c.in_ok-self.ensures.shape c.args.program.now c.args.instruction.now) c.add.ensures
+    c.requires.here c.requires.before c.requires.target c.of-operation.ensures count
+    c.misses_index.ensures c.first-self.ensures c.is_well_formed.ensures c.first-self-2.ensures c.misses_target.ensures c.first-self-3.ensures
+    c.in_ok-self.ensures.place (c.in_ok-self.ensures.shape c.args.program.now c.args.instruction.now) c.add.ensures

@@ -1,0 +1,71 @@
+-- The definitions at small programs, by computation.
+use Rattle.std.proofs.Common.{◌≡◌, ℕ, List, [], ◌∷◌, Some, None, refl, true, false}
+use Rattle.bytecode_format.specs.declared.instruction.Instruction.{Instruction}
+use Rattle.bytecode_format.specs.declared.operation.Operation.{Operation}
+use Rattle.bytecode_format.specs.declared.operation.Operation.TheVariants.{Halt, Literal, Bool, Not, Jump as Goto, JumpIfTrue, JumpIfFalse, Size, Keep, Discard, Each, Next}
+use Rattle.bytecode_format.specs.Operations.{octet_of}
+use Rattle.bytecode_format.specs.Code.{Code}
+use Rattle.bytecode_verifier.specs.declared.error.Refusal.TheVariants.{Index, Form, End, Jump, Stack}
+use Rattle.bytecode_verifier.specs.Acceptance.{refusal_of}
+use Rattle.bytecode_verifier.specs.Loops.{loops, open_loops, same_loops}
+use Rattle.bytecode_verifier.specs.Budget.{budget_of}
+
+abbrev at : Operation → ℕ → ℕ → Instruction
+at operation a c = record { op = octet_of operation; a = a; b = 0; c = c }
+
+abbrev plain : Operation → Instruction
+plain operation = at operation 0 0
+
+abbrev program : List ℕ → List Instruction → Code
+program numbers instructions = record { version = 1; variables = 0; numbers = numbers; strings = []; instructions = instructions }
+
+backward_jump : refusal_of (program [] (at Goto 0 0 ∷ plain Halt ∷ [])) ≡ Some (Jump 0)
+backward_jump = refl
+
+no_halt : refusal_of (program [] (plain Keep ∷ [])) ≡ Some (End 0)
+no_halt = refl
+
+nothing : refusal_of (program [] []) ≡ Some (End 0)
+nothing = refl
+
+missing_entry : refusal_of (program [] (plain Not ∷ plain Halt ∷ [])) ≡ Some (Stack 0)
+missing_entry = refl
+
+operation_to_come : refusal_of (program [] (plain Literal ∷ plain Halt ∷ [])) ≡ Some (Form 0)
+operation_to_come = refl
+
+-- the jump leads between a value and what takes it
+jump_into_value : refusal_of (program [] (at Bool 1 0 ∷ at JumpIfFalse 0 3 ∷ at Bool 1 0 ∷ plain Not ∷ at JumpIfTrue 0 5 ∷ plain Halt ∷ [])) ≡ Some (Stack 3)
+jump_into_value = refl
+
+abbrev over_size : List Instruction
+over_size = plain Size ∷ at JumpIfFalse 0 3 ∷ plain Discard ∷ plain Halt ∷ []
+
+missing_number : refusal_of (program [] over_size) ≡ Some (Index 0)
+missing_number = refl
+
+accepted : refusal_of (program (7 ∷ []) over_size) ≡ None
+accepted = refl
+
+budget : budget_of (program (7 ∷ []) over_size) ≡ record { version = 1; fixed = 4 ∷ 0 ∷ 0 ∷ 0 ∷ []; scaled = 0 ∷ 0 ∷ 0 ∷ 0 ∷ [] }
+budget = refl
+
+-- a stray Next, a loop in a loop, a stray Next and a stray Each
+abbrev brackets : Code
+brackets = program [] (plain Next ∷ plain Each ∷ plain Keep ∷ plain Each ∷ plain Next ∷ plain Next ∷ plain Next ∷ plain Each ∷ [])
+
+matched : loops brackets ≡ record { each = 1; next = 5 } ∷ record { each = 3; next = 4 } ∷ []
+matched = refl
+
+-- an Each stands outside its loop, a Next inside
+at_each : open_loops brackets 3 ≡ record { each = 1; next = 5 } ∷ []
+at_each = refl
+
+at_next : open_loops brackets 4 ≡ record { each = 1; next = 5 } ∷ record { each = 3; next = 4 } ∷ []
+at_next = refl
+
+into_other_loop : same_loops brackets 2 4 ≡ false
+into_other_loop = refl
+
+within_one_loop : same_loops brackets 2 5 ≡ true
+within_one_loop = refl
