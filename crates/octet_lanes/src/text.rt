@@ -1,5 +1,5 @@
 // Whole texts.
-ghost use Rattle.std.specs.Prelude.{◌≡◌, ◌*◌, ◌++◌, ◌≤◌, IfOk, OnOk, length, take};
+ghost use Rattle.std.specs.Prelude.{◌≡◌, ◌*◌, ◌++◌, ◌<◌, ◌≤◌, IfOk, OnOk, length, take};
 ghost use Rattle.octet_lanes.specs.Encoding.{encoding_of, width};
 
 use crate::alphabet::{Alphabet, PADDING};
@@ -33,15 +33,27 @@ pub fn append_encoding(out: &mut Vec<u8>, octets: &[u8], alphabet: Alphabet) -> 
 {
     let block = 4 * alphabet.width();
     let mut rest = octets;
-    'blocks: while let Some(lanes) = rest.first_chunk::<32>() {
-        out.extend_from_slice(&spell(&split(lanes, alphabet), alphabet))?;
-        rest = &rest[block..];
+    'whole: while let Some(lanes) = rest.first_chunk::<32>() {
+        out.extend_from_slice(&block_symbols(lanes, alphabet))?;
+        let (_, after) = rest.split_at(block);
+        rest = after;
     }
-    if rest.len() > block {
-        append_block(out, &rest[..block], alphabet)?;
-        rest = &rest[block..];
+    append_rest(out, rest, alphabet)
+}
+
+// Appends the text of less than 32 octets, which are at most two blocks.
+#[inline(always)]
+fn append_rest(out: &mut Vec<u8>, octets: &[u8], alphabet: Alphabet) -> Result<(), AllocError>
+    requires { length octets.now < 32 }
+    ensures { OnOk result (out.new.items ≡ out.old.items ++ encoding_of alphabet octets.now) }
+{
+    let block = 4 * alphabet.width();
+    if octets.len() <= block {
+        return append_block(out, octets, alphabet);
     }
-    append_block(out, rest, alphabet)
+    let (front, back) = octets.split_at(block);
+    append_block(out, front, alphabet)?;
+    append_block(out, back, alphabet)
 }
 
 // Appends the text of at most a block of octets, whose last quantum is padded.
@@ -63,8 +75,16 @@ fn block_text(octets: &[u8], alphabet: Alphabet) -> ([u8; 32], usize)
 {
     let mut lanes = [0; 32];
     lanes[..octets.len()].copy_from_slice(octets);
-    let mut text = spell(&split(&lanes, alphabet), alphabet);
+    let mut text = block_symbols(&lanes, alphabet);
     let symbols = (8 * octets.len()).div_ceil(alphabet.width());
     text[symbols..].fill(PADDING);
     (text, octets.len().div_ceil(alphabet.quantum_octets()) * alphabet.quantum_characters())
+}
+
+// The text of a whole block, the first `4 * width` octets.
+#[inline(always)]
+fn block_symbols(octets: &[u8; 32], alphabet: Alphabet) -> [u8; 32]
+    ensures { result ≡ encoding_of alphabet (take (4 * width alphabet) octets.now) }
+{
+    spell(&split(octets, alphabet), alphabet)
 }
