@@ -7,3 +7,4 @@ pub mod Lanes
 pub mod Pairs
 pub mod Relaned
 pub mod Quanta
+pub mod Reading

@@ -7,7 +7,7 @@ use Rattle.std.proofs.lemmas.List.{length-append, append_assoc, append-nil, leng
 use Rattle.std.proofs.lemmas.Simd.{Each1-from_get_or, Each1-weaker}
 use Rattle.octet_lanes.specs.declared.alphabet.Alphabet.{Alphabet}
 use Rattle.octet_lanes.specs.declared.alphabet.Alphabet.TheVariants.{Base64, Base32, Base32Hex}
-use Rattle.octet_lanes.specs.Encoding.{width, quantum, symbol_of, class_of, stray, padding, bits_of, all_bits, number_of, lacking, filled, cut, groups_of, encoding_of, IsOctets, Spells, values_among, values_of, before_padding, whole, octets_of}
+use Rattle.octet_lanes.specs.Encoding.{width, quantum, symbol_of, class_of, stray, padding, bits_of, all_bits, number_of, lacking, filled, cut, groups_of, encoding_of, IsOctets, Spells, values_among, values_of, before_padding, whole, octets_of, decoding_of}
 use Rattle.octet_lanes.proofs.Bits.{length-all_bits}
 use Rattle.octet_lanes.proofs.Pieces.{groups_of_bits, Groups}
 use Rattle.octet_lanes.proofs.Symbols.{read_back}
@@ -65,8 +65,9 @@ octets_of_text alphabet octets are =
     let whole_bits : whole 8 (filled w 0 bits) ≡ bits = ap (λ n. take n (filled w 0 bits)) count ∙ take_at bits _ (length octets * 8) (length-all_bits 8 octets) in
     ap (λ v. octets_of (all_bits w v)) values ∙ ap octets_of g.same ∙ ap (groups_of 8) whole_bits ∙ groups_of_bits 8 octets (omega arith) (small_octets octets are)
 
-pub spelled_by_one : (alphabet : Alphabet) (text x y : List ℕ) → Spells alphabet text x → Spells alphabet text y → x ≡ y
-spelled_by_one alphabet text x y p q =
-    sym (octets_of_text alphabet x p.0)
-    ∙ ap (λ t. octets_of (all_bits (width alphabet) (values_of alphabet (before_padding t)))) (sym p.1 ∙ q.1)
-    ∙ octets_of_text alphabet y q.0
+pub reads_back : (alphabet : Alphabet) (octets : List ℕ) → IsOctets octets → decoding_of alphabet (encoding_of alphabet octets) ≡ octets
+unfolding decoding_of
+reads_back alphabet octets are = octets_of_text alphabet octets are
+
+pub spelled_by_one : (alphabet : Alphabet) (text x y : List ℕ) → IsOctets x → IsOctets y → Spells alphabet text x → Spells alphabet text y → x ≡ y
+spelled_by_one alphabet text x y p q e f = sym (reads_back alphabet x p) ∙ ap (decoding_of alphabet) (sym e ∙ f) ∙ reads_back alphabet y q

@@ -121,4 +121,8 @@ IsOctets = All (λ octet. octet < 256)
 
 -- a text spells octets where it is their encoding
 abbrev pub Spells : Alphabet → List ℕ → List ℕ → Type 0
-Spells alphabet text octets = IsOctets octets × (text ≡ encoding_of alphabet octets)
+Spells alphabet text octets = text ≡ encoding_of alphabet octets
+
+-- The octets of a text that any octets may interrupt: the bits of the values before the first `=`, as whole octets.
+unfoldable pub decoding_of : Alphabet → List ℕ → List ℕ
+decoding_of alphabet text = octets_of (all_bits (width alphabet) (values_of alphabet (before_padding text)))

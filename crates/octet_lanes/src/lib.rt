@@ -10,10 +10,12 @@ mod close;
 mod groups;
 pub mod laws;
 mod operations;
+mod reader;
 mod text;
 
 pub use alphabet::{Alphabet, PADDING, STRAY};
 pub use classes::{ascii_upper_lanes, classify, has_stray, spell};
 pub use close::close_up;
 pub use groups::{join, split};
+pub use reader::decode;
 pub use text::{append_encoding, encode};
