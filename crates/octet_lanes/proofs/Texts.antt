@@ -229,3 +229,41 @@ encoding_rest alphabet rest lanes is enough =
     let within : b ≤ length rest = omega (arith, in_lanes alphabet) in
     ap (encoding_of alphabet) (sym (take-append-drop b rest)) ∙ encoding_front alphabet (take b rest) (drop b rest) (length-take-le b rest within)
     ∙ ap (λ l. encoding_of alphabet l ++ encoding_of alphabet (drop b rest)) (sym front)
+
+-- ---- whole quanta, however many
+
+encoding_quanta : (alphabet : Alphabet) (groups front rest : List ℕ) (m : ℕ) → length groups ≡ m * quantum alphabet → AreGroups alphabet groups
+    → all_bits (width alphabet) groups ≡ all_bits 8 front → encoding_of alphabet (front ++ rest) ≡ map (symbol_of alphabet) groups ++ encoding_of alphabet rest
+unfolding encoding_of
+encoding_quanta alphabet groups front rest m long small same =
+    let w = width alphabet in
+    let symbols = map (symbol_of alphabet) in
+    let bits : all_bits 8 (front ++ rest) ≡ all_bits w groups ++ all_bits 8 rest =
+        flat_map-append (bits_of 8) front rest ∙ ap (λ l. l ++ all_bits 8 rest) (sym same) in
+    ap (λ l. filled (quantum alphabet) padding (symbols (groups_of w (filled w 0 l)))) bits
+    ∙ ap (λ l. filled (quantum alphabet) padding (symbols (groups_of w l))) (filled-append w 0 (length groups) (all_bits w groups) (all_bits 8 rest) (length-all_bits w groups))
+    ∙ ap (λ l. filled (quantum alphabet) padding (symbols l)) (groups_of-all_bits w groups (filled w 0 (all_bits 8 rest)) (some_width alphabet) small)
+    ∙ ap (filled (quantum alphabet) padding) (map-append (symbol_of alphabet) groups (groups_of w (filled w 0 (all_bits 8 rest))))
+    ∙ filled-append (quantum alphabet) padding m (symbols groups) _ (length-map groups (symbol_of alphabet) ∙ long)
+
+-- m whole quanta of octets
+pub encoding_whole_quanta : (alphabet : Alphabet) (front rest : List ℕ) (m : ℕ) → length front * 8 ≡ m * quantum alphabet * width alphabet
+    → (encoding_of alphabet (front ++ rest) ≡ encoding_of alphabet front ++ encoding_of alphabet rest) × (length (encoding_of alphabet front) ≡ m * quantum alphabet)
+encoding_whole_quanta alphabet front rest m long =
+    let w = width alphabet in
+    let g = in_groups w (m * quantum alphabet) (all_bits 8 front) (some_width alphabet) (length-all_bits 8 front ∙ long) (AreBits-all_bits 8 front) in
+    let alone : encoding_of alphabet front ≡ map (symbol_of alphabet) g.numbers =
+        ap (encoding_of alphabet) (sym (append-nil front)) ∙ encoding_quanta alphabet g.numbers front [] m g.many g.small g.same
+        ∙ ap (λ l. map (symbol_of alphabet) g.numbers ++ l) (encoding_of-none alphabet) ∙ append-nil (map (symbol_of alphabet) g.numbers) in
+    (encoding_quanta alphabet g.numbers front rest m g.many g.small g.same ∙ ap (λ l. l ++ encoding_of alphabet rest) (sym alone),
+      ap length alone ∙ length-map g.numbers (symbol_of alphabet) ∙ g.many)
+
+-- the length of a text
+pub length-encoding_of : (alphabet : Alphabet) (octets : List ℕ) → length (encoding_of alphabet octets) ≡ symbols_in alphabet (length octets) + lacking (quantum alphabet) (symbols_in alphabet (length octets))
+length-encoding_of alphabet octets =
+    let g = text_groups alphabet octets in
+    let symbols = map (symbol_of alphabet) g.numbers in
+    let many : length symbols ≡ symbols_in alphabet (length octets) = length-map g.numbers (symbol_of alphabet) ∙ g.many in
+    ap length (encoding_by_groups alphabet octets g.numbers g.small g.same)
+    ∙ length-append symbols (replicate (lacking (quantum alphabet) (length symbols)) padding)
+    ∙ (λ i. many i + length-replicate (lacking (quantum alphabet) (many i)) padding i)
