@@ -1,15 +1,16 @@
 -- Values that are read in blocks, and the octets of their bits.
-use Rattle.std.proofs.Common.{◌≡◌, ℕ, zero, suc, ◌+◌, ◌-◌, ◌*◌, ◌/◌, ◌%◌, ◌^◌, ◌<◌, ◌≤◌, ◌≢◌, Bool, true, false, not, cond, eqb, List, [], ◌∷◌, ◌++◌, length, map, take, drop, replicate, refl, sym, ap, ◌∙◌, subst, arith, eqb-true, ltb, ltb-false}
+use Rattle.std.proofs.Common.{◌≡◌, ℕ, zero, suc, ◌+◌, ◌-◌, ◌*◌, ◌/◌, ◌%◌, ◌^◌, ◌<◌, ◌≤◌, ◌≢◌, Bool, true, false, not, cond, ◌||◌, eqb, List, [], ◌∷◌, ◌++◌, length, map, take, drop, replicate, refl, sym, ap, ◌∙◌, subst, arith, eqb-true, ltb, ltb-false}
 use Rattle.std.specs.declared.option.Option.TheVariants.{Some, None}
 use Rattle.std.specs.Option.{unwrap_or}
 use Rattle.std.specs.declared.result.Result.{Result}
 use Rattle.std.specs.declared.result.Result.TheVariants.{Ok, Err}
 use Rattle.std.specs.Result.{OnOk, is_ok}
 use Rattle.std.specs.Simd.Lanes.{Each1}
-use Rattle.std.specs.List.{All, filter, flat_map, position, position_or_len, prefix_len}
+use Rattle.std.specs.List.{All, filter, flat_map, list_any, position, position_or_len, prefix_len}
 use borrow.Rule.Slice.PartMut.{put_mid, post_of}
 use Rattle.std.proofs.lemmas.Bool.{false≢true, eqb-false}
 use Rattle.std.proofs.lemmas.List.{length-append, append_assoc, append-nil, length-take-le, take_at, take-append-le, take-append-drop, take-take, drop-take, drop-replicate, map-append, length-drop, length-take, take_all}
+use Rattle.std.proofs.lemmas.List.Folds.{list_any-append}
 use Rattle.std.proofs.lemmas.List.Elements.{filter-append, All-nil, All-cons}
 use Rattle.std.proofs.lemmas.List.Concat.{flat_map-append}
 use Rattle.std.proofs.Math.Seq.{take-append-add}
@@ -181,3 +182,46 @@ pub zero_small : (alphabet : Alphabet) → 0 < 2 ^ width alphabet
 zero_small Base64 = omega arith
 zero_small Base32 = omega arith
 zero_small Base32Hex = omega arith
+
+-- nothing before a part without `=` is the first one
+pub free_front : (xs ys : List ℕ) → list_any (λ octet. eqb octet padding) xs ≡ false → before_padding (xs ++ ys) ≡ xs ++ before_padding ys
+free_front [] ys h = refl
+free_front (x ∷ xs) ys h = go (eqb x padding) h (free_front xs ys)
+  where
+    go : (b : Bool) → (b || list_any (λ octet. eqb octet padding) xs) ≡ false
+        → (list_any (λ octet. eqb octet padding) xs ≡ false → before_padding (xs ++ ys) ≡ xs ++ before_padding ys)
+        → take (cond (not b) (1 + prefix_len (λ o. not (eqb o padding)) (xs ++ ys)) 0) (x ∷ (xs ++ ys)) ≡ x ∷ (xs ++ before_padding ys)
+    go true e rest = absurd (false≢true (sym e))
+    go false e rest =
+        let more : 1 + prefix_len (λ o. not (eqb o padding)) (xs ++ ys) ≡ suc (prefix_len (λ o. not (eqb o padding)) (xs ++ ys)) = omega arith in
+        ap (λ n. take n (x ∷ (xs ++ ys))) more ∙ ap (λ l. x ∷ l) (rest e)
+
+pub free_more : (text block : List ℕ) (at : ℕ) → block ≡ take 32 (drop at text) → list_any (λ octet. eqb octet padding) (take at text) ≡ false
+    → list_any (λ octet. eqb octet padding) block ≡ false → list_any (λ octet. eqb octet padding) (take (at + 32) text) ≡ false
+free_more text block at is e f =
+    let p : ℕ → Bool = λ octet. eqb octet padding in
+    let count : at + 32 - at ≡ 32 = omega arith in
+    ap (list_any p) (in_two at (at + 32) text (omega arith) ∙ ap (λ n. take at text ++ take n (drop at text)) count ∙ ap (λ l. take at text ++ l) (sym is))
+    ∙ list_any-append p (take at text) block
+    ∙ (λ i. e i || f i)
+
+-- the first `=` behind a part without one
+pub found_behind : (text : List ℕ) (at end : ℕ) → list_any (λ octet. eqb octet padding) (take at text) ≡ false → Some end ≡ position (λ octet. eqb octet padding) (drop at text)
+    → take (at + end) text ≡ before_padding text
+found_behind text at end free e =
+    let count : at + end - at ≡ end = omega arith in
+    in_two at (at + end) text (omega arith) ∙ ap (λ n. take at text ++ take n (drop at text)) count
+    ∙ ap (λ l. take at text ++ l) (found (drop at text) end e)
+    ∙ sym (ap before_padding (sym (take-append-drop at text)) ∙ free_front (take at text) (drop at text) free)
+
+pub not_found_behind : (text : List ℕ) (at : ℕ) → list_any (λ octet. eqb octet padding) (take at text) ≡ false → None ≡ position (λ octet. eqb octet padding) (drop at text)
+    → text ≡ before_padding text
+not_found_behind text at free e =
+    sym (take-append-drop at text) ∙ ap (λ l. take at text ++ l) (not_found (drop at text) e)
+    ∙ sym (ap before_padding (sym (take-append-drop at text)) ∙ free_front (take at text) (drop at text) free)
+
+-- where every class is a value
+pub all_kept : (closed kept : List ℕ) → closed ≡ kept ++ replicate (32 - length kept) stray → length kept ≡ 32 → closed ≡ kept
+all_kept closed kept e long =
+    let none : 32 - length kept ≡ zero = omega arith in
+    e ∙ ap (λ n. kept ++ replicate n stray) none ∙ append-nil kept

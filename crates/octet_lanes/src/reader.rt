@@ -1,6 +1,6 @@
 // Texts that any octets may interrupt.
-ghost use Rattle.std.specs.Prelude.{◌≡◌, ℕ, ◌+◌, ◌*◌, ◌/◌, ◌++◌, ◌<◌, ◌≤◌, ◌^◌, ◌==◌, List, IfOk, OnOk, length, take};
-ghost use Rattle.std.specs.List.{All, position};
+ghost use Rattle.std.specs.Prelude.{◌≡◌, false, ℕ, ◌+◌, ◌*◌, ◌/◌, ◌++◌, ◌<◌, ◌≤◌, ◌^◌, ◌==◌, List, IfOk, OnOk, length, take};
+ghost use Rattle.std.specs.List.{All, list_any, position};
 ghost use Rattle.octet_lanes.specs.Encoding.{IsOctets, all_bits, before_padding, decoding_of, octets_of, padding, values_among, values_of, width};
 
 use crate::alphabet::{Alphabet, PADDING, STRAY};
@@ -8,6 +8,7 @@ use crate::classes::classify;
 use crate::close::close_up;
 use crate::groups::join;
 use std::alloc::{AllocError, Global};
+use std::simd::prelude::*;
 
 
 /// The octets of `text`: the bits of its symbols before the first `=`, as whole octets. Octets that are no symbols are
@@ -29,14 +30,36 @@ pub fn decode(alloc: Global, text: &[u8], alphabet: Alphabet) -> Result<Vec<u8>,
 }
 
 // What comes before the first `=`.
-#[inline(always)]
 fn up_to_padding(text: &[u8]) -> &[u8]
     ensures { result.now ≡ before_padding text.now }
 {
-    match first_padding(text) {
-        Some(end) => &text[..end],
+    let free = padding_free(text);
+    match first_padding(&text[free..]) {
+        Some(end) => &text[..free + end],
         None => text,
     }
+}
+
+// How many octets at least come before the first `=`, in whole blocks.
+fn padding_free(text: &[u8]) -> usize
+    ensures within { result ≤ length text.now }
+    ensures free { list_any (λ octet. octet == padding) (take result text.now) ≡ false }
+{
+    let mut at = 0;
+    'free: while let Some(block) = text[at..].first_chunk::<32>() {
+        if has_padding(block) {
+            break;
+        }
+        at += 32;
+    }
+    at
+}
+
+#[inline(always)]
+fn has_padding(octets: &[u8; 32]) -> bool
+    ensures { result ≡ list_any (λ octet. octet == padding) octets.now }
+{
+    u8x32::from_array(*octets).simd_eq(u8x32::splat(PADDING)).to_bitmask() != 0
 }
 
 #[inline(always)]
@@ -87,6 +110,9 @@ impl Window {
             ≡ all_bits 8 out.old.items ++ all_bits (width alphabet) (take self.old.held self.old.values ++ values_among classes.now)) }
     {
         let (closed, n) = close_up(classes);
+        if self.held == 0 && n == 32 {
+            return append_block(&closed, alphabet, out);
+        }
         let mut both = [STRAY; 64];
         both[..32].copy_from_slice(&self.values);
         both[self.held..self.held + 32].copy_from_slice(&closed);
