@@ -11,5 +11,8 @@ fn classes_and_symbols(rt: HostRuntime) {
     assert!(rt; values[24..] == [STRAY; 8]);
     assert!(rt; spell(&[31; 32], Alphabet::Base32) == [b'7'; 32]);
     assert!(rt; spell(&[31; 32], Alphabet::Base32Hex) == [b'V'; 32]);
-    assert!(rt; ascii_upper_lanes(b"abcxyz`{AZ09 abcxyz`{AZ09 abcxyz") == *b"ABCXYZ`{AZ09 ABCXYZ`{AZ09 ABCXYZ");
+    assert!(rt;
+        ascii_upper_lanes(b"abcxyz`{AZ09 abcxyz`{AZ09 abcxyz")
+            == *b"ABCXYZ`{AZ09 ABCXYZ`{AZ09 ABCXYZ"
+    );
 }

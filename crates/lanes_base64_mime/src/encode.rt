@@ -35,6 +35,12 @@ pub fn encode_mime(alloc: Global, octets: &[u8]) -> Result<Vec<u8>, AllocError>
 // The length of the text, and the greatest `usize` where that can't hold it.
 fn text_len(octets: usize) -> usize {
     let last = octets % LINE_OCTETS;
-    let last_len = if last == 0 { 0 } else { last.div_ceil(3) * 4 + LINE_BREAK.len() };
-    (octets / LINE_OCTETS).saturating_mul(LINE_LEN).saturating_add(last_len)
+    let last_len = if last == 0 {
+        0
+    } else {
+        last.div_ceil(3) * 4 + LINE_BREAK.len()
+    };
+    (octets / LINE_OCTETS)
+        .saturating_mul(LINE_LEN)
+        .saturating_add(last_len)
 }

@@ -6,5 +6,4 @@ ghost use Rattle.lanes_base64_mime.specs.MimeBase64.{mime_decoding_of, mime_enco
 /// What was written is read back.
 pub fn reads_what_was_written()
     ensures { (octets : List ℕ) → IsOctets octets → mime_decoding_of (mime_encoding_of octets) ≡ octets }
-{
-}
+{}

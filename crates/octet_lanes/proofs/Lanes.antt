@@ -1,8 +1,8 @@
 -- Vector operations, lane by lane.
-use Rattle.std.proofs.Common.{◌≡◌, ℕ, zero, suc, ◌+◌, ◌-◌, ◌*◌, ◌/◌, ◌%◌, ◌^◌, ◌<◌, ◌≤◌, Bool, true, false, cond, not, ◌||◌, eqb, leb, ltb, List, [], ◌∷◌, ◌++◌, length, set, take, get_or, map, replicate, refl, sym, ap, ◌∙◌, subst, arith, w8, Fits, eqb-true}
+use Rattle.std.proofs.Common.{◌≡◌, ℕ, zero, suc, ◌+◌, ◌-◌, ◌*◌, ◌%◌, ◌^◌, ◌<◌, ◌≤◌, Bool, true, false, cond, not, ◌||◌, eqb, leb, ltb, List, [], ◌∷◌, ◌++◌, length, set, take, get_or, map, replicate, refl, sym, ap, ◌∙◌, arith, w8, Fits, eqb-true}
 use Rattle.std.specs.Simd.Lanes.{Each1, zip2, sel_l, mask_l, top}
 use Rattle.std.specs.List.{list_any}
-use Rattle.std.proofs.lemmas.Simd.{zip2_splat, zip2_of_maps, tops_compared, mask_l-mod, bitmask_splat, map-map, below_from_Fits}
+use Rattle.std.proofs.lemmas.Simd.{tops_compared, bitmask_splat, map-map, below_from_Fits}
 use Rattle.std.proofs.lemmas.Bool.{false≢true}
 use Rattle.std.proofs.lemmas.List.{set_at, append_assoc, append-nil, length_push}
 use Rattle.std.proofs.lemmas.List.Elements.{filter_more}
@@ -85,11 +85,12 @@ pub value_more : (xs : List ℕ) (i n : ℕ) → i < length xs → length xs ≡
 value_more xs i n l long count room value =
     let x = get_or xs i 0 in
     let more : values_among (take (i + 1) xs) ≡ values_among (take i xs) ++ x ∷ [] = values_more xs i l ∙ ap (λ b. values_among (take i xs) ++ cond (not b) (x ∷ []) []) value in
-    let fewer : 31 - n ≡ 32 - (n + 1) = omega arith in
-    (count_more xs i n x count ∙ ap length (sym more),
+    let fewer : 31 - n ≡ 32 - (n + 1) = omega arith in (
+      count_more xs i n x count ∙ ap length (sym more),
       written (values_among (take i xs)) n x (sym count) (omega arith)
-      ∙ sym (append_assoc (values_among (take i xs)) (x ∷ []) (replicate (31 - n) stray))
-      ∙ (λ j. sym more j ++ replicate (fewer j) stray))
+          ∙ sym (append_assoc (values_among (take i xs)) (x ∷ []) (replicate (31 - n) stray))
+          ∙ (λ j. sym more j ++ replicate (fewer j) stray),
+    )
   where
     count_more : (xs : List ℕ) (i n x : ℕ) → n ≡ length (values_among (take i xs)) → n + 1 ≡ length (values_among (take i xs) ++ x ∷ [])
     count_more xs i n x e = omega (arith, length_push (values_among (take i xs)) x)
@@ -100,9 +101,10 @@ stray_more xs i n l long count room value =
     let x = get_or xs i 0 in
     let is : x ≡ stray = eqb-true _ _ value in
     let same : values_among (take (i + 1) xs) ≡ values_among (take i xs) =
-        values_more xs i l ∙ ap (λ b. values_among (take i xs) ++ cond (not b) (x ∷ []) []) value ∙ append-nil (values_among (take i xs)) in
-    let more : suc (31 - n) ≡ 32 - n = omega arith in
-    (count ∙ ap length (sym same),
+    values_more xs i l ∙ ap (λ b. values_among (take i xs) ++ cond (not b) (x ∷ []) []) value ∙ append-nil (values_among (take i xs)) in
+    let more : suc (31 - n) ≡ 32 - n = omega arith in (
+      count ∙ ap length (sym same),
       written (values_among (take i xs)) n x (sym count) (omega arith)
-      ∙ ap (λ y. values_among (take i xs) ++ y ∷ replicate (31 - n) stray) is
-      ∙ (λ j. sym same j ++ replicate (more j) stray))
+          ∙ ap (λ y. values_among (take i xs) ++ y ∷ replicate (31 - n) stray) is
+          ∙ (λ j. sym same j ++ replicate (more j) stray),
+    )

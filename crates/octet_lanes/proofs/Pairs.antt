@@ -1,10 +1,10 @@
 -- Numbers of two groups of bits, in halves of a lane and as one.
 use Rattle.std.proofs.Common.{◌≡◌, ℕ, zero, suc, ◌+◌, ◌-◌, ◌*◌, ◌/◌, ◌%◌, ◌^◌, ◌<◌, ◌≤◌, List, [], ◌∷◌, ◌++◌, length, map, replicate, bit_and, refl, sym, ap, ◌∙◌, subst, arith}
-use Rattle.std.specs.Simd.Lanes.{Each1, zip2, number_l, digits_l}
+use Rattle.std.specs.Simd.Lanes.{Each1, zip2}
 use Rattle.std.specs.List.{flat_map}
 use Rattle.std.proofs.lemmas.List.{append_assoc}
-use Rattle.std.proofs.lemmas.Nat.{and_mask, pow-add, shr_below, shr_split, shr_high, div_below, mod-mul-add, div-add-mod'}
-use Rattle.std.proofs.Math.Nat.{mod-lt, mod-eq_of_lt, div-eq_of_lt, mul-le-mul_right, mul-le-mul_left, pow-le-pow_right, one-le-pow, add-mul-mod_self_left, add-mul-mod_self_right, add-mul-div_left, add-mul-div_right}
+use Rattle.std.proofs.lemmas.Nat.{and_mask, pow-add, shr_below, shr_split}
+use Rattle.std.proofs.Math.Nat.{mod-lt, mod-eq_of_lt, div-eq_of_lt, mul-le-mul_right, pow-le-pow_right, one-le-pow, add-mul-mod_self_right, add-mul-div_right}
 use Rattle.octet_lanes.specs.Encoding.{bits_of, all_bits}
 use Rattle.octet_lanes.specs.Lanes.{halves_of, whole_of, parts_of}
 use Rattle.octet_lanes.proofs.Bits.{bits_pair}
@@ -34,7 +34,7 @@ halved k h mask x le e small =
 
 pub all_halved : (k h mask n : ℕ) (xs : List ℕ) → length xs ≡ n → k ≤ h → mask + 1 ≡ 2 ^ k → Each1 (λ x. x < 2 ^ (k + k)) xs
     → zip2 (λ a b. (a + b) % 2 ^ (h + h)) (zip2 (λ a b. a / 2 ^ b) xs (replicate n k)) (zip2 (λ a b. a * 2 ^ b % 2 ^ (h + h)) (zip2 bit_and xs (replicate n mask)) (replicate n h))
-      ≡ map (halves_of k h) xs
+    ≡ map (halves_of k h) xs
 all_halved k h mask zero [] p le e small = refl
 all_halved k h mask zero (x ∷ xs) p le e small = absurd (omega arith)
 all_halved k h mask (suc n) [] p le e small = absurd (omega arith)
@@ -83,7 +83,7 @@ joined k h y le first second =
 
 pub all_joined : (k h n : ℕ) (ys : List ℕ) → length ys ≡ n → k ≤ h → Each1 (λ y. y < 2 ^ k) (flat_map (parts_of h) ys)
     → zip2 (λ a b. (a + b) % 2 ^ (h + h)) (zip2 (λ a b. a * 2 ^ b % 2 ^ (h + h)) (zip2 bit_and ys (replicate n (2 ^ h - 1))) (replicate n k)) (zip2 (λ a b. a / 2 ^ b) ys (replicate n h))
-      ≡ map (whole_of k h) ys
+    ≡ map (whole_of k h) ys
 all_joined k h zero [] p le small = refl
 all_joined k h zero (y ∷ ys) p le small = absurd (omega arith)
 all_joined k h (suc n) [] p le small = absurd (omega arith)

@@ -1,12 +1,12 @@
 -- Lists cut into pieces, and filled up.
-use Rattle.std.proofs.Common.{◌≡◌, ℕ, zero, suc, ◌+◌, ◌-◌, ◌*◌, ◌/◌, ◌%◌, ◌^◌, ◌<◌, ◌≤◌, List, [], ◌∷◌, ◌++◌, length, map, take, drop, replicate, refl, sym, ap, ◌∙◌, subst, inl, inr, arith}
+use Rattle.std.proofs.Common.{◌≡◌, ℕ, zero, suc, ◌+◌, ◌-◌, ◌*◌, ◌/◌, ◌%◌, ◌^◌, ◌<◌, List, [], ◌∷◌, ◌++◌, length, map, take, drop, replicate, refl, sym, ap, ◌∙◌, subst, inl, inr, arith}
 use Rattle.std.specs.Simd.Lanes.{Each1}
 use Rattle.std.proofs.lemmas.Bool.{cases_lt}
-use Rattle.std.proofs.lemmas.List.{length-append, append_assoc, append-nil, length-take, length-take-le, length-drop, take-append-drop, take_at, drop_at, take_all, drop_all, map-append, length-replicate, nil_from_length}
+use Rattle.std.proofs.lemmas.List.{length-append, append_assoc, append-nil, length-take-le, length-drop, take-append-drop, take_at, drop_at, nil_from_length}
 use Rattle.std.proofs.lemmas.Nat.{div_below}
 use Rattle.std.proofs.Math.Nat.{add-mul-div_left, mul-add-mod_self_right, mod-eq_of_lt}
 use Rattle.octet_lanes.specs.Encoding.{bits_of, all_bits, number_of, lacking, filled, first_pieces, cut, groups_of}
-use Rattle.octet_lanes.proofs.Bits.{length-bits_of, length-all_bits, number_of_bits, AreBits, AreBits-bits_of, bits_of-number, number_of-lt}
+use Rattle.octet_lanes.proofs.Bits.{length-bits_of, number_of_bits, AreBits, bits_of-number, number_of-lt}
 
 pub cut-nil : (k : ℕ) → 0 < k → cut k [] ≡ []
 cut-nil k h =
@@ -18,19 +18,19 @@ pub cut-step : (k : ℕ) (xs : List ℕ) → 0 < k → 0 < length xs → cut k x
 cut-step k xs h some =
     let rest : length (drop k xs) ≡ length xs - k = length-drop k xs in
     let count : (length xs + (k - 1)) / k ≡ suc ((length (drop k xs) + (k - 1)) / k) =
-        elim (cases_lt (length xs) k) [
-          | inl l ↦
-              let fewer : (length xs - 1) / k < 1 = div_below (length xs - 1) k 1 h (omega arith) in
-              let none : (0 + (k - 1)) / k < 1 = div_below (0 + (k - 1)) k 1 h (omega arith) in
-              let one : (length xs - 1 + k * 1) / k ≡ (length xs - 1) / k + 1 = add-mul-div_left (length xs - 1) 1 h in
-              let same : length xs + (k - 1) ≡ length xs - 1 + k * 1 = omega arith in
-              let zero' : length (drop k xs) ≡ 0 = omega arith in
-              ap (λ n. n / k) same ∙ (omega arith) ∙ ap (λ n. suc ((n + (k - 1)) / k)) (sym zero')
-          | inr g ↦
-              let one : (length xs - k + (k - 1) + k * 1) / k ≡ (length xs - k + (k - 1)) / k + 1 = add-mul-div_left (length xs - k + (k - 1)) 1 h in
-              let same : length xs + (k - 1) ≡ length xs - k + (k - 1) + k * 1 = omega arith in
-              ap (λ n. n / k) same ∙ one ∙ (omega arith) ∙ ap (λ n. suc ((n + (k - 1)) / k)) (sym rest)
-        ] in
+    elim (cases_lt (length xs) k) [
+      | inl l ↦
+          let fewer : (length xs - 1) / k < 1 = div_below (length xs - 1) k 1 h (omega arith) in
+          let none : (0 + (k - 1)) / k < 1 = div_below (0 + (k - 1)) k 1 h (omega arith) in
+          let one : (length xs - 1 + k * 1) / k ≡ (length xs - 1) / k + 1 = add-mul-div_left (length xs - 1) 1 h in
+          let same : length xs + (k - 1) ≡ length xs - 1 + k * 1 = omega arith in
+          let zero' : length (drop k xs) ≡ 0 = omega arith in
+          ap (λ n. n / k) same ∙ (omega arith) ∙ ap (λ n. suc ((n + (k - 1)) / k)) (sym zero')
+      | inr g ↦
+          let one : (length xs - k + (k - 1) + k * 1) / k ≡ (length xs - k + (k - 1)) / k + 1 = add-mul-div_left (length xs - k + (k - 1)) 1 h in
+          let same : length xs + (k - 1) ≡ length xs - k + (k - 1) + k * 1 = omega arith in
+          ap (λ n. n / k) same ∙ one ∙ (omega arith) ∙ ap (λ n. suc ((n + (k - 1)) / k)) (sym rest)
+    ] in
     ap (λ n. first_pieces k n xs) count
 
 pub cut-append : (k : ℕ) (piece rest : List ℕ) → 0 < k → length piece ≡ k → cut k (piece ++ rest) ≡ piece ∷ cut k rest
@@ -75,6 +75,7 @@ in_groups k (suc n) bits h long are =
     AreBits-take zero bits h = tt
     AreBits-take (suc k) [] h = tt
     AreBits-take (suc k) (b ∷ bits) h = (h.0, AreBits-take k bits h.1)
+
     AreBits-drop : (k : ℕ) (bits : List ℕ) → AreBits bits → AreBits (drop k bits)
     AreBits-drop zero bits h = h
     AreBits-drop (suc k) [] h = tt
@@ -87,5 +88,5 @@ lacking_more k m n = ap (λ r. (k - r) % k) (mul-add-mod_self_right m k n)
 pub filled-append : (k x m : ℕ) (xs ys : List ℕ) → length xs ≡ m * k → filled k x (xs ++ ys) ≡ xs ++ filled k x ys
 filled-append k x m xs ys long =
     let count : lacking k (length (xs ++ ys)) ≡ lacking k (length ys) =
-        ap (lacking k) (length-append xs ys ∙ ap (λ n. n + length ys) long) ∙ lacking_more k m (length ys) in
+    ap (lacking k) (length-append xs ys ∙ ap (λ n. n + length ys) long) ∙ lacking_more k m (length ys) in
     ap (λ n. (xs ++ ys) ++ replicate n x) count ∙ append_assoc xs ys (replicate (lacking k (length ys)) x)

@@ -1,11 +1,9 @@
 -- Quanta of octets as numbers in lanes, and back. A lane holds its number's lowest octet first, so a quantum stands there turned round.
-use Rattle.std.proofs.Common.{◌≡◌, ℕ, zero, suc, ◌+◌, ◌-◌, ◌*◌, ◌/◌, ◌%◌, ◌^◌, ◌<◌, ◌≤◌, List, [], ◌∷◌, ◌++◌, length, map, take, replicate, get_or, refl, sym, ap, ◌∙◌, subst, inl, inr, arith, w8, Fits}
+use Rattle.std.proofs.Common.{◌≡◌, ℕ, zero, suc, ◌+◌, ◌*◌, ◌/◌, ◌%◌, ◌^◌, ◌<◌, List, [], ◌∷◌, ◌++◌, length, map, replicate, get_or, refl, sym, ap, ◌∙◌, subst, arith}
 use Rattle.std.specs.Simd.Lanes.{Each1, number_l, digits_l, pick_l}
-use Rattle.std.specs.List.{flat_map, range_with_len}
-use Rattle.std.proofs.lemmas.Bool.{cases_lt}
-use Rattle.std.proofs.lemmas.List.{append_assoc, append-nil, get_or_past, length-append}
+use Rattle.std.specs.List.{flat_map}
+use Rattle.std.proofs.lemmas.List.{append-nil}
 use Rattle.std.proofs.lemmas.List.Concat.{flat_map-append}
-use Rattle.std.proofs.lemmas.Simd.{Each1-get_or, get_or_narrower, pick_l_left, pick_l_whole, pick_l-range_with_len}
 use Rattle.std.proofs.Math.Nat.{pow-zero, pow-succ', one-le-pow, add-mul-mod_self_left, add-mul-div_left, mod-eq_of_lt, div-eq_of_lt}
 use Rattle.octet_lanes.specs.Encoding.{bits_of, all_bits}
 use Rattle.octet_lanes.proofs.Bits.{bits_pair}

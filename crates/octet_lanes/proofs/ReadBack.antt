@@ -1,15 +1,15 @@
 -- A text read back: the groups of its symbols, and the octets of their bits.
-use Rattle.std.proofs.Common.{◌≡◌, ℕ, zero, suc, ◌+◌, ◌-◌, ◌*◌, ◌/◌, ◌%◌, ◌^◌, ◌<◌, ◌≤◌, ◌≢◌, Bool, true, false, not, cond, eqb, List, [], ◌∷◌, ◌++◌, length, map, take, drop, replicate, get_or, refl, sym, ap, ◌∙◌, subst, arith, eqb-true}
+use Rattle.std.proofs.Common.{◌≡◌, ℕ, zero, suc, ◌+◌, ◌*◌, ◌/◌, ◌^◌, ◌<◌, false, not, cond, eqb, List, [], ◌∷◌, ◌++◌, length, map, take, replicate, refl, sym, ap, ◌∙◌, arith}
 use Rattle.std.specs.Simd.Lanes.{Each1}
-use Rattle.std.specs.List.{filter, prefix_len, position_or_len, before_first}
+use Rattle.std.specs.List.{prefix_len}
 use Rattle.std.proofs.lemmas.Bool.{ne_eqb}
-use Rattle.std.proofs.lemmas.List.{length-append, append_assoc, append-nil, length-take, length-take-le, take_at, take_all, map-append, length-map}
-use Rattle.std.proofs.lemmas.Simd.{Each1-from_get_or, Each1-weaker}
+use Rattle.std.proofs.lemmas.List.{take_at}
+use Rattle.std.proofs.lemmas.Simd.{Each1-from_get_or}
 use Rattle.octet_lanes.specs.declared.alphabet.Alphabet.{Alphabet}
 use Rattle.octet_lanes.specs.declared.alphabet.Alphabet.TheVariants.{Base64, Base32, Base32Hex}
-use Rattle.octet_lanes.specs.Encoding.{width, quantum, symbol_of, class_of, stray, padding, bits_of, all_bits, number_of, lacking, filled, cut, groups_of, encoding_of, IsOctets, Spells, values_among, values_of, before_padding, whole, octets_of, decoding_of}
+use Rattle.octet_lanes.specs.Encoding.{width, quantum, symbol_of, class_of, stray, padding, all_bits, filled, groups_of, encoding_of, IsOctets, Spells, values_of, before_padding, whole, octets_of, decoding_of}
 use Rattle.octet_lanes.proofs.Bits.{length-all_bits}
-use Rattle.octet_lanes.proofs.Pieces.{groups_of_bits, Groups}
+use Rattle.octet_lanes.proofs.Pieces.{groups_of_bits}
 use Rattle.octet_lanes.proofs.Symbols.{read_back}
 use Rattle.octet_lanes.proofs.Texts.{AreGroups, text_groups, encoding_by_groups, symbols_in, filled-length}
 
@@ -58,9 +58,9 @@ octets_of_text alphabet octets are =
     let bits = all_bits 8 octets in
     let text : encoding_of alphabet octets ≡ filled (quantum alphabet) padding (map (symbol_of alphabet) g.numbers) = encoding_by_groups alphabet octets g.numbers g.small g.same in
     let values : values_of alphabet (before_padding (encoding_of alphabet octets)) ≡ g.numbers =
-        ap (λ t. values_of alphabet (before_padding t)) text
-        ∙ ap (values_of alphabet) (before_padding-symbols alphabet g.numbers _ g.small)
-        ∙ values_of-symbols alphabet g.numbers g.small in
+    ap (λ t. values_of alphabet (before_padding t)) text
+    ∙ ap (values_of alphabet) (before_padding-symbols alphabet g.numbers _ g.small)
+    ∙ values_of-symbols alphabet g.numbers g.small in
     let count : length (filled w 0 bits) / 8 * 8 ≡ length octets * 8 = ap (λ n. n / 8 * 8) (filled-length alphabet octets) ∙ ap (λ n. n * 8) (filled_octets alphabet (length octets)) in
     let whole_bits : whole 8 (filled w 0 bits) ≡ bits = ap (λ n. take n (filled w 0 bits)) count ∙ take_at bits _ (length octets * 8) (length-all_bits 8 octets) in
     ap (λ v. octets_of (all_bits w v)) values ∙ ap octets_of g.same ∙ ap (groups_of 8) whole_bits ∙ groups_of_bits 8 octets (omega arith) (small_octets octets are)

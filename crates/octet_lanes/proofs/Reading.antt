@@ -1,15 +1,15 @@
 -- Values that are read in blocks, and the octets of their bits.
-use Rattle.std.proofs.Common.{◌≡◌, ℕ, zero, suc, ◌+◌, ◌-◌, ◌*◌, ◌/◌, ◌%◌, ◌^◌, ◌<◌, ◌≤◌, ◌≢◌, Bool, true, false, not, cond, ◌||◌, eqb, List, [], ◌∷◌, ◌++◌, length, map, take, drop, replicate, refl, sym, ap, ◌∙◌, subst, arith, eqb-true, ltb, ltb-false}
+use Rattle.std.proofs.Common.{◌≡◌, ℕ, zero, suc, ◌+◌, ◌-◌, ◌*◌, ◌/◌, ◌^◌, ◌<◌, ◌≤◌, ◌≢◌, Bool, true, false, not, cond, ◌||◌, eqb, List, [], ◌∷◌, ◌++◌, length, map, take, drop, replicate, refl, sym, ap, ◌∙◌, arith, ltb, ltb-false}
 use Rattle.std.specs.declared.option.Option.TheVariants.{Some, None}
 use Rattle.std.specs.Option.{unwrap_or}
 use Rattle.std.specs.declared.result.Result.{Result}
 use Rattle.std.specs.declared.result.Result.TheVariants.{Ok, Err}
 use Rattle.std.specs.Result.{OnOk, is_ok}
 use Rattle.std.specs.Simd.Lanes.{Each1}
-use Rattle.std.specs.List.{All, filter, flat_map, list_any, position, position_or_len, prefix_len}
+use Rattle.std.specs.List.{All, list_any, position, position_or_len, prefix_len}
 use borrow.Rule.Slice.PartMut.{put_mid, post_of}
 use Rattle.std.proofs.lemmas.Bool.{false≢true, eqb-false}
-use Rattle.std.proofs.lemmas.List.{length-append, append_assoc, append-nil, length-take-le, take_at, take-append-le, take-append-drop, take-take, drop-take, drop-replicate, map-append, length-drop, length-take, take_all}
+use Rattle.std.proofs.lemmas.List.{length-append, append_assoc, append-nil, length-take-le, take_at, take-append-le, take-append-drop, take-take, drop-take, drop-replicate, map-append, take_all}
 use Rattle.std.proofs.lemmas.List.Folds.{list_any-append}
 use Rattle.std.proofs.lemmas.List.Elements.{filter-append, All-nil, All-cons}
 use Rattle.std.proofs.lemmas.List.Concat.{flat_map-append}
@@ -129,11 +129,11 @@ octets_of-values w m values filler octets is small few same =
     let count : length P / 8 * 8 ≡ m * 8 = ap (λ n. n / 8 * 8) long ∙ ap (λ n. n * 8) (sym is) in
     let within : m * 8 ≤ length P = omega arith in
     let bits : whole 8 P ≡ all_bits 8 (take m octets) =
-        ap (λ n. take n P) count
-        ∙ sym (take-append-le (m * 8) P (all_bits w filler) within)
-        ∙ ap (take (m * 8)) (sym (flat_map-append (bits_of w) values filler) ∙ sym same)
-        ∙ take-all_bits 8 m (take (4 * w) octets)
-        ∙ ap (all_bits 8) (take-take m (4 * w) octets few) in
+    ap (λ n. take n P) count
+    ∙ sym (take-append-le (m * 8) P (all_bits w filler) within)
+    ∙ ap (take (m * 8)) (sym (flat_map-append (bits_of w) values filler) ∙ sym same)
+    ∙ take-all_bits 8 m (take (4 * w) octets)
+    ∙ ap (all_bits 8) (take-take m (4 * w) octets few) in
     ap (groups_of 8) bits ∙ groups_of_bits 8 (take m octets) (omega arith) small
 
 -- the window's two halves

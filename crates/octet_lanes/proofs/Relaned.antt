@@ -1,9 +1,9 @@
 -- Vectors of narrower and of wider lanes, by the number that all lanes make.
-use Rattle.std.proofs.Common.{◌≡◌, ℕ, zero, suc, ◌+◌, ◌-◌, ◌*◌, ◌/◌, ◌%◌, ◌^◌, ◌<◌, ◌≤◌, List, [], ◌∷◌, ◌++◌, length, map, replicate, refl, sym, ap, ◌∙◌, subst, arith}
+use Rattle.std.proofs.Common.{◌≡◌, ℕ, zero, suc, ◌+◌, ◌*◌, ◌/◌, ◌%◌, ◌^◌, ◌<◌, ◌≤◌, List, [], ◌∷◌, ◌++◌, length, refl, ap, ◌∙◌, subst, arith}
 use Rattle.std.specs.Simd.Lanes.{Each1, number_l, digits_l}
 use Rattle.std.specs.List.{flat_map}
-use Rattle.std.proofs.lemmas.Nat.{pow-add, div_below, div-add-mod'}
-use Rattle.std.proofs.Math.Nat.{mod-lt, mod-eq_of_lt, div-eq_of_lt, mul-le-mul_right, mul-le-mul_left, one-le-pow, pow-zero, pow-suc, pow-succ', add-mul-mod_self_left, add-mul-div_left}
+use Rattle.std.proofs.lemmas.Nat.{div_below, div-add-mod'}
+use Rattle.std.proofs.Math.Nat.{mod-eq_of_lt, div-eq_of_lt, mul-le-mul_left, one-le-pow, pow-zero, pow-suc, pow-succ', add-mul-mod_self_left, add-mul-div_left}
 use Rattle.octet_lanes.specs.Lanes.{parts_of}
 use Rattle.octet_lanes.proofs.Pairs.{pair_below}
 

@@ -1,11 +1,10 @@
 -- Symbols and classes, computed at each value and at each octet.
-use Rattle.std.proofs.Common.{◌≡◌, ℕ, zero, suc, ◌-◌, ◌^◌, ◌<◌, ◌≤◌, ◌≢◌, Bool, true, false, not, cond, ◌&&◌, T, eqb, ltb, List, [], ◌∷◌, ◌++◌, length, map, refl, sym, ap, ◌∙◌, subst, inl, inr, arith, eq-zero-or-pos, eqb→eq, eqb-true, ltb-true, eq-eqb}
+use Rattle.std.proofs.Common.{◌≡◌, ℕ, zero, suc, ◌-◌, ◌^◌, ◌<◌, ◌≢◌, Bool, true, not, ◌&&◌, T, eqb, List, [], ◌∷◌, map, refl, ap, subst, inl, inr, arith, eq-zero-or-pos, eqb→eq, eq-eqb}
 use Rattle.std.specs.Simd.Lanes.{Each1}
-use Rattle.std.specs.List.{filter}
 use lib.Ieee.Fits.{and_l, and_r}
 use Rattle.octet_lanes.specs.declared.alphabet.Alphabet.{Alphabet}
 use Rattle.octet_lanes.specs.declared.alphabet.Alphabet.TheVariants.{Base64, Base32, Base32Hex}
-use Rattle.octet_lanes.specs.Encoding.{width, symbol_of, class_of, stray, padding, values_among}
+use Rattle.octet_lanes.specs.Encoding.{width, symbol_of, class_of, padding}
 
 abbrev pub all_below : (ℕ → Bool) → ℕ → Bool
 all_below p zero = true

@@ -1,8 +1,7 @@
 -- Texts, by their blocks and by their last quanta.
-use Rattle.std.proofs.Common.{◌≡◌, ℕ, zero, suc, ◌+◌, ◌-◌, ◌*◌, ◌/◌, ◌%◌, ◌^◌, ◌<◌, ◌≤◌, List, [], ◌∷◌, ◌++◌, length, map, take, drop, replicate, refl, sym, ap, ◌∙◌, subst, inl, inr, arith}
+use Rattle.std.proofs.Common.{◌≡◌, ℕ, zero, suc, ◌+◌, ◌-◌, ◌*◌, ◌/◌, ◌^◌, ◌<◌, ◌≤◌, List, [], ◌∷◌, ◌++◌, length, map, take, drop, replicate, refl, sym, ap, ◌∙◌, arith}
 use Rattle.std.specs.Simd.Lanes.{Each1}
-use Rattle.std.specs.List.{flat_map}
-use Rattle.std.proofs.lemmas.List.{length-append, append_assoc, append-nil, length-take, length-take-le, length-drop, take-append-drop, take_at, drop_at, take_all, drop_all, map-append, length-map, length-replicate, take-replicate, drop-replicate, take-append-le, take-take, take-map, replicate-append-replicate}
+use Rattle.std.proofs.lemmas.List.{length-append, append-nil, length-take-le, take-append-drop, map-append, length-map, length-replicate, take-replicate, drop-replicate, take-append-le, take-take, take-map, replicate-append-replicate}
 use Rattle.std.proofs.lemmas.List.Concat.{flat_map-append}
 use Rattle.std.proofs.Math.Seq.{take-append-add}
 use Rattle.std.proofs.Math.Nat.{mul-le-mul_right}
@@ -10,7 +9,7 @@ use Rattle.std.specs.Int.{div_ceil}
 use borrow.Rule.Slice.PartMut.{put_mid, post_of}
 use Rattle.octet_lanes.specs.declared.alphabet.Alphabet.{Alphabet}
 use Rattle.octet_lanes.specs.declared.alphabet.Alphabet.TheVariants.{Base64, Base32, Base32Hex}
-use Rattle.octet_lanes.specs.Encoding.{width, quantum, symbol_of, padding, bits_of, all_bits, number_of, lacking, filled, cut, groups_of, encoding_of, IsOctets}
+use Rattle.octet_lanes.specs.Encoding.{width, quantum, symbol_of, padding, bits_of, all_bits, lacking, filled, groups_of, encoding_of}
 use Rattle.octet_lanes.proofs.Bits.{length-all_bits, take-all_bits, AreBits, AreBits-all_bits, AreBits-append}
 use Rattle.octet_lanes.proofs.Pieces.{groups_of-all_bits, groups_of_bits, Groups, in_groups, filled-append}
 
@@ -30,7 +29,7 @@ encoding_block alphabet groups front rest long small same =
     let w = width alphabet in
     let symbols = map (symbol_of alphabet) in
     let bits : all_bits 8 (front ++ rest) ≡ all_bits w groups ++ all_bits 8 rest =
-        flat_map-append (bits_of 8) front rest ∙ ap (λ l. l ++ all_bits 8 rest) (sym same) in
+    flat_map-append (bits_of 8) front rest ∙ ap (λ l. l ++ all_bits 8 rest) (sym same) in
     ap (λ l. filled (quantum alphabet) padding (symbols (groups_of w (filled w 0 l)))) bits
     ∙ ap (λ l. filled (quantum alphabet) padding (symbols (groups_of w l))) (filled-append w 0 32 (all_bits w groups) (all_bits 8 rest) (length-all_bits w groups ∙ ap (λ n. n * w) long))
     ∙ ap (λ l. filled (quantum alphabet) padding (symbols l)) (groups_of-all_bits w groups (filled w 0 (all_bits 8 rest)) (some_width alphabet) small)
@@ -118,7 +117,7 @@ AreGroups-take alphabet (suc n) (g ∷ groups) h = (h.0, AreGroups-take alphabet
 pub encoding_last : (alphabet : Alphabet) (octets groups : List ℕ) → length groups ≡ 32 → AreGroups alphabet groups → length octets ≤ 4 * width alphabet
     → all_bits (width alphabet) groups ≡ all_bits 8 (octets ++ replicate (4 * width alphabet - length octets) 0)
     → encoding_of alphabet octets
-      ≡ take (symbols_in alphabet (length octets)) (map (symbol_of alphabet) groups) ++ replicate (lacking (quantum alphabet) (symbols_in alphabet (length octets))) padding
+    ≡ take (symbols_in alphabet (length octets)) (map (symbol_of alphabet) groups) ++ replicate (lacking (quantum alphabet) (symbols_in alphabet (length octets))) padding
 encoding_last alphabet octets groups long small few same =
     let s = symbols_in alphabet (length octets) in
     let symbols = map (symbol_of alphabet) in
@@ -180,8 +179,8 @@ encoding_front alphabet front rest long =
     let count : length (all_bits 8 front) ≡ 32 * w = omega (arith, length-all_bits 8 front) in
     let g = in_groups w 32 (all_bits 8 front) (some_width alphabet) count (AreBits-all_bits 8 front) in
     let alone : encoding_of alphabet front ≡ map (symbol_of alphabet) g.numbers =
-        ap (encoding_of alphabet) (sym (append-nil front)) ∙ encoding_block alphabet g.numbers front [] g.many g.small g.same
-        ∙ ap (λ l. map (symbol_of alphabet) g.numbers ++ l) (encoding_of-none alphabet) ∙ append-nil (map (symbol_of alphabet) g.numbers) in
+    ap (encoding_of alphabet) (sym (append-nil front)) ∙ encoding_block alphabet g.numbers front [] g.many g.small g.same
+    ∙ ap (λ l. map (symbol_of alphabet) g.numbers ++ l) (encoding_of-none alphabet) ∙ append-nil (map (symbol_of alphabet) g.numbers) in
     encoding_block alphabet g.numbers front rest g.many g.small g.same ∙ ap (λ l. l ++ encoding_of alphabet rest) (sym alone)
 
 groups_many : (alphabet : Alphabet) (groups front : List ℕ) → all_bits (width alphabet) groups ≡ all_bits 8 front → length front ≡ 4 * width alphabet → length groups ≡ 32
@@ -212,7 +211,7 @@ encoding_padded alphabet octets text few is =
     let g = in_groups w 32 (all_bits 8 block) (some_width alphabet) count (AreBits-all_bits 8 block) in
     encoding_last alphabet octets g.numbers g.many g.small few g.same
     ∙ ap (λ l. take (symbols_in alphabet (length octets)) l ++ replicate (lacking (quantum alphabet) (symbols_in alphabet (length octets))) padding)
-      (sym (encoding_whole alphabet g.numbers block g.small g.same long) ∙ sym is)
+    (sym (encoding_whole alphabet g.numbers block g.small g.same long) ∙ sym is)
 
 pub length-encoding_whole : (alphabet : Alphabet) (front : List ℕ) → length front ≡ 4 * width alphabet → length (encoding_of alphabet front) ≡ 32
 length-encoding_whole alphabet front long =
@@ -239,7 +238,7 @@ encoding_quanta alphabet groups front rest m long small same =
     let w = width alphabet in
     let symbols = map (symbol_of alphabet) in
     let bits : all_bits 8 (front ++ rest) ≡ all_bits w groups ++ all_bits 8 rest =
-        flat_map-append (bits_of 8) front rest ∙ ap (λ l. l ++ all_bits 8 rest) (sym same) in
+    flat_map-append (bits_of 8) front rest ∙ ap (λ l. l ++ all_bits 8 rest) (sym same) in
     ap (λ l. filled (quantum alphabet) padding (symbols (groups_of w (filled w 0 l)))) bits
     ∙ ap (λ l. filled (quantum alphabet) padding (symbols (groups_of w l))) (filled-append w 0 (length groups) (all_bits w groups) (all_bits 8 rest) (length-all_bits w groups))
     ∙ ap (λ l. filled (quantum alphabet) padding (symbols l)) (groups_of-all_bits w groups (filled w 0 (all_bits 8 rest)) (some_width alphabet) small)
@@ -253,10 +252,11 @@ encoding_whole_quanta alphabet front rest m long =
     let w = width alphabet in
     let g = in_groups w (m * quantum alphabet) (all_bits 8 front) (some_width alphabet) (length-all_bits 8 front ∙ long) (AreBits-all_bits 8 front) in
     let alone : encoding_of alphabet front ≡ map (symbol_of alphabet) g.numbers =
-        ap (encoding_of alphabet) (sym (append-nil front)) ∙ encoding_quanta alphabet g.numbers front [] m g.many g.small g.same
-        ∙ ap (λ l. map (symbol_of alphabet) g.numbers ++ l) (encoding_of-none alphabet) ∙ append-nil (map (symbol_of alphabet) g.numbers) in
-    (encoding_quanta alphabet g.numbers front rest m g.many g.small g.same ∙ ap (λ l. l ++ encoding_of alphabet rest) (sym alone),
-      ap length alone ∙ length-map g.numbers (symbol_of alphabet) ∙ g.many)
+    ap (encoding_of alphabet) (sym (append-nil front)) ∙ encoding_quanta alphabet g.numbers front [] m g.many g.small g.same
+    ∙ ap (λ l. map (symbol_of alphabet) g.numbers ++ l) (encoding_of-none alphabet) ∙ append-nil (map (symbol_of alphabet) g.numbers) in (
+      encoding_quanta alphabet g.numbers front rest m g.many g.small g.same ∙ ap (λ l. l ++ encoding_of alphabet rest) (sym alone),
+      ap length alone ∙ length-map g.numbers (symbol_of alphabet) ∙ g.many,
+    )
 
 -- the length of a text
 pub length-encoding_of : (alphabet : Alphabet) (octets : List ℕ) → length (encoding_of alphabet octets) ≡ symbols_in alphabet (length octets) + lacking (quantum alphabet) (symbols_in alphabet (length octets))

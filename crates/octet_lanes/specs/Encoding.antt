@@ -1,7 +1,6 @@
 -- Texts of octets in the alphabets of RFC 4648, by their bits.
 use Rattle.std.specs.Prelude.{codes, ◌≡◌, ℕ, zero, suc, ◌+◌, ◌-◌, ◌*◌, ◌/◌, ◌%◌, ◌^◌, ◌<◌, ◌==◌, ◌&&◌, nat_le, not, if◌then◌else◌, List, [], ◌∷◌, ◌++◌, map, length, take, drop, replicate, slice_index}
 use Rattle.std.specs.List.{All, filter, flat_map, position_or_len, before_first}
-
 use Rattle.octet_lanes.specs.declared.alphabet.Alphabet.{Alphabet}
 use Rattle.octet_lanes.specs.declared.alphabet.Alphabet.TheVariants.{Base64, Base32, Base32Hex}
 

@@ -61,7 +61,10 @@ fn base32hex_classes(lanes: u8x32) -> u8x32
 pub fn has_stray(classes: &[u8; 32]) -> bool
     ensures { result ≡ list_any (λ class. class == stray) classes.now }
 {
-    u8x32::from_array(*classes).simd_eq(u8x32::splat(STRAY)).to_bitmask() != 0
+    u8x32::from_array(*classes)
+        .simd_eq(u8x32::splat(STRAY))
+        .to_bitmask()
+        != 0
 }
 
 /// The symbol of each value in the alphabet.

@@ -32,10 +32,13 @@ fn sextet_quanta(octets: u8x32) -> u32x8
     ensures bits { all_bits 24 result ≡ all_bits 8 (take 24 octets) }
     ensures small { Each1 (λ quantum. quantum < 2 ^ 24) result }
 {
-    u32x8::from_le_bytes(octets.shuffle(u8x32::splat(0), [
-        2, 1, 0, 32, 5, 4, 3, 32, 8, 7, 6, 32, 11, 10, 9, 32, 14, 13, 12, 32, 17, 16, 15, 32, 20, 19, 18, 32, 23, 22,
-        21, 32,
-    ]))
+    u32x8::from_le_bytes(octets.shuffle(
+        u8x32::splat(0),
+        [
+            2, 1, 0, 32, 5, 4, 3, 32, 8, 7, 6, 32, 11, 10, 9, 32, 14, 13, 12, 32, 17, 16, 15, 32,
+            20, 19, 18, 32, 23, 22, 21, 32,
+        ],
+    ))
 }
 
 // Each five octets, the first one highest.
@@ -44,10 +47,13 @@ fn quintet_quanta(octets: u8x32) -> u64x4
     ensures bits { all_bits 40 result ≡ all_bits 8 (take 20 octets) }
     ensures small { Each1 (λ quantum. quantum < 2 ^ 40) result }
 {
-    u64x4::from_le_bytes(octets.shuffle(u8x32::splat(0), [
-        4, 3, 2, 1, 0, 32, 32, 32, 9, 8, 7, 6, 5, 32, 32, 32, 14, 13, 12, 11, 10, 32, 32, 32, 19, 18, 17, 16, 15, 32,
-        32, 32,
-    ]))
+    u64x4::from_le_bytes(octets.shuffle(
+        u8x32::splat(0),
+        [
+            4, 3, 2, 1, 0, 32, 32, 32, 9, 8, 7, 6, 5, 32, 32, 32, 14, 13, 12, 11, 10, 32, 32, 32,
+            19, 18, 17, 16, 15, 32, 32, 32,
+        ],
+    ))
 }
 
 // Each lane's number of two groups of `width` bits, as two lanes of a group each.
@@ -152,7 +158,10 @@ pub fn join(groups: &[u8; 32], alphabet: Alphabet) -> [u8; 32]
     let lanes = u8x32::from_array(*groups);
     let octets = match alphabet {
         Alphabet::Base64 => sextet_octets(join_32(join_16(lanes, 6), 12)),
-        Alphabet::Base32 | Alphabet::Base32Hex => quintet_octets(join_64(join_32(join_16(lanes, 5), 10), 20)),
+        Alphabet::Base32 | Alphabet::Base32Hex => quintet_octets(join_64(
+            join_32(join_16(lanes, 5), 10),
+            20,
+        )),
     };
     octets.to_array()
 }
@@ -251,7 +260,8 @@ fn sextet_octets(quanta: u32x8) -> u8x32
     ensures { all_bits 8 (take 24 result) ≡ all_bits 24 quanta }
 {
     quanta.to_le_bytes().swizzle([
-        2, 1, 0, 6, 5, 4, 10, 9, 8, 14, 13, 12, 18, 17, 16, 22, 21, 20, 26, 25, 24, 30, 29, 28, 3, 3, 3, 3, 3, 3, 3, 3,
+        2, 1, 0, 6, 5, 4, 10, 9, 8, 14, 13, 12, 18, 17, 16, 22, 21, 20, 26, 25, 24, 30, 29, 28, 3,
+        3, 3, 3, 3, 3, 3, 3,
     ])
 }
 
@@ -262,6 +272,7 @@ fn quintet_octets(quanta: u64x4) -> u8x32
     ensures { all_bits 8 (take 20 result) ≡ all_bits 40 quanta }
 {
     quanta.to_le_bytes().swizzle([
-        4, 3, 2, 1, 0, 12, 11, 10, 9, 8, 20, 19, 18, 17, 16, 28, 27, 26, 25, 24, 5, 5, 5, 5, 5, 5, 5, 5, 5, 5, 5, 5,
+        4, 3, 2, 1, 0, 12, 11, 10, 9, 8, 20, 19, 18, 17, 16, 28, 27, 26, 25, 24, 5, 5, 5, 5, 5, 5,
+        5, 5, 5, 5, 5, 5,
     ])
 }

@@ -31,7 +31,9 @@ pub(crate) fn less(lanes: u8x32, n: u8) -> u8x32
 pub(crate) fn where_below(lanes: u8x32, n: u8, numbers: u8x32) -> u8x32
     ensures { result ≡ zip2 (if_below n) lanes numbers }
 {
-    lanes.simd_lt(u8x32::splat(n)).select(numbers, u8x32::splat(0))
+    lanes
+        .simd_lt(u8x32::splat(n))
+        .select(numbers, u8x32::splat(0))
 }
 
 // `number` in the lanes from `n` on, and 0 in the others.
@@ -39,5 +41,7 @@ pub(crate) fn where_below(lanes: u8x32, n: u8, numbers: u8x32) -> u8x32
 pub(crate) fn where_from(lanes: u8x32, n: u8, number: u8) -> u8x32
     ensures { result ≡ map (if_from n number) lanes }
 {
-    lanes.simd_ge(u8x32::splat(n)).select(u8x32::splat(number), u8x32::splat(0))
+    lanes
+        .simd_ge(u8x32::splat(n))
+        .select(u8x32::splat(number), u8x32::splat(0))
 }

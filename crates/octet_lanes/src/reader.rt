@@ -10,7 +10,6 @@ use crate::groups::join;
 use std::alloc::{AllocError, Global};
 use std::simd::prelude::*;
 
-
 /// The octets of `text`: the bits of its symbols before the first `=`, as whole octets. Octets that are no symbols are
 /// passed over, and bits that are left over at the end are dropped.
 ///
@@ -23,7 +22,10 @@ pub fn decode(alloc: Global, text: &[u8], alphabet: Alphabet) -> Result<Vec<u8>,
 {
     let text = up_to_padding(text);
     let mut out = Vec::with_capacity(alloc, (text.len() / 8 + 1).saturating_mul(alphabet.width()))?;
-    let mut window = Window { values: [0; 32], held: 0 };
+    let mut window = Window {
+        values: [0; 32],
+        held: 0,
+    };
     window.feed(text, alphabet, &mut out)?;
     window.give_whole(alphabet, &mut out)?;
     Ok(out)
@@ -59,7 +61,10 @@ fn padding_free(text: &[u8]) -> usize
 fn has_padding(octets: &[u8; 32]) -> bool
     ensures { result ≡ list_any (λ octet. octet == padding) octets.now }
 {
-    u8x32::from_array(*octets).simd_eq(u8x32::splat(PADDING)).to_bitmask() != 0
+    u8x32::from_array(*octets)
+        .simd_eq(u8x32::splat(PADDING))
+        .to_bitmask()
+        != 0
 }
 
 #[inline(always)]
@@ -100,7 +105,12 @@ impl Window {
 
     // Takes in the values among the classes, and appends the octets of a whole block.
     #[inline(always)]
-    fn take_in(&mut self, classes: &[u8; 32], alphabet: Alphabet, out: &mut Vec<u8>) -> Result<(), AllocError>
+    fn take_in(
+        &mut self,
+        classes: &[u8; 32],
+        alphabet: Alphabet,
+        out: &mut Vec<u8>,
+    ) -> Result<(), AllocError>
         requires held { self.old.held < 32 }
         requires small { All (λ value. value < 2 ^ width alphabet) (take self.old.held self.old.values) }
         requires classes { All (λ value. value < 2 ^ width alphabet) (values_among classes.now) }

@@ -28,7 +28,11 @@ pub fn encode(alloc: Global, octets: &[u8], alphabet: Alphabet) -> Result<Vec<u8
 ///
 /// Memory ran out; a part of the text may have been appended.
 #[inline(always)]
-pub fn append_encoding(out: &mut Vec<u8>, octets: &[u8], alphabet: Alphabet) -> Result<(), AllocError>
+pub fn append_encoding(
+    out: &mut Vec<u8>,
+    octets: &[u8],
+    alphabet: Alphabet,
+) -> Result<(), AllocError>
     ensures { OnOk result (out.new.items ≡ out.old.items ++ encoding_of alphabet octets.now) }
 {
     let block = 4 * alphabet.width();
@@ -78,7 +82,8 @@ fn block_text(octets: &[u8], alphabet: Alphabet) -> ([u8; 32], usize)
     let mut text = block_symbols(&lanes, alphabet);
     let symbols = (8 * octets.len()).div_ceil(alphabet.width());
     text[symbols..].fill(PADDING);
-    (text, octets.len().div_ceil(alphabet.quantum_octets()) * alphabet.quantum_characters())
+    let quanta = octets.len().div_ceil(alphabet.quantum_octets());
+    (text, quanta * alphabet.quantum_characters())
 }
 
 // The text of a whole block, the first `4 * width` octets.

@@ -1,4 +1,4 @@
-use Rattle.std.proofs.Common.{◌≡◌, ◌++◌, ◌≤◌, ◌<◌, List, ℕ, length, take, drop, min, refl, sym, ap, ◌∙◌, arith, eqb, eqb-true, false, []}
+use Rattle.std.proofs.Common.{◌≡◌, ◌++◌, ◌<◌, ℕ, length, take, drop, min, sym, ap, ◌∙◌, arith, eqb, eqb-true, false, []}
 use Rattle.std.proofs.lemmas.Bool.{eqb-false}
 use Rattle.std.proofs.lemmas.List.{append_assoc, append-nil, nil_from_length}
 use Rattle.std.proofs.lemmas.Slice.{pushed}
@@ -18,7 +18,7 @@ lines-preserved c =
     let m = min (length rest) 57 in
     let line = encoding_of Base64 (take m rest) in
     let text : c.append_encoding.new.out.items ≡ out ++ line =
-        c.in_ok-append_encoding.ensures ∙ ap (λ l. out ++ encoding_of Base64 l) (c.split_at.ensures.front ∙ ap (λ n. take n rest) c.min.ensures) in
+    c.in_ok-append_encoding.ensures ∙ ap (λ l. out ++ encoding_of Base64 l) (c.split_at.ensures.front ∙ ap (λ n. take n rest) c.min.ensures) in
     let more = pushed line_break text c.in_ok-extend_from_slice.was c.extend_from_slice.ensures.items in
     let after = c.split_at.ensures.back ∙ ap (λ n. drop n rest) c.min.ensures in
     let some : 0 < length rest = not_empty (length rest) (sym c.is_empty.ensures ∙ c.lines-test.true) in

@@ -1,4 +1,4 @@
-use Rattle.std.proofs.Common.{ap, ◌∙◌}
+use Rattle.std.proofs.Common.{◌∙◌}
 use Rattle.std.proofs.lemmas.Simd.{zip2_of_maps}
 use Rattle.octet_lanes.specs.Encoding.{class_of}
 use Rattle.octet_lanes.specs.Lanes.{added, taken, in_run}

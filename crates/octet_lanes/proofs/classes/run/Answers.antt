@@ -1,7 +1,6 @@
-use Rattle.std.proofs.Common.{sym, ap, ◌∙◌, map}
-use Rattle.std.specs.Simd.Lanes.{zip2}
+use Rattle.std.proofs.Common.{◌∙◌}
 use Rattle.std.proofs.lemmas.Simd.{zip2_of_maps}
-use Rattle.octet_lanes.specs.Lanes.{added, taken, if_below, in_run}
+use Rattle.octet_lanes.specs.Lanes.{added, taken, if_below}
 use Rattle.octet_lanes.proofs.Lanes.{then}
 use Rattle.octet_lanes.proofs.classes.run.Goals as goal
 

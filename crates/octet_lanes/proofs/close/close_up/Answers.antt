@@ -1,4 +1,4 @@
-use Rattle.std.proofs.Common.{ap, ◌∙◌, ◌≡◌, List, ℕ, ◌++◌, ◌-◌, ◌+◌, ◌<◌, length, replicate, set, get_or, refl, sym, subst, arith, take, eq-eqb}
+use Rattle.std.proofs.Common.{ap, ◌∙◌, ◌≡◌, ◌++◌, ◌-◌, ◌+◌, ◌<◌, length, replicate, set, get_or, sym, arith, take, eq-eqb}
 use Rattle.std.proofs.lemmas.Bool.{ne_eqb}
 use Rattle.std.proofs.lemmas.List.{append-nil}
 use Rattle.octet_lanes.specs.Encoding.{stray, values_among}

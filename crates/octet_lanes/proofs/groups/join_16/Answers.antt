@@ -1,8 +1,6 @@
-use Rattle.std.proofs.Common.{ℕ, List, ◌<◌, ◌+◌, ◌^◌, map, ap, ◌∙◌, sym, subst}
-use Rattle.std.specs.List.{flat_map}
+use Rattle.std.proofs.Common.{◌<◌, ◌+◌, ◌^◌, ap, ◌∙◌, sym, subst}
 use Rattle.std.specs.Simd.Lanes.{Each1}
 use Rattle.octet_lanes.specs.Encoding.{all_bits}
-use Rattle.octet_lanes.specs.Lanes.{parts_of, whole_of}
 use Rattle.octet_lanes.proofs.Pairs.{bits-whole, small-whole}
 use Rattle.octet_lanes.proofs.groups.join_16.Goals as goal
 

@@ -1,4 +1,4 @@
-use Rattle.std.proofs.Common.{w16, ap, ◌∙◌, refl, ◌^◌, ◌*◌}
+use Rattle.std.proofs.Common.{w16, ap, ◌∙◌, refl, ◌^◌}
 use Rattle.std.specs.List.{flat_map}
 use Rattle.std.proofs.lemmas.Simd.{below_from_Fits}
 use Rattle.octet_lanes.specs.Lanes.{parts_of}

@@ -1,5 +1,5 @@
-use Rattle.std.proofs.Common.{◌≡◌, ℕ, ◌+◌, ◌*◌, ◌<◌, ◌^◌, List, [], ◌∷◌, ◌++◌, map, take, replicate, get_or, refl, sym, ap, ◌∙◌, subst, arith, w8}
-use Rattle.std.specs.List.{flat_map, range_with_len}
+use Rattle.std.proofs.Common.{◌≡◌, ℕ, ◌+◌, ◌*◌, ◌<◌, ◌^◌, List, [], ◌∷◌, ◌++◌, map, take, replicate, get_or, refl, sym, ap, ◌∙◌, subst, arith}
+use Rattle.std.specs.List.{flat_map}
 use Rattle.std.specs.Simd.Lanes.{Each1, number_l, digits_l, pick_l}
 use Rattle.std.proofs.lemmas.List.{get_or_past}
 use Rattle.std.proofs.lemmas.Simd.{pick_l-range_with_len}
@@ -23,8 +23,8 @@ returns c =
     let number : (j : ℕ) → number_l 256 (front j) ≡ number_l 256 (low j) = λ j. ap (λ x. number_l 256 (low j ++ replicate 1 x)) none ∙ number-padded (low j) 1 in
     let js : List ℕ = 0 ∷ 1 ∷ 2 ∷ 3 ∷ 4 ∷ 5 ∷ 6 ∷ 7 ∷ [] in
     let is : digits_l (256 ^ 4) 8 (number_l 256 (pick_l 0 (o ++ replicate 32 0) (flat_map (λ j. (3 * j + 2) ∷ (3 * j + 1) ∷ (3 * j) ∷ 32 ∷ []) js))) ≡ map (λ j. number_l 256 (front j)) js =
-        ap (λ l. digits_l (256 ^ 4) 8 (number_l 256 l)) (pick_l-padded 32 o (flat_map (λ j. (3 * j + 2) ∷ (3 * j + 1) ∷ (3 * j) ∷ 32 ∷ []) js))
-        ∙ lanes_of-quanta 4 front (λ j. refl) fronts js in
+    ap (λ l. digits_l (256 ^ 4) 8 (number_l 256 l)) (pick_l-padded 32 o (flat_map (λ j. (3 * j + 2) ∷ (3 * j + 1) ∷ (3 * j) ∷ 32 ∷ []) js))
+    ∙ lanes_of-quanta 4 front (λ j. refl) fronts js in
     let bits = bits_of-quanta 24 (λ j. number_l 256 (front j)) quantum (λ j. ap (bits_of 24) (number j) ∙ bits_of-octets (low j) (lows j)) js in
     let all : all_bits 8 (flat_map quantum js) ≡ all_bits 8 (take 24 o) = ap (all_bits 8) (pick_l-range_with_len 0 o 0 24 (omega (arith, c.fits-octets.0))) in
     record {

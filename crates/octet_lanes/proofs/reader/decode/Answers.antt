@@ -1,5 +1,5 @@
-use Rattle.std.proofs.Common.{◌≡◌, ℕ, ◌<◌, ◌++◌, ◌^◌, take, length, refl, sym, ap, ◌∙◌, arith}
-use Rattle.octet_lanes.specs.Encoding.{all_bits, before_padding, decoding_of, octets_of, values_of, width}
+use Rattle.std.proofs.Common.{◌++◌, take, sym, ap, ◌∙◌}
+use Rattle.octet_lanes.specs.Encoding.{all_bits, decoding_of, octets_of, values_of, width}
 use Rattle.octet_lanes.proofs.ReadBack.{small_octets}
 use Rattle.octet_lanes.proofs.Reading.{octets_of-front}
 use Rattle.octet_lanes.proofs.reader.decode.Goals as goal

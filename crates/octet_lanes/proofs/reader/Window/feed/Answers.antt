@@ -1,4 +1,4 @@
-use Rattle.std.proofs.Common.{◌≡◌, ℕ, ◌+◌, ◌-◌, ◌*◌, ◌<◌, ◌≤◌, ◌^◌, ◌++◌, List, length, map, take, drop, replicate, refl, sym, ap, ◌∙◌, arith}
+use Rattle.std.proofs.Common.{◌≡◌, ◌<◌, ◌^◌, ◌++◌, length, take, drop, replicate, sym, ap, ◌∙◌}
 use Rattle.std.proofs.lemmas.List.{take-append-drop}
 use Rattle.std.proofs.lemmas.List.Elements.{All-same}
 use Rattle.std.proofs.lemmas.Result.{on_ok_weaker}
@@ -27,16 +27,16 @@ whole-preserved c =
     let now = all_bits 8 c.whole.out.items in
     let before = take c.whole.self.held c.whole.self.values in
     let parts : values_of a block ++ values_of a after ≡ values_of a rest =
-        (λ i. values_of a (c.in-Some.ensures.cases.0 i) ++ values_of a (c.in-Some.ensures.cases.1 i))
-        ∙ sym (values_of-append a (take 32 rest) (drop 32 rest)) ∙ ap (values_of a) (take-append-drop 32 rest) in
+    (λ i. values_of a (c.in-Some.ensures.cases.0 i) ++ values_of a (c.in-Some.ensures.cases.1 i))
+    ∙ sym (values_of-append a (take 32 rest) (drop 32 rest)) ∙ ap (values_of a) (take-append-drop 32 rest) in
     record {
       held = c.in_ok-take_in.ensures.held;
       small = c.in_ok-take_in.ensures.small;
       bits =
-        bits_more w now (all_bits 8 c.take_in.new.out.items) (take c.take_in.new.self.held c.take_in.new.self.values) before (values_of a block) (values_of a after)
-        (c.in_ok-take_in.ensures.bits ∙ ap (λ l. now ++ all_bits w (before ++ values_among l)) c.classify.ensures)
-        ∙ ap (λ l. now ++ all_bits w (before ++ l)) parts
-        ∙ c.whole.invariant.bits;
+          bits_more w now (all_bits 8 c.take_in.new.out.items) (take c.take_in.new.self.held c.take_in.new.self.values) before (values_of a block) (values_of a after)
+          (c.in_ok-take_in.ensures.bits ∙ ap (λ l. now ++ all_bits w (before ++ values_among l)) c.classify.ensures)
+          ∙ ap (λ l. now ++ all_bits w (before ++ l)) parts
+          ∙ c.whole.invariant.bits;
     }
 
 pub returns-clause-bits : goal.returns-clause-bits
@@ -48,10 +48,10 @@ returns-clause-bits c =
     let now = all_bits 8 c.whole.out.items in
     let before = take c.whole.self.held c.whole.self.values in
     let values : values_among c.classify-2.result ≡ values_of a rest =
-        ap values_among c.classify-2.ensures
-        ∙ ap (λ l. values_of a (l ++ drop n (replicate 32 padding))) c.copy_from_slice.ensures.after
-        ∙ values_of-padded a rest n in
+    ap values_among c.classify-2.ensures
+    ∙ ap (λ l. values_of a (l ++ drop n (replicate 32 padding))) c.copy_from_slice.ensures.after
+    ∙ values_of-padded a rest n in
     on_ok_weaker c.take_in-2.result
-      (λ (e : all_bits 8 c.take_in-2.new.out.items ++ all_bits w (take c.take_in-2.new.self.held c.take_in-2.new.self.values) ≡ now ++ all_bits w (before ++ values_among c.classify-2.result)).
-        e ∙ ap (λ l. now ++ all_bits w (before ++ l)) values ∙ c.whole.invariant.bits)
-      c.take_in-2.ensures.bits
+    (λ (e : all_bits 8 c.take_in-2.new.out.items ++ all_bits w (take c.take_in-2.new.self.held c.take_in-2.new.self.values) ≡ now ++ all_bits w (before ++ values_among c.classify-2.result)).
+    e ∙ ap (λ l. now ++ all_bits w (before ++ l)) values ∙ c.whole.invariant.bits)
+    c.take_in-2.ensures.bits

@@ -8,7 +8,7 @@ invariant-whole l = record {
   held : l.self.held < 32;
   small : All (λ value. value < 2 ^ width l.alphabet) (take l.self.held l.self.values);
   bits : all_bits 8 l.out.items ++ all_bits (width l.alphabet) (take l.self.held l.self.values ++ values_of l.alphabet l.rest)
-    ≡ all_bits 8 l.fn.out.items ++ all_bits (width l.alphabet) (take l.fn.self.held l.fn.self.values ++ values_of l.alphabet l.text);
+      ≡ all_bits 8 l.fn.out.items ++ all_bits (width l.alphabet) (take l.fn.self.held l.fn.self.values ++ values_of l.alphabet l.text);
 }
 
 abbrev pub decreases-whole : goal.decreases-whole
