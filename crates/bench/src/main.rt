@@ -1,0 +1,18 @@
+// Benchmarks, run by hand with a job's name; without one it lists the jobs.
+#![tactic(auto)]
+
+mod codecs;
+
+use std::env;
+
+fn main(rt: HostRuntime) -> anyhow::Result<()> {
+    let mut words = env::args(&rt)?;
+    let _program = words.next();
+    match words.next() {
+        Some(job) if job.as_str() == "codecs" => codecs::run(&rt),
+        _ => {
+            println!(rt; "codecs")?;
+            Ok(())
+        }
+    }
+}

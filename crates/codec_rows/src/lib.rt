@@ -1,0 +1,8 @@
+//! Tests of the codecs over their public calls: the standard's vectors, texts that are refused, texts with strays, and
+//! every length up to 200 octets.
+#![tactic(auto)]
+
+#[cfg(test)]
+mod lanes;
+#[cfg(test)]
+mod texts;

@@ -1,0 +1,110 @@
+-- Vector operations, lane by lane.
+use Rattle.std.proofs.Common.{◌≡◌, ℕ, zero, suc, ◌+◌, ◌-◌, ◌*◌, ◌%◌, ◌^◌, ◌<◌, ◌≤◌, Bool, true, false, cond, not, ◌||◌, eqb, leb, ltb, List, [], ◌∷◌, ◌++◌, length, set, take, get_or, map, replicate, refl, sym, ap, ◌∙◌, arith, w8, Fits, eqb-true}
+use Rattle.std.specs.Simd.Lanes.{Each1, zip2, sel_l, mask_l, top}
+use Rattle.std.specs.List.{list_any}
+use Rattle.std.proofs.lemmas.Simd.{tops_compared, bitmask_splat, map-map, below_from_Fits}
+use Rattle.std.proofs.lemmas.Bool.{false≢true}
+use Rattle.std.proofs.lemmas.List.{set_at, append_assoc, append-nil, length_push}
+use Rattle.std.proofs.lemmas.List.Elements.{filter_more}
+use Rattle.std.proofs.Math.Dec.{eqb-suc-zero}
+use Rattle.octet_lanes.specs.Encoding.{stray, values_among}
+use Rattle.octet_lanes.specs.Lanes.{if_below, if_from}
+
+kept : (n m : ℕ) (xs ys : List ℕ) → length xs ≡ m → length ys ≡ m → sel_l (zip2 ltb xs (replicate m n)) ys (replicate m 0) ≡ zip2 (if_below n) xs ys
+kept n zero [] ys p q = refl
+kept n zero (x ∷ xs) ys p q = absurd (omega arith)
+kept n (suc m) [] ys p q = absurd (omega arith)
+kept n (suc m) (x ∷ xs) [] p q = absurd (omega arith)
+kept n (suc m) (x ∷ xs) (y ∷ ys) p q = ap (λ l. cond (ltb x n) y 0 ∷ l) (kept n m xs ys (omega arith) (omega arith))
+
+-- numbers, chosen over 0 where a lane is below n
+pub kept_below : (n m : ℕ) (xs ys : List ℕ) → length xs ≡ m → length ys ≡ m
+    → sel_l (map (top 7) (zip2 (λ a b. cond (ltb a b) 255 0) xs (replicate m n))) ys (replicate m 0) ≡ zip2 (if_below n) xs ys
+kept_below n m xs ys p q = ap (λ l. sel_l l ys (replicate m 0)) (tops_compared w8 ltb xs (replicate m n)) ∙ kept n m xs ys p q
+
+chosen : (n y m : ℕ) (xs : List ℕ) → length xs ≡ m → sel_l (zip2 leb (replicate m n) xs) (replicate m y) (replicate m 0) ≡ map (if_from n y) xs
+chosen n y zero [] p = refl
+chosen n y zero (x ∷ xs) p = absurd (omega arith)
+chosen n y (suc m) [] p = absurd (omega arith)
+chosen n y (suc m) (x ∷ xs) p = ap (λ l. cond (leb n x) y 0 ∷ l) (chosen n y m xs (omega arith))
+
+-- a number, chosen over 0 where a lane is n or more
+pub chosen_from : (n y m : ℕ) (xs : List ℕ) → length xs ≡ m
+    → sel_l (map (top 7) (zip2 (λ a b. cond (leb a b) 255 0) (replicate m n) xs)) (replicate m y) (replicate m 0) ≡ map (if_from n y) xs
+chosen_from n y m xs p = ap (λ l. sel_l l (replicate m y) (replicate m 0)) (tops_compared w8 leb (replicate m n) xs) ∙ chosen n y m xs p
+
+-- one operation on a vector, and then another
+pub then : (g f : ℕ → ℕ) (xs : List ℕ) {ys zs : List ℕ} → ys ≡ map f xs → zs ≡ map g ys → zs ≡ map (λ x. g (f x)) xs
+then g f xs p q = q ∙ ap (map g) p ∙ map-map g f xs
+
+-- the octets of a vector
+pub octets_in : (xs : List ℕ) → Each1 (Fits w8) xs → Each1 (λ x. x < 256) xs
+octets_in = below_from_Fits w8
+
+not_zero : (n : ℕ) → 0 < n → not (eqb n 0) ≡ true
+not_zero zero h = absurd (omega arith)
+not_zero (suc n) h = ap not (eqb-suc-zero n)
+
+-- no bit is set where no lane passes
+any_from_mask : (p : ℕ → Bool) (xs : List ℕ) → not (eqb (mask_l (map p xs)) 0) ≡ list_any p xs
+any_from_mask p [] = refl
+any_from_mask p (x ∷ xs) = go (p x) (mask_l (map p xs)) ∙ ap (λ b. p x || b) (any_from_mask p xs)
+  where
+    go : (b : Bool) (m : ℕ) → not (eqb (cond b 1 0 + 2 * m) 0) ≡ (b || not (eqb m 0))
+    go true m = not_zero (1 + 2 * m) (omega arith)
+    go false zero = refl
+    go false (suc m) = not_zero (0 + 2 * suc m) (omega arith) ∙ sym (not_zero (suc m) (omega arith))
+
+-- whether a lane is x
+pub any_equal : (xs : List ℕ) (n x : ℕ) → length xs ≡ n → n ≤ 64
+    → not (eqb (mask_l (map (top 7) (zip2 (λ a b. cond (eqb a b) 255 0) xs (replicate n x))) % 2 ^ 64) 0) ≡ list_any (λ y. eqb y x) xs
+any_equal xs n x long few = ap (λ m. not (eqb m 0)) (bitmask_splat w8 eqb xs n x long few) ∙ any_from_mask (λ y. eqb y x) xs
+
+-- without strays all classes are values
+pub all_values : (xs : List ℕ) → list_any (λ y. eqb y stray) xs ≡ false → values_among xs ≡ xs
+all_values [] h = refl
+all_values (x ∷ xs) h = go (eqb x stray) refl (all_values xs)
+  where
+    go : (b : Bool) → eqb x stray ≡ b → (list_any (λ y. eqb y stray) xs ≡ false → values_among xs ≡ xs) → values_among (x ∷ xs) ≡ x ∷ xs
+    go true e rest = absurd (false≢true (sym h ∙ ap (λ b. b || list_any (λ y. eqb y stray) xs) e))
+    go false e rest = ap (λ b. cond (not b) (x ∷ values_among xs) (values_among xs)) e
+        ∙ ap (λ l. x ∷ l) (rest (sym (ap (λ b. b || list_any (λ y. eqb y stray) xs) e) ∙ h))
+
+-- one more class
+values_more : (xs : List ℕ) (i : ℕ) → i < length xs → values_among (take (i + 1) xs) ≡ values_among (take i xs) ++ cond (not (eqb (get_or xs i 0) stray)) (get_or xs i 0 ∷ []) []
+values_more xs i l = filter_more (λ class. not (eqb class stray)) xs i 0 l
+
+-- a written class goes in front of the fillers
+written : (values : List ℕ) (n x : ℕ) → length values ≡ n → n < 32 → set (values ++ replicate (32 - n) stray) n x ≡ values ++ x ∷ replicate (31 - n) stray
+written values n x e l =
+    let room : 32 - n ≡ suc (31 - n) = omega arith in
+    ap (λ m. set (values ++ replicate m stray) n x) room ∙ set_at values stray (replicate (31 - n) stray) x n e
+
+pub value_more : (xs : List ℕ) (i n : ℕ) → i < length xs → length xs ≡ 32 → n ≡ length (values_among (take i xs)) → n ≤ i → eqb (get_or xs i 0) stray ≡ false
+    → (n + 1 ≡ length (values_among (take (i + 1) xs))) × (set (values_among (take i xs) ++ replicate (32 - n) stray) n (get_or xs i 0) ≡ values_among (take (i + 1) xs) ++ replicate (32 - (n + 1)) stray)
+value_more xs i n l long count room value =
+    let x = get_or xs i 0 in
+    let more : values_among (take (i + 1) xs) ≡ values_among (take i xs) ++ x ∷ [] = values_more xs i l ∙ ap (λ b. values_among (take i xs) ++ cond (not b) (x ∷ []) []) value in
+    let fewer : 31 - n ≡ 32 - (n + 1) = omega arith in (
+      count_more xs i n x count ∙ ap length (sym more),
+      written (values_among (take i xs)) n x (sym count) (omega arith)
+          ∙ sym (append_assoc (values_among (take i xs)) (x ∷ []) (replicate (31 - n) stray))
+          ∙ (λ j. sym more j ++ replicate (fewer j) stray),
+    )
+  where
+    count_more : (xs : List ℕ) (i n x : ℕ) → n ≡ length (values_among (take i xs)) → n + 1 ≡ length (values_among (take i xs) ++ x ∷ [])
+    count_more xs i n x e = omega (arith, length_push (values_among (take i xs)) x)
+
+pub stray_more : (xs : List ℕ) (i n : ℕ) → i < length xs → length xs ≡ 32 → n ≡ length (values_among (take i xs)) → n ≤ i → eqb (get_or xs i 0) stray ≡ true
+    → (n ≡ length (values_among (take (i + 1) xs))) × (set (values_among (take i xs) ++ replicate (32 - n) stray) n (get_or xs i 0) ≡ values_among (take (i + 1) xs) ++ replicate (32 - n) stray)
+stray_more xs i n l long count room value =
+    let x = get_or xs i 0 in
+    let is : x ≡ stray = eqb-true _ _ value in
+    let same : values_among (take (i + 1) xs) ≡ values_among (take i xs) =
+    values_more xs i l ∙ ap (λ b. values_among (take i xs) ++ cond (not b) (x ∷ []) []) value ∙ append-nil (values_among (take i xs)) in
+    let more : suc (31 - n) ≡ 32 - n = omega arith in (
+      count ∙ ap length (sym same),
+      written (values_among (take i xs)) n x (sym count) (omega arith)
+          ∙ ap (λ y. values_among (take i xs) ++ y ∷ replicate (31 - n) stray) is
+          ∙ (λ j. sym same j ++ replicate (more j) stray),
+    )

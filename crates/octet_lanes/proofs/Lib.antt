@@ -1,0 +1,10 @@
+pub mod Bits
+pub mod Pieces
+pub mod Symbols
+pub mod Texts
+pub mod ReadBack
+pub mod Lanes
+pub mod Pairs
+pub mod Relaned
+pub mod Quanta
+pub mod Reading

@@ -1,0 +1,51 @@
+ghost use Rattle.std.specs.Prelude.{◌≡◌, ◌*◌};
+ghost use Rattle.octet_lanes.specs.Encoding.{padding, quantum, stray, width};
+
+/// An alphabet of RFC 4648, with its group size.
+#[derive(Clone, Copy, Debug, PartialEq, Eq, Drop)]
+pub enum Alphabet {
+    /// Groups of 6 bits in `A-Z a-z 0-9 + /` (RFC 4648, section 4).
+    Base64,
+    /// Groups of 5 bits in `A-Z 2-7` (RFC 4648, section 6).
+    Base32,
+    /// Groups of 5 bits in `0-9 A-V` (RFC 4648, section 7).
+    Base32Hex,
+}
+
+/// The class of an octet that doesn't stand in the alphabet.
+pub const STRAY: u8 = 0xff;
+
+/// The padding character.
+pub const PADDING: u8 = b'=';
+
+impl Alphabet {
+    /// The bits of a group.
+    pub fn width(self) -> usize
+        ensures { result ≡ width self }
+    {
+        match self {
+            Alphabet::Base64 => 6,
+            Alphabet::Base32 | Alphabet::Base32Hex => 5,
+        }
+    }
+
+    /// The octets of a quantum, the least number of whole octets that is a number of whole groups.
+    pub fn quantum_octets(self) -> usize
+        ensures { result * 8 ≡ width self * quantum self }
+    {
+        match self {
+            Alphabet::Base64 => 3,
+            Alphabet::Base32 | Alphabet::Base32Hex => 5,
+        }
+    }
+
+    /// The characters of a quantum.
+    pub fn quantum_characters(self) -> usize
+        ensures { result ≡ quantum self }
+    {
+        match self {
+            Alphabet::Base64 => 4,
+            Alphabet::Base32 | Alphabet::Base32Hex => 8,
+        }
+    }
+}

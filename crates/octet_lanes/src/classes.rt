@@ -1,0 +1,121 @@
+// Classes and symbols, each lane by the alphabet's table.
+ghost use Rattle.std.specs.Prelude.{◌≡◌, ◌<◌, ◌^◌, ◌==◌, map};
+ghost use Rattle.std.specs.List.{All, list_any};
+ghost use Rattle.octet_lanes.specs.Encoding.{class_of, stray, symbol_of, upper_of, width};
+ghost use Rattle.octet_lanes.specs.Lanes.{in_run};
+ghost use Rattle.octet_lanes.specs.declared.alphabet.Alphabet.TheVariants.{Base32, Base32Hex, Base64};
+
+use crate::alphabet::{Alphabet, STRAY};
+use crate::operations::{less, more, plus, where_below, where_from};
+use std::simd::prelude::*;
+
+/// The class of each octet in the alphabet: its value, or [`STRAY`] where it is no symbol.
+#[inline(always)]
+pub fn classify(octets: &[u8; 32], alphabet: Alphabet) -> [u8; 32]
+    ensures { result ≡ map (class_of alphabet) octets.now }
+{
+    let lanes = u8x32::from_array(*octets);
+    let classes = match alphabet {
+        Alphabet::Base64 => base64_classes(lanes),
+        Alphabet::Base32 => base32_classes(lanes),
+        Alphabet::Base32Hex => base32hex_classes(lanes),
+    };
+    classes.to_array()
+}
+
+// The place of each octet in a run of `n` symbols, and `mark`, which is 1 more than the value of the first; 0 for the
+// octets outside of the run. The runs of an alphabet add up to the class and 1.
+#[inline(always)]
+fn run(lanes: u8x32, first: u8, n: u8, mark: u8) -> u8x32
+    ensures { result ≡ map (in_run first n mark) lanes }
+{
+    let places = less(lanes, first);
+    where_below(places, n, more(places, mark))
+}
+
+#[inline(always)]
+fn base64_classes(lanes: u8x32) -> u8x32
+    ensures { result ≡ map (class_of Base64) lanes }
+{
+    let letters = plus(run(lanes, b'A', 26, 1), run(lanes, b'a', 26, 27));
+    let others = plus(run(lanes, b'+', 1, 63), run(lanes, b'/', 1, 64));
+    less(plus(plus(letters, run(lanes, b'0', 10, 53)), others), 1)
+}
+
+#[inline(always)]
+fn base32_classes(lanes: u8x32) -> u8x32
+    ensures { result ≡ map (class_of Base32) lanes }
+{
+    less(plus(run(lanes, b'A', 26, 1), run(lanes, b'2', 6, 27)), 1)
+}
+
+#[inline(always)]
+fn base32hex_classes(lanes: u8x32) -> u8x32
+    ensures { result ≡ map (class_of Base32Hex) lanes }
+{
+    less(plus(run(lanes, b'0', 10, 1), run(lanes, b'A', 22, 11)), 1)
+}
+
+/// Whether a class is that of a stray.
+#[inline(always)]
+pub fn has_stray(classes: &[u8; 32]) -> bool
+    ensures { result ≡ list_any (λ class. class == stray) classes.now }
+{
+    u8x32::from_array(*classes)
+        .simd_eq(u8x32::splat(STRAY))
+        .to_bitmask()
+        != 0
+}
+
+/// The symbol of each value in the alphabet.
+#[inline(always)]
+pub fn spell(values: &[u8; 32], alphabet: Alphabet) -> [u8; 32]
+    requires { All (λ value. value < 2 ^ width alphabet) values.now }
+    ensures { result ≡ map (symbol_of alphabet) values.now }
+{
+    let lanes = u8x32::from_array(*values);
+    let symbols = match alphabet {
+        Alphabet::Base64 => base64_symbols(lanes),
+        Alphabet::Base32 => base32_symbols(lanes),
+        Alphabet::Base32Hex => base32hex_symbols(lanes),
+    };
+    symbols.to_array()
+}
+
+// From each run's first value on, the symbol is so much farther from the value (less 256, where it is nearer).
+#[inline(always)]
+fn base64_symbols(lanes: u8x32) -> u8x32
+    requires { All (λ value. value < 64) lanes }
+    ensures { result ≡ map (symbol_of Base64) lanes }
+{
+    let letters = plus(more(lanes, b'A'), where_from(lanes, 26, 6));
+    let digits = plus(where_from(lanes, 52, 181), where_from(lanes, 62, 241));
+    plus(plus(letters, digits), where_from(lanes, 63, 3))
+}
+
+#[inline(always)]
+fn base32_symbols(lanes: u8x32) -> u8x32
+    requires { All (λ value. value < 32) lanes }
+    ensures { result ≡ map (symbol_of Base32) lanes }
+{
+    plus(more(lanes, b'A'), where_from(lanes, 26, 215))
+}
+
+#[inline(always)]
+fn base32hex_symbols(lanes: u8x32) -> u8x32
+    requires { All (λ value. value < 32) lanes }
+    ensures { result ≡ map (symbol_of Base32Hex) lanes }
+{
+    plus(more(lanes, b'0'), where_from(lanes, 10, 7))
+}
+
+/// Each ASCII letter in upper case, and each other octet as it is.
+#[inline(always)]
+pub fn ascii_upper_lanes(octets: &[u8; 32]) -> [u8; 32]
+    ensures { result ≡ map upper_of octets.now }
+{
+    let lanes = u8x32::from_array(*octets);
+    // 224 is 32 less, in the low 8 bits
+    let places = less(lanes, b'a');
+    plus(lanes, where_below(places, 26, u8x32::splat(224))).to_array()
+}

@@ -1,0 +1,21 @@
+//! Octets in lanes: the alphabets of RFC 4648, 32 octets at a time.
+//!
+//! Each call is its definition in `specs/`: a class or a symbol is that of the alphabet's table, lane by lane; a split
+//! or a join keeps the bits; and a text is the encoding of its octets, at every length.
+#![tactic(auto)]
+
+mod alphabet;
+mod classes;
+mod close;
+mod groups;
+pub mod laws;
+mod operations;
+mod reader;
+mod text;
+
+pub use alphabet::{Alphabet, PADDING, STRAY};
+pub use classes::{ascii_upper_lanes, classify, has_stray, spell};
+pub use close::close_up;
+pub use groups::{join, split};
+pub use reader::decode;
+pub use text::{append_encoding, encode};
