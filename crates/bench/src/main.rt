@@ -2,6 +2,7 @@
 #![tactic(auto)]
 
 mod codecs;
+mod machine;
 
 use std::env;
 
@@ -10,8 +11,10 @@ fn main(rt: HostRuntime) -> anyhow::Result<()> {
     let _program = words.next();
     match words.next() {
         Some(job) if job.as_str() == "codecs" => codecs::run(&rt),
+        Some(job) if job.as_str() == "run" => machine::run(&rt),
         _ => {
             println!(rt; "codecs")?;
+            println!(rt; "run")?;
             Ok(())
         }
     }

@@ -48,6 +48,7 @@ impl Machine {
     /// Takes the step of the instruction at the machine's place.
     ///
     /// An error comes only where memory was refused.
+    #[inline(always)]
     pub fn advance(&mut self, program: &Program, message: &Message<'_>) -> Result<Turn, AllocError>
         requires accepted { IsAccepted program.now }
         requires running { IsRunning program.now message.now self.old }
@@ -94,6 +95,7 @@ impl Machine {
     }
 
     // On to the next instruction, or to the place that the instruction names.
+    #[inline(always)]
     fn branch(&mut self, instruction: &Instruction, jumps: bool)
         requires place { self.old.place < 2 ^ 32 }
         requires cheap { self.old.charged < 2 ^ 127 }
@@ -108,6 +110,7 @@ impl Machine {
     }
 
     // Puts a truth value on top of the stack, and goes on.
+    #[inline(always)]
     fn push(&mut self, value: bool) -> Result<(), AllocError>
         requires place { self.old.place < 2 ^ 32 }
         requires cheap { self.old.charged < 2 ^ 127 }
@@ -120,6 +123,7 @@ impl Machine {
     }
 
     // Takes the truth value on top of the stack.
+    #[inline(always)]
     fn take(&mut self) -> bool
         requires { 0 < vec_len self.old.stack }
         ensures place { self.new.place ≡ self.old.place }
@@ -153,6 +157,7 @@ impl Machine {
 }
 
 // Whether the size is over the number, where a is 0, or under it.
+#[inline(always)]
 fn compares(instruction: &Instruction, number: u64, size: u64) -> bool
     ensures { result ≡ compares instruction.now number size }
 {
