@@ -15,13 +15,13 @@ mutual
     no_test : TestForms
     test : TestForm → TestForms → TestForms
 
--- a command; commands in order; the branches of an if with their blocks; the block of an else, if there is one
+-- a command; commands in order; the branches of an if with their blocks, up to the block of the else, if there is one
 mutual
   pub data CommandForm : Type 0 where
     keep : CommandForm
     discard : CommandForm
     stop : CommandForm
-    choice : BranchForms → ElseForm → CommandForm
+    choice : BranchForms → CommandForm
 
   pub data CommandForms : Type 0 where
     no_command : CommandForms
@@ -29,8 +29,5 @@ mutual
 
   pub data BranchForms : Type 0 where
     no_branch : BranchForms
+    otherwise : CommandForms → BranchForms
     branch : TestForm → CommandForms → BranchForms → BranchForms
-
-  pub data ElseForm : Type 0 where
-    no_else : ElseForm
-    otherwise : CommandForms → ElseForm

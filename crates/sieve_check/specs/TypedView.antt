@@ -1,13 +1,14 @@
 -- The code's typed scripts as forms.
 use Rattle.std.specs.Prelude.{ℕ, List, [], ◌∷◌, map, Option, Some, None}
 use Rattle.std.specs.Global.{Vec}
-use Rattle.sieve_check.specs.Typed.{TestForm, constant, negation, all_of, any_of, size, TestForms, no_test, test, CommandForm, keep, discard, stop, choice, CommandForms, no_command, command, BranchForms, no_branch, branch, ElseForm, no_else, otherwise}
+use Rattle.sieve_check.specs.Typed.{TestForm, constant, negation, all_of, any_of, size, TestForms, no_test, test, CommandForm, keep, discard, stop, choice, CommandForms, no_command, command, BranchForms, no_branch, otherwise, branch}
 use Rattle.sieve_check.specs.declared.typed.Test.{Test}
 use Rattle.sieve_check.specs.declared.typed.Test.TheOpen.{Test-F, Constant, Not, AllOf, AnyOf, Size}
 use Rattle.sieve_check.specs.declared.typed.Test.TheFolds.{fold-Test}
 use Rattle.sieve_check.specs.declared.typed.Command.{Command}
-use Rattle.sieve_check.specs.declared.typed.Command.TheOpen.{Command-F, Keep, Discard, Stop, If}
-use Rattle.sieve_check.specs.declared.typed.Command.TheFolds.{fold-Command}
+use Rattle.sieve_check.specs.declared.typed.Branch.{Branch}
+use Rattle.sieve_check.specs.declared.typed.Command.TheOpen.{Command-F, Keep, Discard, Stop, If, Branch-F}
+use Rattle.sieve_check.specs.declared.typed.Command.TheFolds.{fold-Command, fold-Branch}
 
 -- the tests of a list
 abbrev pub tests_of : List TestForm → TestForms
@@ -30,25 +31,47 @@ abbrev pub commands_of : List CommandForm → CommandForms
 commands_of [] = no_command
 commands_of (c ∷ cs) = command c (commands_of cs)
 
--- branches in order
-abbrev pub branches_of : List (Test × Vec CommandForm) → BranchForms
-branches_of [] = no_branch
-branches_of (b ∷ bs) = branch (test_form b.0) (commands_of b.1.items) (branches_of bs)
+-- a test with the block that it guards
+pub record GuardedForm : Type 0 where
+  pub test : TestForm
+  pub block : CommandForms
 
-abbrev pub else_of : Option (Vec CommandForm) → ElseForm
-else_of None = no_else
+-- the block of an else, if there is one
+abbrev pub else_of : Option (Vec CommandForm) → BranchForms
+else_of None = no_branch
 else_of (Some cs) = otherwise (commands_of cs.items)
 
-abbrev pub command_step : Command-F CommandForm → CommandForm
+-- branches in order, then the else
+abbrev pub branches_of : List GuardedForm → BranchForms → BranchForms
+branches_of [] last = last
+branches_of (b ∷ bs) last = branch b.test b.block (branches_of bs last)
+
+abbrev pub command_step : Command-F CommandForm GuardedForm → CommandForm
 command_step Keep = keep
 command_step Discard = discard
 command_step Stop = stop
-command_step (If branches else_block) = choice (branches_of branches.items) (else_of else_block)
+command_step (If branches else_block) = choice (branches_of branches.items (else_of else_block))
+
+abbrev pub branch_step : Branch-F CommandForm GuardedForm → GuardedForm
+branch_step b = record { test = test_form b.test; block = commands_of b.block.items }
 
 -- a command
 abbrev pub command_form : Command → CommandForm
-command_form = fold-Command CommandForm command_step
+command_form = fold-Command CommandForm GuardedForm command_step branch_step
+
+-- a branch
+abbrev pub branch_form : Branch → GuardedForm
+branch_form = fold-Branch CommandForm GuardedForm command_step branch_step
 
 -- commands
 abbrev pub commands_form : List Command → CommandForms
 commands_form cs = commands_of (map command_form cs)
+
+-- the block of an else, as the code holds it
+abbrev pub else_form : Option (Vec Command) → BranchForms
+else_form None = no_branch
+else_form (Some cs) = otherwise (commands_form cs.items)
+
+-- branches, as the code holds them, then the else
+abbrev pub branch_forms : List Branch → BranchForms → BranchForms
+branch_forms bs last = branches_of (map branch_form bs) last

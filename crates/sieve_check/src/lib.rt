@@ -5,4 +5,4 @@
 
 mod typed;
 
-pub use typed::{Command, Order, Test};
+pub use typed::{Branch, Command, Order, Test};

@@ -24,7 +24,16 @@ pub enum Test {
     Size(Order, u64),
 }
 
+/// A test of an `if` or `elsif`, and the block that it guards.
+#[cycle(typed)]
+#[derive(Debug, Drop)]
+pub struct Branch {
+    pub test: Test,
+    pub block: Vec<Command>,
+}
+
 /// A command. `require` says nothing here.
+#[cycle(typed)]
 #[derive(Debug, Drop)]
 pub enum Command {
     /// `keep`.
@@ -34,5 +43,5 @@ pub enum Command {
     /// `stop`.
     Stop,
     /// `if` and each `elsif` behind it, as tests with their blocks; and the block of `else`, if there is one.
-    If(Vec<(Test, Vec<Command>)>, Option<Vec<Command>>),
+    If(Vec<Branch>, Option<Vec<Command>>),
 }
