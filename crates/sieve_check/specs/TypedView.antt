@@ -1,5 +1,5 @@
 -- The code's typed scripts as forms.
-use Rattle.std.specs.Prelude.{ℕ, List, [], ◌∷◌, map, Option, Some, None}
+use Rattle.std.specs.Prelude.{List, [], ◌∷◌, map, Option, Some, None}
 use Rattle.std.specs.Global.{Vec}
 use Rattle.sieve_check.specs.Typed.{TestForm, constant, negation, all_of, any_of, size, TestForms, no_test, test, CommandForm, keep, discard, stop, choice, CommandForms, no_command, command, BranchForms, no_branch, otherwise, branch}
 use Rattle.sieve_check.specs.declared.typed.Test.{Test}

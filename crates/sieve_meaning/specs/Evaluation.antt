@@ -1,0 +1,18 @@
+-- How the evaluator's fields stand for what a script has done.
+use Rattle.std.specs.Prelude.{◌≡◌}
+use Rattle.bytecode_format.specs.Actions.{first_occurrences}
+use Rattle.sieve_meaning.specs.declared.evaluator.Evaluator.{Evaluator}
+use Rattle.sieve_meaning.specs.declared.evaluator.Flow.{Flow}
+use Rattle.sieve_meaning.specs.declared.evaluator.Flow.TheVariants.{GoesOn, Stopped}
+use Rattle.sieve_meaning.specs.Meaning.{Effects, Ending, normal, stopped}
+
+-- the evaluator stands for these effects
+pub record StandsFor (effects : Effects) (evaluator : Evaluator) : Type 0 where
+  pub actions : evaluator.actions ≡ first_occurrences effects.actions
+  pub implicit_keep : evaluator.implicit_keep ≡ effects.implicit_keep
+
+-- the evaluator stands for this ending
+abbrev pub StandsAt : Ending → Flow → Evaluator → Type 0
+StandsAt (normal effects) GoesOn evaluator = StandsFor effects evaluator
+StandsAt (stopped effects) Stopped evaluator = StandsFor effects evaluator
+StandsAt _ _ evaluator = ⊥

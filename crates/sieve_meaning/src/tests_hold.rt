@@ -1,0 +1,57 @@
+// Whether tests are true.
+ghost use Rattle.std.specs.Prelude.{◌≡◌, map};
+ghost use Rattle.sieve_check.specs.TypedView.{test_form, tests_of};
+ghost use Rattle.sieve_meaning.specs.Meaning.{holds, all_hold, any_holds, is_size};
+
+use mime_decode::Message;
+use sieve_check::{Order, Test};
+
+/// Whether the test is true of the message.
+#[cycle(tests)]
+pub fn is_true(test: &Test, message: &Message<'_>) -> bool
+    ensures { result ≡ holds message.now (test_form test.now) }
+{
+    match test {
+        Test::Constant(value) => *value,
+        Test::Not(inner) => !is_true(inner, message),
+        Test::AllOf(list) => all_true(list, message),
+        Test::AnyOf(list) => any_true(list, message),
+        Test::Size(order, number) => is_size(*order, *number, message.size() as u64),
+    }
+}
+
+// Whether all tests are true, up to the first that isn't.
+#[cycle(tests)]
+fn all_true(list: &[Test], message: &Message<'_>) -> bool
+    ensures { result ≡ all_hold message.now (tests_of (map test_form list.now)) }
+{
+    'list: for test in list {
+        if !is_true(test, message) {
+            return false;
+        }
+    }
+    true
+}
+
+// Whether a test is true, up to the first that is.
+#[cycle(tests)]
+fn any_true(list: &[Test], message: &Message<'_>) -> bool
+    ensures { result ≡ any_holds message.now (tests_of (map test_form list.now)) }
+{
+    'list: for test in list {
+        if is_true(test, message) {
+            return true;
+        }
+    }
+    false
+}
+
+// Whether the octets are over or under the number.
+fn is_size(order: Order, number: u64, octets: u64) -> bool
+    ensures { result ≡ is_size order number octets }
+{
+    match order {
+        Order::Over => number < octets,
+        Order::Under => octets < number,
+    }
+}
