@@ -1,0 +1,5 @@
+pub mod Loop
+pub mod Fields
+pub mod FormatLemmas
+pub mod Lengths
+pub mod ActionLemmas

@@ -5,11 +5,19 @@
 //! [`ActionList`] keeps the actions of a run, and makes them final (`specs/Actions`).
 #![tactic(auto)]
 
+mod action;
+mod action_list;
+mod building;
 mod error;
 mod instruction;
+pub mod laws;
 mod operation;
 mod program;
+mod reading;
+mod writing;
 
+pub use action::Action;
+pub use action_list::{ActionList, final_actions};
 pub use error::FormatError;
 pub use instruction::Instruction;
 pub use operation::Operation;

@@ -5,6 +5,27 @@ use crate::instruction::Instruction;
 use octets::Octets;
 use std::marker::Model;
 
+/// The one version of the format.
+pub(crate) const VERSION: u8 = 1;
+
+/// The most octets that a program has.
+pub(crate) const MAX_PROGRAM: usize = 4_194_304;
+
+/// The most variables that a program has.
+pub(crate) const MAX_VARIABLES: u16 = 128;
+
+/// The most numbers that a program has, and the most strings.
+pub(crate) const MAX_TABLE: usize = 65_535;
+
+/// The most octets that a string has.
+pub(crate) const MAX_STRING: usize = 16_384;
+
+/// The most instructions that a program has.
+pub(crate) const MAX_INSTRUCTIONS: usize = 65_536;
+
+/// What a program's octets begin with: the name of the format and its version.
+pub(crate) const OPENING: [u8; 5] = *b"SVBC\x01";
+
 /// A program within the limits of the format. A contract sees its `Code`.
 #[derive(Debug, Drop)]
 pub struct Program {
@@ -27,30 +48,55 @@ impl Model for Program {
 }
 
 impl Program {
+    ghost use Rattle.bytecode_format.specs.Spelling.{IsProgram};
+
+    /// A program of parts that are known to be within the limits.
+    pub(crate) fn assemble(
+        variables: u16,
+        numbers: Vec<u64>,
+        strings: Vec<Octets>,
+        instructions: Vec<Instruction>,
+    ) -> Program
+        requires { IsProgram (record { version = 1; variables = variables; numbers = numbers.items; strings = strings.items; instructions = instructions.items }) }
+        ensures { result ≡ record { version = 1; variables = variables; numbers = numbers.items; strings = strings.items; instructions = instructions.items } }
+    {
+        Program {
+            version: VERSION,
+            variables,
+            numbers,
+            strings,
+            instructions,
+        }
+    }
+
     /// How many variables the program has: 0 to 128.
     pub fn variables(&self) -> u16
-        ensures { result ≡ self.now.variables }
+        ensures value { result ≡ self.now.variables }
+        ensures program { IsProgram self.now }
     {
         self.variables
     }
 
     /// The table of numbers.
     pub fn numbers(&self) -> &[u64]
-        ensures { result.now ≡ self.now.numbers }
+        ensures value { result.now ≡ self.now.numbers }
+        ensures program { IsProgram self.now }
     {
         self.numbers.as_slice()
     }
 
     /// The table of strings, each of at most 16,384 octets.
     pub fn strings(&self) -> &[Octets]
-        ensures { result.now ≡ self.now.strings }
+        ensures value { result.now ≡ self.now.strings }
+        ensures program { IsProgram self.now }
     {
         self.strings.as_slice()
     }
 
     /// The instructions, at most 65,536.
     pub fn instructions(&self) -> &[Instruction]
-        ensures { result.now ≡ self.now.instructions }
+        ensures value { result.now ≡ self.now.instructions }
+        ensures program { IsProgram self.now }
     {
         self.instructions.as_slice()
     }

@@ -1,0 +1,12 @@
+use Rattle.std.proofs.Common.{◌≡◌, [], ◌∷◌, ◌++◌, ◌∙◌, ap}
+use Rattle.std.specs.BTreeSet.{contains}
+use Rattle.bytecode_format.specs.Action.{action_cmp}
+use Rattle.bytecode_format.proofs.ActionLemmas.{is_listed-push}
+use Rattle.bytecode_format.proofs.action_list.ActionList.push.Goals as goal
+
+pub invariant_of-self-2 : goal.invariant_of-self-2
+invariant_of-self-2 c = λ asked.
+    let listed : c.push.new.self.items ≡ c.self.inside.listed.items ++ c.args.action ∷ [] =
+    rw c.unwrap.ensures at c.push.ensures.items ∙ ap (λ l. l ++ c.args.action ∷ []) c.in_ok-reserve.ensures.items in
+    let same = c.in_ok-clone.ensures.cases in
+    rw (c.in_ok-insert.ensures.updates.0 asked, same, listed) (is_listed-push c.args.action asked c.self.inside.listed.items (contains action_cmp c.self.inside.seen asked) (c.self.invariant asked))

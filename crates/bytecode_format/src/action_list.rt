@@ -1,0 +1,93 @@
+// The actions of a run, each once.
+ghost use Rattle.std.specs.Prelude.{◌≡◌, [], IfOk, OnOk, OnErr};
+
+use crate::action::Action;
+use std::alloc::{AllocError, Global};
+use std::collections::BTreeSet;
+use std::marker::Model;
+
+/// The different actions of a run so far, in the order of their first occurrences.
+///
+/// A contract sees the list of them. An action takes time in the logarithm of their number.
+#[derive(Drop)]
+pub struct ActionList {
+    listed: Vec<Action>,
+    // The same actions, by their order.
+    seen: BTreeSet<Action>,
+}
+
+impl Model for ActionList {
+    ghost use Rattle.std.specs.Prelude.{◌≡◌, List};
+    ghost use Rattle.bytecode_format.specs.declared.action.Action.{Action};
+    ghost use Rattle.bytecode_format.specs.Action.{action_cmp};
+    ghost use Rattle.bytecode_format.specs.Actions.{is_listed};
+    ghost use Rattle.std.specs.BTreeSet.{contains};
+
+    ghost Value = { List Action };
+
+    ghost view = { λ l. l.listed.items };
+
+    ghost invariant = { λ l. (action : Action) → contains action_cmp l.seen action ≡ is_listed action l.listed.items };
+}
+
+impl ActionList {
+    ghost use Rattle.bytecode_format.specs.Actions.{with_action, with_implicit_keep};
+
+    /// No action. Takes no memory.
+    pub fn new(alloc: Global) -> ActionList
+        ensures { result ≡ [] }
+    {
+        ActionList {
+            listed: Vec::new(alloc),
+            seen: BTreeSet::new(alloc),
+        }
+    }
+
+    /// Lists the action, unless an equal one is listed.
+    ///
+    /// An error comes only where memory was refused; the list is then as it was.
+    pub fn push(&mut self, action: Action) -> Result<(), AllocError>
+        ensures ok { OnOk result (self.new ≡ with_action self.old action) }
+        ensures err { OnErr result (self.new ≡ self.old) }
+    {
+        if self.seen.contains(&action) {
+            return Ok(());
+        }
+        self.listed.reserve(1)?;
+        self.seen.insert(action.clone()?)?;
+        self.listed.push(action).unwrap();
+        Ok(())
+    }
+
+    /// The final actions: those listed, then Keep where the implicit keep stands and none is listed.
+    ///
+    /// An error comes only where memory was refused.
+    pub fn into_final(mut self, implicit_keep: bool) -> Result<Vec<Action>, AllocError>
+        ensures { IfOk result (λ v. v.items ≡ with_implicit_keep self implicit_keep) }
+    {
+        if implicit_keep && !self.seen.contains(&Action::Keep) {
+            self.listed.push(Action::Keep)?;
+        }
+        Ok(self.listed)
+    }
+}
+
+ghost use Rattle.bytecode_format.specs.Actions.{final_actions};
+
+/// A run's final actions: the first occurrence of each action in order, then Keep where the
+/// implicit keep stands and no Keep is listed.
+///
+/// An error comes only where memory was refused.
+pub fn final_actions(
+    alloc: Global,
+    actions: Vec<Action>,
+    implicit_keep: bool,
+) -> Result<Vec<Action>, AllocError>
+    ensures { IfOk result (λ v. v.items ≡ final_actions actions.items implicit_keep) }
+{
+    let mut list = ActionList::new(alloc);
+    'all: for action in actions {
+        list.push(action)?;
+    }
+    list.into_final(implicit_keep)
+}

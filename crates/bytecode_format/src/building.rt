@@ -1,0 +1,95 @@
+// Programs from their parts.
+ghost use Rattle.std.specs.Prelude.{◌≡◌, ◌+◌, ◌*◌, ◌<◌, ◌≤◌, ◌^◌, length, All, IfOk, IfErr, IsTrue, ◌↔◌};
+ghost use Rattle.std.specs.List.{flat_map};
+ghost use Rattle.bytecode_format.specs.Code.{Code};
+ghost use Rattle.bytecode_format.specs.Spelling.{string, Fits, IsProgram};
+
+use crate::error::FormatError;
+use crate::instruction::Instruction;
+use crate::program::{
+    MAX_INSTRUCTIONS, MAX_PROGRAM, MAX_STRING, MAX_TABLE, MAX_VARIABLES, OPENING, Program, VERSION,
+};
+use octets::Octets;
+
+/// How many octets the four counts take.
+const COUNTS_LEN: usize = 10;
+
+/// How many octets a number takes, and how many an instruction.
+const ROW_LEN: usize = 8;
+
+/// Whether each string is within its limit.
+fn are_short(strings: &[Octets]) -> bool
+    ensures { IsTrue result ↔ All (λ text. length text ≤ 16384) strings.now }
+{
+    strings.iter().all(|text| text.len() <= MAX_STRING)
+}
+
+/// How many octets the strings take, each with its length.
+fn strings_len(strings: &[Octets]) -> usize
+    requires few { length strings.now < 2 ^ 16 }
+    requires short { All (λ text. length text ≤ 16384) strings.now }
+    ensures len { result ≡ length (flat_map string strings.now) }
+    ensures small { result ≤ 2 ^ 16 * 16386 }
+{
+    let mut total = 0;
+    'table: for text in strings {
+        total += 2 + text.len();
+    }
+    total
+}
+
+// What the types say of numbers.
+fn numbers_fit(numbers: &[u64])
+    ensures { All (λ n. n < 2 ^ 64) numbers.now }
+{}
+
+// What the types say of an instruction.
+fn instruction_fits(i: Instruction)
+    ensures { Fits i }
+{}
+
+// What the types say of instructions; the loop leaves no code.
+fn instructions_fit(instructions: &[Instruction])
+    ensures { All Fits instructions.now }
+{
+    'table: for i in instructions {
+        instruction_fits(*i);
+    }
+}
+
+impl Program {
+    /// The program of these parts.
+    ///
+    /// `Spelling` comes exactly where they are outside the limits of a program; no other error comes,
+    /// and no memory is taken.
+    pub fn build(
+        version: u8,
+        variables: u16,
+        numbers: Vec<u64>,
+        strings: Vec<Octets>,
+        instructions: Vec<Instruction>,
+    ) -> Result<Program, FormatError>
+        ensures built { let code : Code = record { version = version; variables = variables; numbers = numbers.items; strings = strings.items; instructions = instructions.items } in IfOk result (λ p. (p ≡ code) × IsProgram code) }
+        ensures refused { let code : Code = record { version = version; variables = variables; numbers = numbers.items; strings = strings.items; instructions = instructions.items } in IfErr result (λ e. (e ≡ FormatError.Spelling) × ¬ IsProgram code) }
+    {
+        if version != VERSION || variables > MAX_VARIABLES {
+            return Err(FormatError::Spelling);
+        }
+        if numbers.len() > MAX_TABLE
+            || strings.len() > MAX_TABLE
+            || instructions.len() > MAX_INSTRUCTIONS
+        {
+            return Err(FormatError::Spelling);
+        }
+        if !are_short(&strings) {
+            return Err(FormatError::Spelling);
+        }
+        let rows_len = (numbers.len() + instructions.len()) * ROW_LEN;
+        if OPENING.len() + COUNTS_LEN + rows_len + strings_len(&strings) > MAX_PROGRAM {
+            return Err(FormatError::Spelling);
+        }
+        numbers_fit(&numbers);
+        instructions_fit(&instructions);
+        Ok(Program::assemble(variables, numbers, strings, instructions))
+    }
+}
