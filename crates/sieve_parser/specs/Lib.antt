@@ -1,0 +1,6 @@
+pub mod Lexemes
+pub mod Tree
+pub mod Grammar
+pub mod Machine
+pub mod Faults
+pub mod View
