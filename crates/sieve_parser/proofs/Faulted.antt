@@ -8,7 +8,8 @@ use Rattle.sieve_parser.specs.Tree.{invocation, no_test, last, CommandsTree, no_
 use Rattle.sieve_parser.specs.Grammar.{Placed, at_depth, lexemes_placed, commands_spelled, BeginsScript, IsViable, IsScript}
 use Rattle.sieve_parser.specs.Machine.{Follow, command_end, test_end, Symbol, body, arguments, ending, tests, strings, more_strings, ended_by, expand, Verdict, goes, wrong, deep, judged, step, stack_then, advance, reading}
 use Rattle.sieve_parser.specs.Faults.{AreWithinDepth, IsViableWithinDepth, IsSyntaxFault, IsTooDeep}
-use Rattle.sieve_parser.proofs.Language.{InFollow, InSymbol, InStack, Adds, adds, Expands, Taken, takes, body_end}
+use Rattle.sieve_parser.proofs.Language.{InFollow, InSymbol, InStack, Adds, adds, Expands, Taken, takes, body_end, single, to_single}
+use Rattle.sieve_parser.specs.Reading.{IsDone}
 
 split_stack : (xs ys : List Symbol) (zs : List Placed) → InStack (xs ++ ys) zs → (us : List Placed) × ((vs : List Placed) × ((zs ≡ us ++ vs) × InStack xs us × InStack ys vs))
 split_stack [] ys zs p = ([], (zs, (refl, refl, p)))
@@ -128,22 +129,101 @@ stack_takes x stack p zs g (us, (vs, (e, word, rest))) =
 
 -- What is read of a word of what was to be read leaves a word of what is to be read then.
 abbrev ReadsOn : List Placed → List Symbol → List Symbol → List Placed → Type 0
-ReadsOn xs t s ys = IsGrounded t → InStack t (xs ++ ys) → fold advance (Some t) (lexemes_placed xs) ≡ Some s → IsGrounded s × InStack s ys
+ReadsOn xs t s ys = IsGrounded t → InStack t (xs ++ ys) → fold advance (Some t) (lexemes_placed xs) ≡ Some s → IsGrounded s × InStack s ys × AreWithinDepth xs
 
-on_within : (stack : List Symbol) (xs : List Placed) (s : List Symbol) (ys : List Placed) (d : ℕ) (symbols : List Symbol)
-    → ((t : List Symbol) → ReadsOn xs t s ys) → InStack (symbols ++ stack) (xs ++ ys) → IsGrounded (symbols ++ stack)
-    → (b : Bool) → nat_le d 32 ≡ b → fold advance (stack_then (judged (Some (d, symbols)) stack)) (lexemes_placed xs) ≡ Some s → IsGrounded s × InStack s ys
-on_within stack xs s ys d symbols more word g true small e = more (symbols ++ stack) g word (rw small at e)
-on_within stack xs s ys d symbols more word g false small e = absurd (fold_none (lexemes_placed xs) s (rw small at e))
+on_within : (stack : List Symbol) (depth : ℕ) (xs : List Placed) (s : List Symbol) (ys : List Placed) (d : ℕ) (symbols : List Symbol)
+    → ((t : List Symbol) → ReadsOn xs t s ys) → depth ≡ d → InStack (symbols ++ stack) (xs ++ ys) → IsGrounded (symbols ++ stack)
+    → (b : Bool) → nat_le d 32 ≡ b → fold advance (stack_then (judged (Some (d, symbols)) stack)) (lexemes_placed xs) ≡ Some s → IsGrounded s × InStack s ys × ((depth ≤ 32) × AreWithinDepth xs)
+on_within stack depth xs s ys d symbols more same word g true small e =
+    let r = more (symbols ++ stack) g word (rw small at e) in (r.0, r.1, (omega (arith, leb-true d 32 small), r.2))
+on_within stack depth xs s ys d symbols more same word g false small e = absurd (fold_none (lexemes_placed xs) s (rw small at e))
 
 on_step : (stack : List Symbol) (depth : ℕ) (xs : List Placed) (s : List Symbol) (ys : List Placed) (o : Option (ℕ × List Symbol))
     → ((t : List Symbol) → ReadsOn xs t s ys) → MatchOption o ⊥ (λ q. (depth ≡ q.0) × InStack (q.1 ++ stack) (xs ++ ys)) → MatchOption o (Unit {0}) (λ q. IsGrounded (q.1 ++ stack))
-    → fold advance (stack_then (judged o stack)) (lexemes_placed xs) ≡ Some s → IsGrounded s × InStack s ys
+    → fold advance (stack_then (judged o stack)) (lexemes_placed xs) ≡ Some s → IsGrounded s × InStack s ys × ((depth ≤ 32) × AreWithinDepth xs)
 on_step stack depth xs s ys None more h g e = absurd h
-on_step stack depth xs s ys (Some (d, symbols)) more h g e = on_within stack xs s ys d symbols more h.1 g (nat_le d 32) refl e
+on_step stack depth xs s ys (Some (d, symbols)) more h g e = on_within stack depth xs s ys d symbols more h.0 h.1 g (nat_le d 32) refl e
 
 pub reads_on : (xs : List Placed) (t s : List Symbol) (ys : List Placed) → ReadsOn xs t s ys
-reads_on [] t s ys g p e = let same : t ≡ s = cc in (subst IsGrounded same g, subst (λ w. InStack w ys) same p)
+reads_on [] t s ys g p e = let same : t ≡ s = cc in (subst IsGrounded same g, subst (λ w. InStack w ys) same p, tt)
 reads_on (p ∷ xs) [] s ys g word e = absurd (cc)
 reads_on (p ∷ xs) (x ∷ stack) s ys g word e =
     on_step stack p.depth xs s ys (expand x p.lexeme) (λ t. reads_on xs t s ys) (stack_takes x stack p (xs ++ ys) g word) (grounded x p.lexeme stack g) e
+
+-- the start
+abbrev pub root : List Symbol
+root = body 0 ∷ []
+
+root_grounded : IsGrounded root
+root_grounded = (λ e. refl, tt)
+
+pub script_of_word : (zs : List Placed) → InStack root zs → (cs : CommandsTree) × (commands_spelled 0 cs ≡ zs)
+script_of_word zs p = let q = single (body 0) zs p in (q.0, sym (append-nil (commands_spelled 0 q.0)) ∙ sym q.1)
+
+word_of_script : (cs : CommandsTree) (zs : List Placed) → commands_spelled 0 cs ≡ zs → InStack root zs
+word_of_script cs zs e = to_single (body 0) zs (cs, sym e ∙ sym (append-nil (commands_spelled 0 cs)))
+
+-- where nothing more has to be read, nothing is a word
+done_from_word : (s : List Symbol) → InStack s [] → IsDone s
+done_from_word [] p = tt
+done_from_word (x ∷ s) (us, (vs, (e, word, rest))) = elim (takes x us word) [
+    inl none ↦
+      let empty : vs ≡ [] = sym (e ∙ ap (λ u. u ++ vs) none.0) in
+      subst (λ w. IsDone (w ∷ s)) (sym none.1) (done_from_word s (subst (λ w. InStack s w) empty rest))
+  | inr t ↦ let some : [] ≡ t.0 ∷ (t.1.0 ++ vs) = e ∙ ap (λ u. u ++ vs) t.1.1.0 in absurd (cc)
+  ]
+
+-- what the machine has read begins a script within the depth
+pub read_is_viable : (us : List Lexeme) (s : List Symbol) → reading us ≡ Some s → IsViableWithinDepth us
+read_is_viable us s e =
+    let word = complete_stack s in
+    let r = reads_back us root s word.0 e word.1 in
+    let script = script_of_word (r.0 ++ word.0) r.1.2 in
+    (r.0, (r.1.0, (script.0, (word.0, script.1)), r.1.1))
+
+split_placed : (xs : List Placed) (ls : List Lexeme) (l : Lexeme) → ls ++ l ∷ [] ≡ lexemes_placed xs
+    → (ys : List Placed) × ((p : Placed) × ((xs ≡ ys ++ p ∷ []) × (ls ≡ lexemes_placed ys) × (l ≡ p.lexeme)))
+split_placed [] [] l e = absurd (cc)
+split_placed [] (m ∷ ls) l e = absurd (cc)
+split_placed (p ∷ []) [] l e = ([], (p, (refl, refl, cc)))
+split_placed (p ∷ q ∷ xs) [] l e = absurd (cc)
+split_placed (p ∷ xs) (m ∷ ls) l e =
+    let tail : ls ++ l ∷ [] ≡ lexemes_placed xs = cc in
+    let head : m ≡ p.lexeme = cc in
+    let r = split_placed xs ls l tail in
+    (p ∷ r.0, (r.1.0, (ap (λ w. p ∷ w) r.1.1.0, cc, r.1.1.2)))
+
+takes_not_wrong : (stack : List Symbol) (o : Option (ℕ × List Symbol)) (Q : ℕ × List Symbol → Type 0) → MatchOption o ⊥ Q → judged o stack ≡ wrong → ⊥
+takes_not_wrong stack None Q h e = h
+takes_not_wrong stack (Some (d, symbols)) Q h e = elim (cases_Bool (nat_le d 32)) [
+    inl small ↦ let f : goes (symbols ++ stack) ≡ wrong = rw small at e in absurd (cc)
+  | inr large ↦ let f : deep ≡ wrong = rw large at e in absurd (cc)
+  ]
+
+stack_not_wrong : (s : List Symbol) (p : Placed) (rest : List Placed) → IsGrounded s → InStack s (p ∷ rest) → step s p.lexeme ≡ wrong → ⊥
+stack_not_wrong [] p rest g word bad = absurd (cc)
+stack_not_wrong (x ∷ stack) p rest g word bad = takes_not_wrong stack (expand x p.lexeme) _ (stack_takes x stack p rest g word) bad
+
+-- behind what the machine has read, a lexeme that is wrong there begins no script
+pub wrong_is_not_viable : (us : List Lexeme) (l : Lexeme) (s : List Symbol) → reading us ≡ Some s → step s l ≡ wrong → IsViable (us ++ l ∷ []) → ⊥
+wrong_is_not_viable us l s e bad (xs, (same, (cs, (rest, script)))) =
+    let parts = split_placed xs us l same in
+    let p = parts.1.0 in
+    let whole : commands_spelled 0 cs ≡ parts.0 ++ (p ∷ rest) = script ∙ ap (λ w. w ++ rest) parts.1.1.0 ∙ append_assoc parts.0 (p ∷ []) rest in
+    let word = word_of_script cs (parts.0 ++ (p ∷ rest)) whole in
+    let read : reading (lexemes_placed parts.0) ≡ Some s = ap reading (sym parts.1.1.1) ∙ e in
+    let r = reads_on parts.0 root s (p ∷ rest) root_grounded word read in
+    stack_not_wrong s p rest r.0 r.1 (subst (λ w. step s w ≡ wrong) parts.1.1.2 bad)
+
+-- behind what the machine has read, where something has to be read, the script isn't ended
+pub open_is_no_script : (us : List Lexeme) (s : List Symbol) → reading us ≡ Some s → (IsDone s → ⊥) → (cs : CommandsTree) → IsScript us cs → ⊥
+open_is_no_script us s e open_stack cs script =
+    let spelled = commands_spelled 0 cs in
+    let r = reads_on spelled root s [] root_grounded (word_of_script cs (spelled ++ []) (sym (append-nil spelled))) (ap reading (sym script) ∙ e) in
+    open_stack (done_from_word s r.1)
+
+-- a script that the machine reads to its end is within the depth
+pub read_script_within : (us : List Lexeme) (s : List Symbol) (cs : CommandsTree) → reading us ≡ Some s → IsScript us cs → AreWithinDepth (commands_spelled 0 cs)
+read_script_within us s cs e script =
+    let spelled = commands_spelled 0 cs in
+    (reads_on spelled root s [] root_grounded (word_of_script cs (spelled ++ []) (sym (append-nil spelled))) (ap reading (sym script) ∙ e)).2

@@ -37,11 +37,11 @@ InStack [] zs = zs ≡ []
 InStack (x ∷ stack) zs = (us : List Placed) × ((vs : List Placed) × ((zs ≡ us ++ vs) × InSymbol x us × InStack stack vs))
 
 -- a stack of one symbol
-single : (x : Symbol) (zs : List Placed) → InStack (x ∷ []) zs → InSymbol x zs
+pub single : (x : Symbol) (zs : List Placed) → InStack (x ∷ []) zs → InSymbol x zs
 single x zs (us, (vs, (e, word, none))) =
     subst (λ z. InSymbol x z) (sym (e ∙ ap (λ v. us ++ v) none ∙ append-nil us)) word
 
-to_single : (x : Symbol) (zs : List Placed) → InSymbol x zs → InStack (x ∷ []) zs
+pub to_single : (x : Symbol) (zs : List Placed) → InSymbol x zs → InStack (x ∷ []) zs
 to_single x zs word = (zs, ([], (sym (append-nil zs), word, refl)))
 
 -- what a lexeme adds in front of a word of what is to be read then

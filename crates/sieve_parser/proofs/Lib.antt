@@ -1,2 +1,3 @@
 pub mod Language
 pub mod Faulted
+pub mod Walk

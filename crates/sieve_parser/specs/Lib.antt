@@ -4,3 +4,5 @@ pub mod Grammar
 pub mod Machine
 pub mod Faults
 pub mod View
+pub mod Reading
+pub mod Refusals

@@ -1,8 +1,12 @@
 //! The syntax tree of a script.
 #![tactic(auto)]
 
-ghost use Rattle.sieve_parser.specs.View.{commands_tree};
+ghost use Rattle.sieve_parser.specs.Reading.{ReadsFrom};
 
+mod error;
+mod token_at;
+pub mod laws;
 mod tree;
 
+pub use error::ParseError;
 pub use tree::{Argument, Command, Head, Invocation};
