@@ -1,0 +1,5 @@
+//! Tests of the script crates, over their public calls.
+#![tactic(auto)]
+
+#[cfg(test)]
+mod lexer;
