@@ -1,3 +1,6 @@
 pub mod Language
 pub mod Faulted
 pub mod Walk
+pub mod Here
+pub mod Wrong
+pub mod StringLists

@@ -118,3 +118,12 @@ stands_both ls a b c xs ys p q = record {
   same = p.same ∙ ap (λ w. lexemes_placed xs ++ w) q.same ∙ sym (append_assoc (lexemes_placed xs) (lexemes_placed ys) (drop c ls))
       ∙ ap (λ w. w ++ drop c ls) (sym (map-append (λ (w : Placed). w.lexeme) xs ys));
 }
+
+-- Either the place is the end, or what a symbol doesn't expand to stands there: then the place is the fault.
+pub stuck_here : (ls : List Lexeme) (p : ℕ) (x : Symbol) (stack : List Symbol) → IsAt ls p (x ∷ stack) → p ≤ length ls
+    → (p < length ls → expand x (lexeme_at ls p) ≡ None) → (IsDone (x ∷ stack) → ⊥) → IsSyntaxFault ls p
+stuck_here ls p x stack at within none open_stack =
+    elim (cases_lt p (length ls)) [
+      inl lt ↦ stuck ls p x stack at lt (none lt)
+    | inr ge ↦ stuck_at_end ls p (x ∷ stack) at (omega arith) open_stack
+    ]

@@ -2,9 +2,11 @@ use Rattle.std.specs.Prelude.{◌≡◌, ℕ, zero, ◌+◌, ◌<◌, ◌≤◌,
 use Rattle.std.specs.List.{slice_get}
 use Rattle.sieve_lexer.specs.declared.token.Token.{Token}
 use Rattle.sieve_lexer.specs.declared.token.TokenKind.{TokenKind}
-use Rattle.sieve_parser.specs.Lexemes.{Lexeme, semicolon, lexemes_from}
-use Rattle.sieve_parser.specs.Grammar.{Placed, lexemes_placed}
-use Rattle.sieve_parser.specs.Machine.{Symbol, body, reading, step}
+use Rattle.sieve_parser.specs.Lexemes.{Lexeme, semicolon, identifier, string, opening_bracket, lexemes_from}
+use Rattle.sieve_parser.specs.Grammar.{Placed, at_depth, lexemes_placed, argument_spelled}
+use Rattle.sieve_parser.specs.Machine.{Symbol, body, strings, reading, step}
+use Rattle.sieve_parser.specs.View.{argument_tree}
+use Rattle.sieve_parser.specs.declared.tree.Argument.{Argument}
 use Rattle.sieve_parser.specs.Faults.{IsSyntaxFault, IsTooDeep}
 use Rattle.sieve_parser.specs.declared.error.ParseError.{ParseError}
 use Rattle.sieve_parser.specs.declared.error.ParseError.TheVariants.{Memory, ScriptTooLong, Lexical, Syntax, TooDeep}
@@ -52,3 +54,24 @@ pub record Stands (ls : List Lexeme) (a b : ℕ) (placed : List Placed) : Type 0
 abbrev pub ReadsFrom : {T : Type 0} → List Lexeme → ℕ → (T → List Placed) → List Symbol → List Symbol → Result (T × ℕ) ParseError → Type 0
 ReadsFrom ls a placed before after answer = MatchResult answer
     (λ r. Stands ls a r.1 (placed r.0) × (IsAt ls a before → IsAt ls r.1 after)) (λ e. IsAt ls a before → IsFaultOf ls e)
+
+-- the value of the string at the place, or nothing where none stands there
+abbrev pub IsStringAt : List Lexeme → ℕ → Option (List ℕ) → Type 0
+IsStringAt ls at None = (s : List ℕ) → at < length ls → lexeme_at ls at ≡ string s → ⊥
+IsStringAt ls at (Some s) = (at < length ls) × (lexeme_at ls at ≡ string s)
+
+-- the name of the identifier at the place, or nothing where none stands there
+abbrev pub IsIdentifierAt : List Lexeme → ℕ → Option (List ℕ) → Type 0
+IsIdentifierAt ls at None = (n : ℕ) (name : List ℕ) → at < length ls → lexeme_at ls at ≡ identifier n name → ⊥
+IsIdentifierAt ls at (Some name) = (at < length ls) × (lexeme_at ls at ≡ identifier at name)
+
+-- a string that has to stand at the place, or the refusal
+abbrev pub IsExpectedString : List Lexeme → ℕ → Result (List ℕ) ParseError → Type 0
+IsExpectedString ls at answer = MatchResult answer (λ s. (at < length ls) × (lexeme_at ls at ≡ string s))
+    (λ e. (d : ℕ) (stack : List Symbol) → IsAt ls at (strings d ∷ stack) → IsFaultOf ls e)
+
+-- a list of strings behind its opening bracket, or the refusal
+abbrev pub IsListBehind : List Lexeme → ℕ → Result (Argument × ℕ) ParseError → Type 0
+IsListBehind ls at answer = (d : ℕ) (stack : List Symbol) → d ≤ 32 → MatchResult answer
+    (λ r. (b : List Placed) × ((argument_spelled d (argument_tree r.0) ≡ at_depth d opening_bracket ∷ b) × Stands ls at r.1 b × (IsAt ls at (strings d ∷ stack) → IsAt ls r.1 stack)))
+    (λ e. IsAt ls at (strings d ∷ stack) → IsFaultOf ls e)

@@ -4,6 +4,7 @@
 ghost use Rattle.sieve_parser.specs.Reading.{ReadsFrom};
 
 mod error;
+mod strings;
 mod token_at;
 pub mod laws;
 mod tree;

@@ -1,13 +1,20 @@
 // What stands at a token's number.
-ghost use Rattle.std.specs.Prelude.{◌≡◌, ◌↔◌, ◌<◌, ℕ, List, IsTrue, IfOk, MatchOption, length};
+ghost use Rattle.std.specs.Prelude.{◌≡◌, ◌↔◌, IsTrue, IfOk};
+ghost use Rattle.std.specs.List.{slice_get};
 ghost use Rattle.sieve_lexer.specs.Tokens.{AreTokens};
-ghost use Rattle.sieve_parser.specs.Lexemes.{identifier, string};
-ghost use Rattle.sieve_parser.specs.Reading.{kind_at, lexeme_at, lexemes};
+ghost use Rattle.sieve_parser.specs.Reading.{IsIdentifierAt, IsStringAt, kind_at, lexemes};
 
 use std::alloc::{AllocError, Global};
 
 use octets::Octets;
 use sieve_lexer::{Token, TokenKind, string_of};
+
+// The token with this number, if there is one.
+pub fn token_at(tokens: &[Token], at: usize) -> Option<Token>
+    ensures { result ≡ slice_get tokens.now at }
+{
+    if at < tokens.len() { Some(tokens[at]) } else { None }
+}
 
 // Whether the token with this number is of the kind.
 pub fn stands(tokens: &[Token], at: usize, kind: TokenKind) -> bool
@@ -29,11 +36,9 @@ pub fn owned(alloc: Global, octets: &[u8]) -> Result<Octets, AllocError>
 // The value of the string with this number, or nothing where no string stands there.
 pub fn string_at(alloc: Global, script: &[u8], tokens: &[Token], at: usize) -> Result<Option<Octets>, AllocError>
     requires { AreTokens script.now tokens.now }
-    ensures { IfOk result (λ answer. MatchOption answer
-        ((s : List ℕ) → at < length tokens.now → lexeme_at (lexemes script.now tokens.now) at ≡ string s → ⊥)
-        (λ s. (at < length tokens.now) × (lexeme_at (lexemes script.now tokens.now) at ≡ string s))) }
+    ensures { IfOk result (λ answer. IsStringAt (lexemes script.now tokens.now) at answer) }
 {
-    let Some(token) = tokens.get(at) else {
+    let Some(token) = token_at(tokens, at) else {
         return Ok(None);
     };
     match token.kind {
@@ -47,11 +52,9 @@ pub fn string_at(alloc: Global, script: &[u8], tokens: &[Token], at: usize) -> R
 // The name of the identifier with this number, or nothing where no identifier stands there.
 pub fn identifier_at(alloc: Global, script: &[u8], tokens: &[Token], at: usize) -> Result<Option<Octets>, AllocError>
     requires { AreTokens script.now tokens.now }
-    ensures { IfOk result (λ answer. MatchOption answer
-        ((n : ℕ) (name : List ℕ) → at < length tokens.now → lexeme_at (lexemes script.now tokens.now) at ≡ identifier n name → ⊥)
-        (λ name. (at < length tokens.now) × (lexeme_at (lexemes script.now tokens.now) at ≡ identifier at name))) }
+    ensures { IfOk result (λ answer. IsIdentifierAt (lexemes script.now tokens.now) at answer) }
 {
-    let Some(token) = tokens.get(at) else {
+    let Some(token) = token_at(tokens, at) else {
         return Ok(None);
     };
     match token.kind {
