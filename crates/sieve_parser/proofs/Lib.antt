@@ -4,3 +4,4 @@ pub mod Walk
 pub mod Here
 pub mod Wrong
 pub mod StringLists
+pub mod ArgumentSteps

@@ -1,12 +1,15 @@
-use Rattle.std.specs.Prelude.{◌≡◌, ℕ, zero, ◌+◌, ◌<◌, ◌≤◌, List, [], ◌∷◌, ◌++◌, length, take, drop, slice_index_or, Option, Some, None, Result, MatchResult, option_map}
+use Rattle.std.specs.Prelude.{◌≡◌, ℕ, zero, suc, ◌+◌, ◌<◌, ◌≤◌, List, [], ◌∷◌, ◌++◌, length, take, drop, slice_index_or, Option, Some, None, Result, MatchResult, MatchOption, map, option_map}
 use Rattle.std.specs.List.{slice_get}
 use Rattle.sieve_lexer.specs.declared.token.Token.{Token}
 use Rattle.sieve_lexer.specs.declared.token.TokenKind.{TokenKind}
-use Rattle.sieve_parser.specs.Lexemes.{Lexeme, semicolon, identifier, string, opening_bracket, lexemes_from}
-use Rattle.sieve_parser.specs.Grammar.{Placed, at_depth, lexemes_placed, argument_spelled}
-use Rattle.sieve_parser.specs.Machine.{Symbol, body, strings, reading, step}
-use Rattle.sieve_parser.specs.View.{argument_tree}
+use Rattle.sieve_parser.specs.Lexemes.{Lexeme, semicolon, identifier, tag, number, string, opening_bracket, closing_parenthesis, lexemes_from}
+use Rattle.sieve_parser.specs.Grammar.{Placed, at_depth, lexemes_placed, argument_spelled, arguments_spelled, invocation_spelled, more_tests_spelled}
+use Rattle.sieve_parser.specs.Machine.{Follow, test_end, Symbol, body, arguments, ending, tests, strings, reading, step}
+use Rattle.sieve_parser.specs.View.{argument_tree, invocation_tree, more_tests_of}
 use Rattle.sieve_parser.specs.declared.tree.Argument.{Argument}
+use Rattle.sieve_parser.specs.declared.tree.Invocation.{Invocation}
+use Rattle.std.specs.declared.vec.Vec.{Vec}
+use Rattle.std.specs.declared.alloc.Global.{Global}
 use Rattle.sieve_parser.specs.Faults.{IsSyntaxFault, IsTooDeep}
 use Rattle.sieve_parser.specs.declared.error.ParseError.{ParseError}
 use Rattle.sieve_parser.specs.declared.error.ParseError.TheVariants.{Memory, ScriptTooLong, Lexical, Syntax, TooDeep}
@@ -75,3 +78,50 @@ abbrev pub IsListBehind : List Lexeme → ℕ → Result (Argument × ℕ) Parse
 IsListBehind ls at answer = (d : ℕ) (stack : List Symbol) → d ≤ 32 → MatchResult answer
     (λ r. (b : List Placed) × ((argument_spelled d (argument_tree r.0) ≡ at_depth d opening_bracket ∷ b) × Stands ls at r.1 b × (IsAt ls at (strings d ∷ stack) → IsAt ls r.1 stack)))
     (λ e. IsAt ls at (strings d ∷ stack) → IsFaultOf ls e)
+
+-- the lexeme begins no argument
+abbrev pub IsNoArgument : Lexeme → Type 0
+IsNoArgument (tag name) = ⊥
+IsNoArgument (number n) = ⊥
+IsNoArgument (string s) = ⊥
+IsNoArgument opening_bracket = ⊥
+IsNoArgument _ = Unit {0}
+
+-- at the place begins no argument
+abbrev pub NoArgumentAt : List Lexeme → ℕ → Type 0
+NoArgumentAt ls at = at < length ls → IsNoArgument (lexeme_at ls at)
+
+-- the argument at the place with the place behind it, or nothing where none begins; or the refusal
+abbrev pub IsArgumentAt : List Lexeme → ℕ → Result (Option (Argument × ℕ)) ParseError → Type 0
+IsArgumentAt ls at answer = (d : ℕ) (f : Follow) (stack : List Symbol) → d ≤ 32 → MatchResult answer
+    (λ o. MatchOption o (NoArgumentAt ls at) (λ r. (at < r.1) × Stands ls at r.1 (argument_spelled d (argument_tree r.0))
+        × (IsAt ls at (arguments d f ∷ stack) → IsAt ls r.1 (arguments d f ∷ stack))))
+    (λ e. IsAt ls at (arguments d f ∷ stack) → IsFaultOf ls e)
+
+-- the arguments from the place on, with the place behind them, at which no argument begins; or the refusal
+abbrev pub AreArgumentsAt : List Lexeme → ℕ → Result (Vec Argument Global × ℕ) ParseError → Type 0
+AreArgumentsAt ls at answer = (d : ℕ) (f : Follow) (stack : List Symbol) → d ≤ 32 → MatchResult answer
+    (λ r. Stands ls at r.1 (arguments_spelled d (map argument_tree r.0.items)) × NoArgumentAt ls r.1
+        × (IsAt ls at (arguments d f ∷ stack) → IsAt ls r.1 (arguments d f ∷ stack)))
+    (λ e. IsAt ls at (arguments d f ∷ stack) → IsFaultOf ls e)
+
+-- the invocation whose identifier has the number, with the place behind it; or the refusal
+abbrev pub IsInvocationAt : List Lexeme → List ℕ → ℕ → ℕ → Result (Invocation × ℕ) ParseError → Type 0
+IsInvocationAt ls name n d answer = (f : Follow) (stack : List Symbol) → MatchResult answer
+    (λ r. (b : List Placed) × ((invocation_spelled d (invocation_tree r.0) ≡ at_depth d (identifier n name) ∷ b) × Stands ls (n + 1) r.1 b
+        × (IsAt ls (n + 1) (arguments d f ∷ stack) → IsAt ls r.1 (ending f ∷ stack))))
+    (λ e. IsAt ls (n + 1) (arguments d f ∷ stack) → IsFaultOf ls e)
+
+-- the test that has to begin at the place, with the place behind it; or the refusal
+abbrev pub IsTestAt : List Lexeme → ℕ → ℕ → Result (Invocation × ℕ) ParseError → Type 0
+IsTestAt ls at d answer = (stack : List Symbol) → MatchResult answer
+    (λ r. Stands ls at r.1 (invocation_spelled (suc d) (invocation_tree r.0)) × (IsAt ls at (tests d ∷ stack) → IsAt ls r.1 (ending (test_end d) ∷ stack)))
+    (λ e. IsAt ls at (tests d ∷ stack) → IsFaultOf ls e)
+
+-- the tests of a list behind its opening bracket, with the place behind the closing one; or the refusal
+abbrev pub AreTestsBehind : List Lexeme → ℕ → ℕ → Result ((Invocation × Vec Invocation Global) × ℕ) ParseError → Type 0
+AreTestsBehind ls at d answer = (stack : List Symbol) → MatchResult answer
+    (λ r. Stands ls at r.1 (invocation_spelled (suc d) (invocation_tree r.0.0)
+            ++ (more_tests_spelled d (more_tests_of (map invocation_tree r.0.1.items)) ++ at_depth d closing_parenthesis ∷ []))
+        × (IsAt ls at (tests d ∷ stack) → IsAt ls r.1 stack))
+    (λ e. IsAt ls at (tests d ∷ stack) → IsFaultOf ls e)

@@ -3,6 +3,7 @@
 
 ghost use Rattle.sieve_parser.specs.Reading.{ReadsFrom};
 
+mod arguments;
 mod error;
 mod strings;
 mod token_at;
@@ -11,3 +12,6 @@ mod tree;
 
 pub use error::ParseError;
 pub use tree::{Argument, Command, Head, Invocation};
+
+/// How many braces and test names may enclose a token, its own included.
+pub const DEPTH_LIMIT: usize = 32;
