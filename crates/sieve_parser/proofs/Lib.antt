@@ -5,3 +5,4 @@ pub mod Here
 pub mod Wrong
 pub mod StringLists
 pub mod ArgumentSteps
+pub mod TestSteps

@@ -7,6 +7,7 @@ mod arguments;
 mod error;
 mod strings;
 mod token_at;
+mod invocation;
 pub mod laws;
 mod tree;
 
