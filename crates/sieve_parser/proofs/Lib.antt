@@ -6,3 +6,4 @@ pub mod Wrong
 pub mod StringLists
 pub mod ArgumentSteps
 pub mod TestSteps
+pub mod CommandSteps

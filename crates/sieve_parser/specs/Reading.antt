@@ -3,11 +3,12 @@ use Rattle.std.specs.List.{slice_get}
 use Rattle.sieve_lexer.specs.declared.token.Token.{Token}
 use Rattle.sieve_lexer.specs.declared.token.TokenKind.{TokenKind}
 use Rattle.sieve_parser.specs.Lexemes.{Lexeme, semicolon, identifier, tag, number, string, opening_bracket, closing_parenthesis, lexemes_from}
-use Rattle.sieve_parser.specs.Grammar.{Placed, at_depth, lexemes_placed, argument_spelled, arguments_spelled, invocation_spelled, more_tests_spelled}
-use Rattle.sieve_parser.specs.Machine.{Follow, test_end, Symbol, body, arguments, ending, tests, strings, reading, step}
-use Rattle.sieve_parser.specs.View.{argument_tree, invocation_tree, more_tests_of}
+use Rattle.sieve_parser.specs.Grammar.{Placed, at_depth, lexemes_placed, argument_spelled, arguments_spelled, invocation_spelled, more_tests_spelled, command_spelled, commands_spelled}
+use Rattle.sieve_parser.specs.Machine.{Follow, command_end, test_end, Symbol, body, arguments, ending, tests, strings, reading, step}
+use Rattle.sieve_parser.specs.View.{argument_tree, invocation_tree, more_tests_of, command_tree, commands_tree}
 use Rattle.sieve_parser.specs.declared.tree.Argument.{Argument}
 use Rattle.sieve_parser.specs.declared.tree.Invocation.{Invocation}
+use Rattle.sieve_parser.specs.declared.tree.Command.{Command}
 use Rattle.std.specs.declared.vec.Vec.{Vec}
 use Rattle.std.specs.declared.alloc.Global.{Global}
 use Rattle.sieve_parser.specs.Faults.{IsSyntaxFault, IsTooDeep}
@@ -125,3 +126,17 @@ AreTestsBehind ls at d answer = (stack : List Symbol) → MatchResult answer
             ++ (more_tests_spelled d (more_tests_of (map invocation_tree r.0.1.items)) ++ at_depth d closing_parenthesis ∷ []))
         × (IsAt ls at (tests d ∷ stack) → IsAt ls r.1 stack))
     (λ e. IsAt ls at (tests d ∷ stack) → IsFaultOf ls e)
+
+-- the command whose identifier has the number, with the place behind it; or the refusal
+abbrev pub IsCommandAt : List Lexeme → List ℕ → ℕ → ℕ → Result (Command × ℕ) ParseError → Type 0
+IsCommandAt ls name n d answer = (stack : List Symbol) → MatchResult answer
+    (λ r. (b : List Placed) × ((command_spelled d (command_tree r.0) ≡ at_depth d (identifier n name) ∷ b) × Stands ls (n + 1) r.1 b
+        × (IsAt ls (n + 1) (arguments d (command_end d) ∷ stack) → IsAt ls r.1 stack)))
+    (λ e. IsAt ls (n + 1) (arguments d (command_end d) ∷ stack) → IsFaultOf ls e)
+
+-- the commands from the place on, with the place behind them, at which no identifier stands; or the refusal
+abbrev pub AreCommandsAt : List Lexeme → ℕ → ℕ → Result (Vec Command Global × ℕ) ParseError → Type 0
+AreCommandsAt ls at d answer = (stack : List Symbol) → MatchResult answer
+    (λ r. Stands ls at r.1 (commands_spelled d (commands_tree r.0.items)) × IsIdentifierAt ls r.1 None
+        × (IsAt ls at (body d ∷ stack) → IsAt ls r.1 (body d ∷ stack)))
+    (λ e. IsAt ls at (body d ∷ stack) → IsFaultOf ls e)

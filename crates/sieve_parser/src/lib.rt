@@ -4,6 +4,7 @@
 ghost use Rattle.sieve_parser.specs.Reading.{ReadsFrom};
 
 mod arguments;
+mod command;
 mod error;
 mod strings;
 mod token_at;
