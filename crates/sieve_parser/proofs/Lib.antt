@@ -7,3 +7,4 @@ pub mod StringLists
 pub mod ArgumentSteps
 pub mod TestSteps
 pub mod CommandSteps
+pub mod Parsed

@@ -6,3 +6,4 @@ pub mod Faults
 pub mod View
 pub mod Reading
 pub mod Refusals
+pub mod Scripts

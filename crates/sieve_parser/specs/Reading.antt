@@ -53,12 +53,6 @@ pub record Stands (ls : List Lexeme) (a b : ℕ) (placed : List Placed) : Type 0
   pub within : b ≤ length ls
   pub same : drop a ls ≡ lexemes_placed placed ++ drop b ls
 
--- Where the stack is to be read at place a, the answer is a value with the place up to which its lexemes stand,
--- and the other stack is to be read there; or it is the refusal.
-abbrev pub ReadsFrom : {T : Type 0} → List Lexeme → ℕ → (T → List Placed) → List Symbol → List Symbol → Result (T × ℕ) ParseError → Type 0
-ReadsFrom ls a placed before after answer = MatchResult answer
-    (λ r. Stands ls a r.1 (placed r.0) × (IsAt ls a before → IsAt ls r.1 after)) (λ e. IsAt ls a before → IsFaultOf ls e)
-
 -- the value of the string at the place, or nothing where none stands there
 abbrev pub IsStringAt : List Lexeme → ℕ → Option (List ℕ) → Type 0
 IsStringAt ls at None = (s : List ℕ) → at < length ls → lexeme_at ls at ≡ string s → ⊥

@@ -41,3 +41,9 @@ pub enum Command {
     /// It ends in a block of commands.
     Block(Invocation, Vec<Command>),
 }
+
+/// A script: its commands, in order.
+#[derive(Debug, Drop)]
+pub struct Script {
+    pub commands: Vec<Command>,
+}
