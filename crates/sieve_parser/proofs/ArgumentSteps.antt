@@ -1,6 +1,6 @@
 -- Arguments, one by one.
-use Rattle.std.proofs.Common.{◌≡◌, ◌≢◌, ℕ, zero, suc, ◌+◌, ◌<◌, ◌≤◌, List, [], ◌∷◌, ◌++◌, refl, sym, ◌∙◌, ap, subst, arith, length, map, ◌-◌, ◌^◌, inl, inr}
-use Rattle.std.specs.Prelude.{Option, Some, None, slice_range}
+use Rattle.std.proofs.Common.{◌≡◌, ◌≢◌, ℕ, ◌+◌, ◌<◌, ◌≤◌, List, [], ◌∷◌, ◌++◌, refl, sym, ◌∙◌, ap, arith, length, ◌-◌, ◌^◌, inl, inr}
+use Rattle.std.specs.Prelude.{Some, None, slice_range}
 use Rattle.std.proofs.lemmas.Bool.{lt-ltb, le-ltb, cases_lt}
 use Rattle.sieve_lexer.specs.Values.{below_limit}
 use Rattle.std.proofs.lemmas.List.{append_assoc, append-nil, length-take, length-drop}
@@ -40,12 +40,14 @@ one_argument ls at l a lt e spelled expands = λ d f stack small.
 
 pub list_argument : (ls : List Lexeme) (at : ℕ) (a : ArgumentTree) (next : ℕ) → at < length ls → lexeme_at ls at ≡ opening_bracket
     → ((d : ℕ) (stack : List Symbol) → d ≤ 32 → (b : List Placed) × ((argument_spelled d a ≡ at_depth d opening_bracket ∷ b) × Stands ls (at + 1) next b
-        × (IsAt ls (at + 1) (strings d ∷ stack) → IsAt ls next stack))) → IsArgumentRead ls at a next
+    × (IsAt ls (at + 1) (strings d ∷ stack) → IsAt ls next stack))) → IsArgumentRead ls at a next
 list_argument ls at a next lt e list = λ d f stack small.
     let behind = list d (arguments d f ∷ stack) small in
-    let open_bracket = stands_one ls at (at_depth d opening_bracket) lt e in
-    (omega (arith, behind.1.1.from), rw behind.1.0 (stands_both ls at (at + 1) next (at_depth d opening_bracket ∷ []) behind.0 open_bracket behind.1.1),
-        λ p. behind.1.2 (walk ls at (arguments d f) stack d (strings d ∷ arguments d f ∷ []) p lt (ap (expand (arguments d f)) e) small))
+    let open_bracket = stands_one ls at (at_depth d opening_bracket) lt e in (
+      omega (arith, behind.1.1.from),
+      rw behind.1.0 (stands_both ls at (at + 1) next (at_depth d opening_bracket ∷ []) behind.0 open_bracket behind.1.1),
+      λ p. behind.1.2 (walk ls at (arguments d f) stack d (strings d ∷ arguments d f ∷ []) p lt (ap (expand (arguments d f)) e) small),
+    )
 
 pub arguments_push : (d : ℕ) (xs : List ArgumentTree) (a : ArgumentTree) → arguments_spelled d (xs ++ a ∷ []) ≡ arguments_spelled d xs ++ argument_spelled d a
 arguments_push d [] a = append-nil (argument_spelled d a)
@@ -59,6 +61,6 @@ no_limit n lt e = let some : below_limit n ≡ Some n = rw (lt-ltb n (2 ^ 64) lt
 
 pub number_is : (v n : ℕ) → Some v ≡ below_limit n → v ≡ n
 number_is v n e = elim (cases_lt n (2 ^ 64)) [
-    inl lt ↦ let some : below_limit n ≡ Some n = rw (lt-ltb n (2 ^ 64) lt) refl in cc
+  | inl lt ↦ let some : below_limit n ≡ Some n = rw (lt-ltb n (2 ^ 64) lt) refl in cc
   | inr ge ↦ let none : below_limit n ≡ None = rw (le-ltb n (2 ^ 64) ge) refl in absurd (cc)
-  ]
+]

@@ -1,11 +1,10 @@
 -- Commands and blocks, piece by piece.
-use Rattle.std.proofs.Common.{◌≡◌, ◌≢◌, ℕ, zero, suc, ◌+◌, ◌<◌, ◌≤◌, List, [], ◌∷◌, ◌++◌, refl, sym, ◌∙◌, ap, subst, arith, length, map}
-use Rattle.std.specs.Prelude.{Option, Some, None}
+use Rattle.std.proofs.Common.{◌≡◌, ℕ, suc, ◌+◌, ◌<◌, ◌≤◌, List, [], ◌∷◌, ◌++◌, sym, ◌∙◌, ap, subst, length, map}
 use Rattle.std.proofs.lemmas.List.{append_assoc, append-nil, map_push}
 use Rattle.sieve_parser.specs.Lexemes.{Lexeme, identifier, semicolon, opening_brace, closing_brace}
-use Rattle.sieve_parser.specs.Tree.{InvocationTree, CommandTree, simple, block, CommandsTree, no_command, command}
-use Rattle.sieve_parser.specs.Grammar.{Placed, at_depth, invocation_spelled, command_spelled, commands_spelled}
-use Rattle.sieve_parser.specs.Machine.{Follow, command_end, Symbol, arguments, ending, body, expand}
+use Rattle.sieve_parser.specs.Tree.{InvocationTree, CommandTree, simple, block, CommandsTree}
+use Rattle.sieve_parser.specs.Grammar.{Placed, at_depth, command_spelled, commands_spelled}
+use Rattle.sieve_parser.specs.Machine.{command_end, Symbol, arguments, ending, body, expand}
 use Rattle.sieve_parser.specs.Reading.{IsAt, Stands, lexeme_at}
 use Rattle.sieve_parser.specs.View.{invocation_tree, command_tree, command_step, commands_of, commands_tree}
 use Rattle.sieve_parser.specs.declared.tree.Invocation.{Invocation}
@@ -37,9 +36,14 @@ module _ (ls : List Lexeme) where
   pub simple_read : (name : List ℕ) (n d p : ℕ) (i : InvocationTree) → IsInvocationRead ls name n d i p → d ≤ 32 → p < length ls → lexeme_at ls p ≡ semicolon → IsCommandRead name n d (simple i) (p + 1)
   simple_read name n d p i read small lt e = λ stack.
       let r = read (command_end d) stack in
-      let end = at_depth d semicolon ∷ [] in
-      (r.0 ++ end, (ap (λ w. w ++ end) r.1.0, stands_both ls (n + 1) p (p + 1) r.0 end r.1.1 (stands_one ls p (at_depth d semicolon) lt e),
-        λ at. walk ls p (ending (command_end d)) stack d [] (r.1.2 at) lt (ap (expand (ending (command_end d))) e) small))
+      let end = at_depth d semicolon ∷ [] in (
+        r.0 ++ end,
+        (
+          ap (λ w. w ++ end) r.1.0,
+          stands_both ls (n + 1) p (p + 1) r.0 end r.1.1 (stands_one ls p (at_depth d semicolon) lt e),
+          λ at. walk ls p (ending (command_end d)) stack d [] (r.1.2 at) lt (ap (expand (ending (command_end d))) e) small,
+        ),
+      )
 
   pub block_read : (name : List ℕ) (n d p q : ℕ) (i : InvocationTree) (cs : CommandsTree) → IsInvocationRead ls name n d i p → suc d ≤ 32 → p < length ls → lexeme_at ls p ≡ opening_brace
       → ((stack : List Symbol) → Stands ls (p + 1) q (commands_spelled (suc d) cs) × (IsAt ls (p + 1) (body (suc d) ∷ stack) → IsAt ls q (body (suc d) ∷ stack)))
@@ -52,10 +56,15 @@ module _ (ls : List Lexeme) where
       let word = commands_spelled (suc d) cs in
       let end = open_brace ∷ (word ++ close ∷ []) in
       let tail = stands_both ls (p + 1) q (q + 1) word (close ∷ []) list.0 (stands_one ls q close lt' e') in
-      let whole = stands_both ls p (p + 1) (q + 1) (open_brace ∷ []) (word ++ close ∷ []) (stands_one ls p open_brace lt e) tail in
-      (r.0 ++ end, (ap (λ w. w ++ end) r.1.0, stands_both ls (n + 1) p (q + 1) r.0 end r.1.1 whole,
-        λ at. walk ls q (body (suc d)) stack (suc d) [] (list.1
-            (walk ls p (ending (command_end d)) stack (suc d) (body (suc d) ∷ []) (r.1.2 at) lt (ap (expand (ending (command_end d))) e) small)) lt' (ap (expand (body (suc d))) e') small))
+      let whole = stands_both ls p (p + 1) (q + 1) (open_brace ∷ []) (word ++ close ∷ []) (stands_one ls p open_brace lt e) tail in (
+        r.0 ++ end,
+        (
+          ap (λ w. w ++ end) r.1.0,
+          stands_both ls (n + 1) p (q + 1) r.0 end r.1.1 whole,
+          λ at. walk ls q (body (suc d)) stack (suc d) [] (list.1
+              (walk ls p (ending (command_end d)) stack (suc d) (body (suc d) ∷ []) (r.1.2 at) lt (ap (expand (ending (command_end d))) e) small)) lt' (ap (expand (body (suc d))) e') small,
+        ),
+      )
 
   -- commands from a place up to another
   abbrev pub AreCommandsSoFar : ℕ → ℕ → ℕ → List Command → Type 0
@@ -74,6 +83,7 @@ module _ (ls : List Lexeme) where
       let piece = stands_both ls p (p + 1) q (here ∷ []) r.0 (stands_one ls p here lt e) r.1.1 in
       let front = commands_spelled d (commands_tree cs) in
       let spelled : front ++ command_spelled d (command_tree c) ≡ commands_spelled d (commands_tree (cs ++ c ∷ [])) =
-          sym (commands_push d (map command_tree cs) (command_tree c)) ∙ ap (λ w. commands_spelled d (commands_of w)) (sym (map_push command_tree cs c)) in
-      (subst (λ w. Stands ls at q w) spelled (stands_both ls at p q front (command_spelled d (command_tree c)) (so_far stack).0 (subst (λ w. Stands ls p q w) (sym r.1.0) piece)),
-        λ a. r.1.2 (command_begun at d p cs name so_far small lt e stack a))
+      sym (commands_push d (map command_tree cs) (command_tree c)) ∙ ap (λ w. commands_spelled d (commands_of w)) (sym (map_push command_tree cs c)) in (
+        subst (λ w. Stands ls at q w) spelled (stands_both ls at p q front (command_spelled d (command_tree c)) (so_far stack).0 (subst (λ w. Stands ls p q w) (sym r.1.0) piece)),
+        λ a. r.1.2 (command_begun at d p cs name so_far small lt e stack a),
+      )

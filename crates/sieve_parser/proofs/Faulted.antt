@@ -1,14 +1,14 @@
 -- Where the machine stops is the first lexeme at fault: what it has read can be completed to a script, and a script is read to its end.
-use Rattle.std.proofs.Common.{◌≡◌, ℕ, zero, suc, ◌+◌, ◌<◌, ◌≤◌, Bool, true, false, List, [], ◌∷◌, ◌++◌, refl, sym, ◌∙◌, ap, subst, ◌⊎◌, inl, inr, arith, length, take, get_or, map}
+use Rattle.std.proofs.Common.{◌≡◌, ℕ, zero, suc, ◌≤◌, Bool, true, false, List, [], ◌∷◌, ◌++◌, refl, sym, ◌∙◌, ap, subst, inl, inr, arith}
 use Rattle.std.specs.Prelude.{Option, Some, None, MatchOption, fold, nat_le}
-use Rattle.std.proofs.lemmas.Bool.{cases_Bool, leb-true, leb-false}
-use Rattle.std.proofs.lemmas.List.{append_assoc, append-nil, take_more, take_all}
+use Rattle.std.proofs.lemmas.Bool.{cases_Bool, leb-true}
+use Rattle.std.proofs.lemmas.List.{append_assoc, append-nil}
 use Rattle.sieve_parser.specs.Lexemes.{Lexeme, identifier, tag, number, string, semicolon, comma, opening_brace, closing_brace, opening_parenthesis, closing_parenthesis, opening_bracket, closing_bracket}
 use Rattle.sieve_parser.specs.Tree.{invocation, no_test, last, CommandsTree, no_command}
-use Rattle.sieve_parser.specs.Grammar.{Placed, at_depth, lexemes_placed, commands_spelled, BeginsScript, IsViable, IsScript}
-use Rattle.sieve_parser.specs.Machine.{Follow, command_end, test_end, Symbol, body, arguments, ending, tests, strings, more_strings, ended_by, expand, Verdict, goes, wrong, deep, judged, step, stack_then, advance, reading}
-use Rattle.sieve_parser.specs.Faults.{AreWithinDepth, IsViableWithinDepth, IsSyntaxFault, IsTooDeep}
-use Rattle.sieve_parser.proofs.Language.{InFollow, InSymbol, InStack, Adds, adds, Expands, Taken, takes, body_end, single, to_single}
+use Rattle.sieve_parser.specs.Grammar.{Placed, at_depth, lexemes_placed, commands_spelled, IsViable, IsScript}
+use Rattle.sieve_parser.specs.Machine.{Follow, command_end, test_end, Symbol, body, arguments, ending, tests, strings, more_strings, ended_by, expand, goes, wrong, deep, judged, step, stack_then, advance, reading}
+use Rattle.sieve_parser.specs.Faults.{AreWithinDepth, IsViableWithinDepth}
+use Rattle.sieve_parser.proofs.Language.{InFollow, InSymbol, InStack, Adds, adds, Expands, takes, body_end, single, to_single}
 use Rattle.sieve_parser.specs.Reading.{IsDone}
 
 split_stack : (xs ys : List Symbol) (zs : List Placed) → InStack (xs ++ ys) zs → (us : List Placed) × ((vs : List Placed) × ((zs ≡ us ++ vs) × InStack xs us × InStack ys vs))
@@ -53,9 +53,14 @@ back_within : (x : Symbol) (stack : List Symbol) (l : Lexeme) (us : List Lexeme)
     → (b : Bool) → nat_le d 32 ≡ b → fold advance (stack_then (judged (Some (d, symbols)) stack)) us ≡ Some s → ReadsBack (l ∷ us) (x ∷ stack) ys
 back_within x stack l us s ys d symbols add more true small e =
     let r = more (symbols ++ stack) (rw small at e) in
-    let parts = split_stack symbols stack (r.0 ++ ys) r.1.2 in
-    (at_depth d l ∷ r.0, (ap (λ w. l ∷ w) r.1.0, (leb-true d 32 small, r.1.1),
-        (at_depth d l ∷ parts.0, (parts.1.0, (ap (λ w. at_depth d l ∷ w) parts.1.1.0, add parts.0 parts.1.1.1, parts.1.1.2)))))
+    let parts = split_stack symbols stack (r.0 ++ ys) r.1.2 in (
+      at_depth d l ∷ r.0,
+      (
+        ap (λ w. l ∷ w) r.1.0,
+        (leb-true d 32 small, r.1.1),
+        (at_depth d l ∷ parts.0, (parts.1.0, (ap (λ w. at_depth d l ∷ w) parts.1.1.0, add parts.0 parts.1.1.1, parts.1.1.2))),
+      ),
+    )
 back_within x stack l us s ys d symbols add more false small e = absurd (fold_none us s (rw small at e))
 
 back_step : (x : Symbol) (stack : List Symbol) (l : Lexeme) (us : List Lexeme) (s : List Symbol) (ys : List Placed) (o : Option (ℕ × List Symbol))
@@ -115,16 +120,16 @@ takes_join (Some q) depth stack us vs h r = (h.0, join_stack q.1 stack us vs h.1
 pub stack_takes : (x : Symbol) (stack : List Symbol) (p : Placed) (zs : List Placed) → IsGrounded (x ∷ stack) → InStack (x ∷ stack) (p ∷ zs) → StackTakes x stack p zs
 stack_takes x stack p zs g (us, (vs, (e, word, rest))) =
     elim (takes x us word) [
-      inl none ↦
-        let ground = g.0 none.1 in
-        let nothing : vs ≡ [] = subst (λ w. InStack w vs) ground rest in
-        let empty : p ∷ zs ≡ [] = e ∙ ap (λ w. w ++ vs) none.0 ∙ nothing in absurd (cc)
-    | inr t ↦
-        let whole : p ∷ zs ≡ t.0 ∷ (t.1.0 ++ vs) = e ∙ ap (λ w. w ++ vs) t.1.1.0 in
-        let same : t.0 ≡ p = cc in
-        let tail : t.1.0 ++ vs ≡ zs = cc in
-        subst (λ (w : Placed). StackTakes x stack w zs) same (subst (λ w. StackTakes x stack t.0 w) tail
-            (takes_join (expand x t.0.lexeme) t.0.depth stack t.1.0 vs t.1.1.1 rest))
+      | inl none ↦
+          let ground = g.0 none.1 in
+          let nothing : vs ≡ [] = subst (λ w. InStack w vs) ground rest in
+          let empty : p ∷ zs ≡ [] = e ∙ ap (λ w. w ++ vs) none.0 ∙ nothing in absurd (cc)
+      | inr t ↦
+          let whole : p ∷ zs ≡ t.0 ∷ (t.1.0 ++ vs) = e ∙ ap (λ w. w ++ vs) t.1.1.0 in
+          let same : t.0 ≡ p = cc in
+          let tail : t.1.0 ++ vs ≡ zs = cc in
+          subst (λ (w : Placed). StackTakes x stack w zs) same (subst (λ w. StackTakes x stack t.0 w) tail
+          (takes_join (expand x t.0.lexeme) t.0.depth stack t.1.0 vs t.1.1.1 rest))
     ]
 
 -- What is read of a word of what was to be read leaves a word of what is to be read then.
@@ -167,11 +172,11 @@ word_of_script cs zs e = to_single (body 0) zs (cs, sym e ∙ sym (append-nil (c
 done_from_word : (s : List Symbol) → InStack s [] → IsDone s
 done_from_word [] p = tt
 done_from_word (x ∷ s) (us, (vs, (e, word, rest))) = elim (takes x us word) [
-    inl none ↦
+  | inl none ↦
       let empty : vs ≡ [] = sym (e ∙ ap (λ u. u ++ vs) none.0) in
       subst (λ w. IsDone (w ∷ s)) (sym none.1) (done_from_word s (subst (λ w. InStack s w) empty rest))
   | inr t ↦ let some : [] ≡ t.0 ∷ (t.1.0 ++ vs) = e ∙ ap (λ u. u ++ vs) t.1.1.0 in absurd (cc)
-  ]
+]
 
 -- what the machine has read begins a script within the depth
 pub read_is_viable : (us : List Lexeme) (s : List Symbol) → reading us ≡ Some s → IsViableWithinDepth us
@@ -196,9 +201,9 @@ split_placed (p ∷ xs) (m ∷ ls) l e =
 takes_not_wrong : (stack : List Symbol) (o : Option (ℕ × List Symbol)) (Q : ℕ × List Symbol → Type 0) → MatchOption o ⊥ Q → judged o stack ≡ wrong → ⊥
 takes_not_wrong stack None Q h e = h
 takes_not_wrong stack (Some (d, symbols)) Q h e = elim (cases_Bool (nat_le d 32)) [
-    inl small ↦ let f : goes (symbols ++ stack) ≡ wrong = rw small at e in absurd (cc)
+  | inl small ↦ let f : goes (symbols ++ stack) ≡ wrong = rw small at e in absurd (cc)
   | inr large ↦ let f : deep ≡ wrong = rw large at e in absurd (cc)
-  ]
+]
 
 stack_not_wrong : (s : List Symbol) (p : Placed) (rest : List Placed) → IsGrounded s → InStack s (p ∷ rest) → step s p.lexeme ≡ wrong → ⊥
 stack_not_wrong [] p rest g word bad = absurd (cc)

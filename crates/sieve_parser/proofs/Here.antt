@@ -1,13 +1,13 @@
 -- What the grammar reads at a token's number.
-use Rattle.std.proofs.Common.{◌≡◌, ◌≢◌, ℕ, zero, suc, ◌+◌, ◌<◌, ◌≤◌, ◌^◌, List, [], ◌∷◌, ◌++◌, refl, sym, ◌∙◌, ap, subst, ◌⊎◌, inl, inr, arith, length, drop}
+use Rattle.std.proofs.Common.{◌≡◌, ◌≢◌, ℕ, zero, suc, ◌+◌, ◌<◌, ◌≤◌, List, [], ◌∷◌, refl, sym, ◌∙◌, ap, subst, ◌⊎◌, inl, inr, arith, length}
 use Rattle.std.specs.Prelude.{Option, Some, None, option_map, slice_range}
 use Rattle.std.specs.List.{slice_get}
 use Rattle.sieve_lexer.specs.Tokens.{IsToken, TokensUpTo, AreTokens}
-use Rattle.sieve_lexer.specs.Values.{number_value, string_value}
+use Rattle.sieve_lexer.specs.Values.{string_value}
 use Rattle.sieve_lexer.specs.declared.token.Token.{Token}
 use Rattle.sieve_lexer.specs.declared.token.TokenKind.{TokenKind}
 use Rattle.sieve_lexer.specs.declared.token.TokenKind.TheVariants.{Identifier, Tag, Number, QuotedString, MultiLineString, Semicolon, Comma, OpeningBrace, ClosingBrace, OpeningParenthesis, ClosingParenthesis, OpeningBracket, ClosingBracket}
-use Rattle.sieve_parser.specs.Lexemes.{Lexeme, identifier, tag, number, string, semicolon, comma, opening_brace, closing_brace, opening_parenthesis, closing_parenthesis, opening_bracket, closing_bracket, lexeme, lexeme_of, lexemes_from}
+use Rattle.sieve_parser.specs.Lexemes.{Lexeme, identifier, tag, number, string, semicolon, comma, opening_brace, closing_brace, opening_parenthesis, closing_parenthesis, opening_bracket, closing_bracket, lexeme, lexeme_of}
 use Rattle.sieve_parser.specs.Reading.{IsStringAt, IsIdentifierAt, lexeme_at, lexemes, kind_at}
 use Rattle.sieve_parser.proofs.Walk.{lexeme_get, length-lexemes}
 
@@ -73,8 +73,8 @@ pub other_kind : (s : List ℕ) (ts : List Token) (i : ℕ) (t : Token) (l : Lex
 other_kind s ts i t l e ne multi is =
     let told : lexeme s i t ≡ l = sym (here s ts i t e).1 ∙ is in
     elim (kind_told t.kind i (slice_range s t.start t.end)) [
-      inl k ↦ ne (k ∙ ap kind_of told)
-    | inr k ↦ multi k.0 (sym (ap kind_of told) ∙ k.1)
+      | inl k ↦ ne (k ∙ ap kind_of told)
+      | inr k ↦ multi k.0 (sym (ap kind_of told) ∙ k.1)
     ]
 
 pub no_identifier : (s : List ℕ) (ts : List Token) (i : ℕ) (t : Token) → slice_get ts i ≡ Some t → t.kind ≢ Identifier → IsIdentifierAt (lexemes s ts) i None

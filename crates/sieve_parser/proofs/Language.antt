@@ -1,5 +1,5 @@
 -- What the machine reads is what the grammar writes: each symbol has a language, and a lexeme is expanded exactly where it begins a word of it.
-use Rattle.std.proofs.Common.{◌≡◌, ℕ, zero, suc, ◌<◌, ◌≤◌, List, [], ◌∷◌, ◌++◌, refl, sym, ◌∙◌, ap, subst, ◌⊎◌, inl, inr, arith}
+use Rattle.std.proofs.Common.{◌≡◌, ℕ, zero, suc, List, [], ◌∷◌, ◌++◌, refl, sym, ◌∙◌, ap, subst, ◌⊎◌, inl, inr}
 use Rattle.std.specs.Prelude.{Option, Some, None, MatchOption}
 use Rattle.std.proofs.lemmas.List.{append_assoc, append-nil}
 use Rattle.sieve_parser.specs.Lexemes.{Lexeme, identifier, tag, number, string, semicolon, comma, opening_brace, closing_brace, opening_parenthesis, closing_parenthesis, opening_bracket, closing_bracket}
@@ -71,19 +71,32 @@ adds_command : (d n : ℕ) (name : List ℕ) (vs : List Placed) → InStack (arg
 adds_command d n name vs (us, (ws, (e, (args, (ts, (ys, (ea, end)))), more))) =
     let rest = single (body d) ws more in
     let c = command_from d n name args ts ys end in
-    let front = arguments_spelled d args ++ tests_spelled d ts in
-    (command c.0 rest.0, ap (λ v. at_depth d (identifier n name) ∷ v) (e ∙ ap (λ u. u ++ ws) ea ∙ ap (λ w. (front ++ ys) ++ w) rest.1)
-        ∙ sym (append_assoc (at_depth d (identifier n name) ∷ (front ++ ys)) (commands_spelled d rest.0) (body_end d))
-        ∙ ap (λ w. (w ++ commands_spelled d rest.0) ++ body_end d) (sym c.1))
+    let front = arguments_spelled d args ++ tests_spelled d ts in (
+      command c.0 rest.0,
+      ap (λ v. at_depth d (identifier n name) ∷ v) (e ∙ ap (λ u. u ++ ws) ea ∙ ap (λ w. (front ++ ys) ++ w) rest.1)
+          ∙ sym (append_assoc (at_depth d (identifier n name) ∷ (front ++ ys)) (commands_spelled d rest.0) (body_end d))
+          ∙ ap (λ w. (w ++ commands_spelled d rest.0) ++ body_end d) (sym c.1),
+    )
 
 adds_list : (d : ℕ) (f : Follow) (vs : List Placed) → InStack (strings d ∷ arguments d f ∷ []) vs → InSymbol (arguments d f) (at_depth d opening_bracket ∷ vs)
 adds_list d f vs (us, (ws, (e, (s, (ss, es)), more))) =
     let rest = single (arguments d f) ws more in
     let word = at_depth d (string s) ∷ (more_strings_spelled d ss ++ at_depth d closing_bracket ∷ []) in
     let args = arguments_spelled d rest.0 in
-    let ts = tests_spelled d rest.1.0 in
-    (text_list s ss ∷ rest.0, (rest.1.0, (rest.1.1.0, (ap (λ v. at_depth d opening_bracket ∷ v)
-        (e ∙ ap (λ u. u ++ ws) es ∙ ap (λ w. word ++ w) rest.1.1.1.0 ∙ regroup word args ts rest.1.1.0), rest.1.1.1.1))))
+    let ts = tests_spelled d rest.1.0 in (
+      text_list s ss ∷ rest.0,
+      (
+        rest.1.0,
+        (
+          rest.1.1.0,
+          (
+            ap (λ v. at_depth d opening_bracket ∷ v)
+                (e ∙ ap (λ u. u ++ ws) es ∙ ap (λ w. word ++ w) rest.1.1.1.0 ∙ regroup word args ts rest.1.1.0),
+            rest.1.1.1.1,
+          ),
+        ),
+      ),
+    )
 
 adds_argument : (d : ℕ) (f : Follow) (a : ArgumentTree) (x : Placed) (vs : List Placed) → argument_spelled d a ≡ x ∷ [] → InStack (arguments d f ∷ []) vs → InSymbol (arguments d f) (x ∷ vs)
 adds_argument d f a x vs spelled p =
@@ -107,9 +120,14 @@ adds (arguments d f) opening_parenthesis = λ vs p.
     ([], (test_list p.1.1.1.0 p.1.1.1.1.0, (p.1.0, (ap (λ v. at_depth d opening_parenthesis ∷ v) (p.1.1.0 ∙ ap (λ u. u ++ p.1.0) p.1.1.1.1.1), end))))
 adds (arguments d f) l = Adds-map (InFollow f) (InSymbol (arguments d f)) l (ended_by f l) (λ zs h. ([], (no_test, (zs, (refl, h))))) (adds_follow f l)
 adds (ending f) l = adds_follow f l
-adds (tests d) (identifier n name) = λ vs p. let q = single (arguments (suc d) (test_end d)) vs p in
-    (invocation n name q.0 q.1.0, (q.1.1.1.1.0, ap (λ v. at_depth (suc d) (identifier n name) ∷ v)
-        (q.1.1.1.0 ∙ ap (λ y. (arguments_spelled (suc d) q.0 ++ tests_spelled (suc d) q.1.0) ++ y) q.1.1.1.1.1)))
+adds (tests d) (identifier n name) = λ vs p. let q = single (arguments (suc d) (test_end d)) vs p in (
+  invocation n name q.0 q.1.0,
+  (
+    q.1.1.1.1.0,
+    ap (λ v. at_depth (suc d) (identifier n name) ∷ v)
+        (q.1.1.1.0 ∙ ap (λ y. (arguments_spelled (suc d) q.0 ++ tests_spelled (suc d) q.1.0) ++ y) q.1.1.1.1.1),
+  ),
+)
 adds (tests d) _ = tt
 adds (strings d) (string s) = λ vs p. let q = single (more_strings d) vs p in (s, (q.0, ap (λ v. at_depth d (string s) ∷ v) q.1))
 adds (strings d) _ = tt
@@ -155,15 +173,35 @@ takes_command : (d : ℕ) (c : CommandTree) (cs : CommandsTree) (zs : List Place
 takes_command d (simple (invocation n name args ts)) cs zs e =
     let front = arguments_spelled d args ++ tests_spelled d ts in
     let end = at_depth d semicolon ∷ [] in
-    let rest = commands_spelled d cs ++ body_end d in
-    (at_depth d (identifier n name), (((front ++ end) ++ commands_spelled d cs) ++ body_end d, (e, (refl,
-        (front ++ end, (rest, (append_assoc (front ++ end) (commands_spelled d cs) (body_end d), (args, (ts, (end, (refl, inl refl)))), to_single (body d) rest (cs, refl))))))))
+    let rest = commands_spelled d cs ++ body_end d in (
+      at_depth d (identifier n name),
+      (
+        ((front ++ end) ++ commands_spelled d cs) ++ body_end d,
+        (
+          e,
+          (
+            refl,
+            (front ++ end, (rest, (append_assoc (front ++ end) (commands_spelled d cs) (body_end d), (args, (ts, (end, (refl, inl refl)))), to_single (body d) rest (cs, refl)))),
+          ),
+        ),
+      ),
+    )
 takes_command d (block (invocation n name args ts) bs) cs zs e =
     let front = arguments_spelled d args ++ tests_spelled d ts in
     let end = at_depth (suc d) opening_brace ∷ (commands_spelled (suc d) bs ++ at_depth (suc d) closing_brace ∷ []) in
-    let rest = commands_spelled d cs ++ body_end d in
-    (at_depth d (identifier n name), (((front ++ end) ++ commands_spelled d cs) ++ body_end d, (e, (refl,
-        (front ++ end, (rest, (append_assoc (front ++ end) (commands_spelled d cs) (body_end d), (args, (ts, (end, (refl, inr (bs, refl))))), to_single (body d) rest (cs, refl))))))))
+    let rest = commands_spelled d cs ++ body_end d in (
+      at_depth d (identifier n name),
+      (
+        ((front ++ end) ++ commands_spelled d cs) ++ body_end d,
+        (
+          e,
+          (
+            refl,
+            (front ++ end, (rest, (append_assoc (front ++ end) (commands_spelled d cs) (body_end d), (args, (ts, (end, (refl, inr (bs, refl))))), to_single (body d) rest (cs, refl)))),
+          ),
+        ),
+      ),
+    )
 
 takes_arguments : (d : ℕ) (f : Follow) (args : List ArgumentTree) (ts : TestsTree) (ys zs : List Placed)
     → zs ≡ (arguments_spelled d args ++ tests_spelled d ts) ++ ys → InFollow f ys → Taken (expand (arguments d f)) zs
@@ -187,9 +225,19 @@ takes_arguments d f (label name ∷ args) ts ys zs e end =
     (at_depth d (tag name), (word, (e, (refl, to_single (arguments d f) word (args, (ts, (ys, (refl, end))))))))
 takes_arguments d f (text_list s ss ∷ args) ts ys zs e end =
     let list = at_depth d (string s) ∷ (more_strings_spelled d ss ++ at_depth d closing_bracket ∷ []) in
-    let word = (arguments_spelled d args ++ tests_spelled d ts) ++ ys in
-    (at_depth d opening_bracket, (((list ++ arguments_spelled d args) ++ tests_spelled d ts) ++ ys, (e, (refl,
-        (list, (word, (sym (regroup list (arguments_spelled d args) (tests_spelled d ts) ys), (s, (ss, refl)), to_single (arguments d f) word (args, (ts, (ys, (refl, end))))))))))) 
+    let word = (arguments_spelled d args ++ tests_spelled d ts) ++ ys in (
+      at_depth d opening_bracket,
+      (
+        ((list ++ arguments_spelled d args) ++ tests_spelled d ts) ++ ys,
+        (
+          e,
+          (
+            refl,
+            (list, (word, (sym (regroup list (arguments_spelled d args) (tests_spelled d ts) ys), (s, (ss, refl)), to_single (arguments d f) word (args, (ts, (ys, (refl, end))))))),
+          ),
+        ),
+      ),
+    )
 
 -- a word of a symbol begins with a lexeme that the machine reads there, unless it is the end of the script
 pub takes : (x : Symbol) (zs : List Placed) → InSymbol x zs → ((zs ≡ []) × (x ≡ body 0)) ⊎ Taken (expand x) zs

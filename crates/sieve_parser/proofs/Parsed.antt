@@ -1,5 +1,5 @@
 -- The whole script, from its commands.
-use Rattle.std.proofs.Common.{◌≡◌, ℕ, ◌<◌, ◌≤◌, List, [], ◌∷◌, ◌++◌, refl, sym, ◌∙◌, ap, subst, arith, length, take, drop}
+use Rattle.std.proofs.Common.{ℕ, ◌<◌, ◌≤◌, List, [], ◌∷◌, ◌++◌, refl, sym, ◌∙◌, ap, length}
 use Rattle.std.specs.Prelude.{None}
 use Rattle.std.proofs.lemmas.List.{take_all, drop_all, append-nil}
 use Rattle.sieve_lexer.specs.Tokens as lexer
@@ -28,7 +28,7 @@ lexical_refusal script (Lexical place) h = h
 
 module _ (ls : List Lexeme) where
   pub at_start : IsAt ls 0 (body 0 ∷ [])
-  at_start = record { read = body 0 ∷ []; reached = refl; goes_on = λ _. refl; ends = λ _ done. done; }
+  at_start = record { read = body 0 ∷ []; reached = refl; goes_on = λ _. refl; ends = λ _ done. done }
 
   pub not_ended : (p : ℕ) → IsAt ls p (body 0 ∷ []) → IsIdentifierAt ls p None → p < length ls → IsSyntaxFault ls p
   not_ended p at none lt = stuck ls p (body 0) [] at lt (no_command_first (lexeme_at ls p) (λ n name e. none n name lt e))

@@ -1,10 +1,10 @@
 -- Invocations and lists of tests, piece by piece.
-use Rattle.std.proofs.Common.{◌≡◌, ◌≢◌, ℕ, zero, suc, ◌+◌, ◌<◌, ◌≤◌, List, [], ◌∷◌, ◌++◌, refl, sym, ◌∙◌, ap, subst, arith, length, map}
-use Rattle.std.specs.Prelude.{Option, Some, None, Result, Ok, Err}
+use Rattle.std.proofs.Common.{◌≡◌, ◌≢◌, ℕ, suc, ◌+◌, ◌<◌, ◌≤◌, List, [], ◌∷◌, ◌++◌, refl, sym, ◌∙◌, ap, subst, arith, length, map}
+use Rattle.std.specs.Prelude.{Result, Ok, Err}
 use Rattle.sieve_parser.specs.declared.error.ParseError.{ParseError}
 use Rattle.std.proofs.lemmas.List.{append_assoc, append-nil, map_push}
 use Rattle.sieve_parser.specs.Lexemes.{Lexeme, identifier, tag, number, string, comma, opening_parenthesis, closing_parenthesis, opening_bracket}
-use Rattle.sieve_parser.specs.Tree.{ArgumentTree, InvocationTree, invocation, no_test, one_test, test_list, MoreTests, last, next}
+use Rattle.sieve_parser.specs.Tree.{ArgumentTree, InvocationTree, invocation, no_test, one_test, test_list, MoreTests}
 use Rattle.sieve_parser.specs.Grammar.{Placed, at_depth, arguments_spelled, invocation_spelled, more_tests_spelled}
 use Rattle.sieve_parser.specs.Machine.{Follow, test_end, Symbol, arguments, ending, tests, expand, ended_by, judged}
 use Rattle.sieve_parser.specs.Reading.{IsAt, Stands, lexeme_at, IsNoArgument, NoArgumentAt, IsInvocationAt, IsTestAt}
@@ -18,7 +18,6 @@ use Rattle.std.specs.declared.boxed.Box.{Box}
 use Rattle.std.specs.declared.vec.Vec.{Vec}
 use Rattle.std.specs.declared.alloc.Global.{Global}
 use Rattle.sieve_parser.proofs.Walk.{walk, stands_one, stands_both}
-use Rattle.sieve_parser.proofs.Wrong.{no_test_end}
 
 pub tree_plain : (h : Head) → invocation_tree (Plain h) ≡ head_tree h no_test
 tree_plain h = ap invocation_tree (sym (rolls-Plain h)) ∙ fold-roll-Invocation InvocationTree invocation_step (open_layer.Plain h)
@@ -69,9 +68,14 @@ module _ (ls : List Lexeme) where
       → ((m : ℕ) (other : List ℕ) → p < length ls → lexeme_at ls p ≡ identifier m other → ⊥) → (p < length ls → lexeme_at ls p ≢ opening_parenthesis)
       → IsInvocationRead name n d (invocation n name args no_test) p
   plain_read name n d p args read no_name no_list = λ f stack.
-      let r = read f stack in
-      (arguments_spelled d args ++ [], (refl, subst (λ w. Stands ls (n + 1) p w) (sym (append-nil (arguments_spelled d args))) r.0,
-        λ at. at_end p d f stack (r.2 at) (λ lt. no_first d f (lexeme_at ls p) (r.1 lt) (λ m other e. no_name m other lt e) (no_list lt))))
+      let r = read f stack in (
+        arguments_spelled d args ++ [],
+        (
+          refl,
+          subst (λ w. Stands ls (n + 1) p w) (sym (append-nil (arguments_spelled d args))) r.0,
+          λ at. at_end p d f stack (r.2 at) (λ lt. no_first d f (lexeme_at ls p) (r.1 lt) (λ m other e. no_name m other lt e) (no_list lt)),
+        ),
+      )
 
   pub test_read : (name other : List ℕ) (n d p q : ℕ) (args : List ArgumentTree) (t : InvocationTree) → AreArgumentsRead n d args p → suc d ≤ 32
       → p < length ls → lexeme_at ls p ≡ identifier p other → IsInvocationRead other p (suc d) t q → IsInvocationRead name n d (invocation n name args (one_test t)) q
@@ -79,24 +83,32 @@ module _ (ls : List Lexeme) where
       let r = read f stack in
       let test = inner f stack in
       let here = stands_one ls p (at_depth (suc d) (identifier p other)) lt e in
-      let whole = stands_both ls p (p + 1) q (at_depth (suc d) (identifier p other) ∷ []) test.0 here test.1.1 in
-      (arguments_spelled d args ++ invocation_spelled (suc d) t, (refl,
-        stands_both ls (n + 1) p q (arguments_spelled d args) (invocation_spelled (suc d) t) r.0 (subst (λ w. Stands ls p q w) (sym test.1.0) whole),
-        λ at. test.1.2 (walk ls p (arguments d f) stack (suc d) (arguments (suc d) f ∷ []) (r.2 at) lt (ap (expand (arguments d f)) e) small)))
+      let whole = stands_both ls p (p + 1) q (at_depth (suc d) (identifier p other) ∷ []) test.0 here test.1.1 in (
+        arguments_spelled d args ++ invocation_spelled (suc d) t,
+        (
+          refl,
+          stands_both ls (n + 1) p q (arguments_spelled d args) (invocation_spelled (suc d) t) r.0 (subst (λ w. Stands ls p q w) (sym test.1.0) whole),
+          λ at. test.1.2 (walk ls p (arguments d f) stack (suc d) (arguments (suc d) f ∷ []) (r.2 at) lt (ap (expand (arguments d f)) e) small),
+        ),
+      )
 
   pub tests_read : (name : List ℕ) (n d p q : ℕ) (args : List ArgumentTree) (t : InvocationTree) (ts : MoreTests) → AreArgumentsRead n d args p → d ≤ 32
       → p < length ls → lexeme_at ls p ≡ opening_parenthesis
       → ((stack : List Symbol) → Stands ls (p + 1) q (invocation_spelled (suc d) t ++ (more_tests_spelled d ts ++ at_depth d closing_parenthesis ∷ []))
-          × (IsAt ls (p + 1) (tests d ∷ stack) → IsAt ls q stack))
+      × (IsAt ls (p + 1) (tests d ∷ stack) → IsAt ls q stack))
       → IsInvocationRead name n d (invocation n name args (test_list t ts)) q
   tests_read name n d p q args t ts read small lt e inner = λ f stack.
       let r = read f stack in
       let list = inner (ending f ∷ stack) in
       let word = invocation_spelled (suc d) t ++ (more_tests_spelled d ts ++ at_depth d closing_parenthesis ∷ []) in
-      let whole = stands_both ls p (p + 1) q (at_depth d opening_parenthesis ∷ []) word (stands_one ls p (at_depth d opening_parenthesis) lt e) list.0 in
-      (arguments_spelled d args ++ (at_depth d opening_parenthesis ∷ word), (refl,
-        stands_both ls (n + 1) p q (arguments_spelled d args) (at_depth d opening_parenthesis ∷ word) r.0 whole,
-        λ at. list.1 (walk ls p (arguments d f) stack d (tests d ∷ ending f ∷ []) (r.2 at) lt (ap (expand (arguments d f)) e) small)))
+      let whole = stands_both ls p (p + 1) q (at_depth d opening_parenthesis ∷ []) word (stands_one ls p (at_depth d opening_parenthesis) lt e) list.0 in (
+        arguments_spelled d args ++ (at_depth d opening_parenthesis ∷ word),
+        (
+          refl,
+          stands_both ls (n + 1) p q (arguments_spelled d args) (at_depth d opening_parenthesis ∷ word) r.0 whole,
+          λ at. list.1 (walk ls p (arguments d f) stack d (tests d ∷ ending f ∷ []) (r.2 at) lt (ap (expand (arguments d f)) e) small),
+        ),
+      )
 
   -- the tests of a list from its first up to a place
   abbrev pub AreTestsSoFar : ℕ → ℕ → InvocationTree → ℕ → List Invocation → Type 0
@@ -116,10 +128,11 @@ module _ (ls : List Lexeme) where
       let test = inner stack in
       let piece = stands_both ls p (p + 1) q (at_depth d comma ∷ []) word (stands_one ls p (at_depth d comma) lt e) test.0 in
       let spelled : front ++ (at_depth d comma ∷ word) ≡ invocation_spelled (suc d) first ++ more_tests_spelled d (more_tests_of (map invocation_tree (rest ++ t ∷ []))) =
-          append_assoc (invocation_spelled (suc d) first) (more_tests_spelled d (more_tests_of (map invocation_tree rest))) (at_depth d comma ∷ word)
-          ∙ ap (λ w. invocation_spelled (suc d) first ++ w) (sym (more_tests_push d (map invocation_tree rest) (invocation_tree t)) ∙ ap (λ w. more_tests_spelled d (more_tests_of w)) (sym (map_push invocation_tree rest t))) in
-      (subst (λ w. Stands ls at q w) spelled (stands_both ls at p q front (at_depth d comma ∷ word) (so_far stack).0 piece),
-        λ a. test.1 (tests_comma at d first p rest so_far small lt e stack a))
+      append_assoc (invocation_spelled (suc d) first) (more_tests_spelled d (more_tests_of (map invocation_tree rest))) (at_depth d comma ∷ word)
+      ∙ ap (λ w. invocation_spelled (suc d) first ++ w) (sym (more_tests_push d (map invocation_tree rest) (invocation_tree t)) ∙ ap (λ w. more_tests_spelled d (more_tests_of w)) (sym (map_push invocation_tree rest t))) in (
+        subst (λ w. Stands ls at q w) spelled (stands_both ls at p q front (at_depth d comma ∷ word) (so_far stack).0 piece),
+        λ a. test.1 (tests_comma at d first p rest so_far small lt e stack a),
+      )
 
 pub from_suc : (d : ℕ) → suc d ≡ d + 1
 from_suc d = omega arith
@@ -129,8 +142,9 @@ pub test_answer : (ls : List Lexeme) (at d : ℕ) (name : List ℕ) (answer : Re
     → IsInvocationAt ls name at (suc d) answer → IsTestAt ls at d answer
 test_answer ls at d name (Ok r) lt e small h = λ stack.
     let inner = h (test_end d) stack in
-    let here = stands_one ls at (at_depth (suc d) (identifier at name)) lt e in
-    (subst (λ w. Stands ls at r.1 w) (sym inner.1.0) (stands_both ls at (at + 1) r.1 (at_depth (suc d) (identifier at name) ∷ []) inner.0 here inner.1.1),
-      λ a. inner.1.2 (walk ls at (tests d) stack (suc d) (arguments (suc d) (test_end d) ∷ []) a lt (ap (expand (tests d)) e) small))
+    let here = stands_one ls at (at_depth (suc d) (identifier at name)) lt e in (
+      subst (λ w. Stands ls at r.1 w) (sym inner.1.0) (stands_both ls at (at + 1) r.1 (at_depth (suc d) (identifier at name) ∷ []) inner.0 here inner.1.1),
+      λ a. inner.1.2 (walk ls at (tests d) stack (suc d) (arguments (suc d) (test_end d) ∷ []) a lt (ap (expand (tests d)) e) small),
+    )
 test_answer ls at d name (Err x) lt e small h = λ stack a.
     h (test_end d) stack (walk ls at (tests d) stack (suc d) (arguments (suc d) (test_end d) ∷ []) a lt (ap (expand (tests d)) e) small)

@@ -1,17 +1,16 @@
 -- One token more: where a token is expanded the machine goes on, and elsewhere its number is that of the fault.
-use Rattle.std.proofs.Common.{◌≡◌, ℕ, zero, suc, ◌+◌, ◌<◌, ◌≤◌, Bool, true, false, List, [], ◌∷◌, ◌++◌, refl, sym, ◌∙◌, ap, subst, ◌⊎◌, inl, inr, arith, length, take, drop, get_or, map}
-use Rattle.std.specs.Prelude.{Option, Some, None, MatchOption, fold, nat_le, option_map, slice_range}
+use Rattle.std.proofs.Common.{◌≡◌, ℕ, zero, suc, ◌+◌, ◌<◌, ◌≤◌, List, [], ◌∷◌, ◌++◌, refl, sym, ◌∙◌, ap, subst, inl, inr, arith, length, take, drop, get_or}
+use Rattle.std.specs.Prelude.{Option, Some, None, nat_le}
 use Rattle.std.specs.List.{slice_get}
-use Rattle.std.proofs.lemmas.Bool.{cases_Bool, leb-true, leb-false, le-leb, lt-leb, cases_lt}
-use Rattle.std.proofs.lemmas.List.{append_assoc, append-nil, take_more, take_all, drop_more, map-append}
+use Rattle.std.proofs.lemmas.Bool.{cases_Bool, leb-false, le-leb, lt-leb, cases_lt}
+use Rattle.std.proofs.lemmas.List.{append_assoc, take_more, take_all, drop_more, map-append}
 use Rattle.std.proofs.lemmas.List.Sums.{fold_more}
 use Rattle.sieve_lexer.specs.declared.token.Token.{Token}
-use Rattle.sieve_lexer.specs.declared.token.TokenKind.{TokenKind}
-use Rattle.sieve_parser.specs.Lexemes.{Lexeme, semicolon, lexeme, lexeme_of, lexemes_from}
-use Rattle.sieve_parser.specs.Grammar.{Placed, at_depth, lexemes_placed, commands_spelled, BeginsScript, IsViable}
-use Rattle.sieve_parser.specs.Machine.{Symbol, body, expand, Verdict, goes, wrong, deep, judged, step, stack_then, advance, reading}
+use Rattle.sieve_parser.specs.Lexemes.{Lexeme, semicolon, lexeme, lexemes_from}
+use Rattle.sieve_parser.specs.Grammar.{Placed, at_depth, lexemes_placed, IsViable}
+use Rattle.sieve_parser.specs.Machine.{Symbol, expand, goes, deep, judged, step, stack_then, advance, reading}
 use Rattle.sieve_parser.specs.Faults.{IsSyntaxFault, IsTooDeep}
-use Rattle.sieve_parser.specs.Reading.{IsAt, IsDone, lexeme_at, lexemes, kind_at, Stands}
+use Rattle.sieve_parser.specs.Reading.{IsAt, IsDone, lexeme_at, Stands}
 use Rattle.sieve_parser.proofs.Language.{InSymbol, InStack, Adds, adds}
 use Rattle.sieve_parser.proofs.Faulted.{root, complete_stack, reads_back, read_is_viable, wrong_is_not_viable, open_is_no_script, script_of_word}
 
@@ -70,12 +69,12 @@ deep_symbol : (x : Symbol) (stack : List Symbol) (l : Lexeme) (o : Option (ℕ �
     → (d : ℕ) × ((32 < d) × ((zs : List Placed) × InStack (x ∷ stack) (at_depth d l ∷ zs)))
 deep_symbol x stack l None add e = absurd (cc)
 deep_symbol x stack l (Some (d, symbols)) add e = elim (cases_Bool (nat_le d 32)) [
-    inl small ↦ let f : goes (symbols ++ stack) ≡ deep = rw small at e in absurd (cc)
+  | inl small ↦ let f : goes (symbols ++ stack) ≡ deep = rw small at e in absurd (cc)
   | inr large ↦
       let inner = complete_stack symbols in
       let outer = complete_stack stack in
       (d, (leb-false d 32 large, (inner.0 ++ outer.0, (at_depth d l ∷ inner.0, (outer.0, (refl, add inner.0 inner.1, outer.1))))))
-  ]
+]
 
 deep_word : (s : List Symbol) (l : Lexeme) → step s l ≡ deep → (d : ℕ) × ((32 < d) × ((zs : List Placed) × InStack s (at_depth d l ∷ zs)))
 deep_word [] l e = absurd (cc)
@@ -108,7 +107,7 @@ stands_one ls p x lt e = record {
 }
 
 pub stands_none : (ls : List Lexeme) (p : ℕ) → p ≤ length ls → Stands ls p p []
-stands_none ls p le = record { from = omega arith; within = le; same = refl; }
+stands_none ls p le = record { from = omega arith; within = le; same = refl }
 
 -- what stands from a to b and what stands from b to c
 pub stands_both : (ls : List Lexeme) (a b c : ℕ) (xs ys : List Placed) → Stands ls a b xs → Stands ls b c ys → Stands ls a c (xs ++ ys)
@@ -124,6 +123,6 @@ pub stuck_here : (ls : List Lexeme) (p : ℕ) (x : Symbol) (stack : List Symbol)
     → (p < length ls → expand x (lexeme_at ls p) ≡ None) → (IsDone (x ∷ stack) → ⊥) → IsSyntaxFault ls p
 stuck_here ls p x stack at within none open_stack =
     elim (cases_lt p (length ls)) [
-      inl lt ↦ stuck ls p x stack at lt (none lt)
-    | inr ge ↦ stuck_at_end ls p (x ∷ stack) at (omega arith) open_stack
+      | inl lt ↦ stuck ls p x stack at lt (none lt)
+      | inr ge ↦ stuck_at_end ls p (x ∷ stack) at (omega arith) open_stack
     ]

@@ -1,4 +1,4 @@
-use Rattle.std.specs.Prelude.{ℕ, List, [], ◌∷◌}
+use Rattle.std.specs.Prelude.{ℕ, List}
 
 -- an argument: a string, a list of strings by its first and the others, a number, a tag
 pub data ArgumentTree : Type 0 where

@@ -3,17 +3,20 @@ ghost use Rattle.std.specs.Prelude.{◌≤◌, ◌<◌, ◌^◌, length};
 ghost use Rattle.sieve_lexer.specs.Tokens.{AreTokens};
 ghost use Rattle.sieve_parser.specs.Reading.{AreArgumentsAt, IsArgumentAt, lexemes};
 
-use std::alloc::Global;
-
-use sieve_lexer::{Token, TokenKind, number_of, string_of};
-
 use crate::error::ParseError;
 use crate::strings::string_list;
 use crate::token_at::{owned, token_at};
 use crate::tree::Argument;
+use sieve_lexer::{Token, TokenKind, number_of, string_of};
+use std::alloc::Global;
 
 // The argument that begins at this number, and the number behind it; nothing where none begins.
-fn argument_at(alloc: Global, script: &[u8], tokens: &[Token], at: usize) -> Result<Option<(Argument, usize)>, ParseError>
+fn argument_at(
+    alloc: Global,
+    script: &[u8],
+    tokens: &[Token],
+    at: usize,
+) -> Result<Option<(Argument, usize)>, ParseError>
     requires tokens { AreTokens script.now tokens.now }
     requires within { at ≤ length (lexemes script.now tokens.now) }
     requires short { length (lexemes script.now tokens.now) < 2 ^ 63 }
@@ -30,7 +33,9 @@ fn argument_at(alloc: Global, script: &[u8], tokens: &[Token], at: usize) -> Res
             Ok(Some((Argument::Tag(name), at + 1)))
         }
         TokenKind::Number => {
-            let Some(number) = number_of(text) else { unreachable!() };
+            let Some(number) = number_of(text) else {
+                unreachable!()
+            };
             Ok(Some((Argument::Number(number), at + 1)))
         }
         TokenKind::QuotedString | TokenKind::MultiLineString => {
@@ -46,7 +51,12 @@ fn argument_at(alloc: Global, script: &[u8], tokens: &[Token], at: usize) -> Res
 }
 
 // The arguments from this number on, and the number behind them.
-pub fn arguments(alloc: Global, script: &[u8], tokens: &[Token], at: usize) -> Result<(Vec<Argument>, usize), ParseError>
+pub fn arguments(
+    alloc: Global,
+    script: &[u8],
+    tokens: &[Token],
+    at: usize,
+) -> Result<(Vec<Argument>, usize), ParseError>
     requires tokens { AreTokens script.now tokens.now }
     requires within { at ≤ length (lexemes script.now tokens.now) }
     requires short { length (lexemes script.now tokens.now) < 2 ^ 63 }

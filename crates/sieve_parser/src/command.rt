@@ -3,20 +3,25 @@ ghost use Rattle.std.specs.Prelude.{◌≤◌, ◌<◌, ◌^◌, length};
 ghost use Rattle.sieve_lexer.specs.Tokens.{AreTokens};
 ghost use Rattle.sieve_parser.specs.Reading.{AreCommandsAt, IsCommandAt, lexemes};
 
-use std::alloc::Global;
-
-use octets::Octets;
-use sieve_lexer::{Token, TokenKind};
-
 use crate::DEPTH_LIMIT;
 use crate::error::ParseError;
 use crate::invocation::invocation;
 use crate::token_at::{identifier_at, stands};
 use crate::tree::Command;
+use octets::Octets;
+use sieve_lexer::{Token, TokenKind};
+use std::alloc::Global;
 
 // The command whose identifier, of this name and number, stands at this depth, and the number behind it.
 #[cycle(blocks)]
-fn command(alloc: Global, script: &[u8], tokens: &[Token], name: Octets, token: usize, depth: usize) -> Result<(Command, usize), ParseError>
+fn command(
+    alloc: Global,
+    script: &[u8],
+    tokens: &[Token],
+    name: Octets,
+    token: usize,
+    depth: usize,
+) -> Result<(Command, usize), ParseError>
     requires tokens { AreTokens script.now tokens.now }
     requires within { token < length (lexemes script.now tokens.now) }
     requires short { length (lexemes script.now tokens.now) < 2 ^ 63 }
@@ -43,7 +48,13 @@ fn command(alloc: Global, script: &[u8], tokens: &[Token], name: Octets, token: 
 
 // The commands from this number on, at this depth, and the number behind them.
 #[cycle(blocks)]
-pub fn commands(alloc: Global, script: &[u8], tokens: &[Token], at: usize, depth: usize) -> Result<(Vec<Command>, usize), ParseError>
+pub fn commands(
+    alloc: Global,
+    script: &[u8],
+    tokens: &[Token],
+    at: usize,
+    depth: usize,
+) -> Result<(Vec<Command>, usize), ParseError>
     requires tokens { AreTokens script.now tokens.now }
     requires within { at ≤ length (lexemes script.now tokens.now) }
     requires short { length (lexemes script.now tokens.now) < 2 ^ 63 }

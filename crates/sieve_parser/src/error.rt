@@ -3,9 +3,8 @@ ghost use Rattle.std.specs.Prelude.{◌≡◌};
 ghost use Rattle.sieve_parser.specs.Refusals.{parse_error};
 ghost use Rattle.sieve_parser.specs.declared.error.ParseError.TheVariants.{Memory};
 
-use std::alloc::{AllocError, AllocFailed};
-
 use sieve_lexer::LexicalError;
+use std::alloc::{AllocError, AllocFailed};
 use thiserror::Error;
 
 /// Why a script isn't parsed.

@@ -3,20 +3,25 @@ ghost use Rattle.std.specs.Prelude.{◌≤◌, ◌<◌, ◌^◌, length};
 ghost use Rattle.sieve_lexer.specs.Tokens.{AreTokens};
 ghost use Rattle.sieve_parser.specs.Reading.{AreTestsBehind, IsInvocationAt, IsTestAt, lexemes};
 
-use std::alloc::Global;
-
-use octets::Octets;
-use sieve_lexer::{Token, TokenKind};
-
 use crate::DEPTH_LIMIT;
 use crate::arguments::arguments;
 use crate::error::ParseError;
 use crate::token_at::{identifier_at, stands};
 use crate::tree::{Head, Invocation};
+use octets::Octets;
+use sieve_lexer::{Token, TokenKind};
+use std::alloc::Global;
 
 // The invocation whose identifier, of this name and number, stands at this depth, and the number behind it.
 #[cycle(tests)]
-pub fn invocation(alloc: Global, script: &[u8], tokens: &[Token], name: Octets, token: usize, depth: usize) -> Result<(Invocation, usize), ParseError>
+pub fn invocation(
+    alloc: Global,
+    script: &[u8],
+    tokens: &[Token],
+    name: Octets,
+    token: usize,
+    depth: usize,
+) -> Result<(Invocation, usize), ParseError>
     requires tokens { AreTokens script.now tokens.now }
     requires within { token < length (lexemes script.now tokens.now) }
     requires short { length (lexemes script.now tokens.now) < 2 ^ 63 }
@@ -24,7 +29,11 @@ pub fn invocation(alloc: Global, script: &[u8], tokens: &[Token], name: Octets, 
     ensures { IsInvocationAt (lexemes script.now tokens.now) name token depth result }
 {
     let (arguments, next) = arguments(alloc, script, tokens, token + 1)?;
-    let head = Head { name, token, arguments };
+    let head = Head {
+        name,
+        token,
+        arguments,
+    };
     if let Some(name) = identifier_at(alloc, script, tokens, next)? {
         if depth == DEPTH_LIMIT {
             return Err(ParseError::TooDeep { place: next });
@@ -34,14 +43,23 @@ pub fn invocation(alloc: Global, script: &[u8], tokens: &[Token], name: Octets, 
     }
     if stands(tokens, next, TokenKind::OpeningParenthesis) {
         let ((first, rest), after) = test_list(alloc, script, tokens, next + 1, depth)?;
-        return Ok((Invocation::WithTests(head, Box::new(alloc, first)?, rest), after));
+        return Ok((
+            Invocation::WithTests(head, Box::new(alloc, first)?, rest),
+            after,
+        ));
     }
     Ok((Invocation::Plain(head), next))
 }
 
 // The test whose identifier has to stand at this number, below this depth, and the number behind it.
 #[cycle(tests)]
-fn test_at(alloc: Global, script: &[u8], tokens: &[Token], at: usize, depth: usize) -> Result<(Invocation, usize), ParseError>
+fn test_at(
+    alloc: Global,
+    script: &[u8],
+    tokens: &[Token],
+    at: usize,
+    depth: usize,
+) -> Result<(Invocation, usize), ParseError>
     requires tokens { AreTokens script.now tokens.now }
     requires within { at ≤ length (lexemes script.now tokens.now) }
     requires short { length (lexemes script.now tokens.now) < 2 ^ 63 }
@@ -59,7 +77,13 @@ fn test_at(alloc: Global, script: &[u8], tokens: &[Token], at: usize, depth: usi
 
 // The tests of a list whose first test has to stand at this number, below this depth, and the number behind its bracket.
 #[cycle(tests)]
-fn test_list(alloc: Global, script: &[u8], tokens: &[Token], at: usize, depth: usize) -> Result<((Invocation, Vec<Invocation>), usize), ParseError>
+fn test_list(
+    alloc: Global,
+    script: &[u8],
+    tokens: &[Token],
+    at: usize,
+    depth: usize,
+) -> Result<((Invocation, Vec<Invocation>), usize), ParseError>
     requires tokens { AreTokens script.now tokens.now }
     requires within { at ≤ length (lexemes script.now tokens.now) }
     requires short { length (lexemes script.now tokens.now) < 2 ^ 63 }

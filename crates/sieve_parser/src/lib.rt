@@ -5,15 +5,14 @@
 //! what it reads can be completed to a script, and that where it stops nothing can.
 #![tactic(auto)]
 
-
 mod arguments;
 mod command;
 mod error;
+mod invocation;
+pub mod laws;
 mod parser;
 mod strings;
 mod token_at;
-mod invocation;
-pub mod laws;
 mod tree;
 
 pub use error::ParseError;

@@ -3,11 +3,10 @@ ghost use Rattle.std.specs.Prelude.{IfErr, IfOk};
 ghost use Rattle.sieve_parser.specs.Scripts.{IsParsed, IsRefused};
 ghost use Rattle.sieve_parser.specs.View.{commands_tree};
 
-use std::alloc::Global;
-
 use crate::command::commands;
 use crate::error::ParseError;
 use crate::tree::Script;
+use std::alloc::Global;
 
 /// The syntax tree of a script (RFC 5228, section 8.2).
 ///

@@ -3,17 +3,20 @@ ghost use Rattle.std.specs.Prelude.{◌≤◌, ◌<◌, ◌^◌, length};
 ghost use Rattle.sieve_lexer.specs.Tokens.{AreTokens};
 ghost use Rattle.sieve_parser.specs.Reading.{IsExpectedString, IsListBehind, lexemes};
 
-use std::alloc::Global;
-
-use octets::Octets;
-use sieve_lexer::{Token, TokenKind};
-
 use crate::error::ParseError;
 use crate::token_at::{stands, string_at};
 use crate::tree::Argument;
+use octets::Octets;
+use sieve_lexer::{Token, TokenKind};
+use std::alloc::Global;
 
 // The string that has to stand at this number.
-fn expected_string(alloc: Global, script: &[u8], tokens: &[Token], at: usize) -> Result<Octets, ParseError>
+fn expected_string(
+    alloc: Global,
+    script: &[u8],
+    tokens: &[Token],
+    at: usize,
+) -> Result<Octets, ParseError>
     requires tokens { AreTokens script.now tokens.now }
     requires within { at ≤ length (lexemes script.now tokens.now) }
     requires short { length (lexemes script.now tokens.now) < 2 ^ 63 }
@@ -26,7 +29,12 @@ fn expected_string(alloc: Global, script: &[u8], tokens: &[Token], at: usize) ->
 }
 
 // The list of strings whose first string has to stand at this number, and the number behind its bracket.
-pub fn string_list(alloc: Global, script: &[u8], tokens: &[Token], at: usize) -> Result<(Argument, usize), ParseError>
+pub fn string_list(
+    alloc: Global,
+    script: &[u8],
+    tokens: &[Token],
+    at: usize,
+) -> Result<(Argument, usize), ParseError>
     requires tokens { AreTokens script.now tokens.now }
     requires within { at ≤ length (lexemes script.now tokens.now) }
     requires short { length (lexemes script.now tokens.now) < 2 ^ 63 }

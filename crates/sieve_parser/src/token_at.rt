@@ -4,16 +4,19 @@ ghost use Rattle.std.specs.List.{slice_get};
 ghost use Rattle.sieve_lexer.specs.Tokens.{AreTokens};
 ghost use Rattle.sieve_parser.specs.Reading.{IsIdentifierAt, IsStringAt, kind_at, lexemes};
 
-use std::alloc::{AllocError, Global};
-
 use octets::Octets;
 use sieve_lexer::{Token, TokenKind, string_of};
+use std::alloc::{AllocError, Global};
 
 // The token with this number, if there is one.
 pub fn token_at(tokens: &[Token], at: usize) -> Option<Token>
     ensures { result ≡ slice_get tokens.now at }
 {
-    if at < tokens.len() { Some(tokens[at]) } else { None }
+    if at < tokens.len() {
+        Some(tokens[at])
+    } else {
+        None
+    }
 }
 
 // Whether the token with this number is of the kind.
@@ -34,7 +37,12 @@ pub fn owned(alloc: Global, octets: &[u8]) -> Result<Octets, AllocError>
 }
 
 // The value of the string with this number, or nothing where no string stands there.
-pub fn string_at(alloc: Global, script: &[u8], tokens: &[Token], at: usize) -> Result<Option<Octets>, AllocError>
+pub fn string_at(
+    alloc: Global,
+    script: &[u8],
+    tokens: &[Token],
+    at: usize,
+) -> Result<Option<Octets>, AllocError>
     requires { AreTokens script.now tokens.now }
     ensures { IfOk result (λ answer. IsStringAt (lexemes script.now tokens.now) at answer) }
 {
@@ -50,7 +58,12 @@ pub fn string_at(alloc: Global, script: &[u8], tokens: &[Token], at: usize) -> R
 }
 
 // The name of the identifier with this number, or nothing where no identifier stands there.
-pub fn identifier_at(alloc: Global, script: &[u8], tokens: &[Token], at: usize) -> Result<Option<Octets>, AllocError>
+pub fn identifier_at(
+    alloc: Global,
+    script: &[u8],
+    tokens: &[Token],
+    at: usize,
+) -> Result<Option<Octets>, AllocError>
     requires { AreTokens script.now tokens.now }
     ensures { IfOk result (λ answer. IsIdentifierAt (lexemes script.now tokens.now) at answer) }
 {

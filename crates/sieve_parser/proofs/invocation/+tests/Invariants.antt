@@ -1,4 +1,4 @@
-use Rattle.std.proofs.Common.{ℕ, ◌+◌, ◌-◌, ◌*◌, ◌≤◌, List, length}
+use Rattle.std.proofs.Common.{◌+◌, ◌-◌, ◌*◌, ◌≤◌, length}
 use Rattle.sieve_parser.specs.Reading.{lexemes}
 use Rattle.sieve_parser.specs.View.{invocation_tree}
 use Rattle.sieve_parser.proofs.TestSteps.{AreTestsSoFar}

@@ -1,4 +1,4 @@
-use Rattle.std.proofs.Common.{◌≡◌, ◌≤◌, [], ◌∷◌, sym, ◌∙◌, ap, subst, arith, length}
+use Rattle.std.proofs.Common.{◌≤◌, [], sym, subst, arith, length}
 use Rattle.std.proofs.lemmas.Result.{err_from_is_err_and}
 use Rattle.sieve_lexer.specs.Tokens.{AreTokens}
 use Rattle.sieve_parser.specs.Reading.{lexemes}
@@ -26,9 +26,17 @@ returns-then-next-len-clause-refused c =
     let ls = lexemes s ts in
     let given = c.in_ok-tokens.ensures.tokens in
     let tokens = subst (λ w. AreTokens s w) (sym c.deref.ensures.value) given.1 in
-    let read = c.in_ok-commands.ensures [] in
-    (given.0, (ts, (tokens, not_ended ls c.in_ok-commands.next (read.2 (at_start ls)) read.1
-        (omega (arith, length-lexemes s 0 ts, c.deref.ensures.len)))))
+    let read = c.in_ok-commands.ensures [] in (
+      given.0,
+      (
+        ts,
+        (
+          tokens,
+          not_ended ls c.in_ok-commands.next (read.2 (at_start ls)) read.1
+              (omega (arith, length-lexemes s 0 ts, c.deref.ensures.len)),
+        ),
+      ),
+    )
 
 pub returns-clause-parsed : goal.returns-clause-parsed
 returns-clause-parsed c =

@@ -1,11 +1,11 @@
-use Rattle.std.proofs.Common.{◌≡◌, ℕ, ◌+◌, ◌<◌, ◌≤◌, List, [], ◌∷◌, ◌++◌, length, refl, sym, ◌∙◌, ap, subst, arith}
+use Rattle.std.proofs.Common.{[], ◌∷◌, ◌++◌, refl, sym, ◌∙◌, ap, subst, arith}
 use Rattle.std.proofs.lemmas.Bool.{false≢true}
 use Rattle.std.proofs.lemmas.Result.{err_from_is_err_and}
 use Rattle.sieve_lexer.specs.declared.token.TokenKind.TheVariants.{Comma, ClosingBracket}
 use Rattle.sieve_parser.specs.Grammar.{at_depth, more_strings_spelled}
 use Rattle.sieve_parser.specs.Lexemes.{string, comma, closing_bracket}
-use Rattle.sieve_parser.specs.Machine.{strings, more_strings}
-use Rattle.sieve_parser.specs.Reading.{IsFaultOf, lexemes, lexeme_at}
+use Rattle.sieve_parser.specs.Machine.{more_strings}
+use Rattle.sieve_parser.specs.Reading.{lexemes, lexeme_at}
 use Rattle.sieve_parser.proofs.Here.{kind_here, not_here}
 use Rattle.sieve_parser.proofs.StringLists.{IsListSoFar, list_start, list_more, list_end, comma_read}
 use Rattle.sieve_parser.proofs.Walk.{stuck_here}
@@ -29,7 +29,7 @@ returns-in_err-value c = λ d stack small.
     let here = kind_here c.args.script.now c.args.tokens.now c.strings.next Comma (c.strings-test.ensures.0 refl) in
     let p = err_from_is_err_and c.from_residual-in_err-value.result c.from_residual-in_err-value.ensures.1 in
     rw (p.1, p.2) (λ a. c.in_err-value.ensures d stack
-        (comma_read ls c.args.at c.first.inside.items.items c.strings.next c.strings.rest.items c.strings.invariant.1 here.0 here.1.1 d stack small a))
+    (comma_read ls c.args.at c.first.inside.items.items c.strings.next c.strings.rest.items c.strings.invariant.1 here.0 here.1.1 d stack small a))
 
 pub strings-smaller : goal.strings-smaller
 strings-smaller c =
@@ -40,9 +40,11 @@ pub strings-preserved : goal.strings-preserved
 strings-preserved c =
     let ls = lexemes c.args.script.now c.args.tokens.now in
     let here = kind_here c.args.script.now c.args.tokens.now c.strings.next Comma (c.strings-test.ensures.0 refl) in
-    let value = c.in_ok-value.ensures in
-    (omega (arith, value.0), rw c.in_ok-push.ensures.items (list_more ls c.args.at c.first.inside.items.items c.strings.next c.strings.rest.items c.in_ok-value.value
-        c.strings.invariant.1 here.0 here.1.1 value.0 value.1))
+    let value = c.in_ok-value.ensures in (
+      omega (arith, value.0),
+      rw c.in_ok-push.ensures.items (list_more ls c.args.at c.first.inside.items.items c.strings.next c.strings.rest.items c.in_ok-value.value
+          c.strings.invariant.1 here.0 here.1.1 value.0 value.1),
+    )
 
 pub returns-then-stands : goal.returns-then-stands
 returns-then-stands c = λ d stack small.
@@ -59,7 +61,7 @@ returns-else-stands c = λ d stack small a.
     let ls = lexemes s ts in
     let next = c.strings.next in
     stuck_here ls next (more_strings d) stack ((c.strings.invariant.1 d stack small).1 a) c.strings.invariant.0
-        (λ lt. no_more_string d (lexeme_at ls next)
-            (not_here s ts next comma lt (λ k. false≢true (c.strings-test.ensures.1 k)) (λ q. cc))
-            (not_here s ts next closing_bracket lt (λ k. false≢true (c.if-stands.ensures.1 k)) (λ q. cc)))
-        (λ done. done)
+    (λ lt. no_more_string d (lexeme_at ls next)
+    (not_here s ts next comma lt (λ k. false≢true (c.strings-test.ensures.1 k)) (λ q. cc))
+    (not_here s ts next closing_bracket lt (λ k. false≢true (c.if-stands.ensures.1 k)) (λ q. cc)))
+    (λ done. done)

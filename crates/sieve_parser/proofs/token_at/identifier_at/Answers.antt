@@ -1,7 +1,5 @@
-use Rattle.std.proofs.Common.{arith, sym, ◌∙◌, ap, subst}
-use Rattle.std.specs.Prelude.{Some}
+use Rattle.std.proofs.Common.{arith, sym, ◌∙◌, ap}
 use Rattle.sieve_parser.specs.Lexemes.{identifier}
-use Rattle.sieve_parser.specs.Reading.{IsIdentifierAt, lexemes}
 use Rattle.sieve_parser.proofs.Here.{token_here, no_identifier, identifier_here, nothing_here}
 use Rattle.sieve_parser.proofs.token_at.identifier_at.Goals as goal
 

@@ -1,8 +1,6 @@
-use Rattle.std.proofs.Common.{arith, sym, ◌∙◌, ap, subst}
-use Rattle.std.specs.Prelude.{Some}
+use Rattle.std.proofs.Common.{arith, sym, ◌∙◌, ap}
 use Rattle.sieve_lexer.specs.Values.{string_value}
 use Rattle.sieve_parser.specs.Lexemes.{string}
-use Rattle.sieve_parser.specs.Reading.{IsStringAt, lexemes}
 use Rattle.sieve_parser.proofs.Here.{token_here, no_string, string_here, nothing_here}
 use Rattle.sieve_parser.proofs.token_at.string_at.Goals as goal
 
