@@ -1,0 +1,7 @@
+//! Tests of the script crates, over their public calls.
+#![tactic(auto)]
+
+#[cfg(test)]
+mod lexer;
+#[cfg(test)]
+mod parser;

@@ -1,0 +1,10 @@
+use Rattle.std.proofs.Common.{◌≡◌, ℕ, ◌-◌, ◌<◌, ◌≤◌, true, length, get_or}
+use Rattle.sieve_lexer.specs.Classes.{is_not_line_feed}
+use Rattle.sieve_lexer.proofs.separators.line_end.Given as goal
+
+abbrev pub invariant-loop-end : goal.invariant-loop-end
+invariant-loop-end l = (l.place ≤ l.end) × (l.end ≤ length l.script)
+    × ((i : ℕ) → l.place ≤ i → i < l.end → is_not_line_feed (get_or l.script i 0) ≡ true)
+
+abbrev pub decreases-loop-end : goal.decreases-loop-end
+decreases-loop-end l = length l.script - l.end

@@ -1,0 +1,7 @@
+pub mod Classes
+pub mod Chain
+pub mod Separators
+pub mod Strings
+pub mod Texts
+pub mod Values
+pub mod Tokens

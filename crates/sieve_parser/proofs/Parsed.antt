@@ -1,0 +1,47 @@
+-- The whole script, from its commands.
+use Rattle.std.proofs.Common.{ℕ, ◌<◌, ◌≤◌, List, [], ◌∷◌, ◌++◌, refl, sym, ◌∙◌, ap, length}
+use Rattle.std.specs.Prelude.{None}
+use Rattle.std.proofs.lemmas.List.{take_all, drop_all, append-nil}
+use Rattle.sieve_lexer.specs.Tokens as lexer
+use Rattle.sieve_lexer.specs.declared.error.LexicalError.{LexicalError}
+use Rattle.sieve_lexer.specs.declared.error.LexicalError.TheVariants.{Memory, ScriptTooLong, Lexical}
+use Rattle.sieve_lexer.specs.declared.TheConstants.{SCRIPT_LIMIT}
+use Rattle.sieve_lexer.specs.declared.token.Token.{Token}
+use Rattle.sieve_parser.specs.declared.error.ParseError.{ParseError}
+use Rattle.sieve_parser.specs.declared.error.ParseError.TheVariants as parser
+use Rattle.sieve_parser.specs.Lexemes.{Lexeme}
+use Rattle.sieve_parser.specs.Tree.{CommandsTree}
+use Rattle.sieve_parser.specs.Grammar.{IsScript, commands_spelled, lexemes_placed}
+use Rattle.sieve_parser.specs.Machine.{body, reading}
+use Rattle.sieve_parser.specs.Faults.{AreWithinDepth, IsSyntaxFault}
+use Rattle.sieve_parser.specs.Reading.{IsAt, IsFaultOf, IsIdentifierAt, Stands, lexeme_at, lexemes}
+use Rattle.sieve_parser.specs.Refusals.{parse_error}
+use Rattle.sieve_parser.specs.Scripts.{IsRefused}
+use Rattle.sieve_parser.proofs.Faulted.{read_script_within}
+use Rattle.sieve_parser.proofs.Walk.{stuck}
+use Rattle.sieve_parser.proofs.Wrong.{no_command_first}
+
+pub lexical_refusal : (script : List ℕ) (e : LexicalError) → lexer.IsRefused script e → IsRefused script (parse_error e)
+lexical_refusal script Memory h = h
+lexical_refusal script ScriptTooLong h = h
+lexical_refusal script (Lexical place) h = h
+
+module _ (ls : List Lexeme) where
+  pub at_start : IsAt ls 0 (body 0 ∷ [])
+  at_start = record { read = body 0 ∷ []; reached = refl; goes_on = λ _. refl; ends = λ _ done. done }
+
+  pub not_ended : (p : ℕ) → IsAt ls p (body 0 ∷ []) → IsIdentifierAt ls p None → p < length ls → IsSyntaxFault ls p
+  not_ended p at none lt = stuck ls p (body 0) [] at lt (no_command_first (lexeme_at ls p) (λ n name e. none n name lt e))
+
+  pub whole_script : (p : ℕ) (cs : CommandsTree) → Stands ls 0 p (commands_spelled 0 cs) → length ls ≤ p → IsScript ls cs
+  whole_script p cs stands past = stands.same ∙ ap (λ w. lexemes_placed (commands_spelled 0 cs) ++ w) (drop_all p ls past) ∙ append-nil (lexemes_placed (commands_spelled 0 cs))
+
+  pub whole_within : (p : ℕ) (cs : CommandsTree) → IsAt ls p (body 0 ∷ []) → length ls ≤ p → IsScript ls cs → AreWithinDepth (commands_spelled 0 cs)
+  whole_within p cs at past script = read_script_within ls at.read cs (ap reading (sym (take_all p ls past)) ∙ at.reached) script
+
+pub fault_refused : (script : List ℕ) (tokens : List Token) (e : ParseError) → length script ≤ SCRIPT_LIMIT → lexer.AreTokens script tokens → IsFaultOf (lexemes script tokens) e → IsRefused script e
+fault_refused script tokens parser.Memory short are h = tt
+fault_refused script tokens parser.ScriptTooLong short are h = absurd h
+fault_refused script tokens (parser.Lexical place) short are h = absurd h
+fault_refused script tokens (parser.Syntax place) short are h = (short, (tokens, (are, h)))
+fault_refused script tokens (parser.TooDeep place) short are h = (short, (tokens, (are, h)))

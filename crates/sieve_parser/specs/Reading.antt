@@ -1,0 +1,136 @@
+use Rattle.std.specs.Prelude.{◌≡◌, ℕ, zero, suc, ◌+◌, ◌<◌, ◌≤◌, List, [], ◌∷◌, ◌++◌, length, take, drop, slice_index_or, Option, Some, None, Result, MatchResult, MatchOption, map, option_map}
+use Rattle.std.specs.List.{slice_get}
+use Rattle.sieve_lexer.specs.declared.token.Token.{Token}
+use Rattle.sieve_lexer.specs.declared.token.TokenKind.{TokenKind}
+use Rattle.sieve_parser.specs.Lexemes.{Lexeme, semicolon, identifier, tag, number, string, opening_bracket, closing_parenthesis, lexemes_from}
+use Rattle.sieve_parser.specs.Grammar.{Placed, at_depth, lexemes_placed, argument_spelled, arguments_spelled, invocation_spelled, more_tests_spelled, command_spelled, commands_spelled}
+use Rattle.sieve_parser.specs.Machine.{Follow, command_end, test_end, Symbol, body, arguments, ending, tests, strings, reading, step}
+use Rattle.sieve_parser.specs.View.{argument_tree, invocation_tree, more_tests_of, command_tree, commands_tree}
+use Rattle.sieve_parser.specs.declared.tree.Argument.{Argument}
+use Rattle.sieve_parser.specs.declared.tree.Invocation.{Invocation}
+use Rattle.sieve_parser.specs.declared.tree.Command.{Command}
+use Rattle.std.specs.declared.vec.Vec.{Vec}
+use Rattle.std.specs.declared.alloc.Global.{Global}
+use Rattle.sieve_parser.specs.Faults.{IsSyntaxFault, IsTooDeep}
+use Rattle.sieve_parser.specs.declared.error.ParseError.{ParseError}
+use Rattle.sieve_parser.specs.declared.error.ParseError.TheVariants.{Memory, ScriptTooLong, Lexical, Syntax, TooDeep}
+
+-- what the grammar reads of all tokens of a script
+abbrev pub lexemes : List ℕ → List Token → List Lexeme
+lexemes script tokens = lexemes_from script 0 tokens
+
+-- the kind of the token with the number, if there is one
+abbrev pub kind_at : List Token → ℕ → Option TokenKind
+kind_at tokens n = option_map (λ (t : Token). t.kind) (slice_get tokens n)
+
+abbrev pub lexeme_at : List Lexeme → ℕ → Lexeme
+lexeme_at ls n = slice_index_or ls n semicolon
+
+-- nothing more has to be read
+abbrev pub IsDone : List Symbol → Type 0
+IsDone [] = Unit {0}
+IsDone (body zero ∷ stack) = IsDone stack
+IsDone _ = ⊥
+
+-- the machine has read what stands before the place, and goes on there as where the stack is to be read
+pub record IsAt (ls : List Lexeme) (place : ℕ) (stack : List Symbol) : Type 0 where
+  pub read : List Symbol
+  pub reached : reading (take place ls) ≡ Some read
+  pub goes_on : place < length ls → step read (lexeme_at ls place) ≡ step stack (lexeme_at ls place)
+  pub ends : place ≡ length ls → IsDone read → IsDone stack
+
+-- what a refusal of the grammar says
+abbrev pub IsFaultOf : List Lexeme → ParseError → Type 0
+IsFaultOf ls Memory = Unit {0}
+IsFaultOf ls ScriptTooLong = ⊥
+IsFaultOf ls (Lexical place) = ⊥
+IsFaultOf ls (Syntax place) = IsSyntaxFault ls place
+IsFaultOf ls (TooDeep place) = IsTooDeep ls place
+
+-- from place a up to place b stand these lexemes
+pub record Stands (ls : List Lexeme) (a b : ℕ) (placed : List Placed) : Type 0 where
+  pub from : a ≤ b
+  pub within : b ≤ length ls
+  pub same : drop a ls ≡ lexemes_placed placed ++ drop b ls
+
+-- the value of the string at the place, or nothing where none stands there
+abbrev pub IsStringAt : List Lexeme → ℕ → Option (List ℕ) → Type 0
+IsStringAt ls at None = (s : List ℕ) → at < length ls → lexeme_at ls at ≡ string s → ⊥
+IsStringAt ls at (Some s) = (at < length ls) × (lexeme_at ls at ≡ string s)
+
+-- the name of the identifier at the place, or nothing where none stands there
+abbrev pub IsIdentifierAt : List Lexeme → ℕ → Option (List ℕ) → Type 0
+IsIdentifierAt ls at None = (n : ℕ) (name : List ℕ) → at < length ls → lexeme_at ls at ≡ identifier n name → ⊥
+IsIdentifierAt ls at (Some name) = (at < length ls) × (lexeme_at ls at ≡ identifier at name)
+
+-- a string that has to stand at the place, or the refusal
+abbrev pub IsExpectedString : List Lexeme → ℕ → Result (List ℕ) ParseError → Type 0
+IsExpectedString ls at answer = MatchResult answer (λ s. (at < length ls) × (lexeme_at ls at ≡ string s))
+    (λ e. (d : ℕ) (stack : List Symbol) → IsAt ls at (strings d ∷ stack) → IsFaultOf ls e)
+
+-- a list of strings behind its opening bracket, or the refusal
+abbrev pub IsListBehind : List Lexeme → ℕ → Result (Argument × ℕ) ParseError → Type 0
+IsListBehind ls at answer = (d : ℕ) (stack : List Symbol) → d ≤ 32 → MatchResult answer
+    (λ r. (b : List Placed) × ((argument_spelled d (argument_tree r.0) ≡ at_depth d opening_bracket ∷ b) × Stands ls at r.1 b × (IsAt ls at (strings d ∷ stack) → IsAt ls r.1 stack)))
+    (λ e. IsAt ls at (strings d ∷ stack) → IsFaultOf ls e)
+
+-- the lexeme begins no argument
+abbrev pub IsNoArgument : Lexeme → Type 0
+IsNoArgument (tag name) = ⊥
+IsNoArgument (number n) = ⊥
+IsNoArgument (string s) = ⊥
+IsNoArgument opening_bracket = ⊥
+IsNoArgument _ = Unit {0}
+
+-- at the place begins no argument
+abbrev pub NoArgumentAt : List Lexeme → ℕ → Type 0
+NoArgumentAt ls at = at < length ls → IsNoArgument (lexeme_at ls at)
+
+-- the argument at the place with the place behind it, or nothing where none begins; or the refusal
+abbrev pub IsArgumentAt : List Lexeme → ℕ → Result (Option (Argument × ℕ)) ParseError → Type 0
+IsArgumentAt ls at answer = (d : ℕ) (f : Follow) (stack : List Symbol) → d ≤ 32 → MatchResult answer
+    (λ o. MatchOption o (NoArgumentAt ls at) (λ r. (at < r.1) × Stands ls at r.1 (argument_spelled d (argument_tree r.0))
+    × (IsAt ls at (arguments d f ∷ stack) → IsAt ls r.1 (arguments d f ∷ stack))))
+    (λ e. IsAt ls at (arguments d f ∷ stack) → IsFaultOf ls e)
+
+-- the arguments from the place on, with the place behind them, at which no argument begins; or the refusal
+abbrev pub AreArgumentsAt : List Lexeme → ℕ → Result (Vec Argument Global × ℕ) ParseError → Type 0
+AreArgumentsAt ls at answer = (d : ℕ) (f : Follow) (stack : List Symbol) → d ≤ 32 → MatchResult answer
+    (λ r. Stands ls at r.1 (arguments_spelled d (map argument_tree r.0.items)) × NoArgumentAt ls r.1
+    × (IsAt ls at (arguments d f ∷ stack) → IsAt ls r.1 (arguments d f ∷ stack)))
+    (λ e. IsAt ls at (arguments d f ∷ stack) → IsFaultOf ls e)
+
+-- the invocation whose identifier has the number, with the place behind it; or the refusal
+abbrev pub IsInvocationAt : List Lexeme → List ℕ → ℕ → ℕ → Result (Invocation × ℕ) ParseError → Type 0
+IsInvocationAt ls name n d answer = (f : Follow) (stack : List Symbol) → MatchResult answer
+    (λ r. (b : List Placed) × ((invocation_spelled d (invocation_tree r.0) ≡ at_depth d (identifier n name) ∷ b) × Stands ls (n + 1) r.1 b
+    × (IsAt ls (n + 1) (arguments d f ∷ stack) → IsAt ls r.1 (ending f ∷ stack))))
+    (λ e. IsAt ls (n + 1) (arguments d f ∷ stack) → IsFaultOf ls e)
+
+-- the test that has to begin at the place, with the place behind it; or the refusal
+abbrev pub IsTestAt : List Lexeme → ℕ → ℕ → Result (Invocation × ℕ) ParseError → Type 0
+IsTestAt ls at d answer = (stack : List Symbol) → MatchResult answer
+    (λ r. Stands ls at r.1 (invocation_spelled (suc d) (invocation_tree r.0)) × (IsAt ls at (tests d ∷ stack) → IsAt ls r.1 (ending (test_end d) ∷ stack)))
+    (λ e. IsAt ls at (tests d ∷ stack) → IsFaultOf ls e)
+
+-- the tests of a list behind its opening bracket, with the place behind the closing one; or the refusal
+abbrev pub AreTestsBehind : List Lexeme → ℕ → ℕ → Result ((Invocation × Vec Invocation Global) × ℕ) ParseError → Type 0
+AreTestsBehind ls at d answer = (stack : List Symbol) → MatchResult answer
+    (λ r. Stands ls at r.1 (invocation_spelled (suc d) (invocation_tree r.0.0)
+    ++ (more_tests_spelled d (more_tests_of (map invocation_tree r.0.1.items)) ++ at_depth d closing_parenthesis ∷ []))
+    × (IsAt ls at (tests d ∷ stack) → IsAt ls r.1 stack))
+    (λ e. IsAt ls at (tests d ∷ stack) → IsFaultOf ls e)
+
+-- the command whose identifier has the number, with the place behind it; or the refusal
+abbrev pub IsCommandAt : List Lexeme → List ℕ → ℕ → ℕ → Result (Command × ℕ) ParseError → Type 0
+IsCommandAt ls name n d answer = (stack : List Symbol) → MatchResult answer
+    (λ r. (b : List Placed) × ((command_spelled d (command_tree r.0) ≡ at_depth d (identifier n name) ∷ b) × Stands ls (n + 1) r.1 b
+    × (IsAt ls (n + 1) (arguments d (command_end d) ∷ stack) → IsAt ls r.1 stack)))
+    (λ e. IsAt ls (n + 1) (arguments d (command_end d) ∷ stack) → IsFaultOf ls e)
+
+-- the commands from the place on, with the place behind them, at which no identifier stands; or the refusal
+abbrev pub AreCommandsAt : List Lexeme → ℕ → ℕ → Result (Vec Command Global × ℕ) ParseError → Type 0
+AreCommandsAt ls at d answer = (stack : List Symbol) → MatchResult answer
+    (λ r. Stands ls at r.1 (commands_spelled d (commands_tree r.0.items)) × IsIdentifierAt ls r.1 None
+    × (IsAt ls at (body d ∷ stack) → IsAt ls r.1 (body d ∷ stack)))
+    (λ e. IsAt ls at (body d ∷ stack) → IsFaultOf ls e)

@@ -1,0 +1,23 @@
+use Rattle.std.specs.Prelude.{ℕ, ◌<◌, ◌≤◌, List, length}
+use Rattle.sieve_lexer.specs.Tokens.{AreTokens, IsFault}
+use Rattle.sieve_lexer.specs.declared.TheConstants.{SCRIPT_LIMIT}
+use Rattle.sieve_lexer.specs.declared.token.Token.{Token}
+use Rattle.sieve_parser.specs.Tree.{CommandsTree}
+use Rattle.sieve_parser.specs.Grammar.{IsScript, commands_spelled}
+use Rattle.sieve_parser.specs.Faults.{AreWithinDepth, IsSyntaxFault, IsTooDeep}
+use Rattle.sieve_parser.specs.Reading.{lexemes}
+use Rattle.sieve_parser.specs.declared.error.ParseError.{ParseError}
+use Rattle.sieve_parser.specs.declared.error.ParseError.TheVariants.{Memory, ScriptTooLong, Lexical, Syntax, TooDeep}
+
+-- the script's tokens write the commands, none of them deeper than the limit
+abbrev pub IsParsed : List ℕ → CommandsTree → Type 0
+IsParsed script cs = (length script ≤ SCRIPT_LIMIT) × ((tokens : List Token)
+    × (AreTokens script tokens × IsScript (lexemes script tokens) cs × AreWithinDepth (commands_spelled 0 cs)))
+
+-- what each refusal says of the script
+abbrev pub IsRefused : List ℕ → ParseError → Type 0
+IsRefused script Memory = Unit {0}
+IsRefused script ScriptTooLong = SCRIPT_LIMIT < length script
+IsRefused script (Lexical place) = (length script ≤ SCRIPT_LIMIT) × IsFault script place
+IsRefused script (Syntax place) = (length script ≤ SCRIPT_LIMIT) × ((tokens : List Token) × (AreTokens script tokens × IsSyntaxFault (lexemes script tokens) place))
+IsRefused script (TooDeep place) = (length script ≤ SCRIPT_LIMIT) × ((tokens : List Token) × (AreTokens script tokens × IsTooDeep (lexemes script tokens) place))

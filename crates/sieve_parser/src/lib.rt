@@ -1,0 +1,23 @@
+//! The syntax tree of a Sieve script (RFC 5228, section 8.2).
+//!
+//! [`parse`] gives the tree whose spelling, by `specs/Grammar`, is the script's tokens, or names the token at
+//! fault as `specs/Faults` says it. The proofs stand on a reading machine, `specs/Machine`: `laws` says that
+//! what it reads can be completed to a script, and that where it stops nothing can.
+#![tactic(auto)]
+
+mod arguments;
+mod command;
+mod error;
+mod invocation;
+pub mod laws;
+mod parser;
+mod strings;
+mod token_at;
+mod tree;
+
+pub use error::ParseError;
+pub use parser::parse;
+pub use tree::{Argument, Command, Head, Invocation, Script};
+
+/// How many braces and test names may enclose a token, its own included.
+pub const DEPTH_LIMIT: usize = 32;

@@ -1,0 +1,27 @@
+// The parser.
+ghost use Rattle.std.specs.Prelude.{IfErr, IfOk};
+ghost use Rattle.sieve_parser.specs.Scripts.{IsParsed, IsRefused};
+ghost use Rattle.sieve_parser.specs.View.{commands_tree};
+
+use crate::command::commands;
+use crate::error::ParseError;
+use crate::tree::Script;
+use std::alloc::Global;
+
+/// The syntax tree of a script (RFC 5228, section 8.2).
+///
+/// The refusals of the tokens come first. Otherwise [`ParseError::Syntax`] names the first token with which the
+/// tokens begin no script, the end being one more token, and [`ParseError::TooDeep`] the brace or test name that
+/// more than [`crate::DEPTH_LIMIT`] braces and test names would enclose, its own included; whichever stands first.
+/// [`ParseError::Memory`] comes only where memory was refused.
+pub fn parse(alloc: Global, script: &[u8]) -> Result<Script, ParseError>
+    ensures parsed { IfOk result (λ parsed. IsParsed script.now (commands_tree parsed.commands.items)) }
+    ensures refused { IfErr result (λ e. IsRefused script.now e) }
+{
+    let tokens = sieve_lexer::tokens(alloc, script)?;
+    let (commands, next) = commands(alloc, script, &tokens, 0, 0)?;
+    if next < tokens.len() {
+        return Err(ParseError::Syntax { place: next });
+    }
+    Ok(Script { commands })
+}
