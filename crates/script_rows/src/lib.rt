@@ -4,4 +4,6 @@
 #[cfg(test)]
 mod lexer;
 #[cfg(test)]
+mod meaning;
+#[cfg(test)]
 mod parser;
