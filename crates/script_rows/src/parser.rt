@@ -1,7 +1,6 @@
 // The syntax trees of scripts, and the tokens at fault.
-use std::alloc::Global;
-
 use sieve_parser::{Argument, Command, Invocation, ParseError, parse};
+use std::alloc::Global;
 
 // How a script is parsed: that it is, or its fault.
 #[derive(Clone, Copy, Debug, PartialEq, Eq)]
@@ -89,7 +88,13 @@ fn scripts_with_faults(rt: HostRuntime) {
 }
 
 // A text, `count` times one after another, between two others.
-fn repeated(alloc: Global, before: &[u8], text: &[u8], count: usize, after: &[u8]) -> Option<Vec<u8>> {
+fn repeated(
+    alloc: Global,
+    before: &[u8],
+    text: &[u8],
+    count: usize,
+    after: &[u8],
+) -> Option<Vec<u8>> {
     let mut script = Vec::from_slice(alloc, before).ok()?;
     for _ in 0..count {
         script.extend_from_slice(text).ok()?;
@@ -109,14 +114,29 @@ fn repeated_as(alloc: Global, script: Option<Vec<u8>>) -> Outcome {
 #[test]
 fn depth(rt: HostRuntime) {
     let alloc = rt.alloc();
-    assert!(rt; repeated_as(alloc, repeated(alloc, b"if ", b"not ", 31, b"true {}")) == Outcome::Parsed);
-    assert!(rt; repeated_as(alloc, repeated(alloc, b"if ", b"not ", 32, b"true {}")) == Outcome::TooDeep(33));
+    assert!(rt;
+        repeated_as(alloc, repeated(alloc, b"if ", b"not ", 31, b"true {}")) == Outcome::Parsed
+    );
+    assert!(rt;
+        repeated_as(alloc, repeated(alloc, b"if ", b"not ", 32, b"true {}")) == Outcome::TooDeep(33)
+    );
     assert!(rt; repeated_as(alloc, repeated(alloc, b"", b"x {", 32, b"")) == Outcome::Syntax(64));
     assert!(rt; repeated_as(alloc, repeated(alloc, b"", b"x {", 33, b"")) == Outcome::TooDeep(65));
-    assert!(rt; repeated_as(alloc, repeated(alloc, b"", b"x {", 31, b"if true { keep; }")) == Outcome::Syntax(68));
-    assert!(rt; repeated_as(alloc, repeated(alloc, b"", b"x {", 32, b"if true")) == Outcome::TooDeep(65));
-    assert!(rt; repeated_as(alloc, repeated(alloc, b"x ", b"(a ", 32, b";")) == Outcome::Syntax(65));
-    assert!(rt; repeated_as(alloc, repeated(alloc, b"x ", b"(a ", 33, b";")) == Outcome::TooDeep(66));
+    assert!(rt;
+        repeated_as(
+            alloc,
+            repeated(alloc, b"", b"x {", 31, b"if true { keep; }")
+        ) == Outcome::Syntax(68)
+    );
+    assert!(rt;
+        repeated_as(alloc, repeated(alloc, b"", b"x {", 32, b"if true")) == Outcome::TooDeep(65)
+    );
+    assert!(rt;
+        repeated_as(alloc, repeated(alloc, b"x ", b"(a ", 32, b";")) == Outcome::Syntax(65)
+    );
+    assert!(rt;
+        repeated_as(alloc, repeated(alloc, b"x ", b"(a ", 33, b";")) == Outcome::TooDeep(66)
+    );
 }
 
 #[test]
@@ -133,19 +153,28 @@ fn a_tree(rt: HostRuntime) {
         return;
     };
     assert_eq!(rt; script.commands.len(), 1);
-    let Some(Command::Block(Invocation::WithTest(head, test), block)) = script.commands.first() else {
+    let Some(Command::Block(Invocation::WithTest(head, test), block)) = script.commands.first()
+    else {
         assert!(rt; false);
         return;
     };
-    assert!(rt; head.name.as_slice() == b"If".as_slice() && head.token == 0 && head.arguments.is_empty());
+    assert!(rt;
+        head.name.as_slice() == b"If".as_slice() && head.token == 0 && head.arguments.is_empty()
+    );
     assert_eq!(rt; block.len(), 1);
     let Invocation::Plain(inner) = &**test else {
         assert!(rt; false);
         return;
     };
-    assert!(rt; inner.name.as_slice() == b"not".as_slice() && inner.token == 1 && inner.arguments.len() == 2);
-    assert!(rt; matches!(inner.arguments.first(), Some(Argument::Text(a)) if a.as_slice() == b"a".as_slice()));
-    assert!(rt; matches!(inner.arguments.get(1), Some(Argument::Tag(a)) if a.as_slice() == b"Is".as_slice()));
+    assert!(rt;
+        inner.name.as_slice() == b"not".as_slice() && inner.token == 1 && inner.arguments.len() == 2
+    );
+    assert!(rt;
+        matches!(inner.arguments.first(), Some(Argument::Text(a)) if a.as_slice() == b"a".as_slice())
+    );
+    assert!(rt;
+        matches!(inner.arguments.get(1), Some(Argument::Tag(a)) if a.as_slice() == b"Is".as_slice())
+    );
     let Some(Command::Simple(Invocation::Plain(x))) = block.first() else {
         assert!(rt; false);
         return;
