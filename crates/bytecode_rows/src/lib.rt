@@ -2,4 +2,10 @@
 #![tactic(auto)]
 
 #[cfg(test)]
+mod engine;
+#[cfg(test)]
+mod format;
+#[cfg(test)]
+mod programs;
+#[cfg(test)]
 mod verifier;

@@ -1,4 +1,5 @@
 // What the verifier answers of programs.
+use crate::programs::{at, plain};
 use bytecode_format::{FormatError, Instruction, Operation, Program};
 use bytecode_verifier::verify;
 use std::alloc::Global;
@@ -6,21 +7,6 @@ use std::test::Fail;
 
 // How many entries the stack takes.
 const ROOM: usize = 1024;
-
-// An instruction, and the two of its fields that operations without texts name.
-fn at(operation: Operation, a: u8, c: u32) -> Instruction {
-    Instruction {
-        op: operation.octet(),
-        a,
-        b: 0,
-        c,
-    }
-}
-
-// An operation without fields.
-fn plain(operation: Operation) -> Instruction {
-    at(operation, 0, 0)
-}
 
 // The budget's line, or the refusal.
 fn answer(

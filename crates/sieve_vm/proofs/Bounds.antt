@@ -1,5 +1,5 @@
 -- What the runs of an accepted program come to.
-use Rattle.std.proofs.Common.{◌≡◌, ◌≢◌, ℕ, zero, suc, ◌+◌, ◌-◌, ◌<◌, ◌≤◌, length, refl, sym, subst, ◌∙◌, arith}
+use Rattle.std.proofs.Common.{◌≡◌, ◌≢◌, ℕ, zero, suc, ◌+◌, ◌<◌, ◌≤◌, length, refl, sym, subst, ◌∙◌, arith}
 use Rattle.bytecode_format.specs.Code.{Code}
 use Rattle.bytecode_verifier.specs.Acceptance.{IsAccepted}
 use Rattle.mime_decode.specs.Mail.{Mail}
@@ -58,7 +58,6 @@ module _ (code : Code) (mail : Mail) (is : IsAccepted code) where
       let free : (start code).charge ≡ 0 = refl in
       (omega (arith, all.kept, potential-start code mail is, free), omega (arith, all.cost, free), omega (arith, all.moved))
 
-
   abbrev Finishes : Type 0
   Finishes = (end : State) × RunEnds code mail end × (end.charge ≤ limit_of code mail)
 
@@ -74,3 +73,26 @@ module _ (code : Code) (mail : Mail) (is : IsAccepted code) where
 
   pub reaches_its_end : Finishes
   reaches_its_end = finish (length code.instructions) 0 (start code) (omega arith) refl
+
+  -- a run that has ended has charged within the budget
+  pub ends_within : (end : State) → RunEnds code mail end → end.charge ≤ limit_of code mail
+  ends_within end over = omega (arith, (spent over.steps over.last over.run).0, falls_at_end over.steps over.last end over.run over.halts)
+
+-- a state has one step, so a run has one end
+pub one_end_from : (code : Code) (mail : Mail) (n m : ℕ) (from s t e f : State) → Run code mail n from s → step code mail s ≡ ends e → Run code mail m from t → step code mail t ≡ ends f → e ≡ f
+one_end_from code mail zero zero from s t e f p a q b =
+    let first : step code mail from ≡ ends e = subst (λ x. step code mail x ≡ ends e) (sym p) a in
+    let second : step code mail from ≡ ends f = subst (λ x. step code mail x ≡ ends f) (sym q) b in
+    cc
+one_end_from code mail zero (suc m) from s t e f p a q b =
+    let first : step code mail from ≡ ends e = subst (λ x. step code mail x ≡ ends e) (sym p) a in
+    let second = q.1 in
+    absurd (let both : ends e ≡ goes q.0 = sym first ∙ second in cc)
+one_end_from code mail (suc n) zero from s t e f p a q b =
+    let first = p.1 in
+    let second : step code mail from ≡ ends f = subst (λ x. step code mail x ≡ ends f) (sym q) b in
+    absurd (let both : goes p.0 ≡ ends f = sym first ∙ second in cc)
+one_end_from code mail (suc n) (suc m) from s t e f p a q b =
+    let both : goes p.0 ≡ goes q.0 = sym p.1 ∙ q.1 in
+    let same : p.0 ≡ q.0 = cc in
+    one_end_from code mail n m p.0 s t e f p.2 a (subst (λ x. Run code mail m x t) (sym same) q.2) b

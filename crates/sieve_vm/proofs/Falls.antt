@@ -1,17 +1,15 @@
 -- The potential: the caps of the instructions from a place on.
-use Rattle.std.proofs.Common.{◌≡◌, ℕ, zero, suc, ◌+◌, ◌*◌, ◌^◌, ◌<◌, ◌≤◌, Bool, true, false, ◌==◌, nat_le, nat_eq, leb, cond, List, [], ◌∷◌, Option, Some, None, length, slice_get, get_or, refl, sym, ap, subst, ◌∙◌, inl, inr, arith}
+use Rattle.std.proofs.Common.{◌≡◌, ℕ, zero, suc, ◌+◌, ◌*◌, ◌^◌, ◌<◌, ◌≤◌, Bool, true, false, nat_le, nat_eq, cond, [], length, refl, sym, ap, ◌∙◌, inl, inr, arith}
 use Rattle.std.proofs.lemmas.Bool.{cases_lt, le-leb, leb-true}
 use Rattle.std.proofs.lemmas.Option.{slice_get-get_or}
 use native.Mathlib.Numerals.{unary_clauses}
-use Rattle.bytecode_format.specs.declared.instruction.Instruction.{Instruction}
 use Rattle.bytecode_format.specs.Code.{Code}
 use Rattle.bytecode_verifier.specs.Places.{sum_below}
-use Rattle.bytecode_verifier.specs.Loops.{loops, open_loops, is_open}
-use Rattle.bytecode_verifier.specs.Budget.{Cap, cap_at, sum_inside, budget_of}
+use Rattle.bytecode_verifier.specs.Loops.{open_loops}
+use Rattle.bytecode_verifier.specs.Budget.{Cap, cap_at, sum_inside}
 use Rattle.bytecode_verifier.specs.Acceptance.{IsAccepted}
 use Rattle.bytecode_verifier.proofs.Loopless.{no_loops}
 use Rattle.bytecode_verifier.proofs.Consequences.{shape_known}
-use Rattle.bytecode_cost.specs.Sums.{budget_at}
 use Rattle.mime_decode.specs.Mail.{Mail}
 use Rattle.sieve_vm.specs.State.{State, start}
 use Rattle.sieve_vm.specs.Potential.{cap_value, weight_at, potential, limit_of}
@@ -118,9 +116,9 @@ module _ (code : Code) (mail : Mail) (is : IsAccepted code) where
       let n : ℕ = length code.instructions in
       let all : potential code mail (start code) ≡ sum_below (weight_at code mail) n = from-all (weight_at code mail) n in
       let caps : sum_below (weight_at code mail) n ≡ sum_below (λ place. cap_value mail (cap_at code place)) n =
-        sum-equal (weight_at code mail) (λ place. cap_value mail (cap_at code place)) n (λ place lt. rw (no_open place) (once (cap_value mail (cap_at code place)) (length mail.parts))) in
+      sum-equal (weight_at code mail) (λ place. cap_value mail (cap_at code place)) n (λ place lt. rw (no_open place) (once (cap_value mail (cap_at code place)) (length mail.parts))) in
       let split : sum_below (λ place. cap_value mail (cap_at code place)) n ≡ sum_below (λ place. (cap_at code place).fixed) n + sum_below (λ place. (cap_at code place).scaled) n * (mail.size + 1) =
-        sum-linear (λ place. (cap_at code place).fixed) (λ place. (cap_at code place).scaled) (mail.size + 1) n in
+      sum-linear (λ place. (cap_at code place).fixed) (λ place. (cap_at code place).scaled) (mail.size + 1) n in
       let f : ℕ → ℕ = sum_inside (λ cap. cap.fixed) code n in
       let g : ℕ → ℕ = sum_inside (λ cap. cap.scaled) code n in
       let parts : ℕ = length mail.parts in

@@ -1,5 +1,5 @@
 -- What holds of every state that a run of an accepted program reaches, and what a step does to it.
-use Rattle.std.proofs.Common.{◌≡◌, ℕ, zero, suc, ◌+◌, ◌<◌, ◌≤◌, Bool, true, false, not, ◌&&◌, ◌==◌, nat_lt, nat_le, ltb, cond, List, [], ◌∷◌, ◌++◌, Option, Some, None, length, slice_get, get_or, refl, sym, ap, subst, ◌∙◌, arith, rules}
+use Rattle.std.proofs.Common.{◌≡◌, ℕ, zero, suc, ◌+◌, ◌<◌, ◌≤◌, Bool, true, false, not, ◌==◌, nat_lt, cond, List, [], ◌∷◌, Option, Some, None, length, slice_get, get_or, refl, sym, ap, subst, ◌∙◌, arith}
 use Rattle.std.proofs.lemmas.Bool.{lt-ltb, ltb-true}
 use Rattle.std.proofs.lemmas.Option.{slice_get-get_or}
 use Rattle.bytecode_format.specs.declared.instruction.Instruction.{Instruction}
@@ -10,7 +10,6 @@ use Rattle.bytecode_format.specs.Code.{Code}
 use Rattle.bytecode_verifier.specs.declared.shape.Entry.{Entry}
 use Rattle.bytecode_verifier.specs.declared.shape.Entry.TheVariants.{Truth, Text}
 use Rattle.bytecode_verifier.specs.Form.{is_well_formed}
-use Rattle.bytecode_verifier.specs.Loops.{same_loops}
 use Rattle.bytecode_verifier.specs.Shape.{Entries, is_empty, has_truth, with_entry, without_truth, is_jump, shape_after, shape_at}
 use Rattle.bytecode_verifier.specs.Rules.{is_halt}
 use Rattle.bytecode_verifier.specs.Acceptance.{IsAccepted}
@@ -145,7 +144,7 @@ module _ (code : Code) (mail : Mail) (is : IsAccepted code) where
         let w = with_entry-some entry entries after room in
         let fits : nat_lt (length s.stack) 1024 ≡ true = lt-ltb _ _ (omega (arith, w.0, length-described entries s.stack d)) in
         subst (λ (b : Bool). IsSound code s (charged 1 (cond b (goes (record s { place = suc s.place; stack = v ∷ s.stack })) traps))) (sym fits)
-          (reached_next (record s { place = suc s.place; stack = v ∷ s.stack; charge = s.charge + 1 }) after refl goes_on shape (subst (λ (x : Entries). Describes x (v ∷ s.stack)) w.1 describes), omega arith, refl)
+        (reached_next (record s { place = suc s.place; stack = v ∷ s.stack; charge = s.charge + 1 }) after refl goes_on shape (subst (λ (x : Entries). Describes x (v ∷ s.stack)) w.1 describes), omega arith, refl)
 
     sound_bool : operation_of i.op ≡ Some BoolOp → IsSound code s (charged 1 (effect code mail BoolOp i s))
     sound_bool e =
@@ -157,7 +156,7 @@ module _ (code : Code) (mail : Mail) (is : IsAccepted code) where
         let a = after_of (Some Size) e in
         let number : slice_get code.numbers i.c ≡ Some (get_or code.numbers i.c 0) = slice_get-get_or code.numbers i.c 0 (number_known code is s.place i here e) in
         subst (λ (o : Option ℕ). IsSound code s (charged 1 (with_number i mail s o))) (sym number)
-          (pushes (truth (compares i (get_or code.numbers i.c 0) mail.size)) Truth a.0 (ap is_halt e) (ap (λ x. shape_after code x i entries) e ∙ a.1) a.1 d)
+        (pushes (truth (compares i (get_or code.numbers i.c 0) mail.size)) Truth a.0 (ap is_halt e) (ap (λ x. shape_after code x i entries) e ∙ a.1) a.1 d)
 
     sound_not : operation_of i.op ≡ Some Not → IsSound code s (charged 1 (effect code mail Not i s))
     sound_not e =
@@ -166,7 +165,7 @@ module _ (code : Code) (mail : Mail) (is : IsAccepted code) where
         let top = top_truth t.0 s.stack (subst (λ (x : Entries). Describes x s.stack) t.1 d) in
         let described : Describes a.0 (truth (not top.value) ∷ top.rest) = subst (λ (x : Entries). Describes x (truth (not top.value) ∷ top.rest)) (sym t.1 ∙ t.2) top.below in
         subst (λ (v : List Value). IsSound code s (charged 1 (with_truth (λ b s'. goes (record s' { place = suc s'.place; stack = truth (not b) ∷ s'.stack })) s v))) (sym top.is)
-          (reached_next (record s { place = suc s.place; stack = truth (not top.value) ∷ top.rest; charge = s.charge + 1 }) a.0 refl (ap is_halt e) (ap (λ x. shape_after code x i entries) e ∙ a.1) described, omega arith, refl)
+        (reached_next (record s { place = suc s.place; stack = truth (not top.value) ∷ top.rest; charge = s.charge + 1 }) a.0 refl (ap is_halt e) (ap (λ x. shape_after code x i entries) e ∙ a.1) described, omega arith, refl)
 
     -- an instruction that leaves the stack alone
     sound_still : (o : Operation) (to : State) → operation_of i.op ≡ Some o → is_halt (Some o) ≡ false → ((x : Entries) → shape_after code (Some o) i x ≡ Some x) → to.place ≡ suc s.place → to.stack ≡ s.stack → to.charge ≡ s.charge + 1 → IsReached code to × (s.place < to.place) × (to.charge ≡ s.charge + 1)
@@ -187,7 +186,7 @@ module _ (code : Code) (mail : Mail) (is : IsAccepted code) where
         let jump : is_jump (operation_of i.op) ≡ true = ap is_jump e in
         let none : s.stack ≡ [] = no_stack s.stack (subst (λ (x : Entries). Describes x s.stack) (empty-some entries a.0 a.1) d) in
         subst (λ (b : Bool). IsSound code s (charged 1 (cond b (branch i true s) traps))) (sym (sound_jump jump))
-          (reached_target (record s { place = i.c; charge = s.charge + 1 }) refl jump none, jump_forward code is s.place i here jump, refl)
+        (reached_target (record s { place = i.c; charge = s.charge + 1 }) refl jump none, jump_forward code is s.place i here jump, refl)
 
     -- a jump that takes a truth value
     sound_branch : (o : Operation) (way : Bool → Bool) → operation_of i.op ≡ Some o → is_jump (Some o) ≡ true → is_halt (Some o) ≡ false → shape_after code (Some o) i entries ≡ without_truth entries → IsSound code s (charged 1 (cond (is_sound_jump code s i) (with_truth (λ b. branch i (way b)) s s.stack) traps))
@@ -199,7 +198,7 @@ module _ (code : Code) (mail : Mail) (is : IsAccepted code) where
         let alone : s.stack ≡ truth top.value ∷ [] = top.is ∙ ap (λ (r : List Value). truth top.value ∷ r) (no_stack top.rest top.below) in
         let shape : shape_after code (operation_of i.op) i entries ≡ Some [] = ap (λ x. shape_after code x i entries) e ∙ a.1 ∙ ap (λ (x : Entries). Some x) w.1 in
         subst (λ (b : Bool). IsSound code s (charged 1 (cond b (with_truth (λ b. branch i (way b)) s s.stack) traps))) (sym (sound_jump jump))
-          (subst (λ (v : List Value). IsSound code s (charged 1 (with_truth (λ b. branch i (way b)) s v))) (sym alone) (branches (way top.value) jump (ap is_halt e ∙ goes_on) shape))
+        (subst (λ (v : List Value). IsSound code s (charged 1 (with_truth (λ b. branch i (way b)) s v))) (sym alone) (branches (way top.value) jump (ap is_halt e ∙ goes_on) shape))
 
     -- every instruction's turn
     sound : (o : Option Operation) → operation_of i.op ≡ o → IsSound code s (turn_of code mail o i s)
@@ -222,7 +221,7 @@ module _ (code : Code) (mail : Mail) (is : IsAccepted code) where
       let i : Instruction = get_or code.instructions s.place none in
       let here : slice_get code.instructions s.place ≡ Some i = slice_get-get_or code.instructions s.place none reached.within in
       subst (λ (o : Option Instruction). IsSound code s (turn_at code mail s o)) (sym here)
-        (sound s i reached.entries here reached.shape reached.describes (operation_of i.op) refl)
+      (sound s i reached.entries here reached.shape reached.describes (operation_of i.op) refl)
 
   -- the start
   pub start_is_reached : IsReached code (start code)

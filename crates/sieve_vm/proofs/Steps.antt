@@ -1,5 +1,5 @@
 -- The step of each instruction at a state that a run reaches.
-use Rattle.std.proofs.Common.{◌≡◌, ◌≢◌, ℕ, suc, ◌+◌, ◌<◌, ◌≤◌, Bool, true, false, not, ◌==◌, cond, nat_lt, List, [], ◌∷◌, ◌++◌, Option, Some, None, length, map, reverse, slice_get, get_or, IsSome, refl, sym, ap, subst, ◌∙◌, arith}
+use Rattle.std.proofs.Common.{◌≡◌, ◌≢◌, suc, ◌+◌, ◌<◌, ◌≤◌, Bool, true, false, not, ◌==◌, cond, List, [], ◌∷◌, ◌++◌, Option, Some, None, length, map, reverse, slice_get, get_or, IsSome, refl, sym, ap, subst, ◌∙◌, arith}
 use Rattle.std.proofs.lemmas.Bool.{lt-ltb}
 use Rattle.std.proofs.lemmas.List.{length-map, length-reverse}
 use Rattle.std.proofs.lemmas.Option.{slice_get-get_or}
@@ -16,22 +16,20 @@ use Rattle.bytecode_verifier.specs.declared.shape.Entry.TheVariants.{Truth}
 use Rattle.bytecode_verifier.specs.Form.{is_well_formed}
 use Rattle.bytecode_verifier.specs.Shape.{Entries, with_entry, is_jump, shape_after, without_truth}
 use Rattle.bytecode_verifier.specs.Acceptance.{IsAccepted}
-use Rattle.bytecode_verifier.proofs.Consequences.{well_formed, number_known, shape_next}
+use Rattle.bytecode_verifier.proofs.Consequences.{well_formed, number_known}
 use Rattle.mime_decode.specs.Mail.{Mail}
 use Rattle.sieve_vm.specs.declared.machine.Machine.{Machine}
-use Rattle.sieve_vm.specs.State.{Value, truth, State, Turn, goes, ends, traps, start}
+use Rattle.sieve_vm.specs.State.{Value, truth, State, goes, ends, start}
 use Rattle.sieve_vm.specs.Machine.{push, branch, with_truth, with_number, is_sound_jump, compares, charged, effect, turn_of, turn_at, step}
 use Rattle.sieve_vm.specs.Standing.{StandsFor, IsRunning, StepsOn, IsOver}
 use Rattle.sieve_vm.proofs.Reached.{IsReached, IsSound, step_is_sound, Describes, TopTruth, top_truth, with_entry-some, has_truth-some, without_truth-some, length-described, after_of, sound_jump}
 use Rattle.sieve_vm.proofs.Bounds.{reached, spent, Run-push}
-
 
 -- what a read past the end would give
 abbrev pub no_instruction : Instruction
 no_instruction = record { op = 0; a = 0; b = 0; c = 0 }
 
 module _ (code : Code) (mail : Mail) (is : IsAccepted code) (m : Machine) (running : IsRunning code mail m) where
-
   abbrev pub s : State
   s = running.state
 
@@ -68,8 +66,8 @@ module _ (code : Code) (mail : Mail) (is : IsAccepted code) (m : Machine) (runni
     here : slice_get code.instructions s.place ≡ Some i
     here =
         slice_get-get_or code.instructions s.place no_instruction there.within
-          ∙ ap (λ p. Some (get_or code.instructions p no_instruction)) (sym running.stands.place)
-          ∙ ap (λ xs. Some (get_or xs m.place no_instruction)) (sym table)
+        ∙ ap (λ p. Some (get_or code.instructions p no_instruction)) (sym running.stands.place)
+        ∙ ap (λ xs. Some (get_or xs m.place no_instruction)) (sym table)
 
     form : is_well_formed o i ≡ true
     form = rw named (well_formed code is s.place i here)
@@ -161,13 +159,13 @@ module _ (code : Code) (mail : Mail) (is : IsAccepted code) (m : Machine) (runni
     pub after_bool : o ≡ Some BoolOp → (m' : Machine) → ((t : State) → StandsFor t m → StandsFor (record t { place = suc t.place; stack = truth (i.a == 1) ∷ t.stack; charge = t.charge + 1 }) m') → StepsOn code mail m m'
     after_bool e m' stands =
         continues (record s { place = suc s.place; stack = truth (i.a == 1) ∷ s.stack; charge = s.charge + 1 }) m'
-          (stepped BoolOp e ∙ pushed (truth (i.a == 1)) (room BoolOp e refl)) (stands s running.stands)
+        (stepped BoolOp e ∙ pushed (truth (i.a == 1)) (room BoolOp e refl)) (stands s running.stands)
 
     pub after_size : o ≡ Some Size → (answer : Bool) (m' : Machine) → answer ≡ compares i (get_or code.numbers i.c 0) mail.size → ((t : State) → StandsFor t m → StandsFor (record t { place = suc t.place; stack = truth answer ∷ t.stack; charge = t.charge + 1 }) m') → StepsOn code mail m m'
     after_size e answer m' right stands =
         let number : slice_get code.numbers i.c ≡ Some (get_or code.numbers i.c 0) = slice_get-get_or code.numbers i.c 0 (number_there e) in
         continues (record s { place = suc s.place; stack = truth answer ∷ s.stack; charge = s.charge + 1 }) m'
-          (stepped Size e ∙ ap (λ x. charged 1 (with_number i mail s x)) number ∙ ap (λ b. charged 1 (push (truth b) s)) (sym right) ∙ pushed (truth answer) (room Size e refl)) (stands s running.stands)
+        (stepped Size e ∙ ap (λ x. charged 1 (with_number i mail s x)) number ∙ ap (λ b. charged 1 (push (truth b) s)) (sym right) ∙ pushed (truth answer) (room Size e refl)) (stands s running.stands)
 
     -- a machine that has taken the top value b, and then stands for what f makes of that state
     abbrev Takes : Bool → Machine → Type 0
@@ -178,8 +176,8 @@ module _ (code : Code) (mail : Mail) (is : IsAccepted code) (m : Machine) (runni
         let top = (not_top e).1 in
         let took = takes s top.value top.rest running.stands top.is in
         continues (record s { place = suc s.place; stack = truth (not b) ∷ top.rest; charge = s.charge + 1 }) m'
-          (stepped Not e ∙ ap (λ v. charged 1 (with_truth (λ b' s'. goes (record s' { place = suc s'.place; stack = truth (not b') ∷ s'.stack })) s v)) top.is ∙ rw took.0 refl)
-          (stands (record s { stack = top.rest }) took.1)
+        (stepped Not e ∙ ap (λ v. charged 1 (with_truth (λ b' s'. goes (record s' { place = suc s'.place; stack = truth (not b') ∷ s'.stack })) s v)) top.is ∙ rw took.0 refl)
+        (stands (record s { stack = top.rest }) took.1)
 
     pub after_jump : o ≡ Some Jump → (m' : Machine) → ((t : State) → StandsFor t m → StandsFor (record t { place = i.c; charge = t.charge + 1 }) m') → StepsOn code mail m m'
     after_jump e m' stands = continues (record s { place = i.c; charge = s.charge + 1 }) m' (stepped Jump e ∙ rw (jumps Jump e refl) refl) (stands s running.stands)
@@ -189,16 +187,16 @@ module _ (code : Code) (mail : Mail) (is : IsAccepted code) (m : Machine) (runni
         let top = (branch_top JumpIfTrue e refl).1 in
         let took = takes s top.value top.rest running.stands top.is in
         continues (record s { place = cond b i.c (suc s.place); stack = top.rest; charge = s.charge + 1 }) m'
-          (stepped JumpIfTrue e ∙ rw (jumps JumpIfTrue e refl) refl ∙ ap (λ v. charged 1 (with_truth (λ b'. branch i b') s v)) top.is ∙ branched top.value (record s { stack = top.rest }) ∙ rw took.0 refl)
-          (stands (record s { stack = top.rest }) took.1)
+        (stepped JumpIfTrue e ∙ rw (jumps JumpIfTrue e refl) refl ∙ ap (λ v. charged 1 (with_truth (λ b'. branch i b') s v)) top.is ∙ branched top.value (record s { stack = top.rest }) ∙ rw took.0 refl)
+        (stands (record s { stack = top.rest }) took.1)
 
     pub after_if_false : o ≡ Some JumpIfFalse → (b : Bool) (taken m' : Machine) → Takes b taken → ((t : State) → StandsFor t taken → StandsFor (record t { place = cond (not b) i.c (suc t.place); charge = t.charge + 1 }) m') → StepsOn code mail m m'
     after_if_false e b taken m' takes stands =
         let top = (branch_top JumpIfFalse e refl).1 in
         let took = takes s top.value top.rest running.stands top.is in
         continues (record s { place = cond (not b) i.c (suc s.place); stack = top.rest; charge = s.charge + 1 }) m'
-          (stepped JumpIfFalse e ∙ rw (jumps JumpIfFalse e refl) refl ∙ ap (λ v. charged 1 (with_truth (λ b'. branch i (not b')) s v)) top.is ∙ branched (not top.value) (record s { stack = top.rest }) ∙ rw took.0 refl)
-          (stands (record s { stack = top.rest }) took.1)
+        (stepped JumpIfFalse e ∙ rw (jumps JumpIfFalse e refl) refl ∙ ap (λ v. charged 1 (with_truth (λ b'. branch i (not b')) s v)) top.is ∙ branched (not top.value) (record s { stack = top.rest }) ∙ rw took.0 refl)
+        (stands (record s { stack = top.rest }) took.1)
 
     pub after_keep : o ≡ Some Keep → (m' : Machine) → ((t : State) → StandsFor t m → StandsFor (record t { place = suc t.place; actions = t.actions ++ action.Keep ∷ []; implicit_keep = false; charge = t.charge + 1 }) m') → StepsOn code mail m m'
     after_keep e m' stands = continues (record s { place = suc s.place; actions = s.actions ++ action.Keep ∷ []; implicit_keep = false; charge = s.charge + 1 }) m' (stepped Keep e) (stands s running.stands)

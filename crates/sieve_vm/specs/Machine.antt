@@ -1,6 +1,5 @@
 -- The machine: what each instruction does.
-use Rattle.std.specs.Prelude.{ℕ, suc, ◌+◌, Bool, true, false, ◌&&◌, not, ◌==◌, nat_lt, nat_le, List, [], ◌∷◌, ◌++◌, Option, Some, None, length, slice_get, if◌then◌else◌}
-use Rattle.bytecode_format.specs.declared.action.Action.{Action}
+use Rattle.std.specs.Prelude.{ℕ, suc, ◌+◌, Bool, true, false, ◌&&◌, not, ◌==◌, nat_lt, List, [], ◌∷◌, ◌++◌, Option, Some, None, length, slice_get, if◌then◌else◌}
 use Rattle.bytecode_format.specs.declared.action.Action.TheVariants as action
 use Rattle.bytecode_format.specs.declared.instruction.Instruction.{Instruction}
 use Rattle.bytecode_format.specs.declared.operation.Operation.{Operation}
@@ -10,7 +9,7 @@ use Rattle.bytecode_format.specs.Code.{Code}
 use Rattle.bytecode_verifier.specs.Form.{is_well_formed}
 use Rattle.bytecode_verifier.specs.Loops.{same_loops}
 use Rattle.mime_decode.specs.Mail.{Mail}
-use Rattle.sieve_vm.specs.State.{Value, truth, text, State, Turn, goes, ends, traps}
+use Rattle.sieve_vm.specs.State.{Value, truth, State, Turn, goes, ends, traps}
 use Rattle.sieve_vm.specs.Charge.{charge_of}
 
 -- on to the next instruction

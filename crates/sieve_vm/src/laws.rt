@@ -11,26 +11,27 @@ ghost use Rattle.sieve_vm.specs.Potential.{potential, limit_of};
 /// Accepted programs never trap: no state that a run reaches from the start steps to a trap.
 pub fn accepted_programs_never_trap()
     ensures { (code : Code) (mail : Mail) → IsAccepted code → IsMail mail → (n : ℕ) (state : State) → Run code mail n (start code) state → step code mail state ≢ traps }
-{
-}
+{}
 
 /// The potential is the budget at the start, and falls by each charge.
 pub fn potential_falls_by_each_charge()
     ensures start { (code : Code) (mail : Mail) → IsAccepted code → potential code mail (start code) ≡ limit_of code mail }
     ensures step { (code : Code) (mail : Mail) → IsAccepted code → IsMail mail → (n : ℕ) (state after : State) → Run code mail n (start code) state → step code mail state ≡ goes after → potential code mail after + after.charge ≤ potential code mail state + state.charge }
     ensures end { (code : Code) (mail : Mail) → IsAccepted code → IsMail mail → (n : ℕ) (state end : State) → Run code mail n (start code) state → step code mail state ≡ ends end → end.charge ≤ potential code mail state + state.charge }
-{
-}
+{}
 
 /// Each prefix of a run charges at most the budget, and a run has at most as many steps.
 pub fn runs_stay_within_the_budget()
     ensures charge { (code : Code) (mail : Mail) → IsAccepted code → IsMail mail → (n : ℕ) (state : State) → Run code mail n (start code) state → state.charge ≤ limit_of code mail }
     ensures steps { (code : Code) (mail : Mail) → IsAccepted code → IsMail mail → (n : ℕ) (state : State) → Run code mail n (start code) state → n ≤ limit_of code mail }
-{
-}
+{}
 
 /// The run of an accepted program reaches its end, within the budget.
 pub fn runs_reach_their_end()
     ensures { (code : Code) (mail : Mail) → IsAccepted code → IsMail mail → (end : State) × RunEnds code mail end × (end.charge ≤ limit_of code mail) }
-{
-}
+{}
+
+/// A run has one end.
+pub fn runs_have_one_end()
+    ensures { (code : Code) (mail : Mail) (one other : State) → RunEnds code mail one → RunEnds code mail other → one ≡ other }
+{}

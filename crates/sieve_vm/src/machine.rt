@@ -99,7 +99,11 @@ impl Machine {
         requires cheap { self.old.charged < 2 ^ 127 }
         ensures { (s : State) → StandsFor s self.old → StandsFor (record s { place = if jumps then instruction.now.c else suc s.place; charge = s.charge + 1 }) self.new }
     {
-        self.place = if jumps { instruction.c as usize } else { self.place + 1 };
+        self.place = if jumps {
+            instruction.c as usize
+        } else {
+            self.place + 1
+        };
         self.charged += 1;
     }
 
@@ -152,5 +156,9 @@ impl Machine {
 fn compares(instruction: &Instruction, number: u64, size: u64) -> bool
     ensures { result ≡ compares instruction.now number size }
 {
-    if instruction.a == 0 { number < size } else { size < number }
+    if instruction.a == 0 {
+        number < size
+    } else {
+        size < number
+    }
 }

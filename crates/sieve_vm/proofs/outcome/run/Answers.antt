@@ -11,4 +11,4 @@ steps-smaller c =
 pub returns : goal.returns
 returns c =
     rw c.program-program.ensures.value at
-      (outcome_of c.program-program.result.now c.args.message.now c.advance.new.self _ (c.in_ok-advance.ensures.ends c.in-Ends.is) c.in_ok-into_final.ensures)
+    (outcome_of c.program-program.result.now c.args.message.now c.advance.new.self _ (c.in_ok-advance.ensures.ends c.in-Ends.is) c.in_ok-into_final.ensures)

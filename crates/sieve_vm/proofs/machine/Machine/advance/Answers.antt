@@ -1,4 +1,4 @@
-use Rattle.std.proofs.Common.{◌≡◌, ◌∙◌, ap, Some, get_or, arith}
+use Rattle.std.proofs.Common.{◌∙◌, ap, Some, get_or, arith}
 use Rattle.sieve_vm.proofs.Steps.{place_within, charged_little, not_some, if_true_some, if_false_some, operation_there, number_there, no_other, after_halt, after_bool, after_size, after_not, after_jump, after_if_true, after_if_false, after_keep, after_discard, no_instruction}
 use Rattle.sieve_vm.specs.Machine.{compares}
 use Rattle.sieve_vm.proofs.machine.Machine.advance.Goals as goal

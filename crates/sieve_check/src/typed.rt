@@ -1,0 +1,38 @@
+// Scripts that were checked, in typed form: what they mean, without how they are written.
+
+/// How a size is compared (RFC 5228, section 5.9).
+#[derive(Clone, Copy, Debug, PartialEq, Eq)]
+pub enum Order {
+    /// More octets than the number.
+    Over,
+    /// Fewer octets than the number.
+    Under,
+}
+
+/// A test.
+#[derive(Debug, Drop)]
+pub enum Test {
+    /// `true` and `false`.
+    Constant(bool),
+    /// `not`.
+    Not(Box<Test>),
+    /// `allof`.
+    AllOf(Vec<Test>),
+    /// `anyof`.
+    AnyOf(Vec<Test>),
+    /// `size`.
+    Size(Order, u64),
+}
+
+/// A command. `require` says nothing here.
+#[derive(Debug, Drop)]
+pub enum Command {
+    /// `keep`.
+    Keep,
+    /// `discard`.
+    Discard,
+    /// `stop`.
+    Stop,
+    /// `if` and each `elsif` behind it, as tests with their blocks; and the block of `else`, if there is one.
+    If(Vec<(Test, Vec<Command>)>, Option<Vec<Command>>),
+}

@@ -1,0 +1,55 @@
+-- What executing octets as a program on octets as a message comes to.
+use Rattle.std.specs.Prelude.{◌≡◌, ℕ, ◌<◌, ◌≤◌, ◌^◌, List, length, Some}
+use Rattle.bytecode_format.specs.declared.action.Action.{Action}
+use Rattle.bytecode_format.specs.Code.{Code}
+use Rattle.bytecode_format.specs.Spelling.{IsProgram, spelling}
+use Rattle.bytecode_cost.specs.Sums.{budget_at}
+use Rattle.bytecode_verifier.specs.declared.error.Refusal.{Refusal}
+use Rattle.bytecode_verifier.specs.declared.error.Refusal.TheVariants as verifier
+use Rattle.bytecode_verifier.specs.Acceptance.{IsAccepted, refusal_of}
+use Rattle.bytecode_verifier.specs.Budget.{budget_of}
+use Rattle.mime_decode.specs.Mail.{mail_of}
+use Rattle.sieve_vm.specs.Ending.{IsOutcome}
+use Rattle.sieve_engine.specs.declared.error.EngineError.{EngineError}
+use Rattle.sieve_engine.specs.declared.error.EngineError.TheVariants.{Memory, MessageTooLarge, Spelling, Index, Form, End, Loop, Jump, NoPart, Stack}
+
+-- the octets spell this program
+pub record Spells (octets : List ℕ) (code : Code) : Type 0 where
+  pub within : IsProgram code
+  pub spelt : octets ≡ spelling code
+
+-- the octets spell this program, and it is accepted
+pub record IsChecked (octets : List ℕ) (code : Code) : Type 0 where
+  pub spells : Spells octets code
+  pub accepted : IsAccepted code
+
+-- the octets spell a program that the verifier refuses so
+abbrev pub IsRefusedBy : List ℕ → Refusal → Type 0
+IsRefusedBy octets refusal = (code : Code) × Spells octets code × (refusal_of code ≡ Some refusal)
+
+-- the first refusal of octets as a program; Memory has no cause in them
+abbrev pub IsProgramRefusal : List ℕ → EngineError → Type 0
+IsProgramRefusal octets Memory = Unit {0}
+IsProgramRefusal octets MessageTooLarge = ⊥
+IsProgramRefusal octets Spelling = (code : Code) → Spells octets code → ⊥
+IsProgramRefusal octets (Index place) = IsRefusedBy octets (verifier.Index place)
+IsProgramRefusal octets (Form place) = IsRefusedBy octets (verifier.Form place)
+IsProgramRefusal octets (End place) = IsRefusedBy octets (verifier.End place)
+IsProgramRefusal octets (Loop place) = IsRefusedBy octets (verifier.Loop place)
+IsProgramRefusal octets (Jump place) = IsRefusedBy octets (verifier.Jump place)
+IsProgramRefusal octets (NoPart place) = IsRefusedBy octets (verifier.NoPart place)
+IsProgramRefusal octets (Stack place) = IsRefusedBy octets (verifier.Stack place)
+
+-- the first refusal of a program and a message, the program's first
+abbrev pub IsRefusal : List ℕ → List ℕ → EngineError → Type 0
+IsRefusal program message MessageTooLarge = (2 ^ 26 < length message) × ((code : Code) × IsChecked program code)
+IsRefusal program message error = IsProgramRefusal program error
+
+-- the program is accepted, the message is read, and its run on the message comes to these actions and this charge, within this limit
+pub record IsExecution (program message : List ℕ) (actions : List Action) (charged limit : ℕ) : Type 0 where
+  pub code : Code
+  pub checked : IsChecked program code
+  pub read : length message ≤ 2 ^ 26
+  pub outcome : IsOutcome code (mail_of message) actions charged
+  pub within : charged ≤ limit
+  pub budget : limit ≡ budget_at (budget_of code) (mail_of message).size (length (mail_of message).parts)

@@ -1,0 +1,51 @@
+// Running bytecode that anyone may hand in.
+ghost use Rattle.std.specs.Prelude.{IfOk, IfErr};
+ghost use Rattle.sieve_engine.specs.Execution.{IsChecked, IsProgramRefusal, IsExecution, IsRefusal};
+
+use crate::error::EngineError;
+use bytecode_format::Program;
+use bytecode_verifier::{Verified, verify};
+use mime_decode::Message;
+use sieve_vm::{Outcome, run};
+use std::alloc::Global;
+
+/// What the run of a program on a message came to, and what it might have charged at most.
+#[derive(Debug, Drop)]
+pub struct Report {
+    /// The final actions, and what the run charged.
+    pub outcome: Outcome,
+    /// The program's budget at the message's size and number of parts.
+    pub limit: u128,
+}
+
+/// The program that the octets spell, if it is accepted.
+///
+/// Else the first refusal: [`EngineError::Spelling`] exactly where they spell no program, then the
+/// verifier's. [`EngineError::Memory`] comes only where a growth was refused.
+pub fn check_program(alloc: Global, program: &[u8]) -> Result<Verified, EngineError>
+    ensures checked { IfOk result (λ verified. IsChecked program.now verified) }
+    ensures refused { IfErr result (λ e. IsProgramRefusal program.now e) }
+{
+    let program = Program::read(alloc, program)?;
+    match verify(alloc, program) {
+        Ok(verified) => Ok(verified),
+        Err((_program, refusal)) => Err(EngineError::from(refusal)),
+    }
+}
+
+/// Runs the program that the octets spell on the message that the other octets are.
+///
+/// The answer is the first refusal of the program, then of the message; else the outcome of the one
+/// run that the definitions give, and the limit that it stays within.
+pub fn execute(alloc: Global, program: &[u8], message: &[u8]) -> Result<Report, EngineError>
+    ensures executed { IfOk result (λ report. IsExecution program.now message.now report.outcome.actions.items report.outcome.charged report.limit) }
+    ensures refused { IfErr result (λ e. IsRefusal program.now message.now e) }
+{
+    let verified = check_program(alloc, program)?;
+    let message = Message::read(alloc, message)?;
+    let outcome = run(alloc, &verified, &message)?;
+    let limit = verified
+        .budget()
+        .at(message.size() as u64, message.parts() as u64);
+    Ok(Report { outcome, limit })
+}
