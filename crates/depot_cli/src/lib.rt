@@ -5,6 +5,7 @@
 
 mod error;
 mod line;
+mod printing;
 mod reading;
 mod source;
 
