@@ -1,7 +1,7 @@
 -- What two steps in turn do to a source or a sink.
 use Rattle.std.proofs.Common.{◌≡◌, ◌+◌, ◌≤◌, ◌∙◌, ap, ℕ, List, ◌++◌, Option, None, Some, sym, subst, arith, length, take, drop, ◌-◌, length-append, length-take-le, length-drop, take_all}
 use Rattle.std.proofs.Math.Seq.{take-add}
-use Rattle.std.specs.Io.KnownBytes.{Appends, Consumes}
+use Rattle.std.specs.Io.KnownBytes.{Appends, Consumes, Keeps}
 use mathlib.Core.List.{append_assoc}
 
 -- octets that were taken, and then more of them
@@ -17,6 +17,13 @@ appends_both None b c xs ys first then_more = tt
 appends_both (Some os) None c xs ys first then_more = absurd first
 appends_both (Some os) (Some bs) None xs ys first then_more = absurd then_more
 appends_both (Some os) (Some bs) (Some cs) xs ys first then_more = then_more ∙ ap (λ front. front ++ ys) first ∙ append_assoc os xs ys
+
+-- octets that were written, and then none
+pub appends_kept : (a b c : Option (List ℕ)) (xs : List ℕ) → Appends a b xs → Keeps b c → Appends a c xs
+appends_kept None b c xs first kept = tt
+appends_kept (Some os) None c xs first kept = absurd first
+appends_kept (Some os) (Some bs) None xs first kept = absurd kept
+appends_kept (Some os) (Some bs) (Some cs) xs first kept = kept ∙ first
 
 -- a text, and the next octets of another
 pub both_within : (most n : ℕ) (xs ys : List ℕ) → n ≤ length ys → length xs + n ≤ most → length (xs ++ take n ys) ≤ most

@@ -1,5 +1,5 @@
 -- What printing does to a sink.
-use Rattle.std.specs.Prelude.{◌≡◌, ℕ, ◌≤◌, List, Option, length, take}
+use Rattle.std.specs.Prelude.{◌≡◌, ℕ, List, ◌++◌, Option}
 use Rattle.std.specs.Io.KnownBytes.{Appends}
 use Rattle.depot_actions.specs.Device.{HasFailed}
 
@@ -10,6 +10,8 @@ pub record HasPrinted (text : List ℕ) (old : Option (List ℕ)) (before : ℕ)
 
 -- the first octets of the text were written, and then a call failed
 pub record HasBroken (text : List ℕ) (old : Option (List ℕ)) (before : ℕ) (new : Option (List ℕ)) (after : ℕ) : Type 0 where
-  pub octets : ℕ
-  pub written : Appends old new (take octets text)
+  pub front : List ℕ
+  pub rest : List ℕ
+  pub whole : text ≡ front ++ rest
+  pub written : Appends old new front
   pub faults : HasFailed before after

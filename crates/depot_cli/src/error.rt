@@ -2,6 +2,7 @@
 ghost use Rattle.std.specs.Prelude.{◌≡◌};
 ghost use Rattle.depot_cli.specs.declared.error.Refusal.TheVariants.{Memory};
 
+use sieve_engine::EngineError;
 use std::alloc::{AllocError, AllocFailed};
 
 /// Why a job has no answer. Its line has the refusal's number and name, and its place where it has one.
@@ -29,6 +30,85 @@ pub enum Refusal {
     Stack { place: usize },
     /// A file or standard input couldn't be read.
     Read,
+}
+
+impl Refusal {
+    ghost use Rattle.depot_cli.specs.Printed.{number_of, name_of, place_of};
+
+    /// Its number.
+    pub fn number(&self) -> u8
+        ensures { result ≡ number_of self.now }
+    {
+        match self {
+            Refusal::Memory => 1,
+            Refusal::MessageTooLarge => 2,
+            Refusal::Spelling => 20,
+            Refusal::Index { .. } => 21,
+            Refusal::Form { .. } => 22,
+            Refusal::End { .. } => 23,
+            Refusal::Loop { .. } => 24,
+            Refusal::Jump { .. } => 25,
+            Refusal::NoPart { .. } => 26,
+            Refusal::Stack { .. } => 27,
+            Refusal::Read => 46,
+        }
+    }
+
+    /// Its name.
+    pub fn name(&self) -> &'static str
+        ensures { result.now ≡ name_of self.now }
+    {
+        match self {
+            Refusal::Memory => "Memory",
+            Refusal::MessageTooLarge => "MessageTooLarge",
+            Refusal::Spelling => "Spelling",
+            Refusal::Index { .. } => "Index",
+            Refusal::Form { .. } => "Form",
+            Refusal::End { .. } => "End",
+            Refusal::Loop { .. } => "Loop",
+            Refusal::Jump { .. } => "Jump",
+            Refusal::NoPart { .. } => "NoPart",
+            Refusal::Stack { .. } => "Stack",
+            Refusal::Read => "Read",
+        }
+    }
+
+    /// The place that it names: that of an instruction.
+    pub fn place(&self) -> Option<usize>
+        ensures { result ≡ place_of self.now }
+    {
+        match self {
+            Refusal::Index { place }
+            | Refusal::Form { place }
+            | Refusal::End { place }
+            | Refusal::Loop { place }
+            | Refusal::Jump { place }
+            | Refusal::NoPart { place }
+            | Refusal::Stack { place } => Some(*place),
+            Refusal::Memory | Refusal::MessageTooLarge | Refusal::Spelling | Refusal::Read => None,
+        }
+    }
+}
+
+impl From<EngineError> for Refusal {
+    ghost use Rattle.depot_cli.specs.Refusals.{of_engine};
+
+    ghost from_gives = { λ error refusal. refusal ≡ of_engine error };
+
+    fn from(error: EngineError) -> Refusal {
+        match error {
+            EngineError::Memory => Refusal::Memory,
+            EngineError::MessageTooLarge => Refusal::MessageTooLarge,
+            EngineError::Spelling => Refusal::Spelling,
+            EngineError::Index { place } => Refusal::Index { place },
+            EngineError::Form { place } => Refusal::Form { place },
+            EngineError::End { place } => Refusal::End { place },
+            EngineError::Loop { place } => Refusal::Loop { place },
+            EngineError::Jump { place } => Refusal::Jump { place },
+            EngineError::NoPart { place } => Refusal::NoPart { place },
+            EngineError::Stack { place } => Refusal::Stack { place },
+        }
+    }
 }
 
 impl From<AllocError> for Refusal {

@@ -15,7 +15,11 @@ const PIECE: usize = 4_096;
 /// At most one octet more than the limit is taken, also from a source that never ends.
 /// `MessageTooLarge` comes exactly where more octets came than the limit, `Read` only where the source
 /// failed, and no other error but `Memory`. Else the source has met its end.
-pub fn read_limited<R: Source>(alloc: Global, source: &mut R, limit: usize) -> Result<Vec<u8>, Refusal>
+pub fn read_limited<R: Source>(
+    alloc: Global,
+    source: &mut R,
+    limit: usize,
+) -> Result<Vec<u8>, Refusal>
     requires { limit < 2 ^ 62 }
     ensures all { IfOk result (λ v. Consumes (R.left source.old) (R.left source.new) v.items) }
     ensures end { OnOk result (IsAtEnd (R.left source.new)) }

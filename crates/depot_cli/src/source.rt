@@ -12,7 +12,9 @@ use std::io::Read;
 /// and the number of reads that have failed.
 pub trait Source {
     ghost left: { Self → Option (List ℕ) };
+
     ghost has_ended: { Self → Bool };
+
     ghost faults: { Self → ℕ };
 
     /// Gives the next octets into the start of the room, and answers how many: none only at the end,
@@ -54,7 +56,9 @@ impl<R: Read + Drop> OfRead<R> {
 
 impl<R: Read + Drop> Source for OfRead<R> {
     ghost left = { λ s. R.remaining s.inner };
+
     ghost has_ended = { λ s. s.has_ended };
+
     ghost faults = { λ s. s.faults };
 
     fn read(&mut self, room: &mut [u8]) -> Result<usize, DeviceFailed> {
