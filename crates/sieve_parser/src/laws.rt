@@ -21,3 +21,8 @@ pub fn what_is_wrong_begins_no_script()
 pub fn what_is_open_is_no_script()
     ensures { (ls : List Lexeme) (stack : List Symbol) (cs : CommandsTree) → reading ls ≡ Some stack → (IsDone stack → ⊥) → IsScript ls cs → ⊥ }
 {}
+
+/// Lexemes are the spelling of one script at most.
+pub fn scripts_are_unique()
+    ensures { (ls : List Lexeme) (cs ds : CommandsTree) → IsScript ls cs → IsScript ls ds → cs ≡ ds }
+{}
