@@ -73,7 +73,7 @@ mutual
   all_tests_spelled (test_list t ts) d zs =
       let end = at_depth d closing_parenthesis ∷ [] in
       ap (λ w. opening_parenthesis ∷ lexemes_placed w)
-          (append_assoc (invocation_spelled (suc d) t) (more_tests_spelled d ts ++ end) zs ∙ ap (λ w. invocation_spelled (suc d) t ++ w) (append_assoc (more_tests_spelled d ts) end zs))
+      (append_assoc (invocation_spelled (suc d) t) (more_tests_spelled d ts ++ end) zs ∙ ap (λ w. invocation_spelled (suc d) t ++ w) (append_assoc (more_tests_spelled d ts) end zs))
       ∙ ap (λ w. opening_parenthesis ∷ w) (an_invocation_spelled t (suc d) (more_tests_spelled d ts ++ (end ++ zs)) ∙ ap (invocation_then t) (other_tests_spelled ts d (end ++ zs)))
 
   other_tests_spelled : (ts : MoreTests) (d : ℕ) (zs : List Placed) → lexemes_placed (more_tests_spelled d ts ++ zs) ≡ more_tests_then ts (lexemes_placed zs)
@@ -149,82 +149,65 @@ more_tests_end : (ts : MoreTests) (rest : List Lexeme) → EndsInvocation (more_
 more_tests_end last rest = tt
 more_tests_end (next t ts) rest = tt
 
--- two spellings that are the same, of the same rule, are of the same tree
+-- two spellings of one rule that are the same, with what follows, are of the same tree, and the same follows
 strings_same : (ss vs : List (List ℕ)) (p q : List Lexeme) → strings_then ss (closing_bracket ∷ p) ≡ strings_then vs (closing_bracket ∷ q) → (ss ≡ vs) × (p ≡ q)
 strings_same [] [] p q e = (refl, cc)
-strings_same (s ∷ ss) (v ∷ vs) p q e =
-    let tail : strings_then ss (closing_bracket ∷ p) ≡ strings_then vs (closing_bracket ∷ q) = cc in
-    let head : s ≡ v = cc in
-    let r = strings_same ss vs p q tail in
-    (cc, r.1)
+strings_same (s ∷ ss) (v ∷ vs) p q e = let r = strings_same ss vs p q (cc) in (cc, r.1)
 strings_same _ _ p q e = absurd (cc)
 
 argument_same : (a b : ArgumentTree) (p q : List Lexeme) → argument_then a p ≡ argument_then b q → (a ≡ b) × (p ≡ q)
 argument_same (text s) (text v) p q e = (cc, cc)
-argument_same (text_list s ss) (text_list v vs) p q e =
-    let tail : strings_then ss (closing_bracket ∷ p) ≡ strings_then vs (closing_bracket ∷ q) = cc in
-    let head : s ≡ v = cc in
-    let r = strings_same ss vs p q tail in
-    (cc, r.1)
+argument_same (text_list s ss) (text_list v vs) p q e = let r = strings_same ss vs p q (cc) in (cc, r.1)
 argument_same (amount n) (amount m) p q e = (cc, cc)
-argument_same (label x) (label y) p q e = (cc, cc)
+argument_same (label name) (label other) p q e = (cc, cc)
 argument_same _ _ p q e = absurd (cc)
 
-arguments_same : (as0 bs : List ArgumentTree) (p q : List Lexeme) → NoArgument p → NoArgument q → arguments_then as0 p ≡ arguments_then bs q → (as0 ≡ bs) × (p ≡ q)
+arguments_same : (args others : List ArgumentTree) (p q : List Lexeme) → NoArgument p → NoArgument q → arguments_then args p ≡ arguments_then others q → (args ≡ others) × (p ≡ q)
 arguments_same [] [] p q g h e = (refl, e)
-arguments_same [] (b ∷ bs) p q g h e = absurd (an_argument_begins b (arguments_then bs q) (subst NoArgument e g))
-arguments_same (a ∷ as0) [] p q g h e = absurd (an_argument_begins a (arguments_then as0 p) (subst NoArgument (sym e) h))
-arguments_same (a ∷ as0) (b ∷ bs) p q g h e =
-    let first = argument_same a b (arguments_then as0 p) (arguments_then bs q) e in
-    let r = arguments_same as0 bs p q g h first.1 in
+arguments_same [] (b ∷ others) p q g h e = absurd (an_argument_begins b (arguments_then others q) (subst NoArgument e g))
+arguments_same (a ∷ args) [] p q g h e = absurd (an_argument_begins a (arguments_then args p) (subst NoArgument (sym e) h))
+arguments_same (a ∷ args) (b ∷ others) p q g h e =
+    let first = argument_same a b (arguments_then args p) (arguments_then others q) e in
+    let r = arguments_same args others p q g h first.1 in
     (cc, r.1)
 
 mutual
   invocation_same : (t u : InvocationTree) (p q : List Lexeme) → EndsInvocation p → EndsInvocation q → invocation_then t p ≡ invocation_then u q → (t ≡ u) × (p ≡ q)
-  invocation_same (invocation n x args ts) (invocation m y brgs us) p q g h e =
-      let tail : arguments_then args (tests_then ts p) ≡ arguments_then brgs (tests_then us q) = cc in
-      let number : n ≡ m = cc in
-      let name : x ≡ y = cc in
-      let a = arguments_same args brgs (tests_then ts p) (tests_then us q) (tests_are_no_argument ts p g) (tests_are_no_argument us q h) tail in
+  invocation_same (invocation n name args ts) (invocation m word others us) p q g h e =
+      let a = arguments_same args others (tests_then ts p) (tests_then us q) (tests_are_no_argument ts p g) (tests_are_no_argument us q h) (cc) in
       let r = tests_same ts us p q g h a.1 in
       (cc, r.1)
 
   tests_same : (ts us : TestsTree) (p q : List Lexeme) → EndsInvocation p → EndsInvocation q → tests_then ts p ≡ tests_then us q → (ts ≡ us) × (p ≡ q)
   tests_same no_test no_test p q g h e = (refl, e)
-  tests_same no_test (one_test (invocation m y brgs us)) p q g h e = absurd (subst EndsInvocation e g)
+  tests_same no_test (one_test (invocation n name args us)) p q g h e = absurd (subst EndsInvocation e g)
   tests_same no_test (test_list u us) p q g h e = absurd (subst EndsInvocation e g)
-  tests_same (one_test (invocation n x args ts)) no_test p q g h e = absurd (subst EndsInvocation (sym e) h)
+  tests_same (one_test (invocation n name args ts)) no_test p q g h e = absurd (subst EndsInvocation (sym e) h)
   tests_same (test_list t ts) no_test p q g h e = absurd (subst EndsInvocation (sym e) h)
   tests_same (one_test t) (one_test u) p q g h e = let r = invocation_same t u p q g h e in (cc, r.1)
-  tests_same (one_test (invocation n x args ts)) (test_list u us) p q g h e = absurd (cc)
-  tests_same (test_list t ts) (one_test (invocation m y brgs us)) p q g h e = absurd (cc)
+  tests_same (one_test (invocation n name args ts)) (test_list u us) p q g h e = absurd (cc)
+  tests_same (test_list t ts) (one_test (invocation n name args us)) p q g h e = absurd (cc)
   tests_same (test_list t ts) (test_list u us) p q g h e =
-      let tail : invocation_then t (more_tests_then ts (closing_parenthesis ∷ p)) ≡ invocation_then u (more_tests_then us (closing_parenthesis ∷ q)) = cc in
-      let first = invocation_same t u (more_tests_then ts (closing_parenthesis ∷ p)) (more_tests_then us (closing_parenthesis ∷ q)) (more_tests_end ts p) (more_tests_end us q) tail in
+      let first = invocation_same t u (more_tests_then ts (closing_parenthesis ∷ p)) (more_tests_then us (closing_parenthesis ∷ q)) (more_tests_end ts p) (more_tests_end us q) (cc) in
       let r = more_tests_same ts us p q first.1 in
       (cc, r.1)
 
   more_tests_same : (ts us : MoreTests) (p q : List Lexeme) → more_tests_then ts (closing_parenthesis ∷ p) ≡ more_tests_then us (closing_parenthesis ∷ q) → (ts ≡ us) × (p ≡ q)
   more_tests_same last last p q e = (refl, cc)
-  more_tests_same last (next u us) p q e = absurd (cc)
-  more_tests_same (next t ts) last p q e = absurd (cc)
   more_tests_same (next t ts) (next u us) p q e =
-      let tail : invocation_then t (more_tests_then ts (closing_parenthesis ∷ p)) ≡ invocation_then u (more_tests_then us (closing_parenthesis ∷ q)) = cc in
-      let first = invocation_same t u (more_tests_then ts (closing_parenthesis ∷ p)) (more_tests_then us (closing_parenthesis ∷ q)) (more_tests_end ts p) (more_tests_end us q) tail in
+      let first = invocation_same t u (more_tests_then ts (closing_parenthesis ∷ p)) (more_tests_then us (closing_parenthesis ∷ q)) (more_tests_end ts p) (more_tests_end us q) (cc) in
       let r = more_tests_same ts us p q first.1 in
       (cc, r.1)
+  more_tests_same _ _ p q e = absurd (cc)
 
 mutual
   command_same : (c k : CommandTree) (p q : List Lexeme) → command_then c p ≡ command_then k q → (c ≡ k) × (p ≡ q)
   command_same (simple i) (simple j) p q e = let r = invocation_same i j (semicolon ∷ p) (semicolon ∷ q) tt tt e in (cc, cc)
-  command_same (simple i) (block j ds) p q e =
-      let r = invocation_same i j (semicolon ∷ p) (opening_brace ∷ commands_then ds (closing_brace ∷ q)) tt tt e in absurd (cc)
-  command_same (block i cs) (simple j) p q e =
-      let r = invocation_same i j (opening_brace ∷ commands_then cs (closing_brace ∷ p)) (semicolon ∷ q) tt tt e in absurd (cc)
+  command_same (simple i) (block j ds) p q e = let r = invocation_same i j (semicolon ∷ p) (opening_brace ∷ commands_then ds (closing_brace ∷ q)) tt tt e in absurd (cc)
+  command_same (block i cs) (simple j) p q e = let r = invocation_same i j (opening_brace ∷ commands_then cs (closing_brace ∷ p)) (semicolon ∷ q) tt tt e in absurd (cc)
   command_same (block i cs) (block j ds) p q e =
       let first = invocation_same i j (opening_brace ∷ commands_then cs (closing_brace ∷ p)) (opening_brace ∷ commands_then ds (closing_brace ∷ q)) tt tt e in
-      let tail : commands_then cs (closing_brace ∷ p) ≡ commands_then ds (closing_brace ∷ q) = cc in
-      let r = commands_same cs ds (closing_brace ∷ p) (closing_brace ∷ q) tt tt tail in
+      let r = commands_same cs ds (closing_brace ∷ p) (closing_brace ∷ q) tt tt (cc) in
       (cc, cc)
 
   commands_same : (cs ds : CommandsTree) (p q : List Lexeme) → NoCommand p → NoCommand q → commands_then cs p ≡ commands_then ds q → (cs ≡ ds) × (p ≡ q)
