@@ -1,4 +1,5 @@
 pub mod Language
+pub mod Unique
 pub mod Faulted
 pub mod Walk
 pub mod Here

@@ -1,10 +1,11 @@
-// The laws of the grammar: what the reading machine reads, and where it stops.
-ghost use Rattle.std.specs.Prelude.{◌≡◌, ◌++◌, ◌∷◌, [], List};
+// The laws of the grammar: what the reading machine reads, and where it stops; and that a script has one tree.
+ghost use Rattle.std.specs.Prelude.{◌≡◌, ◌++◌, ◌∷◌, [], ℕ, List};
 ghost use Rattle.sieve_parser.specs.Faults.{IsViableWithinDepth};
 ghost use Rattle.sieve_parser.specs.Grammar.{IsViable, IsScript};
 ghost use Rattle.sieve_parser.specs.Lexemes.{Lexeme};
 ghost use Rattle.sieve_parser.specs.Machine.{Symbol, wrong, reading, step};
 ghost use Rattle.sieve_parser.specs.Reading.{IsDone};
+ghost use Rattle.sieve_parser.specs.Scripts.{IsParsed};
 ghost use Rattle.sieve_parser.specs.Tree.{CommandsTree};
 
 /// What the machine has read can be completed to a script.
@@ -21,3 +22,15 @@ pub fn what_is_wrong_begins_no_script()
 pub fn what_is_open_is_no_script()
     ensures { (ls : List Lexeme) (stack : List Symbol) (cs : CommandsTree) → reading ls ≡ Some stack → (IsDone stack → ⊥) → IsScript ls cs → ⊥ }
 {}
+
+/// Lexemes are the spelling of one tree at most.
+pub fn scripts_are_unique()
+    ensures { (ls : List Lexeme) (cs ds : CommandsTree) → IsScript ls cs → IsScript ls ds → cs ≡ ds }
+{}
+
+/// A script has one tree at most, since it also has one list of tokens at most.
+pub fn parsed_trees_are_unique()
+    ensures { (script : List ℕ) (cs ds : CommandsTree) → IsParsed script cs → IsParsed script ds → cs ≡ ds }
+{
+    sieve_lexer::laws::tokens_are_unique();
+}
