@@ -1,0 +1,45 @@
+-- What jobs answer, and why they are refused.
+use Rattle.std.specs.Prelude.{◌≡◌, ◌⊎◌, ℕ, List, Option, string_bytes}
+use Rattle.bytecode_cost.specs.Text.{budget_text}
+use Rattle.bytecode_format.specs.declared.action.Action.{Action}
+use Rattle.bytecode_format.specs.Code.{Code}
+use Rattle.bytecode_verifier.specs.Budget.{budget_of}
+use Rattle.sieve_engine.specs.Execution.{IsChecked, IsExecution, IsProgramRefusal, IsRefusal}
+use Rattle.sieve_engine.specs.declared.error.EngineError.{EngineError}
+use Rattle.depot_cli.specs.Printed.{line, refusal_line, report_text}
+use Rattle.depot_cli.specs.Printing.{HasBroken, HasPrinted}
+use Rattle.depot_cli.specs.Refusals.{of_engine}
+use Rattle.depot_cli.specs.declared.error.Refusal.{Refusal}
+use Rattle.depot_cli.specs.declared.job.Job.{Job}
+use Rattle.depot_cli.specs.declared.job.Job.TheVariants.{Verify, Run}
+use Rattle.depot_cli.specs.declared.job.Lines.{Lines}
+use Rattle.depot_cli.specs.declared.job.Lines.TheVariants as lines
+
+-- the text of a job's answer: the budget of the accepted program, or the lines of the run
+abbrev pub IsAnswer : Job → List ℕ → Type 0
+IsAnswer (Verify program) text = (code : Code) × IsChecked program.now code × (text ≡ line (budget_text (budget_of code)))
+IsAnswer (Run program message) text =
+    (actions : List Action) × (charged : ℕ) × (limit : ℕ) × IsExecution program.now message.now actions charged limit × (text ≡ report_text actions charged limit)
+
+-- the first refusal of a job's files
+abbrev pub IsRefused : Job → Refusal → Type 0
+IsRefused (Verify program) refusal = (error : EngineError) × IsProgramRefusal program.now error × (refusal ≡ of_engine error)
+IsRefused (Run program message) refusal = (error : EngineError) × IsRefusal program.now message.now error × (refusal ≡ of_engine error)
+
+-- the text of the lines
+abbrev pub lines_text : Lines → List ℕ
+lines_text (lines.Budget text) = line (string_bytes text)
+lines_text (lines.Report report) = report_text report.outcome.actions.items report.outcome.charged report.limit
+
+-- the job's answer was written whole
+abbrev pub HasAnswered : Job → Option (List ℕ) → ℕ → Option (List ℕ) → ℕ → Type 0
+HasAnswered job old before new after = (text : List ℕ) × IsAnswer job text × HasPrinted text old before new after
+
+-- the device failed while the job's answer was written
+abbrev pub HasStopped : Job → Option (List ℕ) → ℕ → Option (List ℕ) → ℕ → Type 0
+HasStopped job old before new after = (text : List ℕ) × IsAnswer job text × HasBroken text old before new after
+
+-- the line of the job's refusal was written, or the device failed while it was
+abbrev pub HasRefused : Job → Option (List ℕ) → ℕ → Option (List ℕ) → ℕ → Type 0
+HasRefused job old before new after =
+    (refusal : Refusal) × IsRefused job refusal × (HasPrinted (refusal_line refusal) old before new after ⊎ HasBroken (refusal_line refusal) old before new after)

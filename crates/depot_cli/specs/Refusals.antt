@@ -1,0 +1,18 @@
+-- The engine's refusals, as jobs answer them.
+use Rattle.sieve_engine.specs.declared.error.EngineError.{EngineError}
+use Rattle.sieve_engine.specs.declared.error.EngineError.TheVariants as engine
+use Rattle.depot_cli.specs.declared.error.Refusal.{Refusal}
+use Rattle.depot_cli.specs.declared.error.Refusal.TheVariants.{Memory, MessageTooLarge, Spelling, Index, Form, End, Loop, Jump, NoPart, Stack}
+
+-- the refusal of the same number
+abbrev pub of_engine : EngineError → Refusal
+of_engine engine.Memory = Memory
+of_engine engine.MessageTooLarge = MessageTooLarge
+of_engine engine.Spelling = Spelling
+of_engine (engine.Index place) = Index place
+of_engine (engine.Form place) = Form place
+of_engine (engine.End place) = End place
+of_engine (engine.Loop place) = Loop place
+of_engine (engine.Jump place) = Jump place
+of_engine (engine.NoPart place) = NoPart place
+of_engine (engine.Stack place) = Stack place

@@ -1,0 +1,107 @@
+// What the words of the command line say.
+ghost use Rattle.std.specs.Prelude.{◌≡◌, IfOk, IfErr, codes, map, true, false};
+ghost use Rattle.clap.specs.Words.{FailsBy, app_of, fault_of, first_value, found_of, kind_of, rows_of, subcommand_of, subcommand_rows_of, takes, rule_of};
+ghost use Rattle.clap.specs.declared.error.kind.ErrorKind.TheVariants.{OutOfMemory};
+ghost use Rattle.clap.specs.declared.builder.command.Command.TheViews.{out-Command as fields_of};
+ghost use Rattle.depot_cli.specs.Words.{Says, argument as text_of, depot_app, required_rule, run_app, verify_app};
+
+use clap::{Arg, ArgMatches, Command, Error};
+use std::alloc::{AllocError, Global};
+
+/// A command with the names of its files.
+#[derive(Clone, Copy, Debug, PartialEq, Eq)]
+pub enum CommandLine<'a> {
+    /// No words: the program that keeps every message, on standard input.
+    NoWords,
+    /// Whether a program is accepted, and what it may charge.
+    Verify { program: &'a str },
+    /// What a program does with a message.
+    Run { program: &'a str, message: &'a str },
+}
+
+/// What the words say, of which the first is the program's name.
+///
+/// Where the words aren't those of a command, or ask for help, the error has the text for the user.
+pub fn line_of<'a>(alloc: Global, words: &'a [&'a str]) -> Result<CommandLine<'a>, Error>
+    ensures says { IfOk result (λ line. Says line (subcommand_of depot_app (map (λ w. w.now) words.entry.now))) }
+    ensures taken { IfErr result (λ e. takes depot_app (map (λ w. w.now) words.entry.now) ≡ true → kind_of e ≡ OutOfMemory) }
+    ensures kinds { FailsBy (fault_of depot_app (map (λ w. w.now) words.entry.now)) result }
+{
+    let matches = depot_command(alloc)?.try_get_matches_from(words)?;
+    Ok(line_in(&matches))
+}
+
+// What the matches say.
+fn line_in<'a>(matches: &ArgMatches<'a>) -> CommandLine<'a>
+    ensures { Says result (subcommand_rows_of matches.now) }
+{
+    match matches.subcommand() {
+        Some(("verify", found)) => CommandLine::Verify {
+            program: argument(found, "PROGRAM"),
+        },
+        Some(("run", found)) => CommandLine::Run {
+            program: argument(found, "PROGRAM"),
+            message: argument(found, "MESSAGE"),
+        },
+        _ => CommandLine::NoWords,
+    }
+}
+
+// The text of an argument. It has one, since each is required.
+fn argument<'a>(matches: &ArgMatches<'a>, name: &str) -> &'a str
+    ensures { result.now ≡ text_of name.now (rows_of (found_of matches.now)) }
+{
+    matches.get_str(name).unwrap_or("")
+}
+
+// The program with its commands.
+fn depot_command<'a>(alloc: Global) -> Result<Command<'a>, AllocError>
+    ensures app { IfOk result (λ c. app_of c ≡ depot_app) }
+    ensures local { IfOk result (λ c. (fields_of c).has_globals ≡ false) }
+{
+    Command::new(alloc, "depot")
+        .about("Verified mail filters: checks and runs filter programs over mail messages.")
+        .subcommand(verify_command(alloc)?)?
+        .subcommand(run_command(alloc)?)
+}
+
+// The command verify.
+fn verify_command<'a>(alloc: Global) -> Result<Command<'a>, AllocError>
+    ensures app { IfOk result (λ c. app_of c ≡ verify_app) }
+    ensures local { IfOk result (λ c. (fields_of c).has_globals ≡ false) }
+{
+    Command::new(alloc, "verify")
+        .about("Says whether a filter program is safe to run, and what it may charge")
+        .arg(program_file(alloc))
+}
+
+// The command run.
+fn run_command<'a>(alloc: Global) -> Result<Command<'a>, AllocError>
+    ensures app { IfOk result (λ c. app_of c ≡ run_app) }
+    ensures local { IfOk result (λ c. (fields_of c).has_globals ≡ false) }
+{
+    Command::new(alloc, "run")
+        .about("Runs a filter program on a message, and prints what it does with it")
+        .arg(program_file(alloc))?
+        .arg(message_file(alloc))
+}
+
+// The argument PROGRAM.
+fn program_file<'a>(alloc: Global) -> Arg<'a>
+    ensures rule { rule_of result ≡ required_rule (codes "PROGRAM") }
+    ensures local { result.global ≡ false }
+{
+    Arg::new(alloc, "PROGRAM")
+        .required(true)
+        .help("The file of a filter program, as compile writes it")
+}
+
+// The argument MESSAGE.
+fn message_file<'a>(alloc: Global) -> Arg<'a>
+    ensures rule { rule_of result ≡ required_rule (codes "MESSAGE") }
+    ensures local { result.global ≡ false }
+{
+    Arg::new(alloc, "MESSAGE")
+        .required(true)
+        .help("The file of a mail message, as mail servers hold it")
+}
