@@ -1,5 +1,5 @@
 -- The commands, and what a command line says.
-use Rattle.std.specs.Prelude.{◌≡◌, ◌≢◌, List, [], ◌∷◌, Option, None, Some, IfSome, codes, true, unwrap_or}
+use Rattle.std.specs.Prelude.{◌≡◌, ◌≢◌, List, [], Option, Some, IfSome, codes, true, unwrap_or}
 use Rattle.clap.specs.Words.{App, Row, Rule, Text, first_of, new_app, new_rule, with_rule, with_subcommand}
 use Rattle.depot_cli.specs.declared.line.CommandLine.{CommandLine}
 use Rattle.depot_cli.specs.declared.line.CommandLine.TheVariants.{NoWords, Verify, Run}

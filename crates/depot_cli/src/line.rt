@@ -19,6 +19,10 @@ pub enum CommandLine<'a> {
     Run { program: &'a str, message: &'a str },
 }
 
+/// What stands at the end of the help.
+const AFTER_HELP: &str =
+    "An answer goes to standard output, with status 0. A refusal is one line on standard error, with\nits number and name, and status 1. Status 2 says that the words aren't those of a command.\nWith no words at all, a program that keeps every message runs on standard input.";
+
 /// What the words say, of which the first is the program's name.
 ///
 /// Where the words aren't those of a command, or ask for help, the error has the text for the user.
@@ -60,7 +64,10 @@ fn depot_command<'a>(alloc: Global) -> Result<Command<'a>, AllocError>
     ensures local { IfOk result (λ c. (fields_of c).has_globals ≡ false) }
 {
     Command::new(alloc, "depot")
-        .about("Verified mail filters: checks and runs filter programs over mail messages.")
+        .about(
+            "Verified mail filters: says what a filter program may do, and runs it on mail messages.",
+        )
+        .after_help(AFTER_HELP)
         .subcommand(verify_command(alloc)?)?
         .subcommand(run_command(alloc)?)
 }
@@ -93,7 +100,7 @@ fn program_file<'a>(alloc: Global) -> Arg<'a>
 {
     Arg::new(alloc, "PROGRAM")
         .required(true)
-        .help("The file of a filter program, as compile writes it")
+        .help("The file of a filter program (bytecode)")
 }
 
 // The argument MESSAGE.

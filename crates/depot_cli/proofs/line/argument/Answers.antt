@@ -1,7 +1,7 @@
 use Rattle.std.proofs.Common.{◌≡◌, ◌∙◌, ap, refl, List, ℕ, Option, Some, None, [], option_map, unwrap_or}
 use Rattle.std.specs.Borrow.{Bor}
 use Rattle.clap.proofs.WalkLemmas.{first_value-rows}
-use Rattle.clap.specs.Words.{first_of, found_of, rows_of}
+use Rattle.clap.specs.Words.{found_of}
 use Rattle.depot_cli.proofs.line.argument.Goals as goal
 
 text_or_empty : (o : Option (Bor (List ℕ))) (e : Bor (List ℕ)) (t : Option (List ℕ)) → e.now ≡ [] → option_map (λ s. s.now) o ≡ t → (unwrap_or o e).now ≡ unwrap_or t []

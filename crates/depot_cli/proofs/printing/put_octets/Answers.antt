@@ -1,4 +1,4 @@
-use Rattle.std.proofs.Common.{◌≡◌, ◌∙◌, sym}
+use Rattle.std.proofs.Common.{◌∙◌, sym}
 use Rattle.depot_cli.specs.Printed.{quoted_octet}
 use Rattle.depot_cli.proofs.Lines.{broken_in_turn, on_err, plain_quoted}
 use Rattle.depot_cli.proofs.printing.put_octets.Goals as goal
