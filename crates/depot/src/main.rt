@@ -75,8 +75,7 @@ fn carry_out<O: Sink, E: Sink>(
     let alloc = rt.alloc();
     match line {
         CommandLine::NoWords => {
-            let mut input = OfRead::new(rt.stdin());
-            let message = read_limited(alloc, &mut input, MOST_OCTETS)?;
+            let message = read_input(rt)?;
             let job = Job::Run {
                 program: KEEPS_ALL,
                 message: &message,
@@ -97,7 +96,28 @@ fn carry_out<O: Sink, E: Sink>(
             };
             Ok(answer(alloc, job, out, err))
         }
+        CommandLine::Encode { encoding } => {
+            let octets = read_input(rt)?;
+            let job = Job::Encode {
+                encoding,
+                octets: &octets,
+            };
+            Ok(answer(alloc, job, out, err))
+        }
+        CommandLine::Decode { encoding } => {
+            let text = read_input(rt)?;
+            let job = Job::Decode {
+                encoding,
+                text: &text,
+            };
+            Ok(answer(alloc, job, out, err))
+        }
     }
+}
+
+// The octets of standard input.
+fn read_input(rt: &HostRuntime) -> Result<Vec<u8>, Refusal> {
+    read_limited(rt.alloc(), &mut OfRead::new(rt.stdin()), MOST_OCTETS)
 }
 
 // The octets of a file.

@@ -1,9 +1,17 @@
-//! Where the octets of an answer go.
+//! Octets as texts, and where the octets of an answer go.
+//!
+//! [`encode`] writes octets in an [`Encoding`], and [`decode`] reads them back: exactly the octets that the
+//! text reads as, or `NotCanonical` where there are none.
 //!
 //! A [`Sink`] takes octets. Its contract knows the octets that it took, where they are known, and how
 //! many of its calls have failed; [`OfWrite`] makes a sink of a writer.
 #![tactic(auto)]
 
+mod encoding;
+mod error;
+pub mod laws;
 mod sink;
 
+pub use encoding::{Encoding, decode, encode};
+pub use error::DecodeError;
 pub use sink::{DeviceFailed, OfWrite, Sink};

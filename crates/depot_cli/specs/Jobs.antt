@@ -1,5 +1,8 @@
 -- What jobs answer, and why they are refused.
 use Rattle.std.specs.Prelude.{◌≡◌, ◌⊎◌, ℕ, List, Option, string_bytes}
+use Rattle.octet_lanes.specs.Encoding.{IsOctets}
+use Rattle.depot_actions.specs.Texts.{Reads, text_of}
+use Rattle.depot_actions.specs.declared.encoding.Encoding.{Encoding}
 use Rattle.bytecode_cost.specs.Text.{budget_text}
 use Rattle.bytecode_format.specs.declared.action.Action.{Action}
 use Rattle.bytecode_format.specs.Code.{Code}
@@ -10,25 +13,37 @@ use Rattle.depot_cli.specs.Printed.{line, refusal_line, report_text}
 use Rattle.depot_cli.specs.Printing.{HasBroken, HasPrinted}
 use Rattle.depot_cli.specs.Refusals.{of_engine}
 use Rattle.depot_cli.specs.declared.error.Refusal.{Refusal}
+use Rattle.depot_cli.specs.declared.error.Refusal.TheVariants as refusals
 use Rattle.depot_cli.specs.declared.job.Job.{Job}
-use Rattle.depot_cli.specs.declared.job.Job.TheVariants.{Verify, Run}
+use Rattle.depot_cli.specs.declared.job.Job.TheVariants.{Verify, Run, Encode, Decode}
 use Rattle.depot_cli.specs.declared.job.Lines.{Lines}
 use Rattle.depot_cli.specs.declared.job.Lines.TheVariants as lines
 
--- the text of a job's answer: the budget of the accepted program, or the lines of the run
+-- the text of a job's answer: the budget of the accepted program, the lines of the run, or the octets and nothing else
 abbrev pub IsAnswer : Job → List ℕ → Type 0
 IsAnswer (Verify program) text = (code : Code) × IsChecked program.now code × (text ≡ line (budget_text (budget_of code)))
 IsAnswer (Run program message) text =
     (actions : List Action) × (charged : ℕ) × (limit : ℕ) × IsExecution program.now message.now actions charged limit × (text ≡ report_text actions charged limit)
+IsAnswer (Encode encoding octets) text = text ≡ text_of encoding octets.now
+IsAnswer (Decode encoding text) octets = Reads encoding text.now octets
+
+-- why a text isn't decoded: memory was refused, or it reads as no octets
+abbrev pub IsUnread : Encoding → List ℕ → Refusal → Type 0
+IsUnread encoding text refusals.Memory = Unit {0}
+IsUnread encoding text refusals.NotCanonical = (octets : List ℕ) → IsOctets octets → Reads encoding text octets → ⊥
+IsUnread encoding text _ = ⊥
 
 -- the first refusal of a job's files
 abbrev pub IsRefused : Job → Refusal → Type 0
 IsRefused (Verify program) refusal = (error : EngineError) × IsProgramRefusal program.now error × (refusal ≡ of_engine error)
 IsRefused (Run program message) refusal = (error : EngineError) × IsRefusal program.now message.now error × (refusal ≡ of_engine error)
+IsRefused (Encode encoding octets) refusal = refusal ≡ refusals.Memory
+IsRefused (Decode encoding text) refusal = IsUnread encoding text.now refusal
 
--- the text of the lines
+-- the text of what an answer is made of
 abbrev pub lines_text : Lines → List ℕ
 lines_text (lines.Budget text) = line (string_bytes text)
+lines_text (lines.Octets octets) = octets.items
 lines_text (lines.Report report) = report_text report.outcome.actions.items report.outcome.charged report.limit
 
 -- the job's answer was written whole

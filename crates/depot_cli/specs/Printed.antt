@@ -6,7 +6,7 @@ use Rattle.std.specs.Prelude.{false}
 use Rattle.bytecode_format.specs.declared.action.Action.{Action}
 use Rattle.bytecode_format.specs.declared.action.Action.TheVariants.{Keep, File, Store}
 use Rattle.depot_cli.specs.declared.error.Refusal.{Refusal}
-use Rattle.depot_cli.specs.declared.error.Refusal.TheVariants.{Memory, MessageTooLarge, Spelling, Index, Form, End, Loop, Jump, NoPart, Stack, Read}
+use Rattle.depot_cli.specs.declared.error.Refusal.TheVariants.{Memory, MessageTooLarge, NotCanonical, Spelling, Index, Form, End, Loop, Jump, NoPart, Stack, Read}
 
 -- the text and the end of its line
 abbrev pub line : List ℕ → List ℕ
@@ -47,6 +47,7 @@ report_text actions charged limit = actions_text actions ++ line (charge_text ch
 abbrev pub number_of : Refusal → ℕ
 number_of Memory = 1
 number_of MessageTooLarge = 2
+number_of NotCanonical = 10
 number_of Spelling = 20
 number_of (Index place) = 21
 number_of (Form place) = 22
@@ -61,6 +62,7 @@ number_of Read = 46
 abbrev pub name_of : Refusal → List ℕ
 name_of Memory = codes "Memory"
 name_of MessageTooLarge = codes "MessageTooLarge"
+name_of NotCanonical = codes "NotCanonical"
 name_of Spelling = codes "Spelling"
 name_of (Index place) = codes "Index"
 name_of (Form place) = codes "Form"
@@ -75,6 +77,7 @@ name_of Read = codes "Read"
 abbrev pub place_of : Refusal → Option ℕ
 place_of Memory = None
 place_of MessageTooLarge = None
+place_of NotCanonical = None
 place_of Spelling = None
 place_of (Index place) = Some place
 place_of (Form place) = Some place

@@ -1,8 +1,10 @@
--- The engine's refusals, as jobs answer them.
+-- The refusals of the engine and of decoding, as jobs answer them.
+use Rattle.depot_actions.specs.declared.error.DecodeError.{DecodeError}
+use Rattle.depot_actions.specs.declared.error.DecodeError.TheVariants as decoding
 use Rattle.sieve_engine.specs.declared.error.EngineError.{EngineError}
 use Rattle.sieve_engine.specs.declared.error.EngineError.TheVariants as engine
 use Rattle.depot_cli.specs.declared.error.Refusal.{Refusal}
-use Rattle.depot_cli.specs.declared.error.Refusal.TheVariants.{Memory, MessageTooLarge, Spelling, Index, Form, End, Loop, Jump, NoPart, Stack}
+use Rattle.depot_cli.specs.declared.error.Refusal.TheVariants.{Memory, MessageTooLarge, NotCanonical, Spelling, Index, Form, End, Loop, Jump, NoPart, Stack}
 
 -- the refusal of the same number
 abbrev pub of_engine : EngineError → Refusal
@@ -16,3 +18,8 @@ of_engine (engine.Loop place) = Loop place
 of_engine (engine.Jump place) = Jump place
 of_engine (engine.NoPart place) = NoPart place
 of_engine (engine.Stack place) = Stack place
+
+-- the refusal of the same number
+abbrev pub of_decoding : DecodeError → Refusal
+of_decoding decoding.Memory = Memory
+of_decoding decoding.NotCanonical = NotCanonical

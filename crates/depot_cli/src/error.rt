@@ -2,6 +2,7 @@
 ghost use Rattle.std.specs.Prelude.{◌≡◌};
 ghost use Rattle.depot_cli.specs.declared.error.Refusal.TheVariants.{Memory};
 
+use depot_actions::DecodeError;
 use sieve_engine::EngineError;
 use std::alloc::{AllocError, AllocFailed};
 
@@ -12,6 +13,8 @@ pub enum Refusal {
     Memory,
     /// A file or a message has more octets than the limit.
     MessageTooLarge,
+    /// A text isn't one of its encoding.
+    NotCanonical,
     /// The octets of a program spell none.
     Spelling,
     /// An instruction has an index of what isn't there.
@@ -42,6 +45,7 @@ impl Refusal {
         match self {
             Refusal::Memory => 1,
             Refusal::MessageTooLarge => 2,
+            Refusal::NotCanonical => 10,
             Refusal::Spelling => 20,
             Refusal::Index { .. } => 21,
             Refusal::Form { .. } => 22,
@@ -61,6 +65,7 @@ impl Refusal {
         match self {
             Refusal::Memory => "Memory",
             Refusal::MessageTooLarge => "MessageTooLarge",
+            Refusal::NotCanonical => "NotCanonical",
             Refusal::Spelling => "Spelling",
             Refusal::Index { .. } => "Index",
             Refusal::Form { .. } => "Form",
@@ -85,7 +90,11 @@ impl Refusal {
             | Refusal::Jump { place }
             | Refusal::NoPart { place }
             | Refusal::Stack { place } => Some(*place),
-            Refusal::Memory | Refusal::MessageTooLarge | Refusal::Spelling | Refusal::Read => None,
+            Refusal::Memory
+            | Refusal::MessageTooLarge
+            | Refusal::NotCanonical
+            | Refusal::Spelling
+            | Refusal::Read => None,
         }
     }
 }
@@ -107,6 +116,19 @@ impl From<EngineError> for Refusal {
             EngineError::Jump { place } => Refusal::Jump { place },
             EngineError::NoPart { place } => Refusal::NoPart { place },
             EngineError::Stack { place } => Refusal::Stack { place },
+        }
+    }
+}
+
+impl From<DecodeError> for Refusal {
+    ghost use Rattle.depot_cli.specs.Refusals.{of_decoding};
+
+    ghost from_gives = { λ error refusal. refusal ≡ of_decoding error };
+
+    fn from(error: DecodeError) -> Refusal {
+        match error {
+            DecodeError::Memory => Refusal::Memory,
+            DecodeError::NotCanonical => Refusal::NotCanonical,
         }
     }
 }

@@ -10,8 +10,8 @@ ghost use Rattle.depot_cli.specs.Jobs.{HasAnswered, HasRefused, HasStopped, IsAn
 ghost use Rattle.depot_cli.specs.Printing.{HasBroken, HasPrinted};
 
 use crate::error::Refusal;
-use crate::printing::{put_line, put_refusal, put_report};
-use depot_actions::{DeviceFailed, Sink};
+use crate::printing::{put, put_line, put_refusal, put_report};
+use depot_actions::{DeviceFailed, Encoding, Sink, decode, encode};
 use sieve_engine::{Report, check_program, execute};
 use std::alloc::Global;
 
@@ -27,15 +27,27 @@ pub enum Job<'a> {
         program: &'a [u8],
         message: &'a [u8],
     },
+    /// The text of octets in an encoding.
+    Encode {
+        encoding: Encoding,
+        octets: &'a [u8],
+    },
+    /// The octets that a text in an encoding reads as.
+    Decode {
+        encoding: Encoding,
+        text: &'a [u8],
+    },
 }
 
-/// What the lines of a job's answer are made of.
+/// What a job's answer is made of.
 #[derive(Debug, Drop)]
 pub enum Lines {
     /// The text of an accepted program's budget.
     Budget(String),
     /// The report of a run.
     Report(Report),
+    /// Octets, as they are.
+    Octets(Vec<u8>),
 }
 
 /// Carries out a job: writes its answer to `out` and gives 0, or writes the line of its refusal to
@@ -70,6 +82,8 @@ fn carry_out(alloc: Global, job: Job<'_>) -> Result<Lines, Refusal>
     match job {
         Job::Verify { program } => Ok(Lines::Budget(budget_line(alloc, program)?)),
         Job::Run { program, message } => Ok(Lines::Report(execute(alloc, program, message)?)),
+        Job::Encode { encoding, octets } => Ok(Lines::Octets(encode(alloc, encoding, octets)?)),
+        Job::Decode { encoding, text } => Ok(Lines::Octets(decode(alloc, encoding, text)?)),
     }
 }
 
@@ -90,5 +104,6 @@ fn put_lines<O: Sink>(out: &mut O, lines: &Lines) -> Result<(), DeviceFailed>
     match lines {
         Lines::Budget(text) => put_line(out, text.as_str()),
         Lines::Report(report) => put_report(out, report),
+        Lines::Octets(octets) => put(out, octets),
     }
 }

@@ -1,11 +1,12 @@
 // What the words of the command line say.
 ghost use Rattle.std.specs.Prelude.{◌≡◌, IfOk, IfErr, codes, map, true, false};
-ghost use Rattle.clap.specs.Words.{FailsBy, app_of, fault_of, first_value, found_of, kind_of, rows_of, subcommand_of, subcommand_rows_of, takes, rule_of};
+ghost use Rattle.clap.specs.Words.{FailsBy, app_of, fault_of, first_value, found_of, kind_of, rows_of, subcommand_of, subcommand_rows_of, takes, rule_of, App};
 ghost use Rattle.clap.specs.declared.error.kind.ErrorKind.TheVariants.{OutOfMemory};
 ghost use Rattle.clap.specs.declared.builder.command.Command.TheViews.{out-Command as fields_of};
-ghost use Rattle.depot_cli.specs.Words.{Says, argument as text_of, depot_app, required_rule, run_app, verify_app};
+ghost use Rattle.depot_cli.specs.Words.{AreEncodings, IsDepot, Says, argument as text_of, decode_app, depot_app, encode_app, encoding_named, encoding_rule, filters_app, required_rule, run_app, verify_app};
 
 use clap::{Arg, ArgMatches, Command, Error};
+use depot_actions::Encoding;
 use std::alloc::{AllocError, Global};
 
 /// A command with the names of its files.
@@ -17,7 +18,21 @@ pub enum CommandLine<'a> {
     Verify { program: &'a str },
     /// What a program does with a message.
     Run { program: &'a str, message: &'a str },
+    /// The text of standard input's octets in an encoding.
+    Encode { encoding: Encoding },
+    /// The octets that standard input reads as in an encoding.
+    Decode { encoding: Encoding },
 }
+
+/// The names of the encodings.
+const ENCODINGS: &[&str] = &[
+    "raw",
+    "base64",
+    "base64-mime",
+    "base32",
+    "base32hex",
+    "base16",
+];
 
 /// What stands at the end of the help.
 const AFTER_HELP: &str =
@@ -27,11 +42,12 @@ const AFTER_HELP: &str =
 ///
 /// Where the words aren't those of a command, or ask for help, the error has the text for the user.
 pub fn line_of<'a>(alloc: Global, words: &'a [&'a str]) -> Result<CommandLine<'a>, Error>
-    ensures says { IfOk result (λ line. Says line (subcommand_of depot_app (map (λ w. w.now) words.entry.now))) }
-    ensures taken { IfErr result (λ e. takes depot_app (map (λ w. w.now) words.entry.now) ≡ true → kind_of e ≡ OutOfMemory) }
-    ensures kinds { FailsBy (fault_of depot_app (map (λ w. w.now) words.entry.now)) result }
+    ensures says { IfOk result (λ line. (app : App) × IsDepot app × Says line (subcommand_of app (map (λ w. w.now) words.entry.now))) }
+    ensures taken { IfErr result (λ e. (app : App) × IsDepot app × (takes app (map (λ w. w.now) words.entry.now) ≡ true → kind_of e ≡ OutOfMemory)) }
+    ensures kinds { (app : App) × IsDepot app × FailsBy (fault_of app (map (λ w. w.now) words.entry.now)) result }
 {
-    let matches = depot_command(alloc)?.try_get_matches_from(words)?;
+    let names = encodings();
+    let matches = depot_command(alloc, names)?.try_get_matches_from(words)?;
     Ok(line_in(&matches))
 }
 
@@ -47,6 +63,12 @@ fn line_in<'a>(matches: &ArgMatches<'a>) -> CommandLine<'a>
             program: argument(found, "PROGRAM"),
             message: argument(found, "MESSAGE"),
         },
+        Some(("encode", found)) => CommandLine::Encode {
+            encoding: encoding_named(argument(found, "ENCODING")),
+        },
+        Some(("decode", found)) => CommandLine::Decode {
+            encoding: encoding_named(argument(found, "ENCODING")),
+        },
         _ => CommandLine::NoWords,
     }
 }
@@ -58,9 +80,40 @@ fn argument<'a>(matches: &ArgMatches<'a>, name: &str) -> &'a str
     matches.get_str(name).unwrap_or("")
 }
 
+// The encoding of this name. Only names of encodings come here.
+fn encoding_named(name: &str) -> Encoding
+    ensures { result ≡ encoding_named name.now }
+{
+    match name {
+        "base64" => Encoding::Base64,
+        "base64-mime" => Encoding::Base64Mime,
+        "base32" => Encoding::Base32,
+        "base32hex" => Encoding::Base32Hex,
+        "base16" => Encoding::Base16,
+        _ => Encoding::Raw,
+    }
+}
+
+// The names of the encodings.
+fn encodings() -> &'static [&'static str]
+    ensures { AreEncodings result }
+{
+    ENCODINGS
+}
+
 // The program with its commands.
-fn depot_command<'a>(alloc: Global) -> Result<Command<'a>, AllocError>
-    ensures app { IfOk result (λ c. app_of c ≡ depot_app) }
+fn depot_command<'a>(alloc: Global, names: &'a [&'a str]) -> Result<Command<'a>, AllocError>
+    ensures app { IfOk result (λ c. app_of c ≡ depot_app names.entry) }
+    ensures local { IfOk result (λ c. (fields_of c).has_globals ≡ false) }
+{
+    filters_command(alloc)?
+        .subcommand(encode_command(alloc, names)?)?
+        .subcommand(decode_command(alloc, names)?)
+}
+
+// The program with the commands that take filter programs.
+fn filters_command<'a>(alloc: Global) -> Result<Command<'a>, AllocError>
+    ensures app { IfOk result (λ c. app_of c ≡ filters_app) }
     ensures local { IfOk result (λ c. (fields_of c).has_globals ≡ false) }
 {
     Command::new(alloc, "depot")
@@ -91,6 +144,37 @@ fn run_command<'a>(alloc: Global) -> Result<Command<'a>, AllocError>
         .about("Runs a filter program on a message, and prints what it does with it")
         .arg(program_file(alloc))?
         .arg(message_file(alloc))
+}
+
+// The command encode.
+fn encode_command<'a>(alloc: Global, names: &'a [&'a str]) -> Result<Command<'a>, AllocError>
+    ensures app { IfOk result (λ c. app_of c ≡ encode_app names.entry) }
+    ensures local { IfOk result (λ c. (fields_of c).has_globals ≡ false) }
+{
+    Command::new(alloc, "encode")
+        .about("Writes the octets of standard input as a text")
+        .arg(encoding_name(alloc, names))
+}
+
+// The command decode.
+fn decode_command<'a>(alloc: Global, names: &'a [&'a str]) -> Result<Command<'a>, AllocError>
+    ensures app { IfOk result (λ c. app_of c ≡ decode_app names.entry) }
+    ensures local { IfOk result (λ c. (fields_of c).has_globals ≡ false) }
+{
+    Command::new(alloc, "decode")
+        .about("Writes the octets that the text on standard input stands for")
+        .arg(encoding_name(alloc, names))
+}
+
+// The argument ENCODING.
+fn encoding_name<'a>(alloc: Global, names: &'a [&'a str]) -> Arg<'a>
+    ensures rule { rule_of result ≡ encoding_rule names.entry }
+    ensures local { result.global ≡ false }
+{
+    Arg::new(alloc, "ENCODING")
+        .required(true)
+        .value_parser(names)
+        .help("How the text stands for octets")
 }
 
 // The argument PROGRAM.

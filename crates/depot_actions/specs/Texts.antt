@@ -1,0 +1,27 @@
+-- Octets as texts (RFC 4648; RFC 2045, section 6.8), and texts as octets.
+use Rattle.std.specs.Prelude.{◌≡◌, ℕ, List}
+use Rattle.base64.specs.Engines.{standard}
+use Rattle.base64.specs.GeneralPurpose.{encode_of}
+use Rattle.hex.specs.Hex.{encode_upper}
+use Rattle.lanes_base64_mime.specs.MimeBase64.{mime_decoding_of, mime_encoding_of}
+use Rattle.octet_lanes.specs.Encoding.{encoding_of}
+use Rattle.octet_lanes.specs.declared.alphabet.Alphabet.TheVariants as alphabet
+use Rattle.octets.specs.Ascii.{uppercase_of}
+use Rattle.depot_actions.specs.declared.encoding.Encoding.{Encoding}
+use Rattle.depot_actions.specs.declared.encoding.Encoding.TheVariants.{Raw, Base64, Base64Mime, Base32, Base32Hex, Base16}
+
+-- the text of octets
+abbrev pub text_of : Encoding → List ℕ → List ℕ
+text_of Raw octets = octets
+text_of Base64 octets = encode_of standard octets
+text_of Base64Mime octets = mime_encoding_of octets
+text_of Base32 octets = encoding_of alphabet.Base32 octets
+text_of Base32Hex octets = encoding_of alphabet.Base32Hex octets
+text_of Base16 octets = encode_upper octets
+
+-- A text reads as octets: in MIME base64 by their bits, whatever stands between them; in base16 where it is their
+-- text but for the case of letters; else where it is their text.
+abbrev pub Reads : Encoding → List ℕ → List ℕ → Type 0
+Reads Base64Mime text octets = octets ≡ mime_decoding_of text
+Reads Base16 text octets = uppercase_of text ≡ text_of Base16 octets
+Reads encoding text octets = text ≡ text_of encoding octets

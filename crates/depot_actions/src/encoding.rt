@@ -1,0 +1,67 @@
+// Octets as texts, and texts as octets.
+ghost use Rattle.std.specs.Prelude.{◌≡◌, ℕ, List, IfOk, IfErr};
+ghost use Rattle.octet_lanes.specs.Encoding.{IsOctets};
+ghost use Rattle.depot_actions.specs.Texts.{Reads, text_of};
+ghost use Rattle.depot_actions.specs.declared.error.DecodeError.TheVariants.{NotCanonical};
+
+use crate::error::DecodeError;
+use base64::engine::general_purpose::STANDARD;
+use lanes_base32::{decode32, decode32hex, encode32, encode32hex};
+use lanes_base64_mime::{decode_mime, encode_mime};
+use std::alloc::{AllocError, Global};
+
+/// How octets are written as a text.
+#[derive(Clone, Copy, Debug, PartialEq, Eq, Drop)]
+pub enum Encoding {
+    /// The octets themselves.
+    Raw,
+    /// Base64 with its padding (RFC 4648, section 4).
+    Base64,
+    /// Base64 in lines of 76 characters, read past whatever is no symbol (RFC 2045, section 6.8).
+    Base64Mime,
+    /// Base32 with its padding (RFC 4648, section 6).
+    Base32,
+    /// Base32 in the alphabet that keeps the order, with its padding (RFC 4648, section 7).
+    Base32Hex,
+    /// Two hexadecimal digits an octet, written in upper case and read in either (RFC 4648, section 8).
+    Base16,
+}
+
+/// The text of `octets`.
+///
+/// # Errors
+///
+/// Memory ran out.
+pub fn encode(alloc: Global, encoding: Encoding, octets: &[u8]) -> Result<Vec<u8>, AllocError>
+    ensures { IfOk result (λ text. text.items ≡ text_of encoding octets.now) }
+{
+    match encoding {
+        Encoding::Raw => octets.to_vec(alloc),
+        Encoding::Base64 => Ok(STANDARD.encode(alloc, octets)?.into_bytes()),
+        Encoding::Base64Mime => encode_mime(alloc, octets),
+        Encoding::Base32 => encode32(alloc, octets),
+        Encoding::Base32Hex => encode32hex(alloc, octets),
+        Encoding::Base16 => Ok(hex::encode_upper(alloc, octets)?.into_bytes()),
+    }
+}
+
+/// The octets that `text` reads as.
+///
+/// # Errors
+///
+/// `NotCanonical` where the text reads as no octets. That can't be of raw octets, nor of MIME base64, whose
+/// reader passes over what is no symbol; the other encodings read what `encode` writes and nothing else, base16
+/// also in lower case. `Memory` where memory ran out.
+pub fn decode(alloc: Global, encoding: Encoding, text: &[u8]) -> Result<Vec<u8>, DecodeError>
+    ensures octets { IfOk result (λ octets. Reads encoding text.now octets.items) }
+    ensures refused { IfErr result (λ e. e ≡ NotCanonical → (octets : List ℕ) → IsOctets octets → Reads encoding text.now octets → ⊥) }
+{
+    match encoding {
+        Encoding::Raw => Ok(text.to_vec(alloc)?),
+        Encoding::Base64 => Ok(STANDARD.decode(alloc, text)?),
+        Encoding::Base64Mime => Ok(decode_mime(alloc, text)?),
+        Encoding::Base32 => Ok(decode32(alloc, text)?),
+        Encoding::Base32Hex => Ok(decode32hex(alloc, text)?),
+        Encoding::Base16 => Ok(hex::decode(alloc, text)?),
+    }
+}
