@@ -3,6 +3,7 @@
 
 mod codecs;
 mod machine;
+mod scripts;
 
 use std::env;
 
@@ -12,9 +13,11 @@ fn main(rt: HostRuntime) -> anyhow::Result<()> {
     match words.next() {
         Some(job) if job.as_str() == "codecs" => codecs::run(&rt),
         Some(job) if job.as_str() == "run" => machine::run(&rt),
+        Some(job) if job.as_str() == "scripts" => scripts::run(&rt),
         _ => {
             println!(rt; "codecs")?;
             println!(rt; "run")?;
+            println!(rt; "scripts")?;
             Ok(())
         }
     }
