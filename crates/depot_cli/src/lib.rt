@@ -1,7 +1,7 @@
 //! The command line of `depot`: what its words say, what its files hold, what it prints.
 //!
 //! [`line_of`] says what the words say, [`read_limited`] reads a file up to a limit, and [`answer`] carries
-//! out a job: it writes exactly the lines of the answer, or the line of the refusal (`specs/Jobs`,
+//! out a job: it writes exactly the answer, or the line of the refusal (`specs/Jobs`,
 //! `specs/Printed`). Writing takes no memory, and what a failed device has then got is a front of the text.
 #![tactic(auto)]
 

@@ -9,7 +9,7 @@ use clap::{Arg, ArgMatches, Command, Error};
 use depot_actions::Encoding;
 use std::alloc::{AllocError, Global};
 
-/// A command with the names of its files.
+/// A command with the names of its files, or with its encoding.
 #[derive(Clone, Copy, Debug, PartialEq, Eq)]
 pub enum CommandLine<'a> {
     /// No words: the program that keeps every message, on standard input.
