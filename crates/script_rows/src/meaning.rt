@@ -73,16 +73,16 @@ fn sizes_are_strict(rt: HostRuntime) -> Result<(), Fail> {
 fn tests_combine(rt: HostRuntime) -> Result<(), Fail> {
     let alloc = rt.alloc();
     for (first, second) in [(false, false), (false, true), (true, false), (true, true)] {
-        let mut all = Vec::new(alloc);
-        all.push(Test::Constant(first))?;
-        all.push(Test::Constant(second))?;
-        let script = discard_if(alloc, Test::AllOf(all))?;
+        let mut others = Vec::new(alloc);
+        others.push(Test::Constant(second))?;
+        let all = Test::AllOf(Box::new(alloc, Test::Constant(first))?, others);
+        let script = discard_if(alloc, all)?;
         let wanted = if first && second { "none" } else { "keep" };
         assert_eq!(rt; actions_of(alloc, &script, b"")?, wanted);
-        let mut any = Vec::new(alloc);
-        any.push(Test::Constant(first))?;
-        any.push(Test::Constant(second))?;
-        let script = discard_if(alloc, Test::AnyOf(any))?;
+        let mut others = Vec::new(alloc);
+        others.push(Test::Constant(second))?;
+        let any = Test::AnyOf(Box::new(alloc, Test::Constant(first))?, others);
+        let script = discard_if(alloc, any)?;
         let wanted = if first || second { "none" } else { "keep" };
         assert_eq!(rt; actions_of(alloc, &script, b"")?, wanted);
     }

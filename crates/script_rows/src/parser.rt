@@ -152,8 +152,8 @@ fn a_tree(rt: HostRuntime) {
         assert!(rt; false);
         return;
     };
-    assert_eq!(rt; script.commands.len(), 1);
-    let Some(Command::Block(Invocation::WithTest(head, test), block)) = script.commands.first()
+    assert_eq!(rt; script.commands().len(), 1);
+    let Some(Command::Block(Invocation::WithTest(head, test), block)) = script.commands().first()
     else {
         assert!(rt; false);
         return;

@@ -1,2 +1,3 @@
 pub mod Typed
 pub mod TypedView
+pub mod Extent

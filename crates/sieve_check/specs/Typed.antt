@@ -2,13 +2,13 @@
 use Rattle.std.specs.Prelude.{ℕ, Bool}
 use Rattle.sieve_check.specs.declared.typed.Order.{Order}
 
--- a test; the tests of a list
+-- a test, the lists of tests by their first and the others; tests in order
 mutual
   pub data TestForm : Type 0 where
     constant : Bool → TestForm
     negation : TestForm → TestForm
-    all_of : TestForms → TestForm
-    any_of : TestForms → TestForm
+    all_of : TestForm → TestForms → TestForm
+    any_of : TestForm → TestForms → TestForm
     size : Order → ℕ → TestForm
 
   pub data TestForms : Type 0 where

@@ -10,7 +10,7 @@ use Rattle.sieve_check.specs.declared.typed.Branch.{Branch}
 use Rattle.sieve_check.specs.declared.typed.Command.TheOpen.{Command-F, Keep, Discard, Stop, If, Branch-F}
 use Rattle.sieve_check.specs.declared.typed.Command.TheFolds.{fold-Command, fold-Branch}
 
--- the tests of a list
+-- tests in order
 abbrev pub tests_of : List TestForm → TestForms
 tests_of [] = no_test
 tests_of (t ∷ ts) = test t (tests_of ts)
@@ -18,8 +18,8 @@ tests_of (t ∷ ts) = test t (tests_of ts)
 abbrev pub test_step : Test-F TestForm → TestForm
 test_step (Constant b) = constant b
 test_step (Not t) = negation t.value
-test_step (AllOf ts) = all_of (tests_of ts.items)
-test_step (AnyOf ts) = any_of (tests_of ts.items)
+test_step (AllOf t ts) = all_of t.value (tests_of ts.items)
+test_step (AnyOf t ts) = any_of t.value (tests_of ts.items)
 test_step (Size order number) = size order number
 
 -- a test

@@ -16,10 +16,10 @@ pub enum Test {
     Constant(bool),
     /// `not`.
     Not(Box<Test>),
-    /// `allof`.
-    AllOf(Vec<Test>),
-    /// `anyof`.
-    AnyOf(Vec<Test>),
+    /// `allof`: the first test, and those behind it.
+    AllOf(Box<Test>, Vec<Test>),
+    /// `anyof`: the first test, and those behind it.
+    AnyOf(Box<Test>, Vec<Test>),
     /// `size`.
     Size(Order, u64),
 }

@@ -42,8 +42,8 @@ abbrev mutual
   pub holds : Mail → TestForm → Bool
   holds mail (constant b) = b
   holds mail (negation t) = not (holds mail t)
-  holds mail (all_of ts) = all_hold mail ts
-  holds mail (any_of ts) = any_holds mail ts
+  holds mail (all_of t ts) = holds mail t && all_hold mail ts
+  holds mail (any_of t ts) = holds mail t || any_holds mail ts
   holds mail (size order number) = is_size order number mail.size
 
   pub all_hold : Mail → TestForms → Bool

@@ -14,8 +14,8 @@ pub fn is_true(test: &Test, message: &Message<'_>) -> bool
     match test {
         Test::Constant(value) => *value,
         Test::Not(inner) => !is_true(inner, message),
-        Test::AllOf(list) => all_true(list, message),
-        Test::AnyOf(list) => any_true(list, message),
+        Test::AllOf(first, others) => is_true(first, message) && all_true(others, message),
+        Test::AnyOf(first, others) => is_true(first, message) || any_true(others, message),
         Test::Size(order, number) => is_size(*order, *number, message.size() as u64),
     }
 }

@@ -9,3 +9,4 @@ pub mod ArgumentSteps
 pub mod TestSteps
 pub mod CommandSteps
 pub mod Parsed
+pub mod Extent

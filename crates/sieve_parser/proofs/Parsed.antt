@@ -16,7 +16,7 @@ use Rattle.sieve_parser.specs.Machine.{body, reading}
 use Rattle.sieve_parser.specs.Faults.{AreWithinDepth, IsSyntaxFault}
 use Rattle.sieve_parser.specs.Reading.{IsAt, IsFaultOf, IsIdentifierAt, Stands, lexeme_at, lexemes}
 use Rattle.sieve_parser.specs.Refusals.{parse_error}
-use Rattle.sieve_parser.specs.Scripts.{IsRefused}
+use Rattle.sieve_parser.specs.Scripts.{IsParsed, IsRefused}
 use Rattle.sieve_parser.proofs.Faulted.{read_script_within}
 use Rattle.sieve_parser.proofs.Walk.{stuck}
 use Rattle.sieve_parser.proofs.Wrong.{no_command_first}
@@ -38,6 +38,12 @@ module _ (ls : List Lexeme) where
 
   pub whole_within : (p : ℕ) (cs : CommandsTree) → IsAt ls p (body 0 ∷ []) → length ls ≤ p → IsScript ls cs → AreWithinDepth (commands_spelled 0 cs)
   whole_within p cs at past script = read_script_within ls at.read cs (ap reading (sym (take_all p ls past)) ∙ at.reached) script
+
+-- commands that stand at the start of the lexemes and use them all up are the script's
+pub whole_parsed : (s : List ℕ) (ts : List Token) (p : ℕ) (cs : CommandsTree) → length s ≤ SCRIPT_LIMIT → lexer.AreTokens s ts → Stands (lexemes s ts) 0 p (commands_spelled 0 cs) → IsAt (lexemes s ts) p (body 0 ∷ []) → length (lexemes s ts) ≤ p → IsParsed s cs
+whole_parsed s ts p cs short are stands at past =
+    let script : IsScript (lexemes s ts) cs = whole_script (lexemes s ts) p cs stands past in
+    (short, (ts, (are, script, whole_within (lexemes s ts) p cs at past script)))
 
 pub fault_refused : (script : List ℕ) (tokens : List Token) (e : ParseError) → length script ≤ SCRIPT_LIMIT → lexer.AreTokens script tokens → IsFaultOf (lexemes script tokens) e → IsRefused script e
 fault_refused script tokens parser.Memory short are h = tt

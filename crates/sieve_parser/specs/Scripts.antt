@@ -14,6 +14,10 @@ abbrev pub IsParsed : List ℕ → CommandsTree → Type 0
 IsParsed script cs = (length script ≤ SCRIPT_LIMIT) × ((tokens : List Token)
     × (AreTokens script tokens × IsScript (lexemes script tokens) cs × AreWithinDepth (commands_spelled 0 cs)))
 
+-- the commands are those of some script
+abbrev pub IsTree : CommandsTree → Type 0
+IsTree cs = (script : List ℕ) × IsParsed script cs
+
 -- what each refusal says of the script
 abbrev pub IsRefused : List ℕ → ParseError → Type 0
 IsRefused script Memory = Unit {0}

@@ -1,7 +1,8 @@
-// The laws of the grammar: what the reading machine reads, and where it stops; and that a script has one tree.
-ghost use Rattle.std.specs.Prelude.{◌≡◌, ◌++◌, ◌∷◌, [], ℕ, List};
+// The laws of the grammar: what the reading machine reads, and where it stops; that a script has one tree, and no
+// more lexemes than octets.
+ghost use Rattle.std.specs.Prelude.{◌≡◌, ◌≤◌, ◌++◌, ◌∷◌, [], ℕ, List, length};
 ghost use Rattle.sieve_parser.specs.Faults.{IsViableWithinDepth};
-ghost use Rattle.sieve_parser.specs.Grammar.{IsViable, IsScript};
+ghost use Rattle.sieve_parser.specs.Grammar.{IsViable, IsScript, commands_spelled};
 ghost use Rattle.sieve_parser.specs.Lexemes.{Lexeme};
 ghost use Rattle.sieve_parser.specs.Machine.{Symbol, wrong, reading, step};
 ghost use Rattle.sieve_parser.specs.Reading.{IsDone};
@@ -34,3 +35,8 @@ pub fn parsed_trees_are_unique()
 {
     sieve_lexer::laws::tokens_are_unique();
 }
+
+/// A script has at least as many octets as its tree has lexemes.
+pub fn scripts_are_as_long_as_their_trees()
+    ensures { (script : List ℕ) (cs : CommandsTree) → IsParsed script cs → length (commands_spelled 0 cs) ≤ length script }
+{}

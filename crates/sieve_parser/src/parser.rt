@@ -15,7 +15,7 @@ use std::alloc::Global;
 /// more than [`crate::DEPTH_LIMIT`] braces and test names would enclose, its own included; whichever stands first.
 /// [`ParseError::Memory`] comes only where memory was refused.
 pub fn parse(alloc: Global, script: &[u8]) -> Result<Script, ParseError>
-    ensures parsed { IfOk result (λ parsed. IsParsed script.now (commands_tree parsed.commands.items)) }
+    ensures parsed { IfOk result (λ parsed. IsParsed script.now (commands_tree parsed)) }
     ensures refused { IfErr result (λ e. IsRefused script.now e) }
 {
     let tokens = sieve_lexer::tokens(alloc, script)?;
@@ -23,5 +23,5 @@ pub fn parse(alloc: Global, script: &[u8]) -> Result<Script, ParseError>
     if next < tokens.len() {
         return Err(ParseError::Syntax { place: next });
     }
-    Ok(Script { commands })
+    Ok(Script::of(commands))
 }

@@ -1,5 +1,6 @@
 // The syntax tree of a script.
 use octets::Octets;
+use std::marker::Model;
 
 /// An argument of a command or test (RFC 5228, section 8.2).
 #[derive(Debug, Drop)]
@@ -42,8 +43,47 @@ pub enum Command {
     Block(Invocation, Vec<Command>),
 }
 
-/// A script: its commands, in order.
+/// The syntax tree of a script that was parsed. A contract sees its commands.
 #[derive(Debug, Drop)]
 pub struct Script {
-    pub commands: Vec<Command>,
+    commands: Vec<Command>,
+}
+
+impl Model for Script {
+    ghost use Rattle.std.specs.Coded.{codes};
+    ghost use Rattle.std.specs.Prelude.{List};
+    ghost use Rattle.sieve_parser.specs.Scripts.{IsTree};
+    ghost use Rattle.sieve_parser.specs.View.{commands_tree};
+    ghost use Rattle.sieve_parser.specs.contracts.tree.Command as e;
+    ghost use Rattle.sieve_parser.specs.declared.tree.Command.{Command};
+
+    ghost Value = { List Command };
+
+    ghost coded = { Prim.hlevel (codes, e.the_row.coded) };
+
+    ghost view = { λ s. s.commands.items };
+
+    ghost invariant = { λ s. IsTree (commands_tree s.commands.items) };
+}
+
+impl Script {
+    ghost use Rattle.std.specs.Prelude.{◌≡◌};
+    ghost use Rattle.sieve_parser.specs.Scripts.{IsTree};
+    ghost use Rattle.sieve_parser.specs.View.{commands_tree};
+
+    // The commands as those of a script.
+    pub(crate) fn of(commands: Vec<Command>) -> Script
+        requires { IsTree (commands_tree commands.items) }
+        ensures { result ≡ commands.items }
+    {
+        Script { commands }
+    }
+
+    /// The commands, in order.
+    pub fn commands(&self) -> &[Command]
+        ensures value { result.now ≡ self.now }
+        ensures tree { IsTree (commands_tree self.now) }
+    {
+        &self.commands
+    }
 }

@@ -1,9 +1,10 @@
-use Rattle.std.proofs.Common.{◌≤◌, [], sym, subst, arith, length}
+use Rattle.std.proofs.Common.{[], sym, subst, arith}
 use Rattle.std.proofs.lemmas.Result.{err_from_is_err_and}
 use Rattle.sieve_lexer.specs.Tokens.{AreTokens}
 use Rattle.sieve_parser.specs.Reading.{lexemes}
+use Rattle.sieve_parser.specs.Scripts.{IsParsed}
 use Rattle.sieve_parser.specs.View.{commands_tree}
-use Rattle.sieve_parser.proofs.Parsed.{at_start, not_ended, whole_script, whole_within, fault_refused}
+use Rattle.sieve_parser.proofs.Parsed.{at_start, not_ended, whole_parsed, fault_refused}
 use Rattle.sieve_parser.proofs.Walk.{length-lexemes}
 use Rattle.sieve_parser.proofs.parser.parse.Goals as goal
 
@@ -38,16 +39,25 @@ returns-then-next-len-clause-refused c =
       ),
     )
 
+pub of-requires : goal.of-requires
+of-requires c =
+    let s = c.args.script.now in
+    let ts = c.deref.result.now in
+    let given = c.in_ok-tokens.ensures.tokens in
+    let tokens = subst (λ w. AreTokens s w) (sym c.deref.ensures.value) given.1 in
+    let read = c.in_ok-commands.ensures [] in (
+      s,
+      whole_parsed s ts c.in_ok-commands.next (commands_tree c.in_ok-commands.commands.items) given.0 tokens read.0 (read.2 (at_start (lexemes s ts)))
+          (omega (arith, length-lexemes s 0 ts, c.deref.ensures.len)),
+    )
+
 pub returns-clause-parsed : goal.returns-clause-parsed
 returns-clause-parsed c =
     let s = c.args.script.now in
     let ts = c.deref.result.now in
-    let ls = lexemes s ts in
     let given = c.in_ok-tokens.ensures.tokens in
     let tokens = subst (λ w. AreTokens s w) (sym c.deref.ensures.value) given.1 in
     let read = c.in_ok-commands.ensures [] in
-    let next = c.in_ok-commands.next in
-    let cs = commands_tree c.in_ok-commands.commands.items in
-    let past : length ls ≤ next = omega (arith, length-lexemes s 0 ts, c.deref.ensures.len) in
-    let script = whole_script ls next cs read.0 past in
-    (given.0, (ts, (tokens, script, whole_within ls next cs (read.2 (at_start ls)) past script)))
+    let parsed = whole_parsed s ts c.in_ok-commands.next (commands_tree c.in_ok-commands.commands.items) given.0 tokens read.0 (read.2 (at_start (lexemes s ts)))
+    (omega (arith, length-lexemes s 0 ts, c.deref.ensures.len)) in
+    subst (λ cs. IsParsed s (commands_tree cs)) (sym c.of.ensures) parsed

@@ -1,0 +1,100 @@
+-- The code of a script: of each piece the instructions, from the place on where the piece begins.
+use Rattle.std.specs.Prelude.{ℕ, ◌+◌, Bool, true, false, not, List, [], ◌∷◌, ◌++◌, if◌then◌else◌}
+use Rattle.bytecode_format.specs.declared.instruction.Instruction.{Instruction}
+use Rattle.bytecode_format.specs.declared.operation.Operation.{Operation}
+use Rattle.bytecode_format.specs.declared.operation.Operation.TheVariants.{Halt, Bool as BoolOp, Jump, JumpIfTrue, JumpIfFalse, Size, Keep, Discard}
+use Rattle.bytecode_format.specs.Operations.{octet_of}
+use Rattle.bytecode_format.specs.Code.{Code}
+use Rattle.sieve_check.specs.declared.typed.Order.{Order}
+use Rattle.sieve_check.specs.declared.typed.Order.TheVariants.{Over, Under}
+use Rattle.sieve_check.specs.Typed.{TestForm, constant, negation, all_of, any_of, size, TestForms, no_test, test, CommandForm, keep, discard, stop, choice, CommandForms, no_command, command, BranchForms, no_branch, otherwise, branch}
+use Rattle.sieve_compiler.specs.Lengths.{test_length, tests_length, commands_length, command_length, leave_length, branches_length}
+use Rattle.sieve_compiler.specs.Numbers.{table_of, place_in}
+
+-- an instruction with its fields a and c
+abbrev pub instruction : Operation → ℕ → ℕ → Instruction
+instruction operation a c = record { op = octet_of operation; a = a; b = 0; c = c }
+
+-- an instruction without fields
+abbrev pub plain : Operation → Instruction
+plain operation = instruction operation 0 0
+
+-- a jump to the target where the truth value taken is this one
+abbrev pub jump_if : Bool → ℕ → Instruction
+jump_if true target = instruction JumpIfTrue 0 target
+jump_if false target = instruction JumpIfFalse 0 target
+
+-- the truth value itself
+abbrev pub push_bool : Bool → Instruction
+push_bool true = instruction BoolOp 1 0
+push_bool false = instruction BoolOp 0 0
+
+-- the message's size against the number at a place of the table
+abbrev pub push_size : Order → ℕ → Instruction
+push_size Over place = instruction Size 0 place
+push_size Under place = instruction Size 1 place
+
+-- a test of a list jumps where it decides the list alone, as a false one does of allof and a true one of anyof;
+-- the last one, behind which nothing stands, jumps where the list has the value that is asked for
+abbrev pub asked_of : Bool → Bool → TestForms → Bool
+asked_of deciding asked no_test = asked
+asked_of deciding asked (test t ts) = deciding
+
+-- where a test of a list jumps to: where it decides the list otherwise than is asked for, behind the list
+abbrev pub aim_of : Bool → Bool → TestForms → ℕ → ℕ → ℕ
+aim_of deciding asked no_test behind target = target
+aim_of true true (test t ts) behind target = target
+aim_of false false (test t ts) behind target = target
+aim_of true false (test t ts) behind target = behind
+aim_of false true (test t ts) behind target = behind
+
+abbrev mutual
+  -- goes to the target where the test is as asked, true or false, and else on behind the code
+  pub test_code : List ℕ → ℕ → TestForm → Bool → ℕ → List Instruction
+  test_code table place (constant b) asked target = push_bool b ∷ jump_if asked target ∷ []
+  test_code table place (negation t) asked target = test_code table place t (not asked) target
+  test_code table place (all_of t ts) asked target =
+      let behind = place + (test_length t + tests_length ts) in
+      test_code table place t (asked_of false asked ts) (aim_of false asked ts behind target) ++ tests_code table (place + test_length t) ts false asked behind target
+  test_code table place (any_of t ts) asked target =
+      let behind = place + (test_length t + tests_length ts) in
+      test_code table place t (asked_of true asked ts) (aim_of true asked ts behind target) ++ tests_code table (place + test_length t) ts true asked behind target
+  test_code table place (size order number) asked target = push_size order (place_in table number) ∷ jump_if asked target ∷ []
+
+  -- the tests of a list behind its first
+  pub tests_code : List ℕ → ℕ → TestForms → Bool → Bool → ℕ → ℕ → List Instruction
+  tests_code table place no_test deciding asked behind target = []
+  tests_code table place (test t ts) deciding asked behind target =
+      test_code table place t (asked_of deciding asked ts) (aim_of deciding asked ts behind target) ++ tests_code table (place + test_length t) ts deciding asked behind target
+
+-- behind a block, to the end of the if, where another branch follows
+abbrev pub leave_code : BranchForms → ℕ → List Instruction
+leave_code no_branch end = []
+leave_code (otherwise cs) end = instruction Jump 0 end ∷ []
+leave_code (branch t cs bs) end = instruction Jump 0 end ∷ []
+
+abbrev mutual
+  pub command_code : List ℕ → ℕ → CommandForm → List Instruction
+  command_code table place keep = plain Keep ∷ []
+  command_code table place discard = plain Discard ∷ []
+  command_code table place stop = plain Halt ∷ []
+  command_code table place (choice bs) = branches_code table place bs (place + branches_length bs)
+
+  pub commands_code : List ℕ → ℕ → CommandForms → List Instruction
+  commands_code table place no_command = []
+  commands_code table place (command c cs) = command_code table place c ++ commands_code table (place + command_length c) cs
+
+  -- the branches of an if that ends at a place
+  pub branches_code : List ℕ → ℕ → BranchForms → ℕ → List Instruction
+  branches_code table place no_branch end = []
+  branches_code table place (otherwise cs) end = commands_code table place cs
+  branches_code table place (branch t cs bs) end =
+      let block = place + test_length t in
+      let next = block + commands_length cs + leave_length bs in
+      test_code table place t false next ++ commands_code table block cs ++ leave_code bs end ++ branches_code table next bs end
+
+-- the program of a script
+abbrev pub code_of : CommandForms → Code
+code_of script =
+    let table = table_of script in
+    record { version = 1; variables = 0; numbers = table; strings = []; instructions = commands_code table 0 script ++ plain Halt ∷ [] }

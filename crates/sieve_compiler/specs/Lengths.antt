@@ -1,0 +1,38 @@
+-- How many instructions the code of each piece has.
+use Rattle.std.specs.Prelude.{ℕ, ◌+◌}
+use Rattle.sieve_check.specs.Typed.{TestForm, constant, negation, all_of, any_of, size, TestForms, no_test, test, CommandForm, keep, discard, stop, choice, CommandForms, no_command, command, BranchForms, no_branch, otherwise, branch}
+
+abbrev mutual
+  -- a simple test is one instruction and its jump
+  pub test_length : TestForm → ℕ
+  test_length (constant b) = 2
+  test_length (negation t) = test_length t
+  test_length (all_of t ts) = test_length t + tests_length ts
+  test_length (any_of t ts) = test_length t + tests_length ts
+  test_length (size order number) = 2
+
+  pub tests_length : TestForms → ℕ
+  tests_length no_test = 0
+  tests_length (test t ts) = test_length t + tests_length ts
+
+-- the jump behind a block: where nothing follows there is none
+abbrev pub leave_length : BranchForms → ℕ
+leave_length no_branch = 0
+leave_length (otherwise cs) = 1
+leave_length (branch t cs bs) = 1
+
+abbrev mutual
+  pub command_length : CommandForm → ℕ
+  command_length keep = 1
+  command_length discard = 1
+  command_length stop = 1
+  command_length (choice bs) = branches_length bs
+
+  pub commands_length : CommandForms → ℕ
+  commands_length no_command = 0
+  commands_length (command c cs) = command_length c + commands_length cs
+
+  pub branches_length : BranchForms → ℕ
+  branches_length no_branch = 0
+  branches_length (otherwise cs) = commands_length cs
+  branches_length (branch t cs bs) = test_length t + commands_length cs + leave_length bs + branches_length bs

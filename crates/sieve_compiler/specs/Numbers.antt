@@ -1,0 +1,47 @@
+-- The numbers of a script: each once, in the order of their first use.
+use Rattle.std.specs.Prelude.{ℕ, zero, suc, ◌==◌, not, filter, List, [], ◌∷◌, ◌++◌, if◌then◌else◌}
+use Rattle.sieve_check.specs.Typed.{TestForm, constant, negation, all_of, any_of, size, TestForms, no_test, test, CommandForm, keep, discard, stop, choice, CommandForms, no_command, command, BranchForms, no_branch, otherwise, branch}
+
+abbrev mutual
+  -- the numbers of a test as they stand in it
+  pub test_numbers : TestForm → List ℕ
+  test_numbers (constant b) = []
+  test_numbers (negation t) = test_numbers t
+  test_numbers (all_of t ts) = test_numbers t ++ tests_numbers ts
+  test_numbers (any_of t ts) = test_numbers t ++ tests_numbers ts
+  test_numbers (size order number) = number ∷ []
+
+  pub tests_numbers : TestForms → List ℕ
+  tests_numbers no_test = []
+  tests_numbers (test t ts) = test_numbers t ++ tests_numbers ts
+
+abbrev mutual
+  -- the numbers of commands as they stand in them
+  pub command_numbers : CommandForm → List ℕ
+  command_numbers keep = []
+  command_numbers discard = []
+  command_numbers stop = []
+  command_numbers (choice bs) = branches_numbers bs
+
+  pub commands_numbers : CommandForms → List ℕ
+  commands_numbers no_command = []
+  commands_numbers (command c cs) = command_numbers c ++ commands_numbers cs
+
+  pub branches_numbers : BranchForms → List ℕ
+  branches_numbers no_branch = []
+  branches_numbers (otherwise cs) = commands_numbers cs
+  branches_numbers (branch t cs bs) = test_numbers t ++ commands_numbers cs ++ branches_numbers bs
+
+-- each number once, at its first place
+abbrev pub distinct : List ℕ → List ℕ
+distinct [] = []
+distinct (n ∷ ns) = n ∷ filter (λ m. not (m == n)) (distinct ns)
+
+-- the table of numbers of a script
+abbrev pub table_of : CommandForms → List ℕ
+table_of script = distinct (commands_numbers script)
+
+-- the first place of a number in a table
+abbrev pub place_in : List ℕ → ℕ → ℕ
+place_in [] n = 0
+place_in (m ∷ ms) n = if m == n then 0 else suc (place_in ms n)

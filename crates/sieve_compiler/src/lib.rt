@@ -1,0 +1,4 @@
+//! The compiler: a checked script as a program.
+//!
+//! The program is exactly the code of `specs/Coding`.
+#![tactic(auto)]
