@@ -1,0 +1,180 @@
+-- The code of a script is accepted.
+use Rattle.std.proofs.Common.{◌≡◌, ℕ, zero, suc, ◌+◌, ◌-◌, ◌<◌, ◌≤◌, Bool, true, false, not, ◌&&◌, ◌||◌, ◌==◌, nat_le, List, [], ◌∷◌, ◌++◌, Option, Some, None, is_some, is_none, if◌then◌else◌, slice_get, get_or, length, refl, sym, ap, subst, ◌∙◌, inl, inr, arith}
+use Rattle.std.proofs.lemmas.Bool.{cases_Bool, cases_lt, cases_eq, eqb-true, ne_eqb, lt-leb}
+use Rattle.std.proofs.lemmas.List.{length-append, append-nil}
+use Rattle.std.proofs.Math.Bool.{and-false}
+use Rattle.std.proofs.lemmas.Option.{slice_get_within, slice_get-get_or}
+use Rattle.bytecode_format.specs.declared.instruction.Instruction.{Instruction}
+use Rattle.bytecode_format.specs.declared.operation.Operation.{Operation}
+use Rattle.bytecode_format.specs.declared.operation.Operation.TheVariants.{Halt, Bool as BoolOp, Not, Jump, JumpIfTrue, JumpIfFalse, Size, Keep, Discard}
+use Rattle.bytecode_format.specs.Operations.{operation_of}
+use Rattle.bytecode_format.specs.Code.{Code}
+use Rattle.bytecode_verifier.specs.declared.shape.Entry.TheVariants.{Truth}
+use Rattle.bytecode_verifier.specs.Acceptance.{IsAccepted}
+use Rattle.bytecode_verifier.specs.Form.{is_well_formed}
+use Rattle.bytecode_verifier.specs.Loops.{loops, same_loops}
+use Rattle.bytecode_verifier.specs.Places.{holds_at}
+use Rattle.bytecode_verifier.specs.Rules.{misses_index, is_halt, breaks_index, breaks_form, breaks_end, breaks_loop, breaks_jump, breaks_no_part, breaks_stack}
+use Rattle.bytecode_verifier.specs.Shape.{Entries, is_empty, is_jump, is_target, shape_after, shape_behind, shape_beyond, shape_at}
+use Rattle.bytecode_verifier.proofs.Ends.{nowhere, past_stack}
+use Rattle.bytecode_verifier.proofs.Loopless.{needs_no_part, misses_no_loop, no_loops}
+use Rattle.sieve_check.specs.Typed.{CommandForms}
+use Rattle.sieve_compiler.specs.Lengths.{commands_length}
+use Rattle.sieve_compiler.specs.Numbers.{commands_numbers, table_of}
+use Rattle.sieve_compiler.specs.Coding.{plain, commands_code, code_of}
+use Rattle.sieve_compiler.proofs.Standing.{Stands, stands_right, stands_first}
+use Rattle.sieve_compiler.proofs.CodeLengths.{commands_code_length}
+use Rattle.sieve_compiler.proofs.Table.{distinct_has}
+use Rattle.sieve_compiler.proofs.Sound.{pushes, takes, is_emitted, pushes_at, follows_push, IsAimed, IsSound, AreSound, sound_both, plain_sound, commands_end, commands_sound}
+
+sound_at : (all : List Instruction) (table : List ℕ) (last place : ℕ) (piece : List Instruction) (k : ℕ) (i : Instruction) → AreSound all table last place piece → slice_get piece k ≡ Some i → IsSound all table last (place + k) i
+sound_at all table last place [] k i h e = absurd (cc)
+sound_at all table last place (j ∷ piece) zero i h e =
+    let same : j ≡ i = cc in
+    let here : place ≡ place + 0 = omega arith in
+    subst (λ p. IsSound all table last p i) here (subst (λ x. IsSound all table last place x) same h.0)
+sound_at all table last place (j ∷ piece) (suc k) i h e =
+    let here : suc place + k ≡ place + suc k = omega arith in
+    subst (λ p. IsSound all table last p i) here (sound_at all table last (suc place) piece k i h.1 e)
+
+index_kept : (code : Code) (o : Option Operation) (i : Instruction) → (o ≡ Some Size → i.c < length code.numbers) → misses_index code o i ≡ false
+index_kept code (Some Size) i h = let lt = h refl in lt-leb (length code.numbers) i.c lt
+index_kept code _ i h = refl
+
+-- what stands on the stack where a truth value was left, or not
+abbrev left : Bool → Entries
+left true = Truth ∷ []
+left false = []
+
+shape_kept : (code : Code) (targeted : Bool) (o : Option Operation) (i : Instruction) → is_emitted o ≡ true → (targeted && takes o) ≡ false → shape_behind code targeted o i (left (takes o)) ≡ Some (left (pushes o))
+shape_kept code true (Some Halt) i h e = refl
+shape_kept code false (Some Halt) i h e = refl
+shape_kept code true (Some BoolOp) i h e = refl
+shape_kept code false (Some BoolOp) i h e = refl
+shape_kept code true (Some Jump) i h e = refl
+shape_kept code false (Some Jump) i h e = refl
+shape_kept code true (Some JumpIfTrue) i h e = absurd (cc)
+shape_kept code false (Some JumpIfTrue) i h e = refl
+shape_kept code true (Some JumpIfFalse) i h e = absurd (cc)
+shape_kept code false (Some JumpIfFalse) i h e = refl
+shape_kept code true (Some Size) i h e = refl
+shape_kept code false (Some Size) i h e = refl
+shape_kept code true (Some Keep) i h e = refl
+shape_kept code false (Some Keep) i h e = refl
+shape_kept code true (Some Discard) i h e = refl
+shape_kept code false (Some Discard) i h e = refl
+shape_kept code targeted _ i h e = absurd (cc)
+
+goes_on : (before after : Option Entries) (entries : Entries) → after ≡ Some entries → (is_some before && is_none after) ≡ false
+goes_on before after entries e = rw e (and-false (is_some before))
+
+-- no jump leads to where a truth value is left
+no_target : (all : List Instruction) (table : List ℕ) (last from : ℕ) (piece : List Instruction) (place : ℕ) → AreSound all table last from piece → follows_push all place ≡ true → is_target piece place ≡ false
+no_target all table last from [] place h left_there = refl
+no_target all table last from (i ∷ piece) place h left_there =
+    let rest = no_target all table last (suc from) piece place h.1 left_there in
+    elim (cases_Bool (is_jump (operation_of i.op))) [
+      | inl jump ↦
+          let elsewhere : (i.c ≡ place → ⊥) = (λ (same : i.c ≡ place). let both : false ≡ true = sym (h.0.jump jump).between ∙ ap (follows_push all) same ∙ left_there in absurd (cc)) in
+          rw (jump, ne_eqb i.c place elsewhere) rest
+      | inr none ↦ rw none rest
+    ]
+
+module _ (script : CommandForms) where
+  abbrev code : Code
+  code = code_of script
+
+  abbrev all : List Instruction
+  all = code.instructions
+
+  abbrev last : ℕ
+  last = commands_length script
+
+  abbrev body : List Instruction
+  body = commands_code code.numbers 0 script
+
+  body_stands : Stands all 0 body
+  body_stands = (plain Halt ∷ [], refl)
+
+  body_ends : follows_push all last ≡ false
+  body_ends = let same : 0 + last ≡ last = omega arith in subst (λ p. follows_push all p ≡ false) same (commands_end all code.numbers last script 0 body_stands refl)
+
+  halt_stands : Stands all (0 + last) (plain Halt ∷ [])
+  halt_stands = stands_right all 0 last body (plain Halt ∷ []) (commands_code_length code.numbers script 0) ([], sym (append-nil all))
+
+  pub halt_at : slice_get all last ≡ Some (plain Halt)
+  halt_at = let same : 0 + last ≡ last = omega arith in subst (λ p. slice_get all p ≡ Some (plain Halt)) same (stands_first all (0 + last) (plain Halt) [] halt_stands)
+
+  pub code_length : length all ≡ suc last
+  code_length = let sum = length-append body (plain Halt ∷ []) in let own = commands_code_length code.numbers script 0 in omega (arith, sum, own)
+
+  all_sound : AreSound all code.numbers last 0 all
+  all_sound =
+      let le : 0 + last ≤ last = omega arith in
+      let halt = plain_sound all code.numbers last (0 + last) Halt refl refl refl (λ e. absurd (cc)) refl refl (commands_end all code.numbers last script 0 body_stands refl) in
+      sound_both all code.numbers last body (plain Halt ∷ []) 0 last (commands_code_length code.numbers script 0) (commands_sound all code.numbers last script 0 body_stands (distinct_has (commands_numbers script)) refl le) (halt, tt)
+
+  pub sound : (place : ℕ) (i : Instruction) → slice_get all place ≡ Some i → IsSound all code.numbers last place i
+  sound place i e = let same : 0 + place ≡ place = omega arith in subst (λ p. IsSound all code.numbers last p i) same (sound_at all code.numbers last 0 all place i all_sound e)
+
+  shape_known : (place : ℕ) → place ≤ length all → shape_at code place ≡ Some (left (follows_push all place))
+  shape_known zero le = refl
+  shape_known (suc place) le =
+      let before = shape_known place (omega (arith, le)) in
+      let here = slice_get-get_or all place (plain Halt) (omega (arith, le)) in
+      let i = get_or all place (plain Halt) in
+      let s = sound place i here in
+      let free : (is_target all place && takes (operation_of i.op)) ≡ false =
+          elim (cases_Bool (takes (operation_of i.op))) [
+            | inl taken ↦ rw (no_target all code.numbers last 0 all place all_sound (s.stack ∙ taken)) refl
+            | inr none ↦ rw none (and-false (is_target all place))
+          ] in
+      let kept = shape_kept code (is_target all place) (operation_of i.op) i s.emitted free in
+      rw (before, here, s.stack) kept
+
+  known_index : (place : ℕ) (i : Instruction) → slice_get all place ≡ Some i → operation_of i.op ≡ Some Size → i.c < length code.numbers
+  known_index place i e size = let n = (sound place i e).index size in slice_get_within code.numbers i.c n.0 n.1
+
+  formed : (place : ℕ) → breaks_form code place ≡ false
+  formed place = nowhere code place _ (λ i e. ap not (sound place i e).form)
+
+  pub loopless : loops code ≡ []
+  loopless = no_loops code formed
+
+  ended : (place : ℕ) → breaks_end code place ≡ false
+  ended place =
+      elim (cases_eq place (length all - 1)) [
+        | inl same ↦
+            let there : place ≡ last = omega (arith, same, code_length) in
+            let halts : holds_at code place (λ i. is_halt (operation_of i.op)) ≡ true = rw (there, halt_at) refl in
+            rw halts (and-false (place == length all - 1))
+        | inr other ↦ rw (ne_eqb place (length all - 1) other) refl
+      ]
+
+  aimed : (place : ℕ) (i : Instruction) → slice_get all place ≡ Some i → (is_jump (operation_of i.op) && (nat_le i.c place || nat_le (length all) i.c || not (same_loops code place i.c))) ≡ false
+  aimed place i e =
+      elim (cases_Bool (is_jump (operation_of i.op))) [
+        | inl jump ↦
+            let a = (sound place i e).jump jump in
+            let inside : i.c < length all = omega (arith, a.within, code_length) in
+            rw (jump, lt-leb i.c place a.forward, lt-leb (length all) i.c inside, loopless) refl
+        | inr none ↦ rw none refl
+      ]
+
+  stacked : (place : ℕ) → breaks_stack code place ≡ false
+  stacked place =
+      elim (cases_lt place (length all)) [
+        | inl lt ↦ goes_on (shape_at code place) (shape_at code (suc place)) _ (shape_known (suc place) (omega (arith, lt)))
+        | inr le ↦ past_stack code place le
+      ]
+
+  pub code_accepted : IsAccepted code
+  code_accepted = record {
+    index = λ place. nowhere code place _ (λ i e. index_kept code (operation_of i.op) i (known_index place i e));
+    form = formed;
+    end = ended;
+    loop = λ place. nowhere code place _ (λ i e. misses_no_loop code place (operation_of i.op) i (sound place i e).form);
+    jump = λ place. nowhere code place _ (aimed place);
+    no_part = λ place. nowhere code place _ (λ i e. rw (needs_no_part (operation_of i.op) i (sound place i e).form) refl);
+    stack = stacked;
+  }

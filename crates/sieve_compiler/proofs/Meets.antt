@@ -1,0 +1,264 @@
+-- The run of a script's code does what the script means.
+use Rattle.std.proofs.Common.{◌≡◌, ℕ, zero, suc, ◌+◌, ◌<◌, ◌≤◌, Bool, true, false, not, ◌&&◌, ◌||◌, List, [], ◌∷◌, ◌++◌, Option, Some, slice_get, length, refl, sym, ap, subst, ◌∙◌, arith, if◌then◌else◌}
+use Rattle.std.proofs.Math.Bool.{and-true, or-false}
+use Rattle.std.proofs.lemmas.Bool.{lt-ltb}
+use Rattle.bytecode_format.specs.declared.instruction.Instruction.{Instruction}
+use Rattle.bytecode_format.specs.declared.operation.Operation.TheVariants.{Halt, Jump, Keep, Discard}
+use Rattle.bytecode_format.specs.declared.action.Action.TheVariants as action
+use Rattle.bytecode_format.specs.Actions.{final_actions}
+use Rattle.bytecode_format.specs.Code.{Code}
+use Rattle.mime_decode.specs.Mail.{Mail}
+use Rattle.sieve_check.specs.declared.typed.Order.{Order}
+use Rattle.sieve_check.specs.declared.typed.Order.TheVariants.{Over, Under}
+use Rattle.sieve_check.specs.Typed.{TestForm, constant, negation, all_of, any_of, size, TestForms, no_test, test, CommandForm, keep, discard, stop, choice, CommandForms, no_command, command, BranchForms, no_branch, otherwise, branch}
+use Rattle.sieve_meaning.specs.Meaning.{Effects, no_effects, Ending, normal, stopped, effects_of, followed_by, is_size, holds, all_hold, any_holds, command_does, commands_do, choice_does, meaning}
+use Rattle.sieve_vm.specs.State.{truth, State, Turn, goes, ends, start}
+use Rattle.sieve_vm.specs.Machine.{is_sound_jump, step, turn_at}
+use Rattle.sieve_vm.specs.Runs.{Run, RunEnds}
+use Rattle.sieve_vm.specs.Ending.{IsOutcome}
+use Rattle.sieve_compiler.specs.Lengths.{test_length, tests_length, leave_length, command_length, commands_length, branches_length}
+use Rattle.sieve_compiler.specs.Numbers.{test_numbers, tests_numbers, command_numbers, commands_numbers, branches_numbers, place_in}
+use Rattle.sieve_compiler.specs.Coding.{plain, instruction, jump_if, push_bool, push_size, asked_of, aim_of, test_code, tests_code, leave_code, command_code, commands_code, branches_code, code_of}
+use Rattle.sieve_compiler.proofs.Standing.{Stands, stands_first, stands_next, stands_left, stands_right}
+use Rattle.sieve_compiler.proofs.CodeLengths.{test_code_length, command_code_length, commands_code_length}
+use Rattle.sieve_compiler.proofs.Table.{Has, has_left, has_right, has_itself, found, distinct_has}
+use Rattle.sieve_compiler.proofs.Sound.{IsSound, branch_parts_of}
+use Rattle.sieve_compiler.proofs.Accepted.{halt_at, sound, loopless}
+
+-- where code that was asked for a value stands behind it
+abbrev lands : Bool → Bool → ℕ → ℕ → ℕ
+lands true true target behind = target
+lands false false target behind = target
+lands true false target behind = behind
+lands false true target behind = behind
+
+-- the value of a list of tests, from that of the one before the rest
+abbrev value : Mail → Bool → Bool → TestForms → Bool
+value mail false v ts = v && all_hold mail ts
+value mail true v ts = v || any_holds mail ts
+
+aim_lands : (deciding asked : Bool) (t : TestForm) (ts : TestForms) (behind target : ℕ) → aim_of deciding asked (test t ts) behind target ≡ lands deciding asked target behind
+aim_lands true true t ts behind target = refl
+aim_lands true false t ts behind target = refl
+aim_lands false true t ts behind target = refl
+aim_lands false false t ts behind target = refl
+
+module _ (script : CommandForms) (mail : Mail) where
+  abbrev code : Code
+  code = code_of script
+
+  abbrev all : List Instruction
+  all = code.instructions
+
+  abbrev table : List ℕ
+  table = code.numbers
+
+  -- at a place where nothing is on the stack, behind these effects
+  abbrev at : ℕ → Effects → ℕ → State
+  at place e charge = record (start code) { place = place; actions = e.actions; implicit_keep = e.implicit_keep; charge = charge }
+
+  -- the same, with a truth value on the stack
+  abbrev holding : Bool → ℕ → Effects → ℕ → State
+  holding b place e charge = record (at place e charge) { stack = truth b ∷ [] }
+
+  abbrev Reaches : State → State → Type 0
+  Reaches from to = (n : ℕ) × Run code mail n from to
+
+  abbrev Goes : State → State → Type 0
+  Goes from to = step code mail from ≡ goes to
+
+  after_steps : (n : ℕ) (a b c : State) → Run code mail n a b → Reaches b c → Reaches a c
+  after_steps zero a b c e r = subst (λ s. Reaches s c) (sym e) r
+  after_steps (suc n) a b c h r = let rest = after_steps n h.0 b c h.2 r in (suc rest.0, (h.0, h.1, rest.1))
+
+  one_step : (a b : State) → Goes a b → Reaches a b
+  one_step a b h = (1, (b, h, refl))
+
+  -- from the one place and effects to the other, whatever was charged
+  abbrev Comes : ℕ → Effects → ℕ → Effects → Type 0
+  Comes p e q f = (c : ℕ) → (d : ℕ) × Reaches (at p e c) (at q f d)
+
+  comes_here : (p q : ℕ) (e : Effects) → p ≡ q → Comes p e q e
+  comes_here p q e same c = (c, (0, ap (λ n. at n e c) same))
+
+  comes_then : (p q r : ℕ) (e f g : Effects) → Comes p e q f → Comes q f r g → Comes p e r g
+  comes_then p q r e f g h k c = let a = h c in let b = k a.0 in (b.0, after_steps a.1.0 (at p e c) (at q f a.0) (at r g b.0) a.1.1 b.1)
+
+  step_at : (s : State) (i : Instruction) (turn : Turn) → slice_get all s.place ≡ Some i → turn_at code mail s (Some i) ≡ turn → step code mail s ≡ turn
+  step_at s i turn here h = ap (turn_at code mail s) here ∙ h
+
+  sound_jump : (s : State) (i : Instruction) → slice_get all s.place ≡ Some i → s.place < i.c → is_sound_jump code s i ≡ true
+  sound_jump s i here forward = rw (lt-ltb s.place i.c forward, loopless script) refl
+
+  bool_step : (p c : ℕ) (b : Bool) (e : Effects) → slice_get all p ≡ Some (push_bool b) → Goes (at p e c) (holding b (suc p) e (c + 1))
+  bool_step p c true e here = step_at (at p e c) (push_bool true) _ here refl
+  bool_step p c false e here = step_at (at p e c) (push_bool false) _ here refl
+
+  size_step : (p c : ℕ) (order : Order) (n : ℕ) (e : Effects) → Has table (n ∷ []) → slice_get all p ≡ Some (push_size order (place_in table n)) → Goes (at p e c) (holding (is_size order n mail.size) (suc p) e (c + 1))
+  size_step p c Over n e known here = step_at (at p e c) (push_size Over (place_in table n)) _ here (rw (found table n (known n (has_itself n))) refl)
+  size_step p c Under n e known here = step_at (at p e c) (push_size Under (place_in table n)) _ here (rw (found table n (known n (has_itself n))) refl)
+
+  branch_step : (p c : ℕ) (b asked : Bool) (target : ℕ) (e : Effects) → slice_get all p ≡ Some (jump_if asked target) → p < target → Goes (holding b p e c) (at (lands b asked target (suc p)) e (c + 1))
+  branch_step p c true true target e here forward = step_at (holding true p e c) (jump_if true target) _ here (rw (sound_jump (holding true p e c) (jump_if true target) here forward) refl)
+  branch_step p c true false target e here forward = step_at (holding true p e c) (jump_if false target) _ here (rw (sound_jump (holding true p e c) (jump_if false target) here forward) refl)
+  branch_step p c false true target e here forward = step_at (holding false p e c) (jump_if true target) _ here (rw (sound_jump (holding false p e c) (jump_if true target) here forward) refl)
+  branch_step p c false false target e here forward = step_at (holding false p e c) (jump_if false target) _ here (rw (sound_jump (holding false p e c) (jump_if false target) here forward) refl)
+
+  jump_step : (p c target : ℕ) (e : Effects) → slice_get all p ≡ Some (instruction Jump 0 target) → p < target → Goes (at p e c) (at target e (c + 1))
+  jump_step p c target e here forward = step_at (at p e c) (instruction Jump 0 target) _ here (rw (sound_jump (at p e c) (instruction Jump 0 target) here forward) refl)
+
+  aimed_forward : (p : ℕ) (asked : Bool) (target : ℕ) → slice_get all p ≡ Some (jump_if asked target) → p < target
+  aimed_forward p true target here = ((sound script p (jump_if true target) here).jump refl).forward
+  aimed_forward p false target here = ((sound script p (jump_if false target) here).jump refl).forward
+
+  -- a simple test and its jump
+  simple_run : (p c : ℕ) (i : Instruction) (b asked : Bool) (target : ℕ) (e : Effects) → Stands all p (i ∷ jump_if asked target ∷ []) → Goes (at p e c) (holding b (suc p) e (c + 1)) → (d : ℕ) × Reaches (at p e c) (at (lands b asked target (p + 2)) e d)
+  simple_run p c i b asked target e h first =
+      let here = stands_first all (suc p) (jump_if asked target) [] (stands_next all p i (jump_if asked target ∷ []) h) in
+      let second = branch_step (suc p) (c + 1) b asked target e here (aimed_forward (suc p) asked target here) in
+      let same : suc (suc p) ≡ p + 2 = omega arith in
+      (c + 1 + 1, (2, (holding b (suc p) e (c + 1), first, (at (lands b asked target (p + 2)) e (c + 1 + 1), subst (λ n. Goes (holding b (suc p) e (c + 1)) (at (lands b asked target n) e (c + 1 + 1))) same second, refl))))
+
+  turned : (b asked : Bool) (target behind : ℕ) → lands b (not asked) target behind ≡ lands (not b) asked target behind
+  turned true true target behind = refl
+  turned true false target behind = refl
+  turned false true target behind = refl
+  turned false false target behind = refl
+
+  -- a test goes to its target where it is as asked, and on behind its code where it isn't
+  mutual
+    test_run : (t : TestForm) (p : ℕ) (asked : Bool) (target : ℕ) (e : Effects) → Stands all p (test_code table p t asked target) → Has table (test_numbers t) → Comes p e (lands (holds mail t) asked target (p + test_length t)) e
+    test_run (constant b) p asked target e h known = λ c.
+        simple_run p c (push_bool b) b asked target e h (bool_step p c b e (stands_first all p (push_bool b) (jump_if asked target ∷ []) h))
+    test_run (size order n) p asked target e h known = λ c.
+        simple_run p c (push_size order (place_in table n)) (is_size order n mail.size) asked target e h (size_step p c order n e known (stands_first all p (push_size order (place_in table n)) (jump_if asked target ∷ []) h))
+    test_run (negation t) p asked target e h known =
+        subst (λ q. Comes p e q e) (turned (holds mail t) asked target (p + test_length t)) (test_run t p (not asked) target e h known)
+    test_run (all_of t ts) p asked target e h known =
+        let behind = p + (test_length t + tests_length ts) in
+        let same : (p + test_length t) + tests_length ts ≡ behind = omega arith in
+        let first = test_run t p _ _ e (stands_left all p _ _ h) (has_left table (test_numbers t) (tests_numbers ts) known) in
+        let there = stands_right all p (test_length t) _ _ (test_code_length table t p _ _) h in
+        let rest = tests_run ts (p + test_length t) false asked behind target (holds mail t) e there (has_right table (test_numbers t) (tests_numbers ts) known) same in
+        comes_then p _ _ e e e first rest
+    test_run (any_of t ts) p asked target e h known =
+        let behind = p + (test_length t + tests_length ts) in
+        let same : (p + test_length t) + tests_length ts ≡ behind = omega arith in
+        let first = test_run t p _ _ e (stands_left all p _ _ h) (has_left table (test_numbers t) (tests_numbers ts) known) in
+        let there = stands_right all p (test_length t) _ _ (test_code_length table t p _ _) h in
+        let rest = tests_run ts (p + test_length t) true asked behind target (holds mail t) e there (has_right table (test_numbers t) (tests_numbers ts) known) same in
+        comes_then p _ _ e e e first rest
+
+    -- from where the test before the rest has gone, by its value v
+    tests_run : (ts : TestForms) (p : ℕ) (deciding asked : Bool) (behind target : ℕ) (v : Bool) (e : Effects) → Stands all p (tests_code table p ts deciding asked behind target) → Has table (tests_numbers ts) → p + tests_length ts ≡ behind
+        → Comes (lands v (asked_of deciding asked ts) (aim_of deciding asked ts behind target) p) e (lands (value mail deciding v ts) asked target behind) e
+    tests_run no_test p false asked behind target v e h known done = comes_here _ _ e (let here : p ≡ behind = omega (arith, done) in rw (here, and-true v) refl)
+    tests_run no_test p true asked behind target v e h known done = comes_here _ _ e (let here : p ≡ behind = omega (arith, done) in rw (here, or-false v) refl)
+    tests_run (test t ts) p false asked behind target false e h known done = comes_here _ _ e (aim_lands false asked t ts behind target)
+    tests_run (test t ts) p true asked behind target true e h known done = comes_here _ _ e (aim_lands true asked t ts behind target)
+    tests_run (test t ts) p false asked behind target true e h known done =
+        let same : (p + test_length t) + tests_length ts ≡ behind = omega (arith, done) in
+        let first = test_run t p _ _ e (stands_left all p _ _ h) (has_left table (test_numbers t) (tests_numbers ts) known) in
+        let there = stands_right all p (test_length t) _ _ (test_code_length table t p _ _) h in
+        let rest = tests_run ts (p + test_length t) false asked behind target (holds mail t) e there (has_right table (test_numbers t) (tests_numbers ts) known) same in
+        comes_then p _ _ e e e first rest
+    tests_run (test t ts) p true asked behind target false e h known done =
+        let same : (p + test_length t) + tests_length ts ≡ behind = omega (arith, done) in
+        let first = test_run t p _ _ e (stands_left all p _ _ h) (has_left table (test_numbers t) (tests_numbers ts) known) in
+        let there = stands_right all p (test_length t) _ _ (test_code_length table t p _ _) h in
+        let rest = tests_run ts (p + test_length t) true asked behind target (holds mail t) e there (has_right table (test_numbers t) (tests_numbers ts) known) same in
+        comes_then p _ _ e e e first rest
+
+  -- where commands lead that begin at a place, by how they end
+  abbrev Arrives : Ending → ℕ → ℕ → Effects → Type 0
+  Arrives (normal f) p q e = Comes p e q f
+  Arrives (stopped f) p q e = (r : ℕ) × Comes p e r f × (slice_get all r ≡ Some (plain Halt))
+
+  arrives_after : (x : Ending) (p q r : ℕ) (e f : Effects) → Comes p e q f → Arrives x q r f → Arrives x p r e
+  arrives_after (normal g) p q r e f h k = comes_then p q r e f g h k
+  arrives_after (stopped g) p q r e f h k = (k.0, comes_then p q k.0 e f g h k.1, k.2)
+
+  arrives_then : (x : Ending) (next : Effects → Ending) (p q r : ℕ) (e : Effects) → Arrives x p q e → ((f : Effects) → Arrives (next f) q r f) → Arrives (followed_by x next) p r e
+  arrives_then (normal f) next p q r e h k = arrives_after (next f) p q r e f h (k f)
+  arrives_then (stopped f) next p q r e h k = h
+
+  arrives_at : (x : Ending) (p q r : ℕ) (e : Effects) → ((f : Effects) → Comes q f r f) → Arrives x p q e → Arrives x p r e
+  arrives_at (normal f) p q r e go h = comes_then p q r e f f h (go f)
+  arrives_at (stopped f) p q r e go h = h
+
+  keep_run : (p : ℕ) (e : Effects) → slice_get all p ≡ Some (plain Keep) → Comes p e (p + 1) (record { actions = e.actions ++ action.Keep ∷ []; implicit_keep = false })
+  keep_run p e here c =
+      let f : Effects = record { actions = e.actions ++ action.Keep ∷ []; implicit_keep = false } in
+      let same : suc p ≡ p + 1 = omega arith in
+      let step_here : Goes (at p e c) (at (suc p) f (c + 1)) = step_at (at p e c) (plain Keep) _ here refl in
+      (c + 1, one_step (at p e c) (at (p + 1) f (c + 1)) (subst (λ n. Goes (at p e c) (at n f (c + 1))) same step_here))
+
+  discard_run : (p : ℕ) (e : Effects) → slice_get all p ≡ Some (plain Discard) → Comes p e (p + 1) (record e { implicit_keep = false })
+  discard_run p e here c =
+      let f : Effects = record e { implicit_keep = false } in
+      let same : suc p ≡ p + 1 = omega arith in
+      let step_here : Goes (at p e c) (at (suc p) f (c + 1)) = step_at (at p e c) (plain Discard) _ here refl in
+      (c + 1, one_step (at p e c) (at (p + 1) f (c + 1)) (subst (λ n. Goes (at p e c) (at n f (c + 1))) same step_here))
+
+  leave_run : (bs : BranchForms) (p end : ℕ) (e : Effects) → Stands all p (leave_code bs end) → p + leave_length bs + branches_length bs ≡ end → Comes p e end e
+  leave_run no_branch p end e h done = let same : p ≡ end = omega (arith, done) in comes_here p end e same
+  leave_run (otherwise cs) p end e h done = λ c. (c + 1, one_step (at p e c) (at end e (c + 1)) (jump_step p c end e (stands_first all p _ [] h) (omega (arith, done))))
+  leave_run (branch t cs bs) p end e h done = λ c. (c + 1, one_step (at p e c) (at end e (c + 1)) (jump_step p c end e (stands_first all p _ [] h) (omega (arith, done))))
+
+  -- the branch that the test decides for
+  decided : (b : Bool) (x y : Ending) (p block next end : ℕ) (e : Effects) → Comes p e (lands b false next block) e → Arrives x block end e → Arrives y next end e → Arrives (if b then x else y) p end e
+  decided true x y p block next end e go h k = arrives_after x p block end e e go h
+  decided false x y p block next end e go h k = arrives_after y p next end e e go k
+
+  mutual
+    command_run : (c : CommandForm) (p : ℕ) (e : Effects) → Stands all p (command_code table p c) → Has table (command_numbers c) → Arrives (command_does mail c e) p (p + command_length c) e
+    command_run keep p e h known = keep_run p e (stands_first all p _ [] h)
+    command_run discard p e h known = discard_run p e (stands_first all p _ [] h)
+    command_run stop p e h known = (p, comes_here p p e refl, stands_first all p _ [] h)
+    command_run (choice bs) p e h known = branches_run bs p (p + branches_length bs) e h known refl
+
+    commands_run : (cs : CommandForms) (p : ℕ) (e : Effects) → Stands all p (commands_code table p cs) → Has table (commands_numbers cs) → Arrives (commands_do mail cs e) p (p + commands_length cs) e
+    commands_run no_command p e h known = let same : p ≡ p + 0 = omega arith in comes_here p (p + 0) e same
+    commands_run (command c cs) p e h known =
+        let same : p + command_length c + commands_length cs ≡ p + (command_length c + commands_length cs) = omega arith in
+        let first = command_run c p e (stands_left all p _ _ h) (has_left table (command_numbers c) (commands_numbers cs) known) in
+        let there = stands_right all p (command_length c) _ _ (command_code_length table c p) h in
+        arrives_then (command_does mail c e) (λ f. commands_do mail cs f) p (p + command_length c) _ e first
+            (λ f. subst (λ q. Arrives (commands_do mail cs f) (p + command_length c) q f) same (commands_run cs (p + command_length c) f there (has_right table (command_numbers c) (commands_numbers cs) known)))
+
+    branches_run : (bs : BranchForms) (p end : ℕ) (e : Effects) → Stands all p (branches_code table p bs end) → Has table (branches_numbers bs) → p + branches_length bs ≡ end → Arrives (choice_does mail bs e) p end e
+    branches_run no_branch p end e h known done = let same : p ≡ end = omega (arith, done) in comes_here p end e same
+    branches_run (otherwise cs) p end e h known done = subst (λ q. Arrives (commands_do mail cs e) p q e) done (commands_run cs p e h known)
+    branches_run (branch t cs bs) p end e h known done =
+        let block = p + test_length t in
+        let leave = block + commands_length cs in
+        let next = leave + leave_length bs in
+        let same : next + branches_length bs ≡ end = omega (arith, done) in
+        let numbers = has_left table (test_numbers t ++ commands_numbers cs) (branches_numbers bs) known in
+        let parts = branch_parts_of all table t cs bs p end h in
+        let tested = test_run t p false next e parts.test (has_left table (test_numbers t) (commands_numbers cs) numbers) in
+        let inner = commands_run cs block e parts.block (has_right table (test_numbers t) (commands_numbers cs) numbers) in
+        let taken = arrives_at (commands_do mail cs e) block leave end e (λ f. leave_run bs leave end f parts.leave same) inner in
+        let others = branches_run bs next end e parts.rest (has_right table (test_numbers t ++ commands_numbers cs) (branches_numbers bs) known) same in
+        decided (holds mail t) (commands_do mail cs e) (choice_does mail bs e) p block next end e tested taken others
+
+  halted : (p : ℕ) (e : Effects) (c : ℕ) → slice_get all p ≡ Some (plain Halt) → step code mail (at p e c) ≡ ends (at p e (c + 1))
+  halted p e c here = step_at (at p e c) (plain Halt) _ here refl
+
+  ends_with : (p : ℕ) (f : Effects) → Comes 0 no_effects p f → slice_get all p ≡ Some (plain Halt) → (charged : ℕ) × IsOutcome code mail (final_actions f.actions f.implicit_keep) charged
+  ends_with p f go here =
+      let r = go 0 in
+      (r.0 + 1, record {
+        end = at p f (r.0 + 1);
+        over = record { steps = r.1.0; last = at p f r.0; run = r.1.1; halts = halted p f r.0 here };
+        actions_are = refl;
+        charge_is = refl;
+      })
+
+  outcome : (x : Ending) → Arrives x 0 (0 + commands_length script) no_effects → (charged : ℕ) × IsOutcome code mail (final_actions (effects_of x).actions (effects_of x).implicit_keep) charged
+  outcome (normal f) h = let same : 0 + commands_length script ≡ commands_length script = omega arith in ends_with (0 + commands_length script) f h (ap (slice_get all) same ∙ halt_at script)
+  outcome (stopped f) h = ends_with h.0 f h.1 h.2
+
+  -- the run of the code ends with the final actions of the meaning
+  pub code_means : (charged : ℕ) × IsOutcome code mail (meaning mail script) charged
+  code_means = outcome (commands_do mail script no_effects) (commands_run script 0 no_effects (plain Halt ∷ [], refl) (distinct_has (commands_numbers script)))
