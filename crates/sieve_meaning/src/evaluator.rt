@@ -4,7 +4,7 @@ ghost use Rattle.std.specs.Prelude.{◌≡◌, IfOk};
 use crate::tests_hold::is_true;
 use bytecode_format::{Action, ActionList};
 use mime_decode::Message;
-use sieve_check::Command;
+use sieve_check::{Checked, Command};
 use std::alloc::{AllocError, Global};
 
 /// What was done so far.
@@ -104,4 +104,17 @@ pub fn eval_commands(
     let mut evaluator = Evaluator::new(alloc);
     let _flow = evaluator.commands(commands, message)?;
     evaluator.actions.into_final(evaluator.implicit_keep)
+}
+
+/// The final actions of the script on the message: exactly those of the meaning.
+///
+/// An error comes only where memory was refused.
+pub fn plain_eval(
+    alloc: Global,
+    checked: &Checked,
+    message: &Message<'_>,
+) -> Result<Vec<Action>, AllocError>
+    ensures { IfOk result (λ actions. actions.items ≡ meaning message.now (commands_form checked.now.commands)) }
+{
+    eval_commands(alloc, checked.commands(), message)
 }

@@ -1,10 +1,10 @@
 //! What scripts mean.
 //!
 //! `specs/Meaning` says it, by recursion on the typed form of a script; there is no stack, place or jump in
-//! it. [`eval_commands`] answers exactly the final actions of the meaning.
+//! it. [`plain_eval`] answers exactly the final actions of the meaning.
 #![tactic(auto)]
 
 mod evaluator;
 mod tests_hold;
 
-pub use evaluator::eval_commands;
+pub use evaluator::{eval_commands, plain_eval};

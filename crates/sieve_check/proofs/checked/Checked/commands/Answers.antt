@@ -1,0 +1,13 @@
+use Rattle.std.proofs.Common.{◌≤◌, subst}
+use Rattle.sieve_parser.specs.View.{commands_tree}
+use Rattle.sieve_check.specs.CheckedScript.{CheckedScript}
+use Rattle.sieve_check.specs.Extent.{commands_extent}
+use Rattle.sieve_check.specs.TypedView.{commands_form}
+use Rattle.sieve_check.proofs.Extent.{script_form_fits}
+use Rattle.sieve_check.proofs.checked.Checked.commands.Goals as goal
+
+pub returns-clause-extent : goal.returns-clause-extent
+returns-clause-extent c =
+    let is = c.self.invariant in
+    subst (λ (checked : CheckedScript). commands_extent (commands_form checked.commands) ≤ 65536) c.self.view_is
+    (script_form_fits (commands_tree c.self.inside.script) (commands_form c.self.inside.commands.items) is.tree is.form)

@@ -1,0 +1,56 @@
+// Scripts that were checked.
+ghost use Rattle.std.specs.Prelude.{◌≡◌, ◌≤◌, None};
+ghost use Rattle.sieve_parser.specs.Scripts.{IsTree};
+ghost use Rattle.sieve_parser.specs.View.{commands_tree};
+ghost use Rattle.sieve_check.specs.Extent.{commands_extent};
+ghost use Rattle.sieve_check.specs.FormOf.{IsFormOf};
+ghost use Rattle.sieve_check.specs.Rules.{fault_of};
+ghost use Rattle.sieve_check.specs.TypedView.{commands_form};
+
+use crate::typed::Command;
+use sieve_parser::Script;
+use std::marker::Model;
+
+/// A script that was checked, with its typed form. A contract sees the commands of both.
+#[derive(Debug, Drop)]
+pub struct Checked {
+    script: Script,
+    commands: Vec<Command>,
+}
+
+impl Model for Checked {
+    ghost use Rattle.sieve_check.specs.CheckedScript.{CheckedScript};
+    ghost use Rattle.std.specs.Coded.{codes};
+    ghost use Rattle.sieve_parser.specs.contracts.tree.Command as tree;
+    ghost use Rattle.sieve_check.specs.contracts.typed.Command as typed;
+
+    ghost Value = { CheckedScript };
+
+    ghost coded = { Prim.hlevel (codes, tree.the_row.coded, typed.the_row.coded) };
+
+    ghost use Rattle.sieve_check.specs.CheckedScript.{IsChecked};
+
+    ghost view = { λ c. record { script = c.script; commands = c.commands.items } };
+
+    ghost invariant = { λ c. IsChecked (record { script = c.script; commands = c.commands.items }) };
+}
+
+impl Checked {
+    /// The script that was checked.
+    pub fn script(&self) -> &Script
+        ensures value { result.now ≡ self.now.script }
+        ensures tree { IsTree (commands_tree self.now.script) }
+        ensures faultless { fault_of (commands_tree self.now.script) ≡ None }
+    {
+        &self.script
+    }
+
+    /// Its typed form.
+    pub fn commands(&self) -> &[Command]
+        ensures value { result.now ≡ self.now.commands }
+        ensures form { IsFormOf (commands_tree self.now.script) (commands_form self.now.commands) }
+        ensures extent { commands_extent (commands_form self.now.commands) ≤ 65536 }
+    {
+        &self.commands
+    }
+}

@@ -1,0 +1,71 @@
+// Why a script isn't accepted.
+ghost use Rattle.std.specs.Prelude.{◌≡◌};
+ghost use Rattle.sieve_check.specs.declared.error.CheckError.TheVariants.{Memory};
+ghost use Rattle.sieve_check.specs.Refusals.{refusal};
+
+use std::alloc::{AllocError, AllocFailed};
+use thiserror::Error;
+
+/// What is wrong with a command or test, from the least number to the greatest.
+#[derive(Clone, Copy, Debug, PartialEq, Eq)]
+pub enum Fault {
+    UnknownCommand,
+    MissingCapability,
+    UnknownCapability,
+    BadArguments,
+    Limit,
+}
+
+/// Why a script isn't accepted. A place is the number of an identifier's token.
+#[derive(Debug, Drop, Error)]
+pub enum CheckError {
+    /// A growth was refused.
+    #[error("refused 1 Memory")]
+    Memory,
+    /// A command or test of this name isn't known (RFC 5228, section 2.10.5).
+    #[error("refused 15 UnknownCommand at {place}")]
+    UnknownCommand { place: usize },
+    /// The command or test needs a capability that wasn't required (RFC 5228, section 2.10.5).
+    #[error("refused 16 MissingCapability at {place}")]
+    MissingCapability { place: usize },
+    /// `require` names a capability that isn't known (RFC 5228, section 3.2).
+    #[error("refused 17 UnknownCapability at {place}")]
+    UnknownCapability { place: usize },
+    /// The command or test stands at a wrong place, or with other arguments, tests or another end than it takes.
+    #[error("refused 18 BadArguments at {place}")]
+    BadArguments { place: usize },
+    /// A string of the command or test has more octets than the limit.
+    #[error("refused 19 Limit at {place}")]
+    Limit { place: usize },
+}
+
+impl From<AllocError> for CheckError {
+    ghost from_gives = { λ _ e. e ≡ Memory };
+
+    fn from(_: AllocError) -> CheckError {
+        CheckError::Memory
+    }
+}
+
+impl<T: Drop> From<AllocFailed<T>> for CheckError {
+    ghost from_gives = { λ _ e. e ≡ Memory };
+
+    fn from(_: AllocFailed<T>) -> CheckError {
+        CheckError::Memory
+    }
+}
+
+impl Fault {
+    /// The fault of the command or test whose identifier is the token at the place.
+    pub fn at(self, place: usize) -> CheckError
+        ensures { result ≡ refusal place self }
+    {
+        match self {
+            Fault::UnknownCommand => CheckError::UnknownCommand { place },
+            Fault::MissingCapability => CheckError::MissingCapability { place },
+            Fault::UnknownCapability => CheckError::UnknownCapability { place },
+            Fault::BadArguments => CheckError::BadArguments { place },
+            Fault::Limit => CheckError::Limit { place },
+        }
+    }
+}
