@@ -2,3 +2,5 @@
 //!
 //! The program is exactly the code of `specs/Coding`.
 #![tactic(auto)]
+
+mod lengths;
