@@ -1,1 +1,3 @@
 pub mod TableLemmas
+pub mod Walks
+pub mod NumberingLemmas

@@ -71,3 +71,59 @@ listed_kept table n listed = sym (rw listed refl)
 
 pub unlisted_added : (table : List ℕ) (n : ℕ) → is_listed n table ≡ false → table ++ n ∷ [] ≡ with_number table n
 unlisted_added table n fresh = sym (rw fresh refl)
+
+-- numbers behind others
+pub numbers_behind : (table ms ns : List ℕ) → with_numbers table (ms ++ ns) ≡ with_numbers (with_numbers table ms) ns
+numbers_behind table [] ns = refl
+numbers_behind table (m ∷ ms) ns = numbers_behind (with_number table m) ms ns
+
+-- without the numbers that equal x, a list still lists those that don't
+others_step : (x n m : ℕ) (b : Bool) (kept all : List ℕ) → (m == x) ≡ b → (x == n) ≡ false → is_listed n kept ≡ is_listed n all → is_listed n (cond (not b) (m ∷ kept) kept) ≡ is_listed n (m ∷ all)
+others_step x n m false kept all e differs same = ap (λ d. (m == n) || d) same
+others_step x n m true kept all e differs same =
+    let apart : (m == n) ≡ false = ap (λ y. y == n) (eqb-true m x e) ∙ differs in
+    same ∙ sym (ap (λ b. b || is_listed n all) apart)
+
+listed_others : (x n : ℕ) (ms : List ℕ) → (x == n) ≡ false → is_listed n (filter (λ m. not (m == x)) ms) ≡ is_listed n ms
+listed_others x n [] differs = refl
+listed_others x n (m ∷ ms) differs = others_step x n m (m == x) (filter (λ k. not (k == x)) ms) ms refl differs (listed_others x n ms differs)
+
+turned : (a b : ℕ) → (a == b) ≡ (b == a)
+turned a b = grind (arith, nat_tests)
+
+-- behind a first number x: b says whether x equals the new number, d whether the new number is listed
+push_step : (x n : ℕ) (table : List ℕ) (b d : Bool) → (x == n) ≡ b → is_listed n table ≡ d
+    → x ∷ filter (λ m. not (m == x)) (cond d table (table ++ n ∷ [])) ≡ with_number (x ∷ filter (λ m. not (m == x)) table) n
+push_step x n table true true e f = sym (rw e refl)
+push_step x n table false true e f =
+    let still : is_listed n (filter (λ m. not (m == x)) table) ≡ true = listed_others x n table e ∙ f in
+    sym (rw (e, still) refl)
+push_step x n table true false e f =
+    let same : (n == x) ≡ true = turned n x ∙ e in
+    let dropped : filter (λ m. not (m == x)) (table ++ n ∷ []) ≡ filter (λ m. not (m == x)) table =
+    filter-append (λ m. not (m == x)) table (n ∷ []) ∙ rw same (append-nil (filter (λ m. not (m == x)) table)) in
+    ap (λ (l : List ℕ). x ∷ l) dropped ∙ sym (rw e refl)
+push_step x n table false false e f =
+    let apart : (n == x) ≡ false = turned n x ∙ e in
+    let still : is_listed n (filter (λ m. not (m == x)) table) ≡ false = listed_others x n table e ∙ f in
+    let kept : filter (λ m. not (m == x)) (table ++ n ∷ []) ≡ filter (λ m. not (m == x)) table ++ n ∷ [] =
+    filter-append (λ m. not (m == x)) table (n ∷ []) ∙ rw apart refl in
+    ap (λ (l : List ℕ). x ∷ l) kept ∙ sym (rw (e, still) refl)
+
+-- one more number at the end
+distinct_push : (ns : List ℕ) (n : ℕ) → distinct (ns ++ n ∷ []) ≡ with_number (distinct ns) n
+distinct_push [] n = refl
+distinct_push (x ∷ xs) n =
+    ap (λ (l : List ℕ). x ∷ filter (λ m. not (m == x)) l) (distinct_push xs n)
+    ∙ push_step x n (distinct xs) (x == n) (is_listed n (distinct xs)) refl refl
+
+distinct_behind : (ms ns : List ℕ) → with_numbers (distinct ms) ns ≡ distinct (ms ++ ns)
+distinct_behind ms [] = sym (ap distinct (append-nil ms))
+distinct_behind ms (n ∷ ns) =
+    ap (λ l. with_numbers l ns) (sym (distinct_push ms n))
+    ∙ distinct_behind (ms ++ n ∷ []) ns
+    ∙ ap distinct (append_assoc ms (n ∷ []) ns)
+
+-- numbers added one by one are the different ones
+pub all_added : (ns : List ℕ) → with_numbers [] ns ≡ distinct ns
+all_added ns = distinct_behind [] ns

@@ -4,4 +4,5 @@
 #![tactic(auto)]
 
 mod lengths;
+mod numbering;
 mod numbers;
