@@ -1,3 +1,6 @@
 pub mod TableLemmas
 pub mod Walks
 pub mod NumberingLemmas
+pub mod Places
+pub mod PuttingLemmas
+pub mod Leftovers

@@ -2,3 +2,4 @@ pub mod Lengths
 pub mod Numbers
 pub mod Coding
 pub mod Table
+pub mod Putting

@@ -1,0 +1,161 @@
+// The second pass over a script: its code.
+ghost use Rattle.std.specs.Prelude.{◌≡◌, ◌<◌, ◌^◌, length};
+
+use crate::instructions::{Exit, instruction, jump_if, push_bool, push_size};
+use crate::lengths::{command_length, commands_length, is_left, test_length, tests_length};
+use crate::numbers::Numbers;
+use bytecode_format::{Instruction, Operation};
+use sieve_check::{Branch, Command, Test};
+use std::alloc::{AllocError, Global};
+
+/// The code so far, and the numbers of the whole script.
+#[derive(Drop)]
+pub struct Coder<'a> {
+    pub numbers: &'a Numbers,
+    pub instructions: Vec<Instruction>,
+    ghost few: { length numbers.now < 2 ^ 32 },
+}
+
+/// How a list of tests jumps.
+#[derive(Clone, Copy)]
+pub struct ListExit {
+    /// The value of a test that decides the list: false for `allof`, true for `anyof`.
+    pub deciding: bool,
+    /// Where the list jumps to.
+    pub exit: Exit,
+    /// The place behind the list.
+    pub behind: u32,
+}
+
+impl ListExit {
+    ghost use Rattle.std.specs.Prelude.{map};
+    ghost use Rattle.sieve_check.specs.TypedView.{test_form, tests_of};
+    ghost use Rattle.sieve_compiler.specs.Coding.{asked_of, aim_of};
+
+    /// Where a test jumps to that stands before these others.
+    fn before(self, others: &[Test]) -> Exit
+        ensures asked { result.asked ≡ asked_of self.deciding self.exit.asked (tests_of (map test_form others.now)) }
+        ensures target { result.target ≡ aim_of self.deciding self.exit.asked (tests_of (map test_form others.now)) self.behind self.exit.target }
+    {
+        match others {
+            [] => self.exit,
+            [_, ..] => Exit {
+                asked: self.deciding,
+                target: if self.deciding == self.exit.asked {
+                    self.exit.target
+                } else {
+                    self.behind
+                },
+            },
+        }
+    }
+}
+
+impl<'a> Coder<'a> {
+    ghost use Rattle.std.specs.Prelude.{◌≡◌, ◌+◌, ◌<◌, ◌^◌, [], ◌∷◌, ◌++◌, length, map, OnOk};
+    ghost use Rattle.sieve_check.specs.TypedView.{test_form, tests_of, command_form, commands_form, branch_forms, else_form};
+    ghost use Rattle.sieve_compiler.specs.Lengths.{test_length, tests_length, command_length, commands_length};
+    ghost use Rattle.sieve_compiler.specs.Coding.{jump_if, test_code, tests_code, leave_code, command_code, commands_code};
+    ghost use Rattle.sieve_compiler.specs.Putting.{Puts};
+
+    /// No code. Takes no memory.
+    pub fn new(alloc: Global, numbers: &'a Numbers) -> Coder<'a>
+        requires { length numbers.now < 2 ^ 32 }
+        ensures numbers { result.numbers.now ≡ numbers.now }
+        ensures instructions { result.instructions.items ≡ [] }
+    {
+        Coder {
+            numbers,
+            instructions: Vec::new(alloc),
+        }
+    }
+
+    // The place of the next instruction.
+    fn place(&self) -> u32
+        requires { length self.now.instructions.items < 2 ^ 32 }
+        ensures { result ≡ length self.now.instructions.items }
+    {
+        self.instructions.len() as u32
+    }
+
+    /// Puts an instruction.
+    pub fn put(&mut self, instruction: Instruction) -> Result<(), AllocError>
+        ensures code { OnOk result (Puts self.old self.new (instruction ∷ [])) }
+        ensures room { OnOk result (length self.new.instructions.items ≡ length self.old.instructions.items + 1) }
+    {
+        self.instructions.push(instruction)?;
+        Ok(())
+    }
+
+    // Puts a simple test and its jump.
+    fn put_simple(&mut self, test: Instruction, exit: Exit) -> Result<(), AllocError>
+        ensures code { OnOk result (Puts self.old self.new (test ∷ jump_if exit.asked exit.target ∷ [])) }
+        ensures room { OnOk result (length self.new.instructions.items ≡ length self.old.instructions.items + 2) }
+    {
+        self.put(test)?;
+        self.put(jump_if(exit))?;
+        Ok(())
+    }
+
+    /// Puts the code of a test, which jumps as the exit says.
+    #[cycle(tests)]
+    pub fn put_test(&mut self, test: &Test, exit: Exit) -> Result<(), AllocError>
+        requires { length self.old.instructions.items + test_length (test_form test.now) < 2 ^ 32 }
+        ensures code { OnOk result (Puts self.old self.new (test_code self.old.numbers.now (length self.old.instructions.items) (test_form test.now) exit.asked exit.target)) }
+        ensures room { OnOk result (length self.new.instructions.items ≡ length self.old.instructions.items + test_length (test_form test.now)) }
+    {
+        match test {
+            Test::Constant(value) => self.put_simple(push_bool(*value), exit),
+            Test::Not(inner) => {
+                let turned = Exit {
+                    asked: !exit.asked,
+                    target: exit.target,
+                };
+                self.put_test(inner, turned)
+            }
+            Test::AllOf(first, others) => {
+                let list = self.list_exit(first, others, false, exit);
+                self.put_test(first, list.before(others))?;
+                self.put_tests(others, list)?;
+                Ok(())
+            }
+            Test::AnyOf(first, others) => {
+                let list = self.list_exit(first, others, true, exit);
+                self.put_test(first, list.before(others))?;
+                self.put_tests(others, list)?;
+                Ok(())
+            }
+            Test::Size(order, number) => {
+                let place = self.numbers.place_of(*number) as u32;
+                self.put_simple(push_size(*order, place), exit)
+            }
+        }
+    }
+
+    // Puts the code of the tests of a list behind its first.
+    #[cycle(tests)]
+    fn put_tests(&mut self, others: &[Test], list: ListExit) -> Result<(), AllocError>
+        requires { length self.old.instructions.items + tests_length (tests_of (map test_form others.now)) < 2 ^ 32 }
+        ensures room { OnOk result (length self.new.instructions.items ≡ length self.old.instructions.items + tests_length (tests_of (map test_form others.now))) }
+        ensures code { OnOk result (Puts self.old self.new (tests_code self.old.numbers.now (length self.old.instructions.items) (tests_of (map test_form others.now)) list.deciding list.exit.asked list.behind list.exit.target)) }
+    {
+        'tests: for (i, test) in others.iter().enumerate() {
+            self.put_test(test, list.before(&others[i + 1..]))?;
+        }
+        Ok(())
+    }
+
+    // How a list of tests jumps whose code begins here.
+    fn list_exit(&self, first: &Test, others: &[Test], deciding: bool, exit: Exit) -> ListExit
+        requires { length self.now.instructions.items + (test_length (test_form first.now) + tests_length (tests_of (map test_form others.now))) < 2 ^ 32 }
+        ensures deciding { result.deciding ≡ deciding }
+        ensures exit { result.exit ≡ exit }
+        ensures behind { result.behind ≡ length self.now.instructions.items + (test_length (test_form first.now) + tests_length (tests_of (map test_form others.now))) }
+    {
+        ListExit {
+            deciding,
+            exit,
+            behind: self.place() + (test_length(first) + tests_length(others)),
+        }
+    }
+}
