@@ -52,9 +52,9 @@ impl ListExit {
 }
 
 impl<'a> Coder<'a> {
-    ghost use Rattle.std.specs.Prelude.{◌≡◌, ◌+◌, ◌<◌, ◌^◌, [], ◌∷◌, ◌++◌, length, map, OnOk};
+    ghost use Rattle.std.specs.Prelude.{◌≡◌, ◌+◌, ◌<◌, ◌^◌, false, [], ◌∷◌, ◌++◌, length, map, OnOk};
     ghost use Rattle.sieve_check.specs.TypedView.{test_form, tests_of, command_form, commands_form, branch_forms, else_form};
-    ghost use Rattle.sieve_compiler.specs.Lengths.{test_length, tests_length, command_length, commands_length};
+    ghost use Rattle.sieve_compiler.specs.Lengths.{test_length, tests_length, leave_length, command_length, commands_length};
     ghost use Rattle.sieve_compiler.specs.Coding.{jump_if, test_code, tests_code, leave_code, command_code, commands_code};
     ghost use Rattle.sieve_compiler.specs.Putting.{Puts};
 
@@ -157,5 +157,81 @@ impl<'a> Coder<'a> {
             exit,
             behind: self.place() + (test_length(first) + tests_length(others)),
         }
+    }
+
+    /// Puts the code of a command.
+    #[cycle(commands)]
+    fn put_command(&mut self, command: &Command) -> Result<(), AllocError>
+        requires { length self.old.instructions.items + command_length (command_form command.now) < 2 ^ 32 }
+        ensures code { OnOk result (Puts self.old self.new (command_code self.old.numbers.now (length self.old.instructions.items) (command_form command.now))) }
+        ensures room { OnOk result (length self.new.instructions.items ≡ length self.old.instructions.items + command_length (command_form command.now)) }
+    {
+        match command {
+            Command::Keep => self.put(instruction(Operation::Keep, 0, 0))?,
+            Command::Discard => self.put(instruction(Operation::Discard, 0, 0))?,
+            Command::Stop => self.put(instruction(Operation::Halt, 0, 0))?,
+            Command::If(branches, otherwise) => {
+                let end = self.place() + command_length(command);
+                'branches: for (i, branch) in branches.iter().enumerate() {
+                    let after = &branches[i + 1..];
+                    let exit = self.branch_exit(branch, after, otherwise);
+                    self.put_test(&branch.test, exit)?;
+                    self.put_commands(&branch.block)?;
+                    self.put_leave(after, otherwise, end)?;
+                }
+                if let Some(block) = otherwise {
+                    self.put_commands(block)?;
+                }
+            }
+        }
+        Ok(())
+    }
+
+    /// Puts the code of commands, one after the other.
+    #[cycle(commands)]
+    pub fn put_commands(&mut self, commands: &[Command]) -> Result<(), AllocError>
+        requires { length self.old.instructions.items + commands_length (commands_form commands.now) < 2 ^ 32 }
+        ensures code { OnOk result (Puts self.old self.new (commands_code self.old.numbers.now (length self.old.instructions.items) (commands_form commands.now))) }
+        ensures room { OnOk result (length self.new.instructions.items ≡ length self.old.instructions.items + commands_length (commands_form commands.now)) }
+    {
+        'commands: for command in commands {
+            self.put_command(command)?;
+        }
+        Ok(())
+    }
+
+    // Where the test of a branch goes to that begins here: where it is false, to what is behind the branch.
+    fn branch_exit(
+        &self,
+        branch: &Branch,
+        after: &[Branch],
+        otherwise: &Option<Vec<Command>>,
+    ) -> Exit
+        requires { length self.now.instructions.items + test_length (test_form branch.now.test) + commands_length (commands_form branch.now.block.items) + leave_length (branch_forms after.now (else_form otherwise.now)) < 2 ^ 32 }
+        ensures asked { result.asked ≡ false }
+        ensures target { result.target ≡ length self.now.instructions.items + test_length (test_form branch.now.test) + commands_length (commands_form branch.now.block.items) + leave_length (branch_forms after.now (else_form otherwise.now)) }
+    {
+        let block = self.place() + test_length(&branch.test);
+        let behind = block + commands_length(&branch.block);
+        Exit {
+            asked: false,
+            target: behind + u32::from(is_left(after, otherwise)),
+        }
+    }
+
+    // Puts the jump behind a block to the end of its `if`, where branches or an `else` are left.
+    fn put_leave(
+        &mut self,
+        after: &[Branch],
+        otherwise: &Option<Vec<Command>>,
+        end: u32,
+    ) -> Result<(), AllocError>
+        ensures code { OnOk result (Puts self.old self.new (leave_code (branch_forms after.now (else_form otherwise.now)) end)) }
+        ensures room { OnOk result (length self.new.instructions.items ≡ length self.old.instructions.items + leave_length (branch_forms after.now (else_form otherwise.now))) }
+    {
+        if is_left(after, otherwise) {
+            self.put(instruction(Operation::Jump, 0, end))?;
+        }
+        Ok(())
     }
 }
