@@ -4,3 +4,4 @@ pub mod NumberingLemmas
 pub mod Places
 pub mod PuttingLemmas
 pub mod Leftovers
+pub mod Fits
