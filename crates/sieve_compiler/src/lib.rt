@@ -4,7 +4,10 @@
 #![tactic(auto)]
 
 mod coder;
+mod compiler;
 mod instructions;
 mod lengths;
 mod numbering;
 mod numbers;
+
+pub use compiler::compile_commands;

@@ -1,5 +1,5 @@
 // The numbers of a script.
-ghost use Rattle.std.specs.Prelude.{◌≡◌, ◌≤◌, [], length, OnOk, OnErr};
+ghost use Rattle.std.specs.Prelude.{◌≡◌, ◌<◌, ◌≤◌, ◌^◌, [], length, All, OnOk, OnErr};
 
 use std::alloc::{AllocError, Global};
 use std::collections::BTreeMap;
@@ -69,7 +69,8 @@ impl Numbers {
 
     /// The numbers in order.
     pub fn into_list(self) -> Vec<u64>
-        ensures { result.items ≡ self }
+        ensures list { result.items ≡ self }
+        ensures numbers { All (λ n. n < 2 ^ 64) result.items }
     {
         self.listed
     }
