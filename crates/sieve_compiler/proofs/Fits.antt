@@ -1,6 +1,5 @@
 -- The code of a script of at most 65,536 tokens is within the limits of a program.
-use Rattle.std.proofs.Common.{◌≡◌, ℕ, ◌+◌, ◌-◌, ◌*◌, ◌<◌, ◌≤◌, ◌^◌, ◌==◌, Bool, true, false, not, List, [], ◌∷◌, ◌++◌, length, filter, All, refl, sym, ap, ◌∙◌, arith}
-use Rattle.std.specs.List.{flat_map}
+use Rattle.std.proofs.Common.{◌≡◌, ℕ, ◌+◌, ◌-◌, ◌<◌, ◌≤◌, ◌^◌, ◌==◌, Bool, true, false, not, List, [], ◌∷◌, ◌++◌, length, filter, All, refl, arith}
 use Rattle.std.proofs.lemmas.List.{length-append}
 use Rattle.std.proofs.lemmas.List.Sums.{length-filter, count_by-le-length}
 use Rattle.std.proofs.lemmas.List.Elements.{All-nil, All-cons, All-head, All-tail, All-append, All-filter}
@@ -8,8 +7,7 @@ use Rattle.bytecode_format.specs.declared.instruction.Instruction.{Instruction}
 use Rattle.bytecode_format.specs.declared.operation.Operation.{Operation}
 use Rattle.bytecode_format.specs.declared.operation.Operation.TheVariants.{Halt, Bool as BoolOp, Jump, JumpIfTrue, JumpIfFalse, Size, Keep, Discard}
 use Rattle.bytecode_format.specs.Operations.{octet_of}
-use Rattle.bytecode_format.specs.Code.{Code}
-use Rattle.bytecode_format.specs.Spelling.{string, Fits, IsProgram, spelling}
+use Rattle.bytecode_format.specs.Spelling.{Fits, IsProgram}
 use Rattle.bytecode_format.proofs.Lengths.{length-spelling}
 use Rattle.sieve_check.specs.declared.typed.Order.{Order}
 use Rattle.sieve_check.specs.declared.typed.Order.TheVariants.{Over, Under}
@@ -19,7 +17,7 @@ use Rattle.sieve_compiler.specs.Lengths.{test_length, tests_length, leave_length
 use Rattle.sieve_compiler.specs.Numbers.{test_numbers, tests_numbers, command_numbers, commands_numbers, branches_numbers, distinct, table_of, place_in}
 use Rattle.sieve_compiler.specs.Coding.{instruction, plain, jump_if, push_bool, push_size, asked_of, aim_of, test_code, tests_code, leave_code, command_code, commands_code, branches_code, code_of}
 use Rattle.sieve_compiler.proofs.TableLemmas.{place_within}
-use Rattle.sieve_compiler.proofs.Places.{length_commands}
+use Rattle.sieve_compiler.proofs.CodeLengths.{commands_code_length}
 
 -- ---- lengths
 
@@ -189,7 +187,7 @@ mutual
 
 -- how many instructions the program has
 pub length_code : (cs : CommandForms) → length (code_of cs).instructions ≡ commands_length cs + 1
-length_code cs = omega (arith, length-append (commands_code (table_of cs) 0 cs) (plain Halt ∷ []), length_commands (table_of cs) 0 cs)
+length_code cs = omega (arith, length-append (commands_code (table_of cs) 0 cs) (plain Halt ∷ []), commands_code_length (table_of cs) cs 0)
 
 -- the code is a program, where its numbers are those of 64 bits
 pub is_program : (cs : CommandForms) → commands_extent cs ≤ 65536 → All (λ n. n < 2 ^ 64) (table_of cs) → IsProgram (code_of cs)

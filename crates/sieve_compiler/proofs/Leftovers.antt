@@ -1,5 +1,5 @@
 -- What a loop of the second pass has left to put.
-use Rattle.std.proofs.Common.{◌≡◌, ℕ, ◌+◌, List, ◌++◌, length}
+use Rattle.std.proofs.Common.{◌≡◌, ℕ, List, ◌++◌, length}
 use Rattle.bytecode_format.specs.declared.instruction.Instruction.{Instruction}
 use Rattle.sieve_compiler.specs.declared.coder.Coder.{Coder}
 

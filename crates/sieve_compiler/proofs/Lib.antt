@@ -1,7 +1,7 @@
+pub mod CodeLengths
 pub mod TableLemmas
 pub mod Walks
 pub mod NumberingLemmas
-pub mod Places
 pub mod PuttingLemmas
 pub mod Leftovers
 pub mod Fits

@@ -1,21 +1,20 @@
 -- The second pass, one piece at a time.
-use Rattle.std.proofs.Common.{◌≡◌, ℕ, ◌+◌, ◌<◌, ◌^◌, Bool, true, false, List, [], ◌∷◌, ◌++◌, map, drop, length, get_or, refl, sym, ap, subst, ◌∙◌, arith}
+use Rattle.std.proofs.Common.{◌≡◌, ℕ, ◌+◌, Bool, true, false, List, ◌++◌, map, length, ap, subst, ◌∙◌, arith}
 use Rattle.std.proofs.lemmas.List.{length-append, append_assoc}
 use Rattle.bytecode_format.specs.declared.instruction.Instruction.{Instruction}
 use Rattle.sieve_check.specs.declared.typed.Test.{Test}
-use Rattle.sieve_check.specs.Typed.{TestForm, all_of, any_of, TestForms, test}
+use Rattle.sieve_check.specs.Typed.{TestForm, all_of, any_of, TestForms}
 use Rattle.sieve_check.specs.TypedView.{test_form, tests_of}
 use Rattle.sieve_compiler.specs.declared.coder.Coder.{Coder}
-use Rattle.sieve_compiler.specs.declared.coder.ListExit.{ListExit}
-use Rattle.sieve_compiler.specs.declared.instructions.Exit.{Exit}
+use Rattle.sieve_compiler.specs.declared.exits.ListExit.{ListExit}
+use Rattle.sieve_compiler.specs.declared.exits.Exit.{Exit}
 use Rattle.sieve_compiler.specs.Lengths.{test_length, tests_length}
 use Rattle.sieve_compiler.specs.Coding.{asked_of, aim_of, test_code, tests_code}
 use Rattle.sieve_compiler.specs.Putting.{Puts}
-use Rattle.sieve_compiler.proofs.Places.{length_test, length_tests}
-use Rattle.sieve_compiler.proofs.Walks.{first_test}
+use Rattle.sieve_compiler.proofs.CodeLengths.{test_code_length}
 
 -- code behind a piece of n instructions
-pub behind_piece : (out next piece : List Instruction) (table later : List ℕ) (n : ℕ) (rest : List ℕ → ℕ → List Instruction) → length piece ≡ n → later ≡ table → next ≡ out ++ piece → next ++ rest later (length next) ≡ out ++ (piece ++ rest table (length out + n))
+behind_piece : (out next piece : List Instruction) (table later : List ℕ) (n : ℕ) (rest : List ℕ → ℕ → List Instruction) → length piece ≡ n → later ≡ table → next ≡ out ++ piece → next ++ rest later (length next) ≡ out ++ (piece ++ rest table (length out + n))
 behind_piece out next piece table later n rest len same e =
     let place : length next ≡ length out + n = omega (arith, ap length e, length-append out piece, len) in
     ap (λ t. next ++ rest t (length next)) same
@@ -24,15 +23,11 @@ behind_piece out next piece table later n rest len same e =
     ∙ append_assoc out piece (rest table (length out + n))
 
 -- a piece of n instructions, then the rest
-pub puts_then : (a b c : Coder) (piece : List Instruction) (n : ℕ) (rest : List ℕ → ℕ → List Instruction) → length piece ≡ n → Puts a b piece → Puts b c (rest b.numbers.now (length b.instructions.items)) → Puts a c (piece ++ rest a.numbers.now (length a.instructions.items + n))
+puts_then : (a b c : Coder) (piece : List Instruction) (n : ℕ) (rest : List ℕ → ℕ → List Instruction) → length piece ≡ n → Puts a b piece → Puts b c (rest b.numbers.now (length b.instructions.items)) → Puts a c (piece ++ rest a.numbers.now (length a.instructions.items + n))
 puts_then a b c piece n rest len p q = record {
   numbers = q.numbers ∙ p.numbers;
   instructions = q.instructions ∙ behind_piece a.instructions.items b.instructions.items piece a.numbers.now b.numbers.now n rest len p.numbers p.instructions;
 }
-
--- how much room a piece leaves
-pub room_behind : (a b : Coder) (piece : List Instruction) (n m : ℕ) → length piece ≡ n → Puts a b piece → length a.instructions.items + (n + m) < 2 ^ 32 → length b.instructions.items + m < 2 ^ 32
-room_behind a b piece n m len p room = omega (arith, ap length p.instructions, length-append a.instructions.items piece, len)
 
 -- a list of tests, by what decides it
 abbrev pub list_form : Bool → TestForm → TestForms → TestForm
@@ -45,10 +40,10 @@ list_puts : (a b c : Coder) (deciding asked : Bool) (behind target : ℕ) (t : T
     → Puts a c (test_code a.numbers.now (length a.instructions.items) (list_form deciding t ts) asked target)
 list_puts a b c false asked behind target t ts e p q =
     subst (λ (n : ℕ). Puts a c (test_code a.numbers.now (length a.instructions.items) t (asked_of false asked ts) (aim_of false asked ts n target) ++ tests_code a.numbers.now (length a.instructions.items + test_length t) ts false asked n target)) e
-    (puts_then a b c _ (test_length t) (λ table place. tests_code table place ts false asked behind target) (length_test a.numbers.now (length a.instructions.items) t (asked_of false asked ts) (aim_of false asked ts behind target)) p q)
+    (puts_then a b c _ (test_length t) (λ table place. tests_code table place ts false asked behind target) (test_code_length a.numbers.now t (length a.instructions.items) (asked_of false asked ts) (aim_of false asked ts behind target)) p q)
 list_puts a b c true asked behind target t ts e p q =
     subst (λ (n : ℕ). Puts a c (test_code a.numbers.now (length a.instructions.items) t (asked_of true asked ts) (aim_of true asked ts n target) ++ tests_code a.numbers.now (length a.instructions.items + test_length t) ts true asked n target)) e
-    (puts_then a b c _ (test_length t) (λ table place. tests_code table place ts true asked behind target) (length_test a.numbers.now (length a.instructions.items) t (asked_of true asked ts) (aim_of true asked ts behind target)) p q)
+    (puts_then a b c _ (test_length t) (λ table place. tests_code table place ts true asked behind target) (test_code_length a.numbers.now t (length a.instructions.items) (asked_of true asked ts) (aim_of true asked ts behind target)) p q)
 
 -- the same as the code has it
 pub list_put : (a b c : Coder) (deciding : Bool) (exit step : Exit) (list : ListExit) (t first h1 h2 : Test) (others o1 o2 o3 : List Test)
@@ -70,17 +65,3 @@ list_put a b c deciding exit step list t first h1 h2 others o1 o2 o3 form eh1 eh
     let Q : List Instruction → Type 0 = λ l. Puts b c l in
     let R : List Instruction → Type 0 = λ l. Puts a c l in
     subst R code (list_puts a b c deciding exit.asked list.behind exit.target (test_form first) ts behind (subst P code1 p) (subst Q code2 q))
-
--- the room behind a list's first test
-pub list_room : (a b : Coder) (deciding : Bool) (step : Exit) (t first inner : Test) (others items : List Test) → test_form t ≡ list_form deciding (test_form first) (tests_of (map test_form others)) → inner ≡ first → items ≡ others
-    → length a.instructions.items + test_length (test_form t) < 2 ^ 32 → Puts a b (test_code a.numbers.now (length a.instructions.items) (test_form inner) step.asked step.target)
-    → length b.instructions.items + tests_length (tests_of (map test_form items)) < 2 ^ 32
-list_room a b deciding step t first inner others items form e f room p =
-    let whole : test_length (test_form t) ≡ test_length (test_form first) + tests_length (tests_of (map test_form others)) = ap test_length form ∙ both deciding (test_form first) (tests_of (map test_form others)) in
-    let one : test_length (test_form inner) ≡ test_length (test_form first) = ap (λ x. test_length (test_form x)) e in
-    let rest : tests_length (tests_of (map test_form items)) ≡ tests_length (tests_of (map test_form others)) = ap (λ xs. tests_length (tests_of (map test_form xs))) f in
-    room_behind a b _ (test_length (test_form inner)) (tests_length (tests_of (map test_form items))) (length_test a.numbers.now (length a.instructions.items) (test_form inner) step.asked step.target) p (omega (arith, room, whole, one, rest))
-  where
-    both : (d : Bool) (x : TestForm) (xs : TestForms) → test_length (list_form d x xs) ≡ test_length x + tests_length xs
-    both false x xs = refl
-    both true x xs = refl

@@ -10,8 +10,8 @@ use Rattle.sieve_check.specs.declared.typed.Test.TheFolds.{fold-roll-Test}
 use Rattle.sieve_check.specs.declared.typed.Branch.{Branch}
 use Rattle.sieve_check.specs.declared.typed.Command.{Command}
 use Rattle.sieve_check.specs.declared.typed.Command.TheVariants.{If}
-use Rattle.sieve_check.specs.Typed.{TestForm, all_of, any_of, TestForms, test, CommandForm, choice, CommandForms, command, BranchForms, branch}
-use Rattle.sieve_check.specs.TypedView.{GuardedForm, test_step, test_form, tests_of, command_form, commands_of, commands_form, branch_form, branches_of, branch_forms, else_form}
+use Rattle.sieve_check.specs.Typed.{TestForm, all_of, any_of, test, choice, command, BranchForms, branch}
+use Rattle.sieve_check.specs.TypedView.{GuardedForm, test_step, test_form, tests_of, command_form, commands_form, branch_forms, else_form}
 use Rattle.sieve_check.proofs.Forms.{form_if, form_branch}
 
 -- the first that is left, and those behind it

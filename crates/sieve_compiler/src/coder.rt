@@ -1,7 +1,8 @@
 // The second pass over a script: its code.
 ghost use Rattle.std.specs.Prelude.{◌≡◌, ◌<◌, ◌^◌, length};
 
-use crate::instructions::{Exit, instruction, jump_if, push_bool, push_size};
+use crate::exits::{Exit, ListExit};
+use crate::instructions::{instruction, jump_if, push_bool, push_size};
 use crate::lengths::{command_length, commands_length, is_left, test_length, tests_length};
 use crate::numbers::Numbers;
 use bytecode_format::{Instruction, Operation};
@@ -14,41 +15,6 @@ pub struct Coder<'a> {
     pub numbers: &'a Numbers,
     pub instructions: Vec<Instruction>,
     ghost few: { length numbers.now < 2 ^ 32 },
-}
-
-/// How a list of tests jumps.
-#[derive(Clone, Copy)]
-pub struct ListExit {
-    /// The value of a test that decides the list: false for `allof`, true for `anyof`.
-    pub deciding: bool,
-    /// Where the list jumps to.
-    pub exit: Exit,
-    /// The place behind the list.
-    pub behind: u32,
-}
-
-impl ListExit {
-    ghost use Rattle.std.specs.Prelude.{map};
-    ghost use Rattle.sieve_check.specs.TypedView.{test_form, tests_of};
-    ghost use Rattle.sieve_compiler.specs.Coding.{asked_of, aim_of};
-
-    /// Where a test jumps to that stands before these others.
-    fn before(self, others: &[Test]) -> Exit
-        ensures asked { result.asked ≡ asked_of self.deciding self.exit.asked (tests_of (map test_form others.now)) }
-        ensures target { result.target ≡ aim_of self.deciding self.exit.asked (tests_of (map test_form others.now)) self.behind self.exit.target }
-    {
-        match others {
-            [] => self.exit,
-            [_, ..] => Exit {
-                asked: self.deciding,
-                target: if self.deciding == self.exit.asked {
-                    self.exit.target
-                } else {
-                    self.behind
-                },
-            },
-        }
-    }
 }
 
 impl<'a> Coder<'a> {
@@ -159,7 +125,7 @@ impl<'a> Coder<'a> {
         }
     }
 
-    /// Puts the code of a command.
+    // Puts the code of a command.
     #[cycle(commands)]
     fn put_command(&mut self, command: &Command) -> Result<(), AllocError>
         requires { length self.old.instructions.items + command_length (command_form command.now) < 2 ^ 32 }

@@ -2,15 +2,9 @@
 ghost use Rattle.std.specs.Prelude.{◌≡◌};
 ghost use Rattle.sieve_compiler.specs.Coding.{instruction, jump_if, push_bool, push_size};
 
+use crate::exits::Exit;
 use bytecode_format::{Instruction, Operation};
 use sieve_check::Order;
-
-/// Where a test jumps to, and for which of its values: else it goes on behind its code.
-#[derive(Clone, Copy)]
-pub struct Exit {
-    pub asked: bool,
-    pub target: u32,
-}
 
 /// An instruction with its fields a and c.
 pub fn instruction(operation: Operation, a: u8, c: u32) -> Instruction

@@ -1,10 +1,13 @@
 //! The compiler: a checked script as a program.
 //!
-//! The program is exactly the code of `specs/Coding`.
+//! `specs/Coding` says what the code of each command and test is, by recursion on the typed form.
+//! [`compile_commands`] answers exactly the program of that code: no instruction more or less, each number of
+//! the script once in the table, in the order of their first use. It refuses nothing but for memory.
 #![tactic(auto)]
 
 mod coder;
 mod compiler;
+mod exits;
 mod instructions;
 mod lengths;
 mod numbering;

@@ -17,4 +17,3 @@ put_test-returns-in_ok-put_tests-in-AnyOf-clause-code t c =
     c.args.test.now c.in-AnyOf.first.value c.deref-in-AnyOf.result.now c.deref-in-AnyOf-3.result.now c.in-AnyOf.others.items c.deref-in-AnyOf-2.result.now c.deref-in-AnyOf-4.result.now c.deref-in-AnyOf-5.result.now
     (ap test_form c.in-AnyOf.is ∙ any_form c.in-AnyOf.first c.in-AnyOf.others) c.deref-in-AnyOf.ensures c.deref-in-AnyOf-3.ensures c.deref-in-AnyOf-2.ensures.value c.deref-in-AnyOf-4.ensures.value c.deref-in-AnyOf-5.ensures.value
     c.list_exit-list-in-AnyOf.ensures.deciding c.list_exit-list-in-AnyOf.ensures.exit c.list_exit-list-in-AnyOf.ensures.behind c.before-in-AnyOf.ensures.asked c.before-in-AnyOf.ensures.target c.in_ok-put_test-in-AnyOf.ensures.code c.in_ok-put_tests-in-AnyOf.ensures.code
-

@@ -1,4 +1,4 @@
-use Rattle.std.proofs.Common.{◌≡◌, sym, ap, ◌∙◌}
+use Rattle.std.proofs.Common.{sym, ap, ◌∙◌}
 use Rattle.sieve_check.specs.TypedView.{commands_form, else_form}
 use Rattle.sieve_compiler.specs.Numbers.{commands_numbers, branches_numbers}
 use Rattle.sieve_compiler.specs.Table.{with_numbers}

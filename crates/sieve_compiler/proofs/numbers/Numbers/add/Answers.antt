@@ -1,4 +1,4 @@
-use Rattle.std.proofs.Common.{◌≡◌, ℕ, Bool, true, false, [], ◌∷◌, ◌++◌, length, is_some, sym, ap, ◌∙◌}
+use Rattle.std.proofs.Common.{◌≡◌, [], ◌∷◌, ◌++◌, length, is_some, sym, ap, ◌∙◌}
 use Rattle.sieve_compiler.specs.Table.{is_listed, with_number}
 use Rattle.sieve_compiler.proofs.TableLemmas.{found_listed, found_insert, listed_kept, unlisted_added}
 use Rattle.sieve_compiler.proofs.numbers.Numbers.add.Goals as goal

@@ -1,4 +1,4 @@
-use Rattle.std.proofs.Common.{◌≡◌, ap, ◌∙◌}
+use Rattle.std.proofs.Common.{ap, ◌∙◌}
 use Rattle.sieve_check.specs.TypedView.{commands_form}
 use Rattle.sieve_compiler.specs.Numbers.{commands_numbers}
 use Rattle.sieve_compiler.specs.Table.{with_numbers}

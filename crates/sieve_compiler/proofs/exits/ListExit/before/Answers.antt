@@ -3,7 +3,7 @@ use Rattle.std.specs.Bool.{beq}
 use Rattle.sieve_check.specs.declared.typed.Test.{Test}
 use Rattle.sieve_check.specs.TypedView.{test_form, tests_of}
 use Rattle.sieve_compiler.specs.Coding.{asked_of, aim_of}
-use Rattle.sieve_compiler.proofs.coder.ListExit.before.Goals as goal
+use Rattle.sieve_compiler.proofs.exits.ListExit.before.Goals as goal
 
 asked_before : (deciding asked : Bool) (others : List Test) → 1 ≤ length others → deciding ≡ asked_of deciding asked (tests_of (map test_form others))
 asked_before deciding asked [] some = absurd (omega arith)
