@@ -3,7 +3,10 @@
 
 use clap::error::ErrorKind;
 use depot_actions::{OfWrite, Sink};
-use depot_cli::{CommandLine, Job, OfRead, Refusal, answer, line_of, put_refusal, read_limited};
+use depot_cli::{
+    CommandLine, Job, NewFile, OfRead, Refusal, answer, compile_to, line_of, put_refusal,
+    read_limited,
+};
 use std::fmt::Display;
 use std::io::ErrorKind as Fault;
 use std::process::ExitCode;
@@ -82,6 +85,16 @@ fn carry_out<O: Sink, E: Sink>(
             };
             Ok(answer(alloc, job, out, err))
         }
+        CommandLine::Check { script } => {
+            let script = read_file(rt, script)?;
+            let job = Job::Check { script: &script };
+            Ok(answer(alloc, job, out, err))
+        }
+        CommandLine::Compile { script, out: name } => {
+            let script = read_file(rt, script)?;
+            let mut file = NewFile::new(rt, name);
+            Ok(compile_to(alloc, &script, &mut file, out, err))
+        }
         CommandLine::Verify { program } => {
             let program = read_file(rt, program)?;
             let job = Job::Verify { program: &program };
@@ -92,6 +105,15 @@ fn carry_out<O: Sink, E: Sink>(
             let message = read_file(rt, message)?;
             let job = Job::Run {
                 program: &program,
+                message: &message,
+            };
+            Ok(answer(alloc, job, out, err))
+        }
+        CommandLine::Eval { script, message } => {
+            let script = read_file(rt, script)?;
+            let message = read_file(rt, message)?;
+            let job = Job::Eval {
+                script: &script,
                 message: &message,
             };
             Ok(answer(alloc, job, out, err))

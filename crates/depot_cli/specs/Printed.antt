@@ -6,7 +6,7 @@ use Rattle.std.specs.Prelude.{false}
 use Rattle.bytecode_format.specs.declared.action.Action.{Action}
 use Rattle.bytecode_format.specs.declared.action.Action.TheVariants.{Keep, File, Store}
 use Rattle.depot_cli.specs.declared.error.Refusal.{Refusal}
-use Rattle.depot_cli.specs.declared.error.Refusal.TheVariants.{Memory, MessageTooLarge, NotCanonical, Spelling, Index, Form, End, Loop, Jump, NoPart, Stack, Read}
+use Rattle.depot_cli.specs.declared.error.Refusal.TheVariants.{Memory, MessageTooLarge, NotCanonical, Lexical, ScriptTooLong, Syntax, TooDeep, UnknownCommand, MissingCapability, UnknownCapability, BadArguments, Limit, Spelling, Index, Form, End, Loop, Jump, NoPart, Stack, Write, Read}
 
 -- the text and the end of its line
 abbrev pub line : List ℕ → List ℕ
@@ -43,11 +43,28 @@ charge_text charged limit = codes "charged " ++ decimal charged ++ codes " of " 
 abbrev pub report_text : List Action → ℕ → ℕ → List ℕ
 report_text actions charged limit = actions_text actions ++ line (charge_text charged limit)
 
+-- a script has no fault
+abbrev pub ok_text : List ℕ
+ok_text = codes "ok"
+
+-- how many octets a program was written with
+abbrev pub wrote_text : ℕ → List ℕ
+wrote_text octets = codes "wrote " ++ decimal octets ++ codes " octets"
+
 -- the number of a refusal
 abbrev pub number_of : Refusal → ℕ
 number_of Memory = 1
 number_of MessageTooLarge = 2
 number_of NotCanonical = 10
+number_of (Lexical place) = 11
+number_of ScriptTooLong = 12
+number_of (Syntax place) = 13
+number_of (TooDeep place) = 14
+number_of (UnknownCommand place) = 15
+number_of (MissingCapability place) = 16
+number_of (UnknownCapability place) = 17
+number_of (BadArguments place) = 18
+number_of (Limit place) = 19
 number_of Spelling = 20
 number_of (Index place) = 21
 number_of (Form place) = 22
@@ -56,6 +73,7 @@ number_of (Loop place) = 24
 number_of (Jump place) = 25
 number_of (NoPart place) = 26
 number_of (Stack place) = 27
+number_of Write = 45
 number_of Read = 46
 
 -- its name
@@ -63,6 +81,15 @@ abbrev pub name_of : Refusal → List ℕ
 name_of Memory = codes "Memory"
 name_of MessageTooLarge = codes "MessageTooLarge"
 name_of NotCanonical = codes "NotCanonical"
+name_of (Lexical place) = codes "Lexical"
+name_of ScriptTooLong = codes "ScriptTooLong"
+name_of (Syntax place) = codes "Syntax"
+name_of (TooDeep place) = codes "TooDeep"
+name_of (UnknownCommand place) = codes "UnknownCommand"
+name_of (MissingCapability place) = codes "MissingCapability"
+name_of (UnknownCapability place) = codes "UnknownCapability"
+name_of (BadArguments place) = codes "BadArguments"
+name_of (Limit place) = codes "Limit"
 name_of Spelling = codes "Spelling"
 name_of (Index place) = codes "Index"
 name_of (Form place) = codes "Form"
@@ -71,6 +98,7 @@ name_of (Loop place) = codes "Loop"
 name_of (Jump place) = codes "Jump"
 name_of (NoPart place) = codes "NoPart"
 name_of (Stack place) = codes "Stack"
+name_of Write = codes "Write"
 name_of Read = codes "Read"
 
 -- the place that it names
@@ -78,6 +106,15 @@ abbrev pub place_of : Refusal → Option ℕ
 place_of Memory = None
 place_of MessageTooLarge = None
 place_of NotCanonical = None
+place_of (Lexical place) = Some place
+place_of ScriptTooLong = None
+place_of (Syntax place) = Some place
+place_of (TooDeep place) = Some place
+place_of (UnknownCommand place) = Some place
+place_of (MissingCapability place) = Some place
+place_of (UnknownCapability place) = Some place
+place_of (BadArguments place) = Some place
+place_of (Limit place) = Some place
 place_of Spelling = None
 place_of (Index place) = Some place
 place_of (Form place) = Some place
@@ -86,6 +123,7 @@ place_of (Loop place) = Some place
 place_of (Jump place) = Some place
 place_of (NoPart place) = Some place
 place_of (Stack place) = Some place
+place_of Write = None
 place_of Read = None
 
 -- the place, where there is one

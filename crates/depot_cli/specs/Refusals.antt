@@ -4,12 +4,21 @@ use Rattle.depot_actions.specs.declared.error.DecodeError.TheVariants as decodin
 use Rattle.sieve_engine.specs.declared.error.EngineError.{EngineError}
 use Rattle.sieve_engine.specs.declared.error.EngineError.TheVariants as engine
 use Rattle.depot_cli.specs.declared.error.Refusal.{Refusal}
-use Rattle.depot_cli.specs.declared.error.Refusal.TheVariants.{Memory, MessageTooLarge, NotCanonical, Spelling, Index, Form, End, Loop, Jump, NoPart, Stack}
+use Rattle.depot_cli.specs.declared.error.Refusal.TheVariants.{Memory, MessageTooLarge, NotCanonical, Lexical, ScriptTooLong, Syntax, TooDeep, UnknownCommand, MissingCapability, UnknownCapability, BadArguments, Limit, Spelling, Index, Form, End, Loop, Jump, NoPart, Stack}
 
 -- the refusal of the same number
 abbrev pub of_engine : EngineError → Refusal
 of_engine engine.Memory = Memory
 of_engine engine.MessageTooLarge = MessageTooLarge
+of_engine (engine.Lexical place) = Lexical place
+of_engine engine.ScriptTooLong = ScriptTooLong
+of_engine (engine.Syntax place) = Syntax place
+of_engine (engine.TooDeep place) = TooDeep place
+of_engine (engine.UnknownCommand place) = UnknownCommand place
+of_engine (engine.MissingCapability place) = MissingCapability place
+of_engine (engine.UnknownCapability place) = UnknownCapability place
+of_engine (engine.BadArguments place) = BadArguments place
+of_engine (engine.Limit place) = Limit place
 of_engine engine.Spelling = Spelling
 of_engine (engine.Index place) = Index place
 of_engine (engine.Form place) = Form place

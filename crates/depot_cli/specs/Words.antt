@@ -7,11 +7,23 @@ use Rattle.clap.specs.declared.builder.value_parser.ValueParser.TheVariants as p
 use Rattle.depot_actions.specs.declared.encoding.Encoding.{Encoding}
 use Rattle.depot_actions.specs.declared.encoding.Encoding.TheVariants.{Raw, Base64, Base64Mime, Base32, Base32Hex, Base16}
 use Rattle.depot_cli.specs.declared.line.CommandLine.{CommandLine}
-use Rattle.depot_cli.specs.declared.line.CommandLine.TheVariants.{NoWords, Verify, Run, Encode, Decode}
+use Rattle.depot_cli.specs.declared.line.CommandLine.TheVariants.{NoWords, Check, Compile, Verify, Run, Eval, Encode, Decode}
 
 -- an argument that has to be there
 abbrev pub required_rule : Text → Rule
 required_rule name = record (new_rule name) { required = true }
+
+-- check SCRIPT
+abbrev pub check_app : App
+check_app = with_rule (new_app (codes "check")) (required_rule (codes "SCRIPT"))
+
+-- compile SCRIPT OUT
+abbrev pub compile_app : App
+compile_app = with_rule (with_rule (new_app (codes "compile")) (required_rule (codes "SCRIPT"))) (required_rule (codes "OUT"))
+
+-- eval SCRIPT MESSAGE
+abbrev pub eval_app : App
+eval_app = with_rule (with_rule (new_app (codes "eval")) (required_rule (codes "SCRIPT"))) (required_rule (codes "MESSAGE"))
 
 -- verify PROGRAM
 abbrev pub verify_app : App
@@ -45,13 +57,21 @@ encode_app names = with_rule (new_app (codes "encode")) (encoding_rule names)
 abbrev pub decode_app : Texts → App
 decode_app names = with_rule (new_app (codes "decode")) (encoding_rule names)
 
--- the program with the commands that take filter programs
+-- the program with the commands that take a script alone
+abbrev pub scripts_app : App
+scripts_app = with_subcommand (with_subcommand (new_app (codes "depot")) check_app.top) compile_app.top
+
+-- the program with those, and the commands that take filter programs
 abbrev pub filters_app : App
-filters_app = with_subcommand (with_subcommand (new_app (codes "depot")) verify_app.top) run_app.top
+filters_app = with_subcommand (with_subcommand scripts_app verify_app.top) run_app.top
+
+-- the program with all commands that take scripts or filter programs
+abbrev pub mail_app : App
+mail_app = with_subcommand filters_app eval_app.top
 
 -- the program with its commands, where these are the names of the encodings
 abbrev pub depot_app : Texts → App
-depot_app names = with_subcommand (with_subcommand filters_app (encode_app names).top) (decode_app names).top
+depot_app names = with_subcommand (with_subcommand mail_app (encode_app names).top) (decode_app names).top
 
 -- the program with its commands
 abbrev pub IsDepot : App → Type 0
@@ -77,7 +97,12 @@ IsCommand name matches rows = matches ≡ Some (name, rows)
 
 -- the command line says what the matches say: which command there is, and its arguments
 abbrev pub Says : CommandLine → Option (Text × List Row) → Type 0
-Says NoWords matches = IfSome matches (λ m. (m.0 ≢ codes "verify") × (m.0 ≢ codes "run") × (m.0 ≢ codes "encode") × (m.0 ≢ codes "decode"))
+Says NoWords matches = IfSome matches (λ m. (m.0 ≢ codes "check") × (m.0 ≢ codes "compile") × (m.0 ≢ codes "verify") × (m.0 ≢ codes "run") × (m.0 ≢ codes "eval") × (m.0 ≢ codes "encode") × (m.0 ≢ codes "decode"))
+Says (Check script) matches = (rows : List Row) × IsCommand (codes "check") matches rows × (script.now ≡ argument (codes "SCRIPT") rows)
+Says (Compile script out) matches =
+    (rows : List Row) × IsCommand (codes "compile") matches rows × (script.now ≡ argument (codes "SCRIPT") rows) × (out.now ≡ argument (codes "OUT") rows)
+Says (Eval script message) matches =
+    (rows : List Row) × IsCommand (codes "eval") matches rows × (script.now ≡ argument (codes "SCRIPT") rows) × (message.now ≡ argument (codes "MESSAGE") rows)
 Says (Verify program) matches = (rows : List Row) × IsCommand (codes "verify") matches rows × (program.now ≡ argument (codes "PROGRAM") rows)
 Says (Run program message) matches =
     (rows : List Row) × IsCommand (codes "run") matches rows × (program.now ≡ argument (codes "PROGRAM") rows) × (message.now ≡ argument (codes "MESSAGE") rows)

@@ -15,6 +15,24 @@ pub enum Refusal {
     MessageTooLarge,
     /// A text isn't one of its encoding.
     NotCanonical,
+    /// At an octet of a script begins neither a token nor white space nor a comment.
+    Lexical { place: usize },
+    /// A script has more octets than the limit.
+    ScriptTooLong,
+    /// With this token the tokens of a script begin none; the end counts as a token.
+    Syntax { place: usize },
+    /// This token is the brace or test name that would be nested too deep.
+    TooDeep { place: usize },
+    /// A command or test of this name isn't known. The place of this and the next four is a token.
+    UnknownCommand { place: usize },
+    /// The command or test needs a capability that wasn't required.
+    MissingCapability { place: usize },
+    /// `require` names a capability that isn't known.
+    UnknownCapability { place: usize },
+    /// The command or test stands at a wrong place, or with other arguments than it takes.
+    BadArguments { place: usize },
+    /// A string of the command or test has more octets than the limit.
+    Limit { place: usize },
     /// The octets of a program spell none.
     Spelling,
     /// An instruction has an index of what isn't there.
@@ -31,6 +49,8 @@ pub enum Refusal {
     NoPart { place: usize },
     /// An entry of the stack is missing, of the wrong kind, too many, or left where none may be.
     Stack { place: usize },
+    /// A file couldn't be made or written; the octets written so far are a front of what it was to get.
+    Write,
     /// A file or standard input couldn't be read.
     Read,
 }
@@ -46,6 +66,15 @@ impl Refusal {
             Refusal::Memory => 1,
             Refusal::MessageTooLarge => 2,
             Refusal::NotCanonical => 10,
+            Refusal::Lexical { .. } => 11,
+            Refusal::ScriptTooLong => 12,
+            Refusal::Syntax { .. } => 13,
+            Refusal::TooDeep { .. } => 14,
+            Refusal::UnknownCommand { .. } => 15,
+            Refusal::MissingCapability { .. } => 16,
+            Refusal::UnknownCapability { .. } => 17,
+            Refusal::BadArguments { .. } => 18,
+            Refusal::Limit { .. } => 19,
             Refusal::Spelling => 20,
             Refusal::Index { .. } => 21,
             Refusal::Form { .. } => 22,
@@ -54,6 +83,7 @@ impl Refusal {
             Refusal::Jump { .. } => 25,
             Refusal::NoPart { .. } => 26,
             Refusal::Stack { .. } => 27,
+            Refusal::Write => 45,
             Refusal::Read => 46,
         }
     }
@@ -66,6 +96,15 @@ impl Refusal {
             Refusal::Memory => "Memory",
             Refusal::MessageTooLarge => "MessageTooLarge",
             Refusal::NotCanonical => "NotCanonical",
+            Refusal::Lexical { .. } => "Lexical",
+            Refusal::ScriptTooLong => "ScriptTooLong",
+            Refusal::Syntax { .. } => "Syntax",
+            Refusal::TooDeep { .. } => "TooDeep",
+            Refusal::UnknownCommand { .. } => "UnknownCommand",
+            Refusal::MissingCapability { .. } => "MissingCapability",
+            Refusal::UnknownCapability { .. } => "UnknownCapability",
+            Refusal::BadArguments { .. } => "BadArguments",
+            Refusal::Limit { .. } => "Limit",
             Refusal::Spelling => "Spelling",
             Refusal::Index { .. } => "Index",
             Refusal::Form { .. } => "Form",
@@ -74,16 +113,25 @@ impl Refusal {
             Refusal::Jump { .. } => "Jump",
             Refusal::NoPart { .. } => "NoPart",
             Refusal::Stack { .. } => "Stack",
+            Refusal::Write => "Write",
             Refusal::Read => "Read",
         }
     }
 
-    /// The place that it names: that of an instruction.
+    /// The place that it names: that of an octet, a token or an instruction.
     pub fn place(&self) -> Option<usize>
         ensures { result ≡ place_of self.now }
     {
         match self {
-            Refusal::Index { place }
+            Refusal::Lexical { place }
+            | Refusal::Syntax { place }
+            | Refusal::TooDeep { place }
+            | Refusal::UnknownCommand { place }
+            | Refusal::MissingCapability { place }
+            | Refusal::UnknownCapability { place }
+            | Refusal::BadArguments { place }
+            | Refusal::Limit { place }
+            | Refusal::Index { place }
             | Refusal::Form { place }
             | Refusal::End { place }
             | Refusal::Loop { place }
@@ -93,7 +141,9 @@ impl Refusal {
             Refusal::Memory
             | Refusal::MessageTooLarge
             | Refusal::NotCanonical
+            | Refusal::ScriptTooLong
             | Refusal::Spelling
+            | Refusal::Write
             | Refusal::Read => None,
         }
     }
@@ -108,6 +158,15 @@ impl From<EngineError> for Refusal {
         match error {
             EngineError::Memory => Refusal::Memory,
             EngineError::MessageTooLarge => Refusal::MessageTooLarge,
+            EngineError::Lexical { place } => Refusal::Lexical { place },
+            EngineError::ScriptTooLong => Refusal::ScriptTooLong,
+            EngineError::Syntax { place } => Refusal::Syntax { place },
+            EngineError::TooDeep { place } => Refusal::TooDeep { place },
+            EngineError::UnknownCommand { place } => Refusal::UnknownCommand { place },
+            EngineError::MissingCapability { place } => Refusal::MissingCapability { place },
+            EngineError::UnknownCapability { place } => Refusal::UnknownCapability { place },
+            EngineError::BadArguments { place } => Refusal::BadArguments { place },
+            EngineError::Limit { place } => Refusal::Limit { place },
             EngineError::Spelling => Refusal::Spelling,
             EngineError::Index { place } => Refusal::Index { place },
             EngineError::Form { place } => Refusal::Form { place },

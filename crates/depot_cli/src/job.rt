@@ -12,12 +12,16 @@ ghost use Rattle.depot_cli.specs.Printing.{HasBroken, HasPrinted};
 use crate::error::Refusal;
 use crate::printing::{put, put_line, put_refusal, put_report};
 use depot_actions::{DeviceFailed, Encoding, Sink, decode, encode};
-use sieve_engine::{Report, check_program, execute};
+use sieve_engine::{Report, check_program, check_script, evaluate, execute};
 use std::alloc::Global;
 
 /// A command with the octets of its files.
 #[derive(Clone, Copy, Debug)]
 pub enum Job<'a> {
+    /// Whether a script has a fault.
+    Check {
+        script: &'a [u8],
+    },
     /// Whether a program is accepted, and what it may charge.
     Verify {
         program: &'a [u8],
@@ -25,6 +29,11 @@ pub enum Job<'a> {
     /// What a program does with a message.
     Run {
         program: &'a [u8],
+        message: &'a [u8],
+    },
+    /// What a script does with a message.
+    Eval {
+        script: &'a [u8],
         message: &'a [u8],
     },
     /// The text of octets in an encoding.
@@ -42,6 +51,8 @@ pub enum Job<'a> {
 /// What a job's answer is made of.
 #[derive(Debug, Drop)]
 pub enum Lines {
+    /// A script has no fault.
+    NoFault,
     /// The text of an accepted program's budget.
     Budget(String),
     /// The report of a run.
@@ -80,8 +91,13 @@ fn carry_out(alloc: Global, job: Job<'_>) -> Result<Lines, Refusal>
     ensures refused { IfErr result (λ refusal. IsRefused job.entry refusal) }
 {
     match job {
+        Job::Check { script } => {
+            let _checked = check_script(alloc, script)?;
+            Ok(Lines::NoFault)
+        }
         Job::Verify { program } => Ok(Lines::Budget(budget_line(alloc, program)?)),
         Job::Run { program, message } => Ok(Lines::Report(execute(alloc, program, message)?)),
+        Job::Eval { script, message } => Ok(Lines::Report(evaluate(alloc, script, message)?)),
         Job::Encode { encoding, octets } => Ok(Lines::Octets(encode(alloc, encoding, octets)?)),
         Job::Decode { encoding, text } => Ok(Lines::Octets(decode(alloc, encoding, text)?)),
     }
@@ -102,6 +118,7 @@ fn put_lines<O: Sink>(out: &mut O, lines: &Lines) -> Result<(), DeviceFailed>
     ensures err { OnErr result (HasBroken (lines_text lines.now) (O.written out.old) (O.faults out.old) (O.written out.new) (O.faults out.new)) }
 {
     match lines {
+        Lines::NoFault => put_line(out, "ok"),
         Lines::Budget(text) => put_line(out, text.as_str()),
         Lines::Report(report) => put_report(out, report),
         Lines::Octets(octets) => put(out, octets),

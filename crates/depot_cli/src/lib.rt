@@ -5,17 +5,21 @@
 //! `specs/Printed`). Writing takes no memory, and what a failed device has then got is a front of the text.
 #![tactic(auto)]
 
+mod compiling;
 mod error;
 mod job;
 mod line;
+mod new_file;
 mod piece;
 mod printing;
 mod reading;
 mod source;
 
+pub use compiling::compile_to;
 pub use error::Refusal;
 pub use job::{Job, answer};
 pub use line::{CommandLine, line_of};
+pub use new_file::NewFile;
 pub use printing::put_refusal;
 pub use reading::read_limited;
 pub use source::{OfRead, Source};

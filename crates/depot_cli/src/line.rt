@@ -3,7 +3,7 @@ ghost use Rattle.std.specs.Prelude.{◌≡◌, IfOk, IfErr, codes, map, true, fa
 ghost use Rattle.clap.specs.Words.{FailsBy, app_of, fault_of, first_value, found_of, kind_of, rows_of, subcommand_of, subcommand_rows_of, takes, rule_of, App};
 ghost use Rattle.clap.specs.declared.error.kind.ErrorKind.TheVariants.{OutOfMemory};
 ghost use Rattle.clap.specs.declared.builder.command.Command.TheViews.{out-Command as fields_of};
-ghost use Rattle.depot_cli.specs.Words.{AreEncodings, IsDepot, Says, argument as text_of, decode_app, depot_app, encode_app, encoding_named, encoding_rule, filters_app, required_rule, run_app, verify_app};
+ghost use Rattle.depot_cli.specs.Words.{AreEncodings, IsDepot, Says, argument as text_of, check_app, compile_app, decode_app, depot_app, encode_app, encoding_named, encoding_rule, eval_app, filters_app, mail_app, required_rule, run_app, scripts_app, verify_app};
 
 use clap::{Arg, ArgMatches, Command, Error};
 use depot_actions::Encoding;
@@ -14,10 +14,16 @@ use std::alloc::{AllocError, Global};
 pub enum CommandLine<'a> {
     /// No words: the program that keeps every message, on standard input.
     NoWords,
+    /// Whether a script has a fault.
+    Check { script: &'a str },
+    /// A script as a program, into a file.
+    Compile { script: &'a str, out: &'a str },
     /// Whether a program is accepted, and what it may charge.
     Verify { program: &'a str },
     /// What a program does with a message.
     Run { program: &'a str, message: &'a str },
+    /// What a script does with a message.
+    Eval { script: &'a str, message: &'a str },
     /// The text of standard input's octets in an encoding.
     Encode { encoding: Encoding },
     /// The octets that standard input reads as in an encoding.
@@ -56,11 +62,22 @@ fn line_in<'a>(matches: &ArgMatches<'a>) -> CommandLine<'a>
     ensures { Says result (subcommand_rows_of matches.now) }
 {
     match matches.subcommand() {
+        Some(("check", found)) => CommandLine::Check {
+            script: argument(found, "SCRIPT"),
+        },
+        Some(("compile", found)) => CommandLine::Compile {
+            script: argument(found, "SCRIPT"),
+            out: argument(found, "OUT"),
+        },
         Some(("verify", found)) => CommandLine::Verify {
             program: argument(found, "PROGRAM"),
         },
         Some(("run", found)) => CommandLine::Run {
             program: argument(found, "PROGRAM"),
+            message: argument(found, "MESSAGE"),
+        },
+        Some(("eval", found)) => CommandLine::Eval {
+            script: argument(found, "SCRIPT"),
             message: argument(found, "MESSAGE"),
         },
         Some(("encode", found)) => CommandLine::Encode {
@@ -106,23 +123,73 @@ fn depot_command<'a>(alloc: Global, names: &'a [&'a str]) -> Result<Command<'a>,
     ensures app { IfOk result (λ c. app_of c ≡ depot_app names.entry) }
     ensures local { IfOk result (λ c. (fields_of c).has_globals ≡ false) }
 {
-    filters_command(alloc)?
+    mail_command(alloc)?
         .subcommand(encode_command(alloc, names)?)?
         .subcommand(decode_command(alloc, names)?)
 }
 
-// The program with the commands that take filter programs.
+// The program with all commands that take scripts or filter programs.
+fn mail_command<'a>(alloc: Global) -> Result<Command<'a>, AllocError>
+    ensures app { IfOk result (λ c. app_of c ≡ mail_app) }
+    ensures local { IfOk result (λ c. (fields_of c).has_globals ≡ false) }
+{
+    filters_command(alloc)?.subcommand(eval_command(alloc)?)
+}
+
+// The program with the commands that take a script alone, or a filter program.
 fn filters_command<'a>(alloc: Global) -> Result<Command<'a>, AllocError>
     ensures app { IfOk result (λ c. app_of c ≡ filters_app) }
     ensures local { IfOk result (λ c. (fields_of c).has_globals ≡ false) }
 {
-    Command::new(alloc, "depot")
-        .about(
-            "Verified mail filters: says what a filter program may do, and runs it on mail messages.",
-        )
-        .after_help(AFTER_HELP)
+    scripts_command(alloc)?
         .subcommand(verify_command(alloc)?)?
         .subcommand(run_command(alloc)?)
+}
+
+// The program with the commands that take a script alone.
+fn scripts_command<'a>(alloc: Global) -> Result<Command<'a>, AllocError>
+    ensures app { IfOk result (λ c. app_of c ≡ scripts_app) }
+    ensures local { IfOk result (λ c. (fields_of c).has_globals ≡ false) }
+{
+    Command::new(alloc, "depot")
+        .about(
+            "Verified mail filters: checks and compiles Sieve scripts, and says what they do with mail messages.",
+        )
+        .after_help(AFTER_HELP)
+        .subcommand(check_command(alloc)?)?
+        .subcommand(compile_command(alloc)?)
+}
+
+// The command check.
+fn check_command<'a>(alloc: Global) -> Result<Command<'a>, AllocError>
+    ensures app { IfOk result (λ c. app_of c ≡ check_app) }
+    ensures local { IfOk result (λ c. (fields_of c).has_globals ≡ false) }
+{
+    Command::new(alloc, "check")
+        .about("Says whether a Sieve script has a fault, and where")
+        .arg(script_file(alloc))
+}
+
+// The command compile.
+fn compile_command<'a>(alloc: Global) -> Result<Command<'a>, AllocError>
+    ensures app { IfOk result (λ c. app_of c ≡ compile_app) }
+    ensures local { IfOk result (λ c. (fields_of c).has_globals ≡ false) }
+{
+    Command::new(alloc, "compile")
+        .about("Writes a Sieve script as a filter program (bytecode)")
+        .arg(script_file(alloc))?
+        .arg(out_file(alloc))
+}
+
+// The command eval.
+fn eval_command<'a>(alloc: Global) -> Result<Command<'a>, AllocError>
+    ensures app { IfOk result (λ c. app_of c ≡ eval_app) }
+    ensures local { IfOk result (λ c. (fields_of c).has_globals ≡ false) }
+{
+    Command::new(alloc, "eval")
+        .about("Runs a Sieve script on a message, and prints what it does with it")
+        .arg(script_file(alloc))?
+        .arg(message_file(alloc))
 }
 
 // The command verify.
@@ -175,6 +242,26 @@ fn encoding_name<'a>(alloc: Global, names: &'a [&'a str]) -> Arg<'a>
         .required(true)
         .value_parser(names)
         .help("How the text stands for octets")
+}
+
+// The argument SCRIPT.
+fn script_file<'a>(alloc: Global) -> Arg<'a>
+    ensures rule { rule_of result ≡ required_rule (codes "SCRIPT") }
+    ensures local { result.global ≡ false }
+{
+    Arg::new(alloc, "SCRIPT")
+        .required(true)
+        .help("The file of a Sieve script")
+}
+
+// The argument OUT.
+fn out_file<'a>(alloc: Global) -> Arg<'a>
+    ensures rule { rule_of result ≡ required_rule (codes "OUT") }
+    ensures local { result.global ≡ false }
+{
+    Arg::new(alloc, "OUT")
+        .required(true)
+        .help("The file that the filter program is written to")
 }
 
 // The argument PROGRAM.

@@ -104,8 +104,8 @@ fn put_piece<O: Sink>(out: &mut O, piece: &Piece<'_>) -> Result<(), DeviceFailed
     }
 }
 
-// Writes pieces in turn.
-fn put_pieces<O: Sink>(out: &mut O, pieces: &[Piece<'_>]) -> Result<(), DeviceFailed>
+/// Writes pieces in turn.
+pub fn put_pieces<O: Sink>(out: &mut O, pieces: &[Piece<'_>]) -> Result<(), DeviceFailed>
     ensures ok { OnOk result (HasPrinted (pieces_text pieces.now) (O.written out.old) (O.faults out.old) (O.written out.new) (O.faults out.new)) }
     ensures err { OnErr result (HasBroken (pieces_text pieces.now) (O.written out.old) (O.faults out.old) (O.written out.new) (O.faults out.new)) }
 {

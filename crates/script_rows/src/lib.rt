@@ -2,6 +2,8 @@
 #![tactic(auto)]
 
 #[cfg(test)]
+mod compiler;
+#[cfg(test)]
 mod lexer;
 #[cfg(test)]
 mod meaning;

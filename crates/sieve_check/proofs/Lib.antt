@@ -1,2 +1,9 @@
 pub mod Forms
 pub mod Extent
+pub mod Examples
+pub mod Visits
+pub mod TestSteps
+pub mod HeadSteps
+pub mod SequenceSteps
+pub mod CommandSteps
+pub mod PartSteps

@@ -6,3 +6,6 @@ pub mod FormOf
 pub mod Refusals
 pub mod Rules
 pub mod CheckedScript
+pub mod Checking
+pub mod Sequences
+pub mod Parts

@@ -1,17 +1,16 @@
 -- What is wrong with the commands and tests of a script, and which fault is named.
-use Rattle.std.specs.Prelude.{ℕ, Bool, true, false, ◌&&◌, not, nat_lt, List, [], ◌∷◌, ◌++◌, length, flat_map, Option, Some, None, is_some}
+use Rattle.std.specs.Prelude.{ℕ, Bool, true, false, ◌&&◌, not, nat_lt, List, [], ◌∷◌, ◌++◌, length, flat_map, Option, Some, None, is_some, option_map}
 use Rattle.std.specs.List.{list_any}
+use Rattle.std.specs.Option.{option_or}
 use Rattle.sieve_parser.specs.Tree.{ArgumentTree, text, text_list, amount, label, InvocationTree, invocation, TestsTree, no_test, one_test, test_list, MoreTests, last, next, CommandTree, simple, block, CommandsTree, no_command, command}
 use Rattle.sieve_check.specs.declared.context.Context.{Context}
 use Rattle.sieve_check.specs.declared.error.CheckError.{CheckError}
-use Rattle.sieve_check.specs.declared.error.Fault.{Fault}
-use Rattle.sieve_check.specs.declared.error.Fault.TheVariants.{UnknownCommand, MissingCapability, UnknownCapability, BadArguments, Limit}
 use Rattle.sieve_check.specs.declared.names.CommandName.{CommandName}
 use Rattle.sieve_check.specs.declared.names.CommandName.TheVariants.{Require, If, Elsif, Else, Stop, Keep, Discard}
 use Rattle.sieve_check.specs.declared.names.TestName.{TestName}
 use Rattle.sieve_check.specs.declared.names.TestName.TheVariants.{Constant, Not, AllOf, AnyOf, Size}
 use Rattle.sieve_check.specs.Names.{command_named, test_named, order_tagged, is_capability}
-use Rattle.sieve_check.specs.Refusals.{refusal}
+use Rattle.sieve_check.specs.Refusals.{Fault, UnknownCommand, MissingCapability, UnknownCapability, BadArguments, Limit, refusal}
 
 -- how a command ends
 pub data Ending : Type 0 where
@@ -83,24 +82,28 @@ abbrev pub fault_by_name : {Name : Type 0} → (Name → List (Bool × Fault)) �
 fault_by_name faults None = Some UnknownCommand
 fault_by_name faults (Some name) = least (faults name)
 
+-- the faults that a known command can have, in its context
+abbrev pub command_faults : Context → CommandName → List ArgumentTree → TestsTree → Ending → List (Bool × Fault)
+command_faults context name args tests ending =
+    (is_some (command_needs name), MissingCapability)
+    ∷ (has_unknown_capability name args, UnknownCapability)
+    ∷ (not (may_stand context name && is_command_well_formed name args tests ending), BadArguments)
+    ∷ (has_long_string args, Limit) ∷ []
+
+-- the faults that a known test can have
+abbrev pub test_faults : TestName → List ArgumentTree → TestsTree → List (Bool × Fault)
+test_faults name args tests =
+    (is_some (test_needs name), MissingCapability)
+    ∷ (not (is_test_well_formed name args tests), BadArguments)
+    ∷ (has_long_string args, Limit) ∷ []
+
 -- the fault of a command in its context
 abbrev pub command_fault : Context → List ℕ → List ArgumentTree → TestsTree → Ending → Option Fault
-command_fault context name args tests ending =
-    fault_by_name (λ known.
-    (is_some (command_needs known), MissingCapability)
-    ∷ (has_unknown_capability known args, UnknownCapability)
-    ∷ (not (may_stand context known && is_command_well_formed known args tests ending), BadArguments)
-    ∷ (has_long_string args, Limit) ∷ [])
-    (command_named name)
+command_fault context name args tests ending = fault_by_name (λ known. command_faults context known args tests ending) (command_named name)
 
 -- the fault of a test
 abbrev pub test_fault : List ℕ → List ArgumentTree → TestsTree → Option Fault
-test_fault name args tests =
-    fault_by_name (λ known.
-    (is_some (test_needs known), MissingCapability)
-    ∷ (not (is_test_well_formed known args tests), BadArguments)
-    ∷ (has_long_string args, Limit) ∷ [])
-    (test_named name)
+test_fault name args tests = fault_by_name (λ known. test_faults known args tests) (test_named name)
 
 -- a visited command or test: the number of its identifier's token, and its fault, if it has one
 pub record Visit : Type 0 where
@@ -157,10 +160,14 @@ abbrev mutual
   commands_visits context no_command = []
   commands_visits context (command c cs) = command_visits context c ++ commands_visits (behind context (name_of c)) cs
 
--- the fault of the first visit that has one
+-- what a visit is refused as, where there is a fault
+abbrev pub refusal_of : Visit → Option CheckError
+refusal_of visit = option_map (refusal visit.token) visit.fault
+
+-- the refusal of the first visit that has a fault
 abbrev pub first_fault : List Visit → Option CheckError
 first_fault [] = None
-first_fault (v ∷ vs) = elim v.fault [ None ↦ first_fault vs | Some fault ↦ Some (refusal v.token fault) ]
+first_fault (v ∷ vs) = option_or (refusal_of v) (first_fault vs)
 
 -- the fault of a script that is named, if it has one
 abbrev pub fault_of : CommandsTree → Option CheckError

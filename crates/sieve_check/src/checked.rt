@@ -36,6 +36,17 @@ impl Model for Checked {
 }
 
 impl Checked {
+    // The script with its typed form.
+    pub(crate) fn of(script: Script, commands: Vec<Command>) -> Checked
+        requires tree { IsTree (commands_tree script) }
+        requires form { IsFormOf (commands_tree script) (commands_form commands.items) }
+        requires faultless { fault_of (commands_tree script) ≡ None }
+        ensures script { result.script ≡ script }
+        ensures commands { result.commands ≡ commands.items }
+    {
+        Checked { script, commands }
+    }
+
     /// The script that was checked.
     pub fn script(&self) -> &Script
         ensures value { result.now ≡ self.now.script }

@@ -1,4 +1,5 @@
 // Where a command stands.
+use crate::sequence::Part;
 
 /// Where a command stands.
 #[derive(Clone, Copy, Debug, PartialEq, Eq)]
@@ -7,4 +8,31 @@ pub struct Context {
     pub takes_require: bool,
     /// Directly behind an `if` or `elsif` of the same block (RFC 5228, section 3.1).
     pub behind_if: bool,
+}
+
+impl Context {
+    ghost use Rattle.std.specs.Prelude.{◌≡◌};
+    ghost use Rattle.sieve_parser.specs.Tree.{CommandTree};
+    ghost use Rattle.sieve_check.specs.Parts.{IsPart};
+    ghost use Rattle.sieve_check.specs.Rules.{behind, name_of};
+
+    /// What a command before it makes of the context.
+    pub fn behind(self, part: &Part) -> Context
+        ensures { (tree : CommandTree) → IsPart self tree part.now → result ≡ behind self (name_of tree) }
+    {
+        match part {
+            Part::Nothing => Context {
+                takes_require: self.takes_require,
+                behind_if: false,
+            },
+            Part::First(_) | Part::Next(_) => Context {
+                takes_require: false,
+                behind_if: true,
+            },
+            Part::Action(_) | Part::Last(_) => Context {
+                takes_require: false,
+                behind_if: false,
+            },
+        }
+    }
 }

@@ -1,20 +1,9 @@
 // Why a script isn't accepted.
 ghost use Rattle.std.specs.Prelude.{◌≡◌};
 ghost use Rattle.sieve_check.specs.declared.error.CheckError.TheVariants.{Memory};
-ghost use Rattle.sieve_check.specs.Refusals.{refusal};
 
 use std::alloc::{AllocError, AllocFailed};
 use thiserror::Error;
-
-/// What is wrong with a command or test, from the least number to the greatest.
-#[derive(Clone, Copy, Debug, PartialEq, Eq)]
-pub enum Fault {
-    UnknownCommand,
-    MissingCapability,
-    UnknownCapability,
-    BadArguments,
-    Limit,
-}
 
 /// Why a script isn't accepted. A place is the number of an identifier's token.
 #[derive(Debug, Drop, Error)]
@@ -52,20 +41,5 @@ impl<T: Drop> From<AllocFailed<T>> for CheckError {
 
     fn from(_: AllocFailed<T>) -> CheckError {
         CheckError::Memory
-    }
-}
-
-impl Fault {
-    /// The fault of the command or test whose identifier is the token at the place.
-    pub fn at(self, place: usize) -> CheckError
-        ensures { result ≡ refusal place self }
-    {
-        match self {
-            Fault::UnknownCommand => CheckError::UnknownCommand { place },
-            Fault::MissingCapability => CheckError::MissingCapability { place },
-            Fault::UnknownCapability => CheckError::UnknownCapability { place },
-            Fault::BadArguments => CheckError::BadArguments { place },
-            Fault::Limit => CheckError::Limit { place },
-        }
     }
 }

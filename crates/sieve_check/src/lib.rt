@@ -4,11 +4,16 @@
 #![tactic(auto)]
 
 mod checked;
+mod checker;
 mod context;
 mod error;
+mod head;
 mod names;
+mod sequence;
+mod test;
 mod typed;
 
 pub use checked::Checked;
+pub use checker::check;
 pub use error::CheckError;
 pub use typed::{Branch, Command, Order, Test};

@@ -1,31 +1,30 @@
 -- The code of a script is accepted.
-use Rattle.std.proofs.Common.{◌≡◌, ℕ, zero, suc, ◌+◌, ◌-◌, ◌<◌, ◌≤◌, Bool, true, false, not, ◌&&◌, ◌||◌, ◌==◌, nat_le, List, [], ◌∷◌, ◌++◌, Option, Some, None, is_some, is_none, if◌then◌else◌, slice_get, get_or, length, refl, sym, ap, subst, ◌∙◌, inl, inr, arith}
-use Rattle.std.proofs.lemmas.Bool.{cases_Bool, cases_lt, cases_eq, eqb-true, ne_eqb, lt-leb}
+use Rattle.std.proofs.Common.{◌≡◌, ℕ, zero, suc, ◌+◌, ◌-◌, ◌<◌, ◌≤◌, Bool, true, false, not, ◌&&◌, ◌||◌, ◌==◌, nat_le, List, [], ◌∷◌, Option, Some, is_some, is_none, slice_get, get_or, length, refl, sym, ap, subst, ◌∙◌, inl, inr, arith}
+use Rattle.std.proofs.lemmas.Bool.{cases_Bool, cases_lt, cases_eq, ne_eqb, lt-leb}
 use Rattle.std.proofs.lemmas.List.{length-append, append-nil}
 use Rattle.std.proofs.Math.Bool.{and-false}
 use Rattle.std.proofs.lemmas.Option.{slice_get_within, slice_get-get_or}
 use Rattle.bytecode_format.specs.declared.instruction.Instruction.{Instruction}
 use Rattle.bytecode_format.specs.declared.operation.Operation.{Operation}
-use Rattle.bytecode_format.specs.declared.operation.Operation.TheVariants.{Halt, Bool as BoolOp, Not, Jump, JumpIfTrue, JumpIfFalse, Size, Keep, Discard}
+use Rattle.bytecode_format.specs.declared.operation.Operation.TheVariants.{Halt, Bool as BoolOp, Jump, JumpIfTrue, JumpIfFalse, Size, Keep, Discard}
 use Rattle.bytecode_format.specs.Operations.{operation_of}
 use Rattle.bytecode_format.specs.Code.{Code}
 use Rattle.bytecode_verifier.specs.declared.shape.Entry.TheVariants.{Truth}
 use Rattle.bytecode_verifier.specs.Acceptance.{IsAccepted}
-use Rattle.bytecode_verifier.specs.Form.{is_well_formed}
 use Rattle.bytecode_verifier.specs.Loops.{loops, same_loops}
 use Rattle.bytecode_verifier.specs.Places.{holds_at}
-use Rattle.bytecode_verifier.specs.Rules.{misses_index, is_halt, breaks_index, breaks_form, breaks_end, breaks_loop, breaks_jump, breaks_no_part, breaks_stack}
-use Rattle.bytecode_verifier.specs.Shape.{Entries, is_empty, is_jump, is_target, shape_after, shape_behind, shape_beyond, shape_at}
+use Rattle.bytecode_verifier.specs.Rules.{misses_index, is_halt, breaks_form, breaks_end, breaks_stack}
+use Rattle.bytecode_verifier.specs.Shape.{Entries, is_jump, is_target, shape_behind, shape_at}
 use Rattle.bytecode_verifier.proofs.Ends.{nowhere, past_stack}
 use Rattle.bytecode_verifier.proofs.Loopless.{needs_no_part, misses_no_loop, no_loops}
 use Rattle.sieve_check.specs.Typed.{CommandForms}
 use Rattle.sieve_compiler.specs.Lengths.{commands_length}
-use Rattle.sieve_compiler.specs.Numbers.{commands_numbers, table_of}
+use Rattle.sieve_compiler.specs.Numbers.{commands_numbers}
 use Rattle.sieve_compiler.specs.Coding.{plain, commands_code, code_of}
 use Rattle.sieve_compiler.proofs.Standing.{Stands, stands_right, stands_first}
 use Rattle.sieve_compiler.proofs.CodeLengths.{commands_code_length}
 use Rattle.sieve_compiler.proofs.Table.{distinct_has}
-use Rattle.sieve_compiler.proofs.Sound.{pushes, takes, is_emitted, pushes_at, follows_push, IsAimed, IsSound, AreSound, sound_both, plain_sound, commands_end, commands_sound}
+use Rattle.sieve_compiler.proofs.Sound.{pushes, takes, is_emitted, follows_push, IsSound, AreSound, sound_both, plain_sound, commands_end, commands_sound}
 
 sound_at : (all : List Instruction) (table : List ℕ) (last place : ℕ) (piece : List Instruction) (k : ℕ) (i : Instruction) → AreSound all table last place piece → slice_get piece k ≡ Some i → IsSound all table last (place + k) i
 sound_at all table last place [] k i h e = absurd (cc)
@@ -125,10 +124,10 @@ module _ (script : CommandForms) where
       let i = get_or all place (plain Halt) in
       let s = sound place i here in
       let free : (is_target all place && takes (operation_of i.op)) ≡ false =
-          elim (cases_Bool (takes (operation_of i.op))) [
-            | inl taken ↦ rw (no_target all code.numbers last 0 all place all_sound (s.stack ∙ taken)) refl
-            | inr none ↦ rw none (and-false (is_target all place))
-          ] in
+      elim (cases_Bool (takes (operation_of i.op))) [
+        | inl taken ↦ rw (no_target all code.numbers last 0 all place all_sound (s.stack ∙ taken)) refl
+        | inr none ↦ rw none (and-false (is_target all place))
+      ] in
       let kept = shape_kept code (is_target all place) (operation_of i.op) i s.emitted free in
       rw (before, here, s.stack) kept
 

@@ -1,9 +1,9 @@
 -- The code of each piece is as long as is said.
-use Rattle.std.proofs.Common.{◌≡◌, ℕ, ◌+◌, Bool, false, List, ◌++◌, refl, ◌∙◌, arith, length}
+use Rattle.std.proofs.Common.{◌≡◌, ℕ, ◌+◌, Bool, false, List, ◌++◌, refl, arith, length}
 use Rattle.std.proofs.lemmas.List.{length-append}
 use Rattle.sieve_check.specs.Typed.{TestForm, constant, negation, all_of, any_of, size, TestForms, no_test, test, CommandForm, keep, discard, stop, choice, CommandForms, no_command, command, BranchForms, no_branch, otherwise, branch}
 use Rattle.sieve_compiler.specs.Lengths.{test_length, tests_length, leave_length, command_length, commands_length, branches_length}
-use Rattle.sieve_compiler.specs.Coding.{test_code, tests_code, leave_code, command_code, commands_code, branches_code, asked_of, aim_of}
+use Rattle.sieve_compiler.specs.Coding.{test_code, tests_code, leave_code, command_code, commands_code, branches_code}
 
 pub length_two : {A : Type 0} (a b : List A) (m n : ℕ) → length a ≡ m → length b ≡ n → length (a ++ b) ≡ m + n
 length_two a b m n e f = let all = length-append a b in omega (arith, all, e, f)

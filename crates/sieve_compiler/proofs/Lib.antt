@@ -4,3 +4,9 @@ pub mod Table
 pub mod Sound
 pub mod Accepted
 pub mod Meets
+pub mod TableLemmas
+pub mod Walks
+pub mod NumberingLemmas
+pub mod PuttingLemmas
+pub mod Leftovers
+pub mod Fits

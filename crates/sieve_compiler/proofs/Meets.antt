@@ -1,5 +1,5 @@
 -- The run of a script's code does what the script means.
-use Rattle.std.proofs.Common.{◌≡◌, ℕ, zero, suc, ◌+◌, ◌<◌, ◌≤◌, Bool, true, false, not, ◌&&◌, ◌||◌, List, [], ◌∷◌, ◌++◌, Option, Some, slice_get, length, refl, sym, ap, subst, ◌∙◌, arith, if◌then◌else◌}
+use Rattle.std.proofs.Common.{◌≡◌, ℕ, zero, suc, ◌+◌, ◌<◌, Bool, true, false, not, ◌&&◌, ◌||◌, List, [], ◌∷◌, ◌++◌, Some, slice_get, refl, sym, ap, subst, ◌∙◌, arith, if◌then◌else◌}
 use Rattle.std.proofs.Math.Bool.{and-true, or-false}
 use Rattle.std.proofs.lemmas.Bool.{lt-ltb}
 use Rattle.bytecode_format.specs.declared.instruction.Instruction.{Instruction}
@@ -14,15 +14,15 @@ use Rattle.sieve_check.specs.Typed.{TestForm, constant, negation, all_of, any_of
 use Rattle.sieve_meaning.specs.Meaning.{Effects, no_effects, Ending, normal, stopped, effects_of, followed_by, is_size, holds, all_hold, any_holds, command_does, commands_do, choice_does, meaning}
 use Rattle.sieve_vm.specs.State.{truth, State, Turn, goes, ends, start}
 use Rattle.sieve_vm.specs.Machine.{is_sound_jump, step, turn_at}
-use Rattle.sieve_vm.specs.Runs.{Run, RunEnds}
+use Rattle.sieve_vm.specs.Runs.{Run}
 use Rattle.sieve_vm.specs.Ending.{IsOutcome}
 use Rattle.sieve_compiler.specs.Lengths.{test_length, tests_length, leave_length, command_length, commands_length, branches_length}
 use Rattle.sieve_compiler.specs.Numbers.{test_numbers, tests_numbers, command_numbers, commands_numbers, branches_numbers, place_in}
 use Rattle.sieve_compiler.specs.Coding.{plain, instruction, jump_if, push_bool, push_size, asked_of, aim_of, test_code, tests_code, leave_code, command_code, commands_code, branches_code, code_of}
 use Rattle.sieve_compiler.proofs.Standing.{Stands, stands_first, stands_next, stands_left, stands_right}
-use Rattle.sieve_compiler.proofs.CodeLengths.{test_code_length, command_code_length, commands_code_length}
+use Rattle.sieve_compiler.proofs.CodeLengths.{test_code_length, command_code_length}
 use Rattle.sieve_compiler.proofs.Table.{Has, has_left, has_right, has_itself, found, distinct_has}
-use Rattle.sieve_compiler.proofs.Sound.{IsSound, branch_parts_of}
+use Rattle.sieve_compiler.proofs.Sound.{branch_parts_of}
 use Rattle.sieve_compiler.proofs.Accepted.{halt_at, sound, loopless}
 
 -- where code that was asked for a value stands behind it
@@ -224,7 +224,7 @@ module _ (script : CommandForms) (mail : Mail) where
         let first = command_run c p e (stands_left all p _ _ h) (has_left table (command_numbers c) (commands_numbers cs) known) in
         let there = stands_right all p (command_length c) _ _ (command_code_length table c p) h in
         arrives_then (command_does mail c e) (λ f. commands_do mail cs f) p (p + command_length c) _ e first
-            (λ f. subst (λ q. Arrives (commands_do mail cs f) (p + command_length c) q f) same (commands_run cs (p + command_length c) f there (has_right table (command_numbers c) (commands_numbers cs) known)))
+        (λ f. subst (λ q. Arrives (commands_do mail cs f) (p + command_length c) q f) same (commands_run cs (p + command_length c) f there (has_right table (command_numbers c) (commands_numbers cs) known)))
 
     branches_run : (bs : BranchForms) (p end : ℕ) (e : Effects) → Stands all p (branches_code table p bs end) → Has table (branches_numbers bs) → p + branches_length bs ≡ end → Arrives (choice_does mail bs e) p end e
     branches_run no_branch p end e h known done = let same : p ≡ end = omega (arith, done) in comes_here p end e same
@@ -247,13 +247,15 @@ module _ (script : CommandForms) (mail : Mail) where
 
   ends_with : (p : ℕ) (f : Effects) → Comes 0 no_effects p f → slice_get all p ≡ Some (plain Halt) → (charged : ℕ) × IsOutcome code mail (final_actions f.actions f.implicit_keep) charged
   ends_with p f go here =
-      let r = go 0 in
-      (r.0 + 1, record {
-        end = at p f (r.0 + 1);
-        over = record { steps = r.1.0; last = at p f r.0; run = r.1.1; halts = halted p f r.0 here };
-        actions_are = refl;
-        charge_is = refl;
-      })
+      let r = go 0 in (
+        r.0 + 1,
+        record {
+          end = at p f (r.0 + 1);
+          over = record { steps = r.1.0; last = at p f r.0; run = r.1.1; halts = halted p f r.0 here };
+          actions_are = refl;
+          charge_is = refl;
+        },
+      )
 
   outcome : (x : Ending) → Arrives x 0 (0 + commands_length script) no_effects → (charged : ℕ) × IsOutcome code mail (final_actions (effects_of x).actions (effects_of x).implicit_keep) charged
   outcome (normal f) h = let same : 0 + commands_length script ≡ commands_length script = omega arith in ends_with (0 + commands_length script) f h (ap (slice_get all) same ∙ halt_at script)

@@ -1,8 +1,8 @@
 -- Each instruction of a script's code keeps the rules, at its place.
-use Rattle.std.proofs.Common.{◌≡◌, ℕ, zero, suc, ◌+◌, ◌<◌, ◌≤◌, Bool, true, false, ◌==◌, List, [], ◌∷◌, ◌++◌, Option, Some, None, slice_get, length, refl, sym, ap, subst, ◌∙◌, arith}
+use Rattle.std.proofs.Common.{◌≡◌, ℕ, zero, suc, ◌+◌, ◌<◌, ◌≤◌, Bool, true, false, List, [], ◌∷◌, ◌++◌, Option, Some, None, slice_get, length, refl, sym, ap, subst, ◌∙◌, arith}
 use Rattle.bytecode_format.specs.declared.instruction.Instruction.{Instruction}
 use Rattle.bytecode_format.specs.declared.operation.Operation.{Operation}
-use Rattle.bytecode_format.specs.declared.operation.Operation.TheVariants.{Halt, Bool as BoolOp, Not, Jump, JumpIfTrue, JumpIfFalse, Size, Keep, Discard}
+use Rattle.bytecode_format.specs.declared.operation.Operation.TheVariants.{Halt, Bool as BoolOp, Jump, JumpIfTrue, JumpIfFalse, Size, Keep, Discard}
 use Rattle.bytecode_format.specs.Operations.{operation_of}
 use Rattle.bytecode_verifier.specs.Form.{is_well_formed}
 use Rattle.bytecode_verifier.specs.Shape.{is_jump}
@@ -11,9 +11,9 @@ use Rattle.sieve_check.specs.declared.typed.Order.TheVariants.{Over, Under}
 use Rattle.sieve_check.specs.Typed.{TestForm, constant, negation, all_of, any_of, size, TestForms, no_test, test, CommandForm, keep, discard, stop, choice, CommandForms, no_command, command, BranchForms, no_branch, otherwise, branch}
 use Rattle.sieve_compiler.specs.Lengths.{test_length, tests_length, leave_length, command_length, commands_length, branches_length}
 use Rattle.sieve_compiler.specs.Numbers.{test_numbers, tests_numbers, command_numbers, commands_numbers, branches_numbers, place_in}
-use Rattle.sieve_compiler.specs.Coding.{plain, instruction, jump_if, push_bool, push_size, asked_of, aim_of, test_code, tests_code, leave_code, command_code, commands_code, branches_code}
+use Rattle.sieve_compiler.specs.Coding.{plain, instruction, jump_if, push_bool, push_size, aim_of, test_code, tests_code, leave_code, command_code, commands_code, branches_code}
 use Rattle.sieve_compiler.proofs.Standing.{Stands, stands_first, stands_next, stands_left, stands_right}
-use Rattle.sieve_compiler.proofs.CodeLengths.{length_two, test_code_length, tests_code_length, leave_code_length, command_code_length, commands_code_length, branches_code_length}
+use Rattle.sieve_compiler.proofs.CodeLengths.{length_two, test_code_length, leave_code_length, command_code_length, commands_code_length}
 use Rattle.sieve_compiler.proofs.Table.{Has, has_left, has_right, has_itself, found}
 
 -- the operation leaves a truth value

@@ -1,3 +1,5 @@
 pub mod Lengths
 pub mod Numbers
 pub mod Coding
+pub mod Table
+pub mod Putting

@@ -1,5 +1,5 @@
 -- The numbers of a script: each once, in the order of their first use.
-use Rattle.std.specs.Prelude.{ℕ, zero, suc, ◌==◌, not, filter, List, [], ◌∷◌, ◌++◌, if◌then◌else◌}
+use Rattle.std.specs.Prelude.{ℕ, suc, ◌==◌, not, filter, List, [], ◌∷◌, ◌++◌, if◌then◌else◌}
 use Rattle.sieve_check.specs.Typed.{TestForm, constant, negation, all_of, any_of, size, TestForms, no_test, test, CommandForm, keep, discard, stop, choice, CommandForms, no_command, command, BranchForms, no_branch, otherwise, branch}
 
 abbrev mutual

@@ -1,4 +1,18 @@
 //! The compiler: a checked script as a program.
 //!
-//! The program is exactly the code of `specs/Coding`.
+//! `specs/Coding` says what the code of each command and test is, by recursion on the typed form. [`compile`] answers
+//! exactly the program of that code: no instruction more or less, each number of the script once in the table, in the
+//! order of their first use. It refuses nothing but for memory. The laws say that the code is accepted, and that on
+//! every message its run ends with the final actions of the script's meaning.
 #![tactic(auto)]
+
+mod coder;
+mod compiler;
+mod exits;
+mod instructions;
+pub mod laws;
+mod lengths;
+mod numbering;
+mod numbers;
+
+pub use compiler::compile;

@@ -1,5 +1,5 @@
 -- What the verifier's refusals are to whoever handed octets in.
-use Rattle.std.proofs.Common.{◌≡◌, ◌≢◌, ℕ, ◌^◌, ◌≤◌, List, Some, length, ap, subst, ◌∙◌, arith}
+use Rattle.std.proofs.Common.{◌≡◌, ◌≢◌, ℕ, ◌^◌, ◌≤◌, List, Some, length, sym, ap, subst, ◌∙◌, arith}
 use Rattle.bytecode_format.specs.declared.action.Action.{Action}
 use Rattle.bytecode_format.specs.Code.{Code}
 use Rattle.bytecode_verifier.specs.declared.error.Refusal.{Refusal}
@@ -8,9 +8,16 @@ use Rattle.bytecode_verifier.specs.Acceptance.{refusal_of}
 use Rattle.mime_decode.specs.Mail.{Mail, IsMail, mail_of}
 use Rattle.sieve_vm.specs.Ending.{IsOutcome}
 use Rattle.sieve_vm.specs.Potential.{limit_of}
-use Rattle.sieve_vm.proofs.Bounds.{ends_within}
+use Rattle.sieve_vm.specs.State.{State, start}
+use Rattle.sieve_vm.specs.Runs.{RunEnds}
+use Rattle.sieve_vm.proofs.Bounds.{ends_within, one_end_from}
+use Rattle.bytecode_format.specs.Actions.{final_actions}
+use Rattle.bytecode_verifier.specs.Acceptance.{IsAccepted}
 use Rattle.sieve_engine.specs.Refusals.{of_verifier}
-use Rattle.sieve_engine.specs.Execution.{Spells, IsChecked, IsProgramRefusal, IsExecution}
+use Rattle.sieve_engine.specs.Execution.{Spells, IsProgramRefusal, IsReport}
+use Rattle.sieve_engine.specs.Evaluation.{IsCompiled, IsEvaluation, IsEvaluationRefusal, IsScriptRefusal}
+use Rattle.sieve_engine.specs.declared.error.EngineError.{EngineError}
+use Rattle.sieve_engine.specs.declared.error.EngineError.TheVariants as engine
 
 pub refused_by_verifier : (octets : List ℕ) (code : Code) → Spells octets code → (r : Refusal) → (r ≢ Memory → refusal_of code ≡ Some r) → IsProgramRefusal octets (of_verifier r)
 refused_by_verifier octets code spells Memory h = tt
@@ -23,15 +30,44 @@ refused_by_verifier octets code spells (NoPart p) h = (code, spells, h (λ e. ab
 refused_by_verifier octets code spells (Stack p) h = (code, spells, h (λ e. absurd cc))
 
 -- the report of a run, in terms of the octets
-pub executed : (program message : List ℕ) (code : Code) (mail : Mail) (actions : List Action) (charged limit : ℕ) → IsChecked program code → mail ≡ mail_of message → IsMail mail → IsOutcome code mail actions charged → limit ≡ limit_of code mail → IsExecution program message actions charged limit
-executed program message code mail actions charged limit checked is fits outcome value =
+pub reported : (message : List ℕ) (code : Code) (mail : Mail) (actions : List Action) (charged limit : ℕ) → IsAccepted code → mail ≡ mail_of message → IsMail mail → IsOutcome code mail actions charged → limit ≡ limit_of code mail → IsReport code message actions charged limit
+reported message code mail actions charged limit accepted is fits outcome value =
     let small : mail.size ≤ 2 ^ 26 = fits.small in
     let size : mail.size ≡ length message = ap (λ (m : Mail). m.size) is in
     record {
-      code = code;
-      checked = checked;
       read = omega (arith, small, size);
       outcome = subst (λ (m : Mail). IsOutcome code m actions charged) is outcome;
-      within = omega (arith, ends_within code mail checked.accepted outcome.end outcome.over, outcome.charge_is, value);
+      within = omega (arith, ends_within code mail accepted outcome.end outcome.over, outcome.charge_is, value);
       budget = value ∙ ap (limit_of code) is;
     }
+
+one_end : (code : Code) (mail : Mail) (one other : State) → RunEnds code mail one → RunEnds code mail other → one ≡ other
+one_end code mail one other p q = one_end_from code mail p.steps q.steps (start code) p.last q.last one other p.run p.halts q.run q.halts
+
+-- a script's report is that of its code, whose run has one end, with the final actions of the meaning
+pub evaluated : (script message : List ℕ) (code : Code) (actions : List Action) (charged limit : ℕ) → IsCompiled script code → IsReport code message actions charged limit → IsEvaluation script message actions charged limit
+evaluated script message code actions charged limit compiled report =
+    let meant = compiled.means (mail_of message) in
+    let same = one_end code (mail_of message) report.outcome.end meant.1.end report.outcome.over meant.1.over in
+    record {
+      form = compiled.form;
+      checked = compiled.checked;
+      meant = report.outcome.actions_are ∙ ap (λ (s : State). final_actions s.actions s.implicit_keep) same ∙ sym meant.1.actions_are;
+      accepted = subst IsAccepted compiled.is compiled.accepted;
+      report = subst (λ c. IsReport c message actions charged limit) compiled.is report;
+    }
+
+-- a refusal of the script is one of the script and the message
+pub refused_script : (script message : List ℕ) (e : EngineError) → IsScriptRefusal script e → IsEvaluationRefusal script message e
+refused_script script message engine.Memory h = h
+refused_script script message engine.MessageTooLarge h = absurd h
+refused_script script message (engine.Lexical place) h = h
+refused_script script message engine.ScriptTooLong h = h
+refused_script script message (engine.Syntax place) h = h
+refused_script script message (engine.TooDeep place) h = h
+refused_script script message (engine.UnknownCommand place) h = h
+refused_script script message (engine.MissingCapability place) h = h
+refused_script script message (engine.UnknownCapability place) h = h
+refused_script script message (engine.BadArguments place) h = h
+refused_script script message (engine.Limit place) h = h
+refused_script script message _ h = absurd h

@@ -30,7 +30,6 @@ IsRefusedBy octets refusal = (code : Code) × Spells octets code × (refusal_of 
 -- the first refusal of octets as a program; Memory has no cause in them
 abbrev pub IsProgramRefusal : List ℕ → EngineError → Type 0
 IsProgramRefusal octets Memory = Unit {0}
-IsProgramRefusal octets MessageTooLarge = ⊥
 IsProgramRefusal octets Spelling = (code : Code) → Spells octets code → ⊥
 IsProgramRefusal octets (Index place) = IsRefusedBy octets (verifier.Index place)
 IsProgramRefusal octets (Form place) = IsRefusedBy octets (verifier.Form place)
@@ -39,17 +38,22 @@ IsProgramRefusal octets (Loop place) = IsRefusedBy octets (verifier.Loop place)
 IsProgramRefusal octets (Jump place) = IsRefusedBy octets (verifier.Jump place)
 IsProgramRefusal octets (NoPart place) = IsRefusedBy octets (verifier.NoPart place)
 IsProgramRefusal octets (Stack place) = IsRefusedBy octets (verifier.Stack place)
+IsProgramRefusal octets _ = ⊥
 
 -- the first refusal of a program and a message, the program's first
 abbrev pub IsRefusal : List ℕ → List ℕ → EngineError → Type 0
 IsRefusal program message MessageTooLarge = (2 ^ 26 < length message) × ((code : Code) × IsChecked program code)
 IsRefusal program message error = IsProgramRefusal program error
 
--- the program is accepted, the message is read, and its run on the message comes to these actions and this charge, within this limit
-pub record IsExecution (program message : List ℕ) (actions : List Action) (charged limit : ℕ) : Type 0 where
-  pub code : Code
-  pub checked : IsChecked program code
+-- the message is read, and the program's run on it comes to these actions and this charge, within this limit
+pub record IsReport (code : Code) (message : List ℕ) (actions : List Action) (charged limit : ℕ) : Type 0 where
   pub read : length message ≤ 2 ^ 26
   pub outcome : IsOutcome code (mail_of message) actions charged
   pub within : charged ≤ limit
   pub budget : limit ≡ budget_at (budget_of code) (mail_of message).size (length (mail_of message).parts)
+
+-- the octets spell an accepted program, and this is the report of its run on the message
+pub record IsExecution (program message : List ℕ) (actions : List Action) (charged limit : ℕ) : Type 0 where
+  pub code : Code
+  pub checked : IsChecked program code
+  pub report : IsReport code message actions charged limit

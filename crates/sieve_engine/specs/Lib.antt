@@ -1,2 +1,3 @@
 pub mod Refusals
 pub mod Execution
+pub mod Evaluation

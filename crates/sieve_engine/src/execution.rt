@@ -1,6 +1,9 @@
 // Running bytecode that anyone may hand in.
 ghost use Rattle.std.specs.Prelude.{IfOk, IfErr};
-ghost use Rattle.sieve_engine.specs.Execution.{IsChecked, IsProgramRefusal, IsExecution, IsRefusal};
+ghost use Rattle.std.specs.Prelude.{◌≡◌, ◌<◌, ◌^◌, ◌⊎◌, length};
+ghost use Rattle.sieve_engine.specs.declared.error.EngineError.TheVariants.{Memory, MessageTooLarge};
+ghost use Rattle.bytecode_verifier.specs.Acceptance.{IsAccepted};
+ghost use Rattle.sieve_engine.specs.Execution.{IsChecked, IsProgramRefusal, IsExecution, IsRefusal, IsReport};
 
 use crate::error::EngineError;
 use bytecode_format::Program;
@@ -42,8 +45,21 @@ pub fn execute(alloc: Global, program: &[u8], message: &[u8]) -> Result<Report, 
     ensures refused { IfErr result (λ e. IsRefusal program.now message.now e) }
 {
     let verified = check_program(alloc, program)?;
+    run_on(alloc, &verified, message)
+}
+
+/// The report of an accepted program's run on the message that the octets are.
+pub(crate) fn run_on(
+    alloc: Global,
+    verified: &Verified,
+    message: &[u8],
+) -> Result<Report, EngineError>
+    requires { IsAccepted verified.now }
+    ensures reported { IfOk result (λ report. IsReport verified.now message.now report.outcome.actions.items report.outcome.charged report.limit) }
+    ensures refused { IfErr result (λ e. (e ≡ Memory) ⊎ ((e ≡ MessageTooLarge) × (2 ^ 26 < length message.now))) }
+{
     let message = Message::read(alloc, message)?;
-    let outcome = run(alloc, &verified, &message)?;
+    let outcome = run(alloc, verified, &message)?;
     let limit = verified
         .budget()
         .at(message.size() as u64, message.parts() as u64);

@@ -6,7 +6,9 @@
 #![tactic(auto)]
 
 mod error;
+mod evaluation;
 mod execution;
 
 pub use error::EngineError;
+pub use evaluation::{check_script, compile_script, evaluate};
 pub use execution::{Report, check_program, execute};

@@ -1,0 +1,94 @@
+// Commands of the typed form, put together from commands alone.
+ghost use Rattle.std.specs.Prelude.{◌≡◌, IfOk, OnOk};
+ghost use Rattle.sieve_check.specs.Sequences.{Closed, Pushed, joined};
+ghost use Rattle.sieve_check.specs.Typed.{CommandForms, no_branch, no_command};
+ghost use Rattle.sieve_check.specs.TypedView.{commands_form, else_form};
+
+use crate::typed::{Branch, Command};
+use std::alloc::{AllocError, Global};
+use std::mem;
+
+/// A command alone: what it adds to the commands before it.
+#[derive(Drop)]
+pub enum Part {
+    /// `require` adds nothing.
+    Nothing,
+    /// A command that is a name alone adds itself.
+    Action(Command),
+    /// `if` adds a choice, with its first branch.
+    First(Branch),
+    /// `elsif` adds a branch to the choice before it.
+    Next(Branch),
+    /// `else` adds the last branch to the choice before it.
+    Last(Vec<Command>),
+}
+
+/// Commands so far, and the branches of a choice to which more may be added.
+#[derive(Drop)]
+pub struct Sequence {
+    pub commands: Vec<Command>,
+    pub branches: Vec<Branch>,
+}
+
+impl Sequence {
+    ghost use Rattle.std.specs.Prelude.{◌≡◌, [], IfOk, OnOk, false};
+    ghost use Rattle.sieve_check.specs.Sequences.{Closed, Pushed, joined};
+    ghost use Rattle.sieve_check.specs.Typed.{CommandForms, no_branch, no_command};
+    ghost use Rattle.sieve_check.specs.TypedView.{commands_form, else_form};
+
+    /// Before the first command.
+    pub fn new(alloc: Global) -> Sequence
+        ensures commands { result.commands.items ≡ [] }
+        ensures branches { result.branches.items ≡ [] }
+    {
+        Sequence {
+            commands: Vec::new(alloc),
+            branches: Vec::new(alloc),
+        }
+    }
+
+    // Ends the choice, if there is one, with the block of its `else`, if there is one.
+    fn close(&mut self, alloc: Global, last: Option<Vec<Command>>) -> Result<(), AllocError>
+        ensures { OnOk result (Closed self.old (else_form last) self.new) }
+    {
+        if self.branches.is_empty() {
+            return Ok(());
+        }
+        let branches = mem::replace(&mut self.branches, Vec::new(alloc));
+        self.commands.push(Command::If(branches, last))?;
+        Ok(())
+    }
+
+    /// Adds what a command adds.
+    pub fn push(&mut self, alloc: Global, part: Part) -> Result<(), AllocError>
+        ensures { OnOk result (Pushed self.old part self.new) }
+    {
+        match part {
+            Part::Nothing => self.close(alloc, None),
+            Part::Action(command) => {
+                self.close(alloc, None)?;
+                self.commands.push(command)?;
+                Ok(())
+            }
+            Part::First(branch) => {
+                self.close(alloc, None)?;
+                self.branches.push(branch)?;
+                Ok(())
+            }
+            Part::Next(branch) => {
+                self.branches.push(branch)?;
+                Ok(())
+            }
+            Part::Last(block) => self.close(alloc, Some(block)),
+        }
+    }
+
+    /// The commands.
+    pub fn finish(self, alloc: Global) -> Result<Vec<Command>, AllocError>
+        ensures { IfOk result (λ commands. commands_form commands.items ≡ joined self no_branch no_command) }
+    {
+        let mut sequence = self;
+        sequence.close(alloc, None)?;
+        Ok(sequence.commands)
+    }
+}

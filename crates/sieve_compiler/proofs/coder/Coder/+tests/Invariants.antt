@@ -1,0 +1,14 @@
+use Rattle.std.proofs.Common.{◌≡◌, ◌+◌, length, map, drop}
+use Rattle.sieve_check.specs.TypedView.{test_form, tests_of}
+use Rattle.sieve_compiler.specs.Lengths.{tests_length}
+use Rattle.sieve_compiler.specs.Coding.{tests_code}
+use Rattle.sieve_compiler.proofs.Leftovers.{Left}
+use Rattle.sieve_compiler.proofs.coder.Coder.+tests.Given as goal
+
+abbrev pub invariant-put_tests-tests : goal.invariant-put_tests-tests
+invariant-put_tests-tests l = record {
+  room : length l.self.instructions.items + tests_length (tests_of (map test_form (drop l.i l.others))) ≡ length l.initial.self.instructions.items + tests_length (tests_of (map test_form l.others));
+  code : Left l.initial.self l.self
+      (λ table place. tests_code table place (tests_of (map test_form (drop l.i l.others))) l.list.deciding l.list.exit.asked l.list.behind l.list.exit.target)
+      (λ table place. tests_code table place (tests_of (map test_form l.others)) l.list.deciding l.list.exit.asked l.list.behind l.list.exit.target);
+}

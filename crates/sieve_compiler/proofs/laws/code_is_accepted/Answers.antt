@@ -1,0 +1,5 @@
+use Rattle.sieve_compiler.proofs.Accepted.{code_accepted}
+use Rattle.sieve_compiler.proofs.laws.code_is_accepted.Goals as goal
+
+pub returns : goal.returns
+returns c = λ script. code_accepted script

@@ -1,0 +1,12 @@
+use Rattle.std.proofs.Common.{ap, ◌∙◌}
+use Rattle.sieve_check.specs.TypedView.{commands_form}
+use Rattle.sieve_compiler.specs.Numbers.{commands_numbers}
+use Rattle.sieve_compiler.specs.Table.{with_numbers}
+use Rattle.sieve_compiler.proofs.TableLemmas.{all_added}
+use Rattle.sieve_compiler.proofs.numbers.Numbers.of_script.Goals as goal
+
+pub returns : goal.returns
+returns c =
+    c.in_ok-add_commands.ensures
+    ∙ ap (λ l. with_numbers l (commands_numbers (commands_form c.args.commands.now))) c.new-numbers.ensures
+    ∙ all_added (commands_numbers (commands_form c.args.commands.now))

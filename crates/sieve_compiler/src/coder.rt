@@ -1,0 +1,203 @@
+// The second pass over a script: its code.
+ghost use Rattle.std.specs.Prelude.{◌≡◌, ◌<◌, ◌^◌, length};
+
+use crate::exits::{Exit, ListExit};
+use crate::instructions::{instruction, jump_if, push_bool, push_size};
+use crate::lengths::{command_length, commands_length, is_left, test_length, tests_length};
+use crate::numbers::Numbers;
+use bytecode_format::{Instruction, Operation};
+use sieve_check::{Branch, Command, Test};
+use std::alloc::{AllocError, Global};
+
+/// The code so far, and the numbers of the whole script.
+#[derive(Drop)]
+pub struct Coder<'a> {
+    pub numbers: &'a Numbers,
+    pub instructions: Vec<Instruction>,
+    ghost few: { length numbers.now < 2 ^ 32 },
+}
+
+impl<'a> Coder<'a> {
+    ghost use Rattle.std.specs.Prelude.{◌≡◌, ◌+◌, ◌<◌, ◌^◌, false, [], ◌∷◌, ◌++◌, length, map, OnOk};
+    ghost use Rattle.sieve_check.specs.TypedView.{test_form, tests_of, command_form, commands_form, branch_forms, else_form};
+    ghost use Rattle.sieve_compiler.specs.Lengths.{test_length, tests_length, leave_length, command_length, commands_length};
+    ghost use Rattle.sieve_compiler.specs.Coding.{jump_if, test_code, tests_code, leave_code, command_code, commands_code};
+    ghost use Rattle.sieve_compiler.specs.Putting.{Puts};
+
+    /// No code. Takes no memory.
+    pub fn new(alloc: Global, numbers: &'a Numbers) -> Coder<'a>
+        requires { length numbers.now < 2 ^ 32 }
+        ensures numbers { result.numbers.now ≡ numbers.now }
+        ensures instructions { result.instructions.items ≡ [] }
+    {
+        Coder {
+            numbers,
+            instructions: Vec::new(alloc),
+        }
+    }
+
+    // The place of the next instruction.
+    fn place(&self) -> u32
+        requires { length self.now.instructions.items < 2 ^ 32 }
+        ensures { result ≡ length self.now.instructions.items }
+    {
+        self.instructions.len() as u32
+    }
+
+    /// Puts an instruction.
+    pub fn put(&mut self, instruction: Instruction) -> Result<(), AllocError>
+        ensures code { OnOk result (Puts self.old self.new (instruction ∷ [])) }
+        ensures room { OnOk result (length self.new.instructions.items ≡ length self.old.instructions.items + 1) }
+    {
+        self.instructions.push(instruction)?;
+        Ok(())
+    }
+
+    // Puts a simple test and its jump.
+    fn put_simple(&mut self, test: Instruction, exit: Exit) -> Result<(), AllocError>
+        ensures code { OnOk result (Puts self.old self.new (test ∷ jump_if exit.asked exit.target ∷ [])) }
+        ensures room { OnOk result (length self.new.instructions.items ≡ length self.old.instructions.items + 2) }
+    {
+        self.put(test)?;
+        self.put(jump_if(exit))?;
+        Ok(())
+    }
+
+    /// Puts the code of a test, which jumps as the exit says.
+    #[cycle(tests)]
+    pub fn put_test(&mut self, test: &Test, exit: Exit) -> Result<(), AllocError>
+        requires { length self.old.instructions.items + test_length (test_form test.now) < 2 ^ 32 }
+        ensures code { OnOk result (Puts self.old self.new (test_code self.old.numbers.now (length self.old.instructions.items) (test_form test.now) exit.asked exit.target)) }
+        ensures room { OnOk result (length self.new.instructions.items ≡ length self.old.instructions.items + test_length (test_form test.now)) }
+    {
+        match test {
+            Test::Constant(value) => self.put_simple(push_bool(*value), exit),
+            Test::Not(inner) => {
+                let turned = Exit {
+                    asked: !exit.asked,
+                    target: exit.target,
+                };
+                self.put_test(inner, turned)
+            }
+            Test::AllOf(first, others) => {
+                let list = self.list_exit(first, others, false, exit);
+                self.put_test(first, list.before(others))?;
+                self.put_tests(others, list)?;
+                Ok(())
+            }
+            Test::AnyOf(first, others) => {
+                let list = self.list_exit(first, others, true, exit);
+                self.put_test(first, list.before(others))?;
+                self.put_tests(others, list)?;
+                Ok(())
+            }
+            Test::Size(order, number) => {
+                let place = self.numbers.place_of(*number) as u32;
+                self.put_simple(push_size(*order, place), exit)
+            }
+        }
+    }
+
+    // Puts the code of the tests of a list behind its first.
+    #[cycle(tests)]
+    fn put_tests(&mut self, others: &[Test], list: ListExit) -> Result<(), AllocError>
+        requires { length self.old.instructions.items + tests_length (tests_of (map test_form others.now)) < 2 ^ 32 }
+        ensures room { OnOk result (length self.new.instructions.items ≡ length self.old.instructions.items + tests_length (tests_of (map test_form others.now))) }
+        ensures code { OnOk result (Puts self.old self.new (tests_code self.old.numbers.now (length self.old.instructions.items) (tests_of (map test_form others.now)) list.deciding list.exit.asked list.behind list.exit.target)) }
+    {
+        'tests: for (i, test) in others.iter().enumerate() {
+            self.put_test(test, list.before(&others[i + 1..]))?;
+        }
+        Ok(())
+    }
+
+    // How a list of tests jumps whose code begins here.
+    fn list_exit(&self, first: &Test, others: &[Test], deciding: bool, exit: Exit) -> ListExit
+        requires { length self.now.instructions.items + (test_length (test_form first.now) + tests_length (tests_of (map test_form others.now))) < 2 ^ 32 }
+        ensures deciding { result.deciding ≡ deciding }
+        ensures exit { result.exit ≡ exit }
+        ensures behind { result.behind ≡ length self.now.instructions.items + (test_length (test_form first.now) + tests_length (tests_of (map test_form others.now))) }
+    {
+        ListExit {
+            deciding,
+            exit,
+            behind: self.place() + (test_length(first) + tests_length(others)),
+        }
+    }
+
+    // Puts the code of a command.
+    #[cycle(commands)]
+    fn put_command(&mut self, command: &Command) -> Result<(), AllocError>
+        requires { length self.old.instructions.items + command_length (command_form command.now) < 2 ^ 32 }
+        ensures code { OnOk result (Puts self.old self.new (command_code self.old.numbers.now (length self.old.instructions.items) (command_form command.now))) }
+        ensures room { OnOk result (length self.new.instructions.items ≡ length self.old.instructions.items + command_length (command_form command.now)) }
+    {
+        match command {
+            Command::Keep => self.put(instruction(Operation::Keep, 0, 0))?,
+            Command::Discard => self.put(instruction(Operation::Discard, 0, 0))?,
+            Command::Stop => self.put(instruction(Operation::Halt, 0, 0))?,
+            Command::If(branches, otherwise) => {
+                let end = self.place() + command_length(command);
+                'branches: for (i, branch) in branches.iter().enumerate() {
+                    let after = &branches[i + 1..];
+                    let exit = self.branch_exit(branch, after, otherwise);
+                    self.put_test(&branch.test, exit)?;
+                    self.put_commands(&branch.block)?;
+                    self.put_leave(after, otherwise, end)?;
+                }
+                if let Some(block) = otherwise {
+                    self.put_commands(block)?;
+                }
+            }
+        }
+        Ok(())
+    }
+
+    /// Puts the code of commands, one after the other.
+    #[cycle(commands)]
+    pub fn put_commands(&mut self, commands: &[Command]) -> Result<(), AllocError>
+        requires { length self.old.instructions.items + commands_length (commands_form commands.now) < 2 ^ 32 }
+        ensures code { OnOk result (Puts self.old self.new (commands_code self.old.numbers.now (length self.old.instructions.items) (commands_form commands.now))) }
+        ensures room { OnOk result (length self.new.instructions.items ≡ length self.old.instructions.items + commands_length (commands_form commands.now)) }
+    {
+        'commands: for command in commands {
+            self.put_command(command)?;
+        }
+        Ok(())
+    }
+
+    // Where the test of a branch goes to that begins here: where it is false, to what is behind the branch.
+    fn branch_exit(
+        &self,
+        branch: &Branch,
+        after: &[Branch],
+        otherwise: &Option<Vec<Command>>,
+    ) -> Exit
+        requires { length self.now.instructions.items + test_length (test_form branch.now.test) + commands_length (commands_form branch.now.block.items) + leave_length (branch_forms after.now (else_form otherwise.now)) < 2 ^ 32 }
+        ensures asked { result.asked ≡ false }
+        ensures target { result.target ≡ length self.now.instructions.items + test_length (test_form branch.now.test) + commands_length (commands_form branch.now.block.items) + leave_length (branch_forms after.now (else_form otherwise.now)) }
+    {
+        let block = self.place() + test_length(&branch.test);
+        let behind = block + commands_length(&branch.block);
+        Exit {
+            asked: false,
+            target: behind + u32::from(is_left(after, otherwise)),
+        }
+    }
+
+    // Puts the jump behind a block to the end of its `if`, where branches or an `else` are left.
+    fn put_leave(
+        &mut self,
+        after: &[Branch],
+        otherwise: &Option<Vec<Command>>,
+        end: u32,
+    ) -> Result<(), AllocError>
+        ensures code { OnOk result (Puts self.old self.new (leave_code (branch_forms after.now (else_form otherwise.now)) end)) }
+        ensures room { OnOk result (length self.new.instructions.items ≡ length self.old.instructions.items + leave_length (branch_forms after.now (else_form otherwise.now))) }
+    {
+        if is_left(after, otherwise) {
+            self.put(instruction(Operation::Jump, 0, end))?;
+        }
+        Ok(())
+    }
+}

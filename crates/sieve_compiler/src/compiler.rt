@@ -1,0 +1,43 @@
+// Scripts as programs.
+ghost use Rattle.std.specs.Prelude.{◌≡◌, ◌≤◌, ℕ, IfOk};
+ghost use Rattle.bytecode_verifier.specs.Acceptance.{IsAccepted};
+ghost use Rattle.mime_decode.specs.Mail.{Mail};
+ghost use Rattle.sieve_meaning.specs.Meaning.{meaning};
+ghost use Rattle.sieve_vm.specs.Ending.{IsOutcome};
+ghost use Rattle.sieve_check.specs.TypedView.{commands_form};
+ghost use Rattle.sieve_check.specs.Extent.{commands_extent};
+ghost use Rattle.sieve_compiler.specs.Coding.{code_of};
+
+use crate::coder::Coder;
+use crate::instructions::instruction;
+use crate::numbers::Numbers;
+use bytecode_format::{Operation, Program};
+use sieve_check::{Checked, Command};
+use std::alloc::{AllocError, Global};
+
+/// The program of a checked script: exactly its code, which is accepted, and whose run on every message ends with
+/// the final actions of the script's meaning.
+///
+/// An error comes only where memory was refused: the code of every checked script is within the limits of a
+/// program. The time is linear in the size of the code, but for the nesting, which has a limit.
+pub fn compile(alloc: Global, checked: &Checked) -> Result<Program, AllocError>
+    ensures code { IfOk result (λ program. program ≡ code_of (commands_form checked.now.commands)) }
+    ensures accepted { IfOk result (λ program. IsAccepted program) }
+    ensures means { IfOk result (λ program. (mail : Mail) → (charged : ℕ) × IsOutcome program mail (meaning mail (commands_form checked.now.commands)) charged) }
+{
+    compile_commands(alloc, checked.commands())
+}
+
+// The program of a script's commands, of which there are no more than of a script within the limits.
+fn compile_commands(alloc: Global, commands: &[Command]) -> Result<Program, AllocError>
+    requires { commands_extent (commands_form commands.now) ≤ 65536 }
+    ensures code { IfOk result (λ p. p ≡ code_of (commands_form commands.now)) }
+{
+    let numbers = Numbers::of_script(alloc, commands)?;
+    let mut coder = Coder::new(alloc, &numbers);
+    coder.put_commands(commands)?;
+    coder.put(instruction(Operation::Halt, 0, 0))?;
+    let instructions = coder.instructions;
+    let table = numbers.into_list();
+    Ok(Program::build(1, 0, table, Vec::new(alloc), instructions).unwrap())
+}

@@ -1,0 +1,79 @@
+// How many instructions the code of each piece has.
+//
+// Measuring goes down the whole piece. A piece is measured once for each list of tests around it, and twice
+// for each `if`; these are nested at most 32 deep in a script, so the time stays linear in the script's length.
+ghost use Rattle.std.specs.Prelude.{◌≡◌, ◌<◌, ◌^◌, map, if◌then◌else◌};
+ghost use Rattle.sieve_check.specs.TypedView.{test_form, tests_of, command_form, commands_form, branch_forms, else_form};
+ghost use Rattle.sieve_compiler.specs.Lengths.{test_length, tests_length, leave_length, command_length, commands_length};
+
+use sieve_check::{Branch, Command, Test};
+
+/// How many instructions a test has.
+#[cycle(test_lengths)]
+pub fn test_length(test: &Test) -> u32
+    requires { test_length (test_form test.now) < 2 ^ 32 }
+    ensures { result ≡ test_length (test_form test.now) }
+{
+    match test {
+        Test::Constant(_) | Test::Size(_, _) => 2,
+        Test::Not(inner) => test_length(inner),
+        Test::AllOf(first, others) | Test::AnyOf(first, others) => {
+            test_length(first) + tests_length(others)
+        }
+    }
+}
+
+/// How many instructions the tests of a list have together.
+#[cycle(test_lengths)]
+pub fn tests_length(tests: &[Test]) -> u32
+    requires { tests_length (tests_of (map test_form tests.now)) < 2 ^ 32 }
+    ensures { result ≡ tests_length (tests_of (map test_form tests.now)) }
+{
+    let mut total = 0;
+    'tests: for test in tests {
+        total += test_length(test);
+    }
+    total
+}
+
+/// Whether branches, or the block of an `else`, are left: then a jump leads behind the block before them.
+pub fn is_left(branches: &[Branch], otherwise: &Option<Vec<Command>>) -> bool
+    ensures { leave_length (branch_forms branches.now (else_form otherwise.now)) ≡ (if result then 1 else 0) }
+{
+    !branches.is_empty() || otherwise.is_some()
+}
+
+/// How many instructions a command has.
+#[cycle(command_lengths)]
+pub fn command_length(command: &Command) -> u32
+    requires { command_length (command_form command.now) < 2 ^ 32 }
+    ensures { result ≡ command_length (command_form command.now) }
+{
+    match command {
+        Command::Keep | Command::Discard | Command::Stop => 1,
+        Command::If(branches, otherwise) => {
+            let mut total = 0;
+            'branches: for (i, branch) in branches.iter().enumerate() {
+                total += test_length(&branch.test) + commands_length(&branch.block);
+                total += u32::from(is_left(&branches[i + 1..], otherwise));
+            }
+            match otherwise {
+                Some(block) => total + commands_length(block),
+                None => total,
+            }
+        }
+    }
+}
+
+/// How many instructions commands have together.
+#[cycle(command_lengths)]
+pub fn commands_length(commands: &[Command]) -> u32
+    requires { commands_length (commands_form commands.now) < 2 ^ 32 }
+    ensures { result ≡ commands_length (commands_form commands.now) }
+{
+    let mut total = 0;
+    'commands: for command in commands {
+        total += command_length(command);
+    }
+    total
+}

@@ -1,0 +1,77 @@
+// The numbers of a script.
+ghost use Rattle.std.specs.Prelude.{◌≡◌, ◌<◌, ◌≤◌, ◌^◌, [], length, All, OnOk, OnErr};
+
+use std::alloc::{AllocError, Global};
+use std::collections::BTreeMap;
+use std::marker::Model;
+
+/// The different numbers of a script, in the order of their first use.
+///
+/// A contract sees the list of them. A number takes time in the logarithm of their number.
+#[derive(Drop)]
+pub struct Numbers {
+    listed: Vec<u64>,
+    // Where each of them stands in the list.
+    places: BTreeMap<u64, usize>,
+}
+
+impl Model for Numbers {
+    ghost use Rattle.std.specs.Prelude.{◌≡◌, ℕ, List};
+    ghost use Rattle.std.specs.BTreeMap.{get};
+    ghost use Rattle.std.specs.Ordering.{nat_cmp};
+    ghost use Rattle.sieve_compiler.specs.Table.{found_in};
+
+    ghost Value = { List ℕ };
+
+    ghost view = { λ n. n.listed.items };
+
+    ghost invariant = { λ n. (number : ℕ) → get nat_cmp n.places number ≡ found_in n.listed.items number };
+}
+
+impl Numbers {
+    ghost use Rattle.sieve_compiler.specs.Numbers.{place_in};
+    ghost use Rattle.sieve_compiler.specs.Table.{with_number};
+
+    /// No number. Takes no memory.
+    pub fn new(alloc: Global) -> Numbers
+        ensures { result ≡ [] }
+    {
+        Numbers {
+            listed: Vec::new(alloc),
+            places: BTreeMap::new(alloc),
+        }
+    }
+
+    /// Lists the number, unless it is listed.
+    ///
+    /// An error comes only where memory was refused; the list is then as it was.
+    pub fn add(&mut self, number: u64) -> Result<(), AllocError>
+        ensures ok { OnOk result (self.new ≡ with_number self.old number) }
+        ensures err { OnErr result (self.new ≡ self.old) }
+    {
+        if self.places.contains_key(&number) {
+            return Ok(());
+        }
+        self.listed.reserve(1)?;
+        self.places.insert(number, self.listed.len())?;
+        self.listed.push(number).unwrap();
+        Ok(())
+    }
+
+    /// The place of the number; the list's end, where it isn't listed.
+    pub fn place_of(&self, number: u64) -> usize
+        ensures place { result ≡ place_in self.now number }
+        ensures within { result ≤ length self.now }
+    {
+        let place = self.places.get(&number).copied();
+        place.unwrap_or(self.listed.len())
+    }
+
+    /// The numbers in order.
+    pub fn into_list(self) -> Vec<u64>
+        ensures list { result.items ≡ self }
+        ensures numbers { All (λ n. n < 2 ^ 64) result.items }
+    {
+        self.listed
+    }
+}

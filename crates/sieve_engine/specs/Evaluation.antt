@@ -1,0 +1,66 @@
+-- What evaluating octets as a script on octets as a message comes to.
+use Rattle.std.specs.Prelude.{◌≡◌, ℕ, ◌<◌, ◌^◌, List, length, Some, None}
+use Rattle.bytecode_format.specs.declared.action.Action.{Action}
+use Rattle.bytecode_format.specs.Code.{Code}
+use Rattle.bytecode_verifier.specs.Acceptance.{IsAccepted}
+use Rattle.mime_decode.specs.Mail.{Mail, mail_of}
+use Rattle.sieve_parser.specs.declared.error.ParseError.TheVariants as parser
+use Rattle.sieve_parser.specs.Scripts.{IsParsed, IsRefused}
+use Rattle.sieve_parser.specs.Tree.{CommandsTree}
+use Rattle.sieve_check.specs.declared.error.CheckError.{CheckError}
+use Rattle.sieve_check.specs.declared.error.CheckError.TheVariants as checker
+use Rattle.sieve_check.specs.FormOf.{IsFormOf}
+use Rattle.sieve_check.specs.Rules.{fault_of}
+use Rattle.sieve_check.specs.Typed.{CommandForms}
+use Rattle.sieve_meaning.specs.Meaning.{meaning}
+use Rattle.sieve_vm.specs.Ending.{IsOutcome}
+use Rattle.sieve_compiler.specs.Coding.{code_of}
+use Rattle.sieve_engine.specs.declared.error.EngineError.{EngineError}
+use Rattle.sieve_engine.specs.declared.error.EngineError.TheVariants.{Memory, MessageTooLarge, Lexical, ScriptTooLong, Syntax, TooDeep, UnknownCommand, MissingCapability, UnknownCapability, BadArguments, Limit}
+use Rattle.sieve_engine.specs.Execution.{IsReport}
+
+-- the octets are a script without faults, of this typed form
+pub record IsScript (octets : List ℕ) (form : CommandForms) : Type 0 where
+  pub tree : CommandsTree
+  pub parsed : IsParsed octets tree
+  pub faultless : fault_of tree ≡ None
+  pub typed : IsFormOf tree form
+
+-- the octets are a script with this fault
+abbrev pub IsFaulty : List ℕ → CheckError → Type 0
+IsFaulty octets fault = (tree : CommandsTree) × IsParsed octets tree × (fault_of tree ≡ Some fault)
+
+-- the first refusal of octets as a script; Memory has no cause in them
+abbrev pub IsScriptRefusal : List ℕ → EngineError → Type 0
+IsScriptRefusal octets Memory = Unit {0}
+IsScriptRefusal octets (Lexical place) = IsRefused octets (parser.Lexical place)
+IsScriptRefusal octets ScriptTooLong = IsRefused octets parser.ScriptTooLong
+IsScriptRefusal octets (Syntax place) = IsRefused octets (parser.Syntax place)
+IsScriptRefusal octets (TooDeep place) = IsRefused octets (parser.TooDeep place)
+IsScriptRefusal octets (UnknownCommand place) = IsFaulty octets (checker.UnknownCommand place)
+IsScriptRefusal octets (MissingCapability place) = IsFaulty octets (checker.MissingCapability place)
+IsScriptRefusal octets (UnknownCapability place) = IsFaulty octets (checker.UnknownCapability place)
+IsScriptRefusal octets (BadArguments place) = IsFaulty octets (checker.BadArguments place)
+IsScriptRefusal octets (Limit place) = IsFaulty octets (checker.Limit place)
+IsScriptRefusal octets _ = ⊥
+
+-- the first refusal of a script and a message, the script's first
+abbrev pub IsEvaluationRefusal : List ℕ → List ℕ → EngineError → Type 0
+IsEvaluationRefusal script message MessageTooLarge = (2 ^ 26 < length message) × ((form : CommandForms) × IsScript script form)
+IsEvaluationRefusal script message error = IsScriptRefusal script error
+
+-- the program is the script's code, is accepted, and on every message its run ends with the final actions of the script's meaning
+pub record IsCompiled (script : List ℕ) (code : Code) : Type 0 where
+  pub form : CommandForms
+  pub checked : IsScript script form
+  pub is : code ≡ code_of form
+  pub accepted : IsAccepted code
+  pub means : (mail : Mail) → (charged : ℕ) × IsOutcome code mail (meaning mail form) charged
+
+-- the actions are the final actions of the script's meaning on the message, and this is the report of the run of its code
+pub record IsEvaluation (script message : List ℕ) (actions : List Action) (charged limit : ℕ) : Type 0 where
+  pub form : CommandForms
+  pub checked : IsScript script form
+  pub meant : actions ≡ meaning (mail_of message) form
+  pub accepted : IsAccepted (code_of form)
+  pub report : IsReport (code_of form) message actions charged limit

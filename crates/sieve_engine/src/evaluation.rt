@@ -1,0 +1,53 @@
+// Running scripts, by way of their code.
+ghost use Rattle.std.specs.Prelude.{IfOk, IfErr};
+ghost use Rattle.sieve_engine.specs.Evaluation.{IsCompiled, IsEvaluation, IsEvaluationRefusal, IsScript, IsScriptRefusal};
+ghost use Rattle.sieve_check.specs.TypedView.{commands_form};
+
+use crate::error::EngineError;
+use crate::execution::{Report, run_on};
+use bytecode_format::Program;
+use bytecode_verifier::verify;
+use sieve_check::{Checked, check};
+use sieve_compiler::compile;
+use sieve_parser::parse;
+use std::alloc::Global;
+
+/// The script that the octets are, with its typed form.
+///
+/// Else the first refusal of the script: of its length, then its tokens, its grammar and its rules.
+/// [`EngineError::Memory`] comes only where a growth was refused.
+pub fn check_script(alloc: Global, script: &[u8]) -> Result<Checked, EngineError>
+    ensures checked { IfOk result (λ checked. IsScript script.now (commands_form checked.commands)) }
+    ensures refused { IfErr result (λ e. IsScriptRefusal script.now e) }
+{
+    let script = parse(alloc, script)?;
+    Ok(check(alloc, script)?)
+}
+
+/// The program of the script that the octets are: its code, which is accepted, and whose run on every message
+/// ends with the final actions of the script's meaning.
+///
+/// Else the first refusal of the script, as [`check_script`] gives it.
+pub fn compile_script(alloc: Global, script: &[u8]) -> Result<Program, EngineError>
+    ensures compiled { IfOk result (λ program. IsCompiled script.now program) }
+    ensures refused { IfErr result (λ e. IsScriptRefusal script.now e) }
+{
+    let checked = check_script(alloc, script)?;
+    Ok(compile(alloc, &checked)?)
+}
+
+/// Evaluates the script that the octets are on the message that the other octets are.
+///
+/// The answer is the first refusal of the script, then of the message; else the final actions of the script's
+/// meaning on the message, with the charge and the limit of its code's run.
+pub fn evaluate(alloc: Global, script: &[u8], message: &[u8]) -> Result<Report, EngineError>
+    ensures evaluated { IfOk result (λ report. IsEvaluation script.now message.now report.outcome.actions.items report.outcome.charged report.limit) }
+    ensures refused { IfErr result (λ e. IsEvaluationRefusal script.now message.now e) }
+{
+    let program = compile_script(alloc, script)?;
+    match verify(alloc, program) {
+        Ok(verified) => run_on(alloc, &verified, message),
+        // An accepted program is refused for want of memory alone.
+        Err(_) => Err(EngineError::Memory),
+    }
+}
