@@ -102,8 +102,8 @@ impl<'a> Coder<'a> {
     #[cycle(tests)]
     fn put_tests(&mut self, others: &[Test], list: ListExit) -> Result<(), AllocError>
         requires { length self.old.instructions.items + tests_length (tests_of (map test_form others.now)) < 2 ^ 32 }
-        ensures room { OnOk result (length self.new.instructions.items ≡ length self.old.instructions.items + tests_length (tests_of (map test_form others.now))) }
         ensures code { OnOk result (Puts self.old self.new (tests_code self.old.numbers.now (length self.old.instructions.items) (tests_of (map test_form others.now)) list.deciding list.exit.asked list.behind list.exit.target)) }
+        ensures room { OnOk result (length self.new.instructions.items ≡ length self.old.instructions.items + tests_length (tests_of (map test_form others.now))) }
     {
         'tests: for (i, test) in others.iter().enumerate() {
             self.put_test(test, list.before(&others[i + 1..]))?;
