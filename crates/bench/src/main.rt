@@ -2,6 +2,7 @@
 #![tactic(auto)]
 
 mod codecs;
+mod compiling;
 mod machine;
 mod scripts;
 
@@ -12,10 +13,12 @@ fn main(rt: HostRuntime) -> anyhow::Result<()> {
     let _program = words.next();
     match words.next() {
         Some(job) if job.as_str() == "codecs" => codecs::run(&rt),
+        Some(job) if job.as_str() == "compile" => compiling::run(&rt),
         Some(job) if job.as_str() == "run" => machine::run(&rt),
         Some(job) if job.as_str() == "scripts" => scripts::run(&rt),
         _ => {
             println!(rt; "codecs")?;
+            println!(rt; "compile")?;
             println!(rt; "run")?;
             println!(rt; "scripts")?;
             Ok(())

@@ -35,7 +35,7 @@ pub(crate) fn run(rt: &HostRuntime) -> anyhow::Result<()> {
 }
 
 // A piece over and over, up to so many octets.
-fn repeated(
+pub(crate) fn repeated(
     alloc: Global,
     octets: usize,
     head: &[u8],
