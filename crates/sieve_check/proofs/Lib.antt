@@ -7,3 +7,4 @@ pub mod HeadSteps
 pub mod SequenceSteps
 pub mod CommandSteps
 pub mod PartSteps
+pub mod UniqueForm

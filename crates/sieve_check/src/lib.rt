@@ -8,6 +8,7 @@ mod checker;
 mod context;
 mod error;
 mod head;
+pub mod laws;
 mod names;
 mod sequence;
 mod test;
