@@ -2,8 +2,12 @@
 #![tactic(auto)]
 
 #[cfg(test)]
+mod checker;
+#[cfg(test)]
 mod lexer;
 #[cfg(test)]
 mod meaning;
 #[cfg(test)]
 mod parser;
+#[cfg(test)]
+mod repeated;
