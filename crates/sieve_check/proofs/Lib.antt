@@ -8,3 +8,4 @@ pub mod SequenceSteps
 pub mod CommandSteps
 pub mod PartSteps
 pub mod UniqueForm
+pub mod Existence
