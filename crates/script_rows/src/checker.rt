@@ -1,6 +1,6 @@
 // Scripts that are checked, and the faults that are named.
 use crate::repeated::repeated;
-use sieve_check::{CheckError, check};
+use sieve_check::{CheckError, Command, Order, Test, check};
 use sieve_parser::parse;
 use std::alloc::Global;
 
@@ -183,4 +183,40 @@ fn the_first_fault(rt: HostRuntime) {
         (b"require \"regex\" \"mime\" vacation {}", 17, 0),
     ];
     assert!(rt; all_named(rt.alloc(), &rows));
+}
+
+#[test]
+fn a_typed_form(rt: HostRuntime) {
+    let script =
+        b"require \"mime\"; if size :OVER 2k { keep; } elsif anyof (true, not false) {} else { stop; discard; }";
+    let Ok(parsed) = parse(rt.alloc(), script) else {
+        assert!(rt; false);
+        return;
+    };
+    let Ok(checked) = check(rt.alloc(), parsed) else {
+        assert!(rt; false);
+        return;
+    };
+    assert_eq!(rt; checked.script().commands().len(), 4);
+    assert_eq!(rt; checked.commands().len(), 1);
+    let Some(Command::If(branches, Some(last))) = checked.commands().first() else {
+        assert!(rt; false);
+        return;
+    };
+    assert!(rt; matches!(last.as_slice(), [Command::Stop, Command::Discard]));
+    let [first, second] = branches.as_slice() else {
+        assert!(rt; false);
+        return;
+    };
+    assert!(rt; matches!(first.test, Test::Size(Order::Over, 2048)));
+    assert!(rt; matches!(first.block.as_slice(), [Command::Keep]));
+    assert!(rt; second.block.is_empty());
+    let Test::AnyOf(one, others) = &second.test else {
+        assert!(rt; false);
+        return;
+    };
+    assert!(rt; matches!(**one, Test::Constant(true)) && others.len() == 1);
+    assert!(rt;
+        matches!(others.first(), Some(Test::Not(inner)) if matches!(**inner, Test::Constant(false)))
+    );
 }
