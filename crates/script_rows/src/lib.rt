@@ -2,6 +2,8 @@
 #![tactic(auto)]
 
 #[cfg(test)]
+mod checker;
+#[cfg(test)]
 mod compiler;
 #[cfg(test)]
 mod lexer;
@@ -9,3 +11,5 @@ mod lexer;
 mod meaning;
 #[cfg(test)]
 mod parser;
+#[cfg(test)]
+mod repeated;

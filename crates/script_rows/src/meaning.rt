@@ -1,18 +1,25 @@
-// What scripts in typed form mean.
+// What scripts do.
 use bytecode_format::Action;
 use mime_decode::Message;
-use sieve_check::{Branch, Command, Order, Test};
-use sieve_meaning::eval_commands;
-use std::alloc::{AllocError, Global};
+use sieve_check::check;
+use sieve_meaning::plain_eval;
+use sieve_parser::parse;
+use std::alloc::Global;
 use std::test::Fail;
 
 // Ten octets.
 const TEN: &[u8] = b"0123456789";
 
-// `keep`, `none` or `other`.
-fn actions_of(alloc: Global, script: &[Command], message: &[u8]) -> Result<&'static str, Fail> {
+// `keep`, `none`, `other`, or that the script isn't accepted.
+fn actions_of(alloc: Global, script: &[u8], message: &[u8]) -> Result<&'static str, Fail> {
     let message = Message::read(alloc, message)?;
-    let actions = eval_commands(alloc, script, &message)?;
+    let Ok(parsed) = parse(alloc, script) else {
+        return Ok("not parsed");
+    };
+    let Ok(checked) = check(alloc, parsed) else {
+        return Ok("refused");
+    };
+    let actions = plain_eval(alloc, &checked, &message)?;
     Ok(match actions.as_slice() {
         [] => "none",
         [Action::Keep] => "keep",
@@ -20,51 +27,40 @@ fn actions_of(alloc: Global, script: &[Command], message: &[u8]) -> Result<&'sta
     })
 }
 
-fn one(alloc: Global, command: Command) -> Result<Vec<Command>, AllocError> {
-    let mut commands = Vec::new(alloc);
-    commands.push(command)?;
-    Ok(commands)
-}
-
-// `if TEST { discard; }`
-fn discard_if(alloc: Global, test: Test) -> Result<Vec<Command>, AllocError> {
-    let block = one(alloc, Command::Discard)?;
-    let mut branches = Vec::new(alloc);
-    branches.push(Branch { test, block })?;
-    one(alloc, Command::If(branches, None))
-}
-
 #[test]
 fn keeps_and_discards(rt: HostRuntime) -> Result<(), Fail> {
     let alloc = rt.alloc();
-    assert_eq!(rt; actions_of(alloc, &[], b"")?, "keep");
-    let mut twice = one(alloc, Command::Keep)?;
-    twice.push(Command::Keep)?;
-    assert_eq!(rt; actions_of(alloc, &twice, TEN)?, "keep");
-    let discard = one(alloc, Command::Discard)?;
-    assert_eq!(rt; actions_of(alloc, &discard, TEN)?, "none");
-    let mut stopped = one(alloc, Command::Stop)?;
-    stopped.push(Command::Discard)?;
-    assert_eq!(rt; actions_of(alloc, &stopped, TEN)?, "keep");
-    // What was listed stays listed.
-    let mut kept = one(alloc, Command::Keep)?;
-    kept.push(Command::Discard)?;
-    assert_eq!(rt; actions_of(alloc, &kept, TEN)?, "keep");
+    assert_eq!(rt; actions_of(alloc, b"", b"")?, "keep");
+    let rows: [(&[u8], &str); 9] = [
+        (b"keep; keep;", "keep"),
+        (b"discard;", "none"),
+        (b"stop; discard;", "keep"),
+        // What was listed stays listed.
+        (b"keep; discard;", "keep"),
+        (b"discard; keep;", "keep"),
+        (b"require \"fileinto\"; discard;", "none"),
+        (b"if true { stop; } discard;", "keep"),
+        (b"if true { if true { stop; } discard; } discard;", "keep"),
+        (b"if false { stop; } discard;", "none"),
+    ];
+    for (script, wanted) in rows {
+        assert_eq!(rt; actions_of(alloc, script, TEN)?, wanted, "{script:?}");
+    }
     Ok(())
 }
 
 #[test]
 fn sizes_are_strict(rt: HostRuntime) -> Result<(), Fail> {
     let alloc = rt.alloc();
-    for (over, number, wanted) in [
-        (true, 10, "keep"),
-        (true, 9, "none"),
-        (false, 10, "keep"),
-        (false, 11, "none"),
-    ] {
-        let order = if over { Order::Over } else { Order::Under };
-        let script = discard_if(alloc, Test::Size(order, number))?;
-        assert_eq!(rt; actions_of(alloc, &script, TEN)?, wanted, "{over} {number}");
+    let rows: [(&[u8], &str); 5] = [
+        (b"if size :over 10 { discard; }", "keep"),
+        (b"if size :under 10 { discard; }", "keep"),
+        (b"if size :over 9 { discard; }", "none"),
+        (b"if size :under 11 { discard; }", "none"),
+        (b"if size :under 1K { discard; }", "none"),
+    ];
+    for (script, wanted) in rows {
+        assert_eq!(rt; actions_of(alloc, script, TEN)?, wanted, "{script:?}");
     }
     Ok(())
 }
@@ -72,19 +68,24 @@ fn sizes_are_strict(rt: HostRuntime) -> Result<(), Fail> {
 #[test]
 fn tests_combine(rt: HostRuntime) -> Result<(), Fail> {
     let alloc = rt.alloc();
-    for (first, second) in [(false, false), (false, true), (true, false), (true, true)] {
-        let mut others = Vec::new(alloc);
-        others.push(Test::Constant(second))?;
-        let all = Test::AllOf(Box::new(alloc, Test::Constant(first))?, others);
-        let script = discard_if(alloc, all)?;
-        let wanted = if first && second { "none" } else { "keep" };
-        assert_eq!(rt; actions_of(alloc, &script, b"")?, wanted);
-        let mut others = Vec::new(alloc);
-        others.push(Test::Constant(second))?;
-        let any = Test::AnyOf(Box::new(alloc, Test::Constant(first))?, others);
-        let script = discard_if(alloc, any)?;
-        let wanted = if first || second { "none" } else { "keep" };
-        assert_eq!(rt; actions_of(alloc, &script, b"")?, wanted);
+    let rows: [(&[u8], &str); 11] = [
+        (b"if not true { discard; }", "keep"),
+        (b"if not not true { discard; }", "none"),
+        (b"if allof (false, false) { discard; }", "keep"),
+        (b"if allof (false, true) { discard; }", "keep"),
+        (b"if allof (true, false) { discard; }", "keep"),
+        (b"if allof (true, true) { discard; }", "none"),
+        (b"if anyof (false, false) { discard; }", "keep"),
+        (b"if anyof (false, true) { discard; }", "none"),
+        (b"if anyof (true, false) { discard; }", "none"),
+        (b"if anyof (true, true) { discard; }", "none"),
+        (
+            b"if anyof (allof (true, false), not false) { discard; }",
+            "none",
+        ),
+    ];
+    for (script, wanted) in rows {
+        assert_eq!(rt; actions_of(alloc, script, b"")?, wanted, "{script:?}");
     }
     Ok(())
 }
@@ -93,23 +94,31 @@ fn tests_combine(rt: HostRuntime) -> Result<(), Fail> {
 #[test]
 fn one_branch_runs(rt: HostRuntime) -> Result<(), Fail> {
     let alloc = rt.alloc();
-    for (first, second, wanted) in [
-        (true, true, "none"),
-        (false, true, "keep"),
-        (false, false, "none"),
-    ] {
-        let mut branches = Vec::new(alloc);
-        branches.push(Branch {
-            test: Test::Constant(first),
-            block: one(alloc, Command::Discard)?,
-        })?;
-        branches.push(Branch {
-            test: Test::Constant(second),
-            block: one(alloc, Command::Keep)?,
-        })?;
-        let otherwise = one(alloc, Command::Discard)?;
-        let script = one(alloc, Command::If(branches, Some(otherwise)))?;
-        assert_eq!(rt; actions_of(alloc, &script, b"")?, wanted);
+    let rows: [(&[u8], &str); 6] = [
+        (
+            b"if true { discard; } elsif true { keep; } else { keep; }",
+            "none",
+        ),
+        (
+            b"if false { discard; } elsif true { keep; } else { discard; }",
+            "keep",
+        ),
+        (
+            b"if false { keep; } elsif false { keep; } else { discard; }",
+            "none",
+        ),
+        (
+            b"if false { keep; } elsif false { keep; } elsif true { discard; }",
+            "none",
+        ),
+        (b"if false { discard; } elsif false { discard; }", "keep"),
+        (
+            b"if true { } else { discard; } if false { } else { keep; }",
+            "keep",
+        ),
+    ];
+    for (script, wanted) in rows {
+        assert_eq!(rt; actions_of(alloc, script, b"")?, wanted, "{script:?}");
     }
     Ok(())
 }

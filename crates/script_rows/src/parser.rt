@@ -1,4 +1,5 @@
 // The syntax trees of scripts, and the tokens at fault.
+use crate::repeated::repeated;
 use sieve_parser::{Argument, Command, Invocation, ParseError, parse};
 use std::alloc::Global;
 
@@ -85,22 +86,6 @@ fn scripts_with_faults(rt: HostRuntime) {
     assert!(rt; parsed_as(rt.alloc(), b"; \"a") == Outcome::Lexical(2));
     let above = [b' '; 65537];
     assert!(rt; matches!(parse(rt.alloc(), &above), Err(ParseError::ScriptTooLong)));
-}
-
-// A text, `count` times one after another, between two others.
-fn repeated(
-    alloc: Global,
-    before: &[u8],
-    text: &[u8],
-    count: usize,
-    after: &[u8],
-) -> Option<Vec<u8>> {
-    let mut script = Vec::from_slice(alloc, before).ok()?;
-    for _ in 0..count {
-        script.extend_from_slice(text).ok()?;
-    }
-    script.extend_from_slice(after).ok()?;
-    Some(script)
 }
 
 // How a script that repeats a text is parsed.

@@ -66,6 +66,12 @@ no_require_of_list (text s ∷ []) t ts ending = refl
 no_require_of_list (text_list s ss ∷ []) t ts ending = refl
 no_require_of_list _ t ts ending = refl
 
+-- a require has no block
+pub no_require_block : (args : List ArgumentTree) (tests : TestsTree) → is_command_well_formed Require args tests braces ≡ false
+no_require_block args no_test = no_require args
+no_require_block args (one_test t) = no_opened_require args t
+no_require_block args (test_list t ts) = no_require_of_list args t ts braces
+
 -- no command takes tests in round brackets, and no command with a semicolon takes a test
 pub no_list : (name : CommandName) (args : List ArgumentTree) (t : InvocationTree) (ts : MoreTests) (ending : Ending) → is_command_well_formed name args (test_list t ts) ending ≡ false
 no_list Require args t ts ending = no_require_of_list args t ts ending

@@ -7,3 +7,5 @@ pub mod HeadSteps
 pub mod SequenceSteps
 pub mod CommandSteps
 pub mod PartSteps
+pub mod UniqueForm
+pub mod Existence

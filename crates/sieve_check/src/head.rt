@@ -19,7 +19,7 @@ use octets::Octets;
 use sieve_parser::{Argument, Head};
 
 // Whether one of the strings is no capability.
-fn has_unknown(names: &[Octets]) -> bool
+fn any_unknown(names: &[Octets]) -> bool
     ensures { result ≡ list_any (λ s. not (is_capability s)) names.now }
 {
     for name in names {
@@ -31,23 +31,23 @@ fn has_unknown(names: &[Octets]) -> bool
 }
 
 // Whether a string of the argument is no capability.
-fn names_unknown(argument: &Argument) -> bool
+fn argument_has_unknown(argument: &Argument) -> bool
     ensures { result ≡ list_any (λ s. not (is_capability s)) (strings_in (argument_tree argument.now)) }
 {
     match argument {
         Argument::Text(name) => !is_capability(name.as_slice()),
         Argument::TextList(first, others) => !is_capability(first.as_slice())
-            || has_unknown(others),
+            || any_unknown(others),
         Argument::Number(_) | Argument::Tag(_) => false,
     }
 }
 
 // Whether a string of the arguments is no capability.
-fn name_unknown(arguments: &[Argument]) -> bool
+fn has_unknown_capability(arguments: &[Argument]) -> bool
     ensures { result ≡ list_any (λ s. not (is_capability s)) (strings_of (map argument_tree arguments.now)) }
 {
     for argument in arguments {
-        if names_unknown(argument) {
+        if argument_has_unknown(argument) {
             return true;
         }
     }
@@ -86,7 +86,7 @@ pub fn fault_of_wrong(head: &Head) -> CheckError
     };
     match name {
         CommandName::Require => {
-            if name_unknown(&head.arguments) {
+            if has_unknown_capability(&head.arguments) {
                 CheckError::UnknownCapability { place }
             } else {
                 CheckError::BadArguments { place }
@@ -106,7 +106,7 @@ pub fn require(head: &Head, context: Context) -> Result<(), CheckError>
     ensures { command_named head.now.name ≡ Some Require → Answers (refusal_of (command_visit context head.now no_test semicolon)) result (λ _. IsCommand Require (arguments_of head.now) no_test (head_tree head.now no_test)) }
 {
     let place = head.token;
-    if name_unknown(&head.arguments) {
+    if has_unknown_capability(&head.arguments) {
         return Err(CheckError::UnknownCapability { place });
     }
     if context.takes_require && is_list(&head.arguments) {

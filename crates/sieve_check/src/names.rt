@@ -27,7 +27,7 @@ pub enum CommandName {
 /// The tests that are known.
 #[derive(Clone, Copy, Debug, PartialEq, Eq)]
 pub enum TestName {
-    /// `true` and `false` (RFC 5228, sections 5.10 and 5.4).
+    /// `true` and `false` (RFC 5228, sections 5.10 and 5.6).
     Constant(bool),
     /// `not` (RFC 5228, section 5.8).
     Not,

@@ -91,10 +91,8 @@ impl Evaluator {
 ghost use Rattle.sieve_check.specs.TypedView.{commands_form};
 ghost use Rattle.sieve_meaning.specs.Meaning.{meaning};
 
-/// The final actions of the commands on the message: exactly those of the meaning.
-///
-/// An error comes only where memory was refused.
-pub fn eval_commands(
+// The final actions of the commands on the message.
+fn eval_commands(
     alloc: Global,
     commands: &[Command],
     message: &Message<'_>,

@@ -7,4 +7,4 @@
 mod evaluator;
 mod tests_hold;
 
-pub use evaluator::{eval_commands, plain_eval};
+pub use evaluator::plain_eval;
