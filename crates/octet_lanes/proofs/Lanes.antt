@@ -1,9 +1,10 @@
 -- Vector operations, lane by lane.
-use Rattle.std.proofs.Common.{◌≡◌, ℕ, zero, suc, ◌+◌, ◌-◌, ◌*◌, ◌%◌, ◌^◌, ◌<◌, ◌≤◌, Bool, true, false, cond, not, ◌||◌, eqb, leb, ltb, List, [], ◌∷◌, ◌++◌, length, set, take, get_or, map, replicate, refl, sym, ap, ◌∙◌, arith, w8, Fits, eqb-true}
+use Rattle.std.proofs.Common.{◌≡◌, ℕ, zero, suc, ◌+◌, ◌-◌, ◌*◌, ◌%◌, ◌^◌, ◌<◌, ◌≤◌, ◌≢◌, Bool, true, false, cond, not, ◌||◌, eqb, leb, ltb, List, [], ◌∷◌, ◌++◌, length, set, take, get_or, map, replicate, refl, sym, ap, ◌∙◌, arith, w8, Fits, eqb-true, eq-eqb}
 use Rattle.std.specs.Simd.Lanes.{Each1, zip2, sel_l, mask_l, top}
-use Rattle.std.specs.List.{list_any}
-use Rattle.std.proofs.lemmas.Simd.{tops_compared, bitmask_splat, map-map, below_from_Fits}
-use Rattle.std.proofs.lemmas.Bool.{false≢true}
+use Rattle.std.specs.Int.Count.{count_trailing_zeros}
+use Rattle.std.specs.List.{list_any, position_or_len}
+use Rattle.std.proofs.lemmas.Simd.{tops_compared, bitmask_splat, first_set_mask_l, map-map, below_from_Fits}
+use Rattle.std.proofs.lemmas.Bool.{false≢true, ne_eqb}
 use Rattle.std.proofs.lemmas.List.{set_at, append_assoc, append-nil, length_push}
 use Rattle.std.proofs.lemmas.List.Elements.{filter_more}
 use Rattle.std.proofs.Math.Dec.{eqb-suc-zero}
@@ -108,3 +109,18 @@ stray_more xs i n l long count room value =
           ∙ ap (λ y. values_among (take i xs) ++ y ∷ replicate (31 - n) stray) is
           ∙ (λ j. sym same j ++ replicate (more j) stray),
     )
+
+-- the mask of the lanes that are x
+abbrev mask_of : List ℕ → ℕ → ℕ → ℕ
+mask_of xs n x = mask_l (map (top 7) (zip2 (λ a b. cond (eqb a b) 255 0) xs (replicate n x))) % 2 ^ 64
+
+-- how many lanes come before the first that is x
+first_equal : (xs : List ℕ) (n x : ℕ) → length xs ≡ n → n ≤ 64 → cond (eqb (mask_of xs n x) 0) n (count_trailing_zeros 64 (mask_of xs n x)) ≡ position_or_len (λ y. eqb y x) xs
+first_equal xs n x long few =
+    ap (λ m. cond (eqb m 0) n (count_trailing_zeros 64 m)) (bitmask_splat w8 eqb xs n x long few) ∙ first_set_mask_l (λ y. eqb y x) xs n long few
+
+pub none_equal : (xs : List ℕ) (n x : ℕ) → length xs ≡ n → n ≤ 64 → mask_of xs n x ≡ 0 → n ≡ position_or_len (λ y. eqb y x) xs
+none_equal xs n x long few e = ap (λ b. cond b n (count_trailing_zeros 64 (mask_of xs n x))) (sym (eq-eqb _ _ e)) ∙ first_equal xs n x long few
+
+pub some_equal : (xs : List ℕ) (n x : ℕ) → length xs ≡ n → n ≤ 64 → mask_of xs n x ≢ 0 → count_trailing_zeros 64 (mask_of xs n x) ≡ position_or_len (λ y. eqb y x) xs
+some_equal xs n x long few e = ap (λ b. cond b n (count_trailing_zeros 64 (mask_of xs n x))) (sym (ne_eqb _ _ e)) ∙ first_equal xs n x long few

@@ -1,12 +1,12 @@
 // Classes and symbols, each lane by the alphabet's table.
-ghost use Rattle.std.specs.Prelude.{◌≡◌, ◌<◌, ◌^◌, ◌==◌, map};
-ghost use Rattle.std.specs.List.{All, list_any};
+ghost use Rattle.std.specs.Prelude.{◌≡◌, ◌<◌, ◌%◌, ◌^◌, ◌==◌, map};
+ghost use Rattle.std.specs.List.{All, list_any, position_or_len};
 ghost use Rattle.octet_lanes.specs.Encoding.{class_of, stray, symbol_of, upper_of, width};
 ghost use Rattle.octet_lanes.specs.Lanes.{in_run};
 ghost use Rattle.octet_lanes.specs.declared.alphabet.Alphabet.TheVariants.{Base32, Base32Hex, Base64};
 
 use crate::alphabet::{Alphabet, STRAY};
-use crate::operations::{less, more, plus, where_below, where_from};
+use crate::operations::{less, low_bits, more, plus, where_below, where_from};
 use std::simd::prelude::*;
 
 /// The class of each octet in the alphabet: its value, or [`STRAY`] where it is no symbol.
@@ -65,6 +65,41 @@ pub fn has_stray(classes: &[u8; 32]) -> bool
         .simd_eq(u8x32::splat(STRAY))
         .to_bitmask()
         != 0
+}
+
+/// How many classes come before the first stray.
+#[inline(always)]
+pub(crate) fn run_len(classes: &[u8; 32]) -> usize
+    ensures { result ≡ position_or_len (λ class. class == stray) classes.now }
+{
+    let strays = u8x32::from_array(*classes)
+        .simd_eq(u8x32::splat(STRAY))
+        .to_bitmask();
+    if strays == 0 {
+        return 32;
+    }
+    strays.trailing_zeros() as usize
+}
+
+/// The class of one octet.
+#[inline(always)]
+pub(crate) fn class(octet: u8, alphabet: Alphabet) -> u8
+    ensures { result ≡ class_of alphabet octet }
+{
+    classify(&[octet; 32], alphabet)[0]
+}
+
+/// The values among the classes as they are, and some value in place of each stray.
+#[inline(always)]
+pub(crate) fn some_values(classes: &[u8; 32], alphabet: Alphabet) -> [u8; 32]
+    ensures { result ≡ map (λ class. class % 2 ^ width alphabet) classes.now }
+{
+    let lanes = u8x32::from_array(*classes);
+    let values = match alphabet {
+        Alphabet::Base64 => low_bits(lanes, 0x3f),
+        Alphabet::Base32 | Alphabet::Base32Hex => low_bits(lanes, 0x1f),
+    };
+    values.to_array()
 }
 
 /// The symbol of each value in the alphabet.

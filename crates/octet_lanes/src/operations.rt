@@ -1,5 +1,5 @@
 // The vector operations that the kernels are made of, lane by lane.
-ghost use Rattle.std.specs.Prelude.{◌≡◌, map};
+ghost use Rattle.std.specs.Prelude.{◌≡◌, bit_and, map};
 ghost use Rattle.std.specs.Simd.Lanes.{zip2};
 ghost use Rattle.octet_lanes.specs.Lanes.{added, if_below, if_from, taken};
 
@@ -44,4 +44,11 @@ pub(crate) fn where_from(lanes: u8x32, n: u8, number: u8) -> u8x32
     lanes
         .simd_ge(u8x32::splat(n))
         .select(u8x32::splat(number), u8x32::splat(0))
+}
+
+#[inline(always)]
+pub(crate) fn low_bits(lanes: u8x32, mask: u8) -> u8x32
+    ensures { result ≡ map (λ x. bit_and x mask) lanes }
+{
+    lanes & u8x32::splat(mask)
 }
