@@ -1,12 +1,15 @@
 -- What the reader's steps do to the octets of a text.
-use Rattle.std.proofs.Common.{◌≡◌, ℕ, zero, suc, ◌+◌, ◌-◌, ◌*◌, ◌/◌, ◌%◌, ◌^◌, ◌<◌, ◌≤◌, ◌≢◌, ◌⊎◌, inl, inr, Bool, true, false, not, cond, ◌||◌, eqb, List, [], ◌∷◌, ◌++◌, length, map, take, drop, get_or, refl, sym, ap, ◌∙◌, arith, eqb-true, eq-eqb}
+use Rattle.std.proofs.Common.{replicate, subst, ltb, ltb-false, ◌≡◌, ℕ, zero, suc, ◌+◌, ◌-◌, ◌*◌, ◌/◌, ◌%◌, ◌^◌, ◌<◌, ◌≤◌, ◌≢◌, ◌⊎◌, inl, inr, Bool, true, false, not, cond, ◌||◌, eqb, List, [], ◌∷◌, ◌++◌, length, map, take, drop, get_or, refl, sym, ap, ◌∙◌, arith, eqb-true, eq-eqb}
+use Rattle.std.specs.declared.option.Option.TheVariants.{Some, None}
+use Rattle.std.specs.Option.{unwrap_or}
 use Rattle.std.specs.declared.result.Result.{Result}
 use Rattle.std.specs.declared.result.Result.TheVariants.{Ok, Err}
 use Rattle.std.specs.Result.{OnOk, is_ok}
 use Rattle.std.specs.Simd.Lanes.{Each1}
-use Rattle.std.specs.List.{All, list_any, position_or_len, prefix_len}
+use Rattle.std.specs.List.{All, list_any, position, position_or_len, prefix_len}
 use Rattle.std.proofs.lemmas.Bool.{false≢true, eqb-false, ne_eqb}
-use Rattle.std.proofs.lemmas.List.{length-append, length-map, append_assoc, append-nil, length-take-le, take-append-le, take-append-drop, take-take, take_all, drop-append-le, drop_more, map-append, get_or-map}
+use Rattle.std.proofs.lemmas.Simd.{Each1-from_get_or}
+use Rattle.std.proofs.lemmas.List.{drop-replicate, length-append, length-map, append_assoc, append-nil, length-take-le, take-append-le, take-append-drop, take-take, take_all, drop-append-le, drop_more, map-append, get_or-map}
 use Rattle.std.proofs.lemmas.List.Elements.{filter-append, All-nil, All-cons}
 use Rattle.std.proofs.lemmas.List.Concat.{flat_map-append}
 use Rattle.std.proofs.Math.Seq.{take-append-add}
@@ -84,21 +87,24 @@ octets_of-front octets bits small =
     ap (groups_of 8) (ap (λ k. take k (all_bits 8 octets ++ bits)) count ∙ take-append-add (all_bits 8 octets) bits m)
     ∙ groups_of-all_bits 8 octets (take m bits) (omega arith) small
 
--- the octets of the first values of a block
-pub octets_of-values : (w m : ℕ) (values filler octets : List ℕ) → m ≡ length values * w / 8 → Each1 (λ octet. octet < 2 ^ 8) (take m octets) → m ≤ 4 * w
-    → all_bits 8 (take (4 * w) octets) ≡ all_bits w (values ++ filler) → octets_of (all_bits w values) ≡ take m octets
-octets_of-values w m values filler octets is small few same =
+-- the whole octets of the first values of a block
+bits_of-values : (w m : ℕ) (values filler octets : List ℕ) → m ≡ length values * w / 8 → m ≤ 4 * w
+    → all_bits 8 (take (4 * w) octets) ≡ all_bits w (values ++ filler) → whole 8 (all_bits w values) ≡ all_bits 8 (take m octets)
+bits_of-values w m values filler octets is few same =
     let P = all_bits w values in
     let long : length P ≡ length values * w = length-all_bits w values in
     let count : length P / 8 * 8 ≡ m * 8 = ap (λ n. n / 8 * 8) long ∙ ap (λ n. n * 8) (sym is) in
     let within : m * 8 ≤ length P = omega arith in
-    let bits : whole 8 P ≡ all_bits 8 (take m octets) =
     ap (λ n. take n P) count
     ∙ sym (take-append-le (m * 8) P (all_bits w filler) within)
     ∙ ap (take (m * 8)) (sym (flat_map-append (bits_of w) values filler) ∙ sym same)
     ∙ take-all_bits 8 m (take (4 * w) octets)
-    ∙ ap (all_bits 8) (take-take m (4 * w) octets few) in
-    ap (groups_of 8) bits ∙ groups_of_bits 8 (take m octets) (omega arith) small
+    ∙ ap (all_bits 8) (take-take m (4 * w) octets few)
+
+pub octets_of-values : (w m : ℕ) (values filler octets : List ℕ) → m ≡ length values * w / 8 → Each1 (λ octet. octet < 2 ^ 8) (take m octets) → m ≤ 4 * w
+    → all_bits 8 (take (4 * w) octets) ≡ all_bits w (values ++ filler) → octets_of (all_bits w values) ≡ take m octets
+octets_of-values w m values filler octets is small few same =
+    ap (groups_of 8) (bits_of-values w m values filler octets is few same) ∙ groups_of_bits 8 (take m octets) (omega arith) small
 
 -- whole octets' bits in front of bits
 octets_of-whole : (m : ℕ) (bits rest : List ℕ) → AreBits bits → length bits ≡ m * 8 → octets_of (bits ++ rest) ≡ octets_of bits ++ octets_of rest
@@ -322,3 +328,48 @@ rest_of_block text block n front le =
 pub decoding_of-none : (alphabet : Alphabet) → decoding_of alphabet [] ≡ []
 unfolding decoding_of
 decoding_of-none alphabet = refl
+
+-- ---- at most a block
+
+pub up_to_first : (text : List ℕ) (end : ℕ) → Some end ≡ position (λ octet. eqb octet padding) text → take end text ≡ before_padding text
+up_to_first text end e = go (ltb (position_or_len (λ octet. eqb octet padding) text) (length text)) e
+  where
+    go : (b : Bool) → Some end ≡ cond b (Some (position_or_len (λ octet. eqb octet padding) text)) None → take end text ≡ before_padding text
+    go true e = ap (λ r. take (unwrap_or r 0) text) e
+    go false e = absurd (cc)
+
+pub without_padding : (text : List ℕ) → None ≡ position (λ octet. eqb octet padding) text → text ≡ before_padding text
+without_padding text e = go (ltb (position_or_len (λ octet. eqb octet padding) text) (length text)) refl e
+  where
+    go : (b : Bool) → ltb (position_or_len (λ octet. eqb octet padding) text) (length text) ≡ b → None ≡ cond b (Some (position_or_len (λ octet. eqb octet padding) text)) None → text ≡ before_padding text
+    go true t e = absurd (cc)
+    go false t e = sym (take_all (position_or_len (λ octet. eqb octet padding) text) text (ltb-false _ _ t))
+
+values_of-padding : (alphabet : Alphabet) (n : ℕ) → values_of alphabet (replicate n padding) ≡ []
+values_of-padding alphabet zero = refl
+values_of-padding alphabet (suc n) =
+    ap (λ c. cond (not (eqb c stray)) (c ∷ values_of alphabet (replicate n padding)) (values_of alphabet (replicate n padding))) (padding_strays alphabet) ∙ values_of-padding alphabet n
+
+-- padding behind a text has no values
+pub values_of-padded : (alphabet : Alphabet) (text : List ℕ) (n : ℕ) → values_of alphabet (text ++ drop n (replicate 32 padding)) ≡ values_of alphabet text
+values_of-padded alphabet text n =
+    values_of-append alphabet text (drop n (replicate 32 padding))
+    ∙ ap (λ l. values_of alphabet text ++ values_of alphabet l) (drop-replicate n 32 padding)
+    ∙ ap (λ l. values_of alphabet text ++ l) (values_of-padding alphabet (32 - n)) ∙ append-nil (values_of alphabet text)
+
+-- values are their own low bits
+low_values : (w : ℕ) (values : List ℕ) → Each1 (λ value. value < 2 ^ w) values → map (λ value. value % 2 ^ w) values ≡ values
+low_values w [] small = refl
+low_values w (value ∷ values) small = λ i. mod-eq_of_lt small.0 i ∷ low_values w values small.1 i
+
+-- the values that were closed up, and their octets
+pub closed_octets : (alphabet : Alphabet) (m : ℕ) (kept filler octets : List ℕ) → All (λ value. value < 2 ^ width alphabet) kept → length kept ≤ 32
+    → m ≡ length kept * width alphabet / 8
+    → all_bits 8 (take (4 * width alphabet) octets) ≡ all_bits (width alphabet) (map (λ value. value % 2 ^ width alphabet) (kept ++ filler))
+    → all_bits 8 (take m octets) ≡ whole 8 (all_bits (width alphabet) kept)
+closed_octets alphabet m kept filler octets small few is same =
+    let w = width alphabet in
+    let low : ℕ → ℕ = λ value. value % 2 ^ w in
+    let values : map low kept ≡ kept = low_values w kept (Each1-from_get_or (λ value. value < 2 ^ w) kept 0 (λ i l. small i 0 l)) in
+    let room : m ≤ 4 * w = subst (λ k. k ≤ 4 * w) (sym is) (few_octets alphabet (length kept) few) in
+    sym (bits_of-values w m kept (map low filler) octets is room (same ∙ ap (all_bits w) (map-append low kept filler ∙ ap (λ l. l ++ map low filler) values)))

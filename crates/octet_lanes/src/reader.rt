@@ -1,11 +1,12 @@
 // Texts that any octets may interrupt.
-ghost use Rattle.std.specs.Prelude.{◌≡◌, ◌≢◌, ℕ, ◌-◌, ◌++◌, ◌<◌, ◌≤◌, ◌^◌, ◌⊎◌, List, [], IfOk, OnOk, drop, length, map, slice_index, take};
-ghost use Rattle.std.specs.List.{All};
-ghost use Rattle.octet_lanes.specs.Encoding.{all_bits, class_of, decoding_of, octets_of, padding, quantum, stray, width};
+ghost use Rattle.std.specs.Prelude.{◌≡◌, ◌≢◌, ◌==◌, ℕ, ◌-◌, ◌*◌, ◌++◌, ◌<◌, ◌≤◌, ◌^◌, ◌⊎◌, List, [], IfOk, OnOk, drop, length, map, slice_index, take};
+ghost use Rattle.std.specs.List.{All, position};
+ghost use Rattle.octet_lanes.specs.Encoding.{all_bits, before_padding, class_of, decoding_of, octets_of, padding, quantum, stray, values_of, whole, width};
 ghost use Rattle.octet_lanes.specs.Reading.{decoding_behind};
 
 use crate::alphabet::{Alphabet, PADDING, STRAY};
 use crate::classes::{class, classify, has_stray, run_len, some_values};
+use crate::close::close_up;
 use crate::groups::join;
 use std::alloc::{AllocError, Global};
 
@@ -150,4 +151,38 @@ fn append_values(
     ensures { OnOk result (out.new.items ≡ out.old.items ++ octets_of (all_bits (width alphabet) (take n values.now))) }
 {
     out.extend_from_slice(&join(values, alphabet)[..n * alphabet.width() / 8])
+}
+
+/// The octets of at most a block of text, in front, and their number: the bits of its symbols before the first `=`, as
+/// whole octets.
+#[inline(always)]
+pub fn block_octets(text: &[u8], alphabet: Alphabet) -> ([u8; 32], usize)
+    requires { length text.now ≤ 32 }
+    ensures bits { all_bits 8 (take result.1 result.0) ≡ whole 8 (all_bits (width alphabet) (values_of alphabet (before_padding text.now))) }
+    ensures few { result.1 ≤ 4 * width alphabet }
+{
+    let symbols = up_to_padding(text);
+    let mut block = [PADDING; 32];
+    block[..symbols.len()].copy_from_slice(symbols);
+    let (values, n) = close_up(&classify(&block, alphabet));
+    let octets = join(&some_values(&values, alphabet), alphabet);
+    (octets, n * alphabet.width() / 8)
+}
+
+// What comes before the first `=`.
+#[inline(always)]
+fn up_to_padding(text: &[u8]) -> &[u8]
+    ensures { result.now ≡ before_padding text.now }
+{
+    match first_padding(text) {
+        Some(end) => &text[..end],
+        None => text,
+    }
+}
+
+#[inline(always)]
+fn first_padding(text: &[u8]) -> Option<usize>
+    ensures { result ≡ position (λ octet. octet == padding) text.now }
+{
+    text.iter().position(|octet| *octet == PADDING)
 }
