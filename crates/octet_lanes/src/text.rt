@@ -86,9 +86,9 @@ pub fn block_text(octets: &[u8], alphabet: Alphabet) -> ([u8; 32], usize)
     (text, quanta * alphabet.quantum_characters())
 }
 
-// The text of a whole block, the first `4 * width` octets.
+/// The text of a whole block, the first `4 * width` octets.
 #[inline(always)]
-fn block_symbols(octets: &[u8; 32], alphabet: Alphabet) -> [u8; 32]
+pub fn block_symbols(octets: &[u8; 32], alphabet: Alphabet) -> [u8; 32]
     ensures { result ≡ encoding_of alphabet (take (4 * width alphabet) octets.now) }
 {
     spell(&split(octets, alphabet), alphabet)
