@@ -9,7 +9,7 @@ use Rattle.std.specs.Simd.Lanes.{Each1}
 use Rattle.std.specs.List.{All, list_any, position, position_or_len, prefix_len}
 use Rattle.std.proofs.lemmas.Bool.{false≢true, eqb-false, ne_eqb}
 use Rattle.std.proofs.lemmas.Simd.{Each1-from_get_or}
-use Rattle.std.proofs.lemmas.List.{drop-replicate, length-append, length-map, append_assoc, append-nil, length-take-le, take-append-le, take-append-drop, take-take, take_all, drop-append-le, drop_more, map-append, get_or-map}
+use Rattle.std.proofs.lemmas.List.{take-map, take_at, drop-replicate, length-append, length-map, append_assoc, append-nil, length-take-le, take-append-le, take-append-drop, take-take, take_all, drop-append-le, drop_more, map-append, get_or-map}
 use Rattle.std.proofs.lemmas.List.Elements.{filter-append, All-nil, All-cons}
 use Rattle.std.proofs.lemmas.List.Concat.{flat_map-append}
 use Rattle.std.proofs.Math.Seq.{take-append-add}
@@ -373,3 +373,52 @@ closed_octets alphabet m kept filler octets small few is same =
     let values : map low kept ≡ kept = low_values w kept (Each1-from_get_or (λ value. value < 2 ^ w) kept 0 (λ i l. small i 0 l)) in
     let room : m ≤ 4 * w = subst (λ k. k ≤ 4 * w) (sym is) (few_octets alphabet (length kept) few) in
     sym (bits_of-values w m kept (map low filler) octets is room (same ∙ ap (all_bits w) (map-append low kept filler ∙ ap (λ l. l ++ map low filler) values)))
+
+-- ---- values with strays between them
+
+-- a part in front without padding, whose values are whole octets
+front_read : (alphabet : Alphabet) (m : ℕ) (front rest : List ℕ) → list_any (λ octet. eqb octet padding) front ≡ false → length (values_of alphabet front) * width alphabet ≡ m * 8
+    → decoding_of alphabet (front ++ rest) ≡ octets_of (all_bits (width alphabet) (values_of alphabet front)) ++ decoding_of alphabet rest
+unfolding decoding_of
+front_read alphabet m front rest free is =
+    ap (λ l. octets_of (all_bits (width alphabet) (values_of alphabet l))) (free_front front rest free)
+    ∙ ap (λ l. octets_of (all_bits (width alphabet) l)) (values_of-append alphabet front (before_padding rest))
+    ∙ behind_whole alphabet m (values_of alphabet front) rest is
+
+free_part : (n : ℕ) (block : List ℕ) → list_any (λ octet. eqb octet padding) block ≡ false → list_any (λ octet. eqb octet padding) (take n block) ≡ false
+free_part zero block free = refl
+free_part (suc n) [] free = refl
+free_part (suc n) (x ∷ block) free = go (eqb x padding) free (free_part n block)
+  where
+    go : (b : Bool) → (b || list_any (λ octet. eqb octet padding) block) ≡ false
+        → (list_any (λ octet. eqb octet padding) block ≡ false → list_any (λ octet. eqb octet padding) (take n block) ≡ false)
+        → (b || list_any (λ octet. eqb octet padding) (take n block)) ≡ false
+    go true h rest = absurd (false≢true (sym h))
+    go false h rest = rest h
+
+-- the whole quanta of a block, where strays stand between its values
+pub closed_read : (alphabet : Alphabet) (n last end : ℕ) (block classes closed values rest : List ℕ) → classes ≡ map (class_of alphabet) block → list_any (λ octet. eqb octet padding) block ≡ false
+    → n ≡ length (values_among classes) → closed ≡ values_among classes ++ replicate (32 - length (values_among classes)) stray → values ≡ map (λ value. value % 2 ^ width alphabet) closed
+    → last ≡ n % quantum alphabet → length (values_among (drop end classes)) ≡ last
+    → decoding_of alphabet (block ++ rest) ≡ octets_of (all_bits (width alphabet) (take (n - last) values)) ++ decoding_of alphabet (drop end block ++ rest)
+closed_read alphabet n last end block classes closed values rest is free count closed_is values_are last_is behind =
+    let w = width alphabet in
+    let low : ℕ → ℕ = λ value. value % 2 ^ w in
+    let kept = values_among classes in
+    let front = values_among (take end classes) in
+    let back = values_among (drop end classes) in
+    let both : kept ≡ front ++ back = ap values_among (sym (take-append-drop end classes)) ∙ filter-append (λ class. not (eqb class stray)) (take end classes) (drop end classes) in
+    let many : length front ≡ n - last = omega (arith, ap length both ∙ length-append front back) in
+    let of_text : kept ≡ values_of alphabet block = ap values_among is in
+    let small : Each1 (λ value. value < 2 ^ w) kept = subst (Each1 (λ value. value < 2 ^ w)) (sym of_text) (Each1-from_get_or (λ value. value < 2 ^ w) (values_of alphabet block) 0 (λ i l. values_small alphabet block i 0 l)) in
+    let filler = map low (replicate (32 - length kept) stray) in
+    let all : values ≡ front ++ (back ++ filler) =
+    values_are ∙ ap (map low) closed_is ∙ map-append low kept (replicate (32 - length kept) stray) ∙ ap (λ l. l ++ filler) (low_values w kept small ∙ both) ∙ append_assoc front back filler in
+    let taken : take (n - last) values ≡ front = ap (take (n - last)) all ∙ take_at front (back ++ filler) (n - last) many in
+    let front_is : values_of alphabet (take end block) ≡ front = ap values_among (sym (take-map (class_of alphabet) end block) ∙ ap (take end) (sym is)) in
+    let octets : length (values_of alphabet (take end block)) * w ≡ (n - last) * w / 8 * 8 =
+    ap (λ l. length l * w) front_is ∙ ap (λ k. k * w) (many ∙ ap (λ k. n - k) last_is) ∙ whole_quanta alphabet n ∙ ap (λ k. (n - k) * w / 8 * 8) (sym last_is) in
+    ap (λ l. decoding_of alphabet (l ++ rest)) (sym (take-append-drop end block))
+    ∙ ap (decoding_of alphabet) (append_assoc (take end block) (drop end block) rest)
+    ∙ front_read alphabet ((n - last) * w / 8) (take end block) (drop end block ++ rest) (free_part end block free) octets
+    ∙ ap (λ l. octets_of (all_bits w l) ++ decoding_of alphabet (drop end block ++ rest)) (front_is ∙ sym taken)

@@ -92,6 +92,15 @@ pub fn has_stray(classes: &[u8; 32]) -> bool
         != 0
 }
 
+/// Whether strays are so many that runs between them are short.
+#[inline(always)]
+pub(crate) fn has_many_strays(classes: &[u8; 32]) -> bool {
+    let strays = u8x32::from_array(*classes)
+        .simd_eq(u8x32::splat(STRAY))
+        .to_bitmask();
+    strays.count_ones() > 3
+}
+
 /// How many classes come before the first stray.
 #[inline(always)]
 pub(crate) fn run_len(classes: &[u8; 32]) -> usize

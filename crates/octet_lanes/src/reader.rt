@@ -1,14 +1,15 @@
 // Texts that any octets may interrupt.
-ghost use Rattle.std.specs.Prelude.{◌≡◌, ◌≢◌, ◌==◌, ℕ, ◌-◌, ◌*◌, ◌++◌, ◌<◌, ◌≤◌, ◌^◌, ◌⊎◌, List, [], IfOk, OnOk, drop, length, map, slice_index, take};
-ghost use Rattle.std.specs.List.{All, position};
-ghost use Rattle.octet_lanes.specs.Encoding.{all_bits, before_padding, class_of, decoding_of, octets_of, padding, quantum, stray, values_of, whole, width};
+ghost use Rattle.std.specs.Prelude.{◌≡◌, ◌≢◌, ◌==◌, false, ℕ, ◌-◌, ◌*◌, ◌++◌, ◌<◌, ◌≤◌, ◌^◌, ◌⊎◌, List, [], IfOk, OnOk, drop, length, map, slice_index, take};
+ghost use Rattle.std.specs.List.{All, list_any, position};
+ghost use Rattle.octet_lanes.specs.Encoding.{all_bits, before_padding, class_of, decoding_of, octets_of, padding, quantum, stray, values_among, values_of, whole, width};
 ghost use Rattle.octet_lanes.specs.Reading.{decoding_behind};
 
 use crate::alphabet::{Alphabet, PADDING, STRAY};
-use crate::classes::{class, classify, has_stray, run_len, some_values};
+use crate::classes::{class, classify, has_many_strays, has_stray, run_len, some_values};
 use crate::close::close_up;
 use crate::groups::join;
 use std::alloc::{AllocError, Global};
+use std::simd::prelude::*;
 
 /// The octets of `text`: the bits of its symbols before the first `=`, as whole octets. Octets that are no symbols are
 /// passed over, and bits that are left over at the end are dropped.
@@ -48,7 +49,7 @@ fn append_runs<'a>(
             rest = after;
             continue;
         }
-        let read = append_run(block, &classes, alphabet, out)?;
+        let read = append_front(block, &classes, alphabet, out)?;
         if read == 0 {
             return Ok(rest);
         }
@@ -56,6 +57,25 @@ fn append_runs<'a>(
         rest = after;
     }
     Ok(rest)
+}
+
+// Appends the octets of whole quanta in front of a block with strays, and gives where they end. Which of the two ways
+// it goes changes the time alone.
+#[inline(always)]
+fn append_front(
+    block: &[u8; 32],
+    classes: &[u8; 32],
+    alphabet: Alphabet,
+    out: &mut Vec<u8>,
+) -> Result<usize, AllocError>
+    requires { classes.now ≡ map (class_of alphabet) block.now }
+    ensures within { IfOk result (λ end. end ≤ 32) }
+    ensures octets { IfOk result (λ end. (rest : List ℕ) → out.new.items ++ decoding_of alphabet (drop end block.now ++ rest) ≡ out.old.items ++ decoding_of alphabet (block.now ++ rest)) }
+{
+    if has_many_strays(classes) && !has_padding(block) {
+        return append_closed(block, classes, alphabet, out);
+    }
+    append_run(block, classes, alphabet, out)
 }
 
 // Appends the octets of the whole quanta in front of a block, and gives where they and the strays behind them end.
@@ -91,6 +111,43 @@ fn end_of_strays(block: &[u8; 32], classes: &[u8; 32], start: usize) -> usize
         end += 1;
     }
     end
+}
+
+// Appends the octets of the whole quanta in front of a block, whatever strays interrupt them, and gives where they end.
+#[inline(always)]
+fn append_closed(
+    block: &[u8; 32],
+    classes: &[u8; 32],
+    alphabet: Alphabet,
+    out: &mut Vec<u8>,
+) -> Result<usize, AllocError>
+    requires classes { classes.now ≡ map (class_of alphabet) block.now }
+    requires free { list_any (λ octet. octet == padding) block.now ≡ false }
+    ensures within { IfOk result (λ end. end ≤ 32) }
+    ensures octets { IfOk result (λ end. (rest : List ℕ) → out.new.items ++ decoding_of alphabet (drop end block.now ++ rest) ≡ out.old.items ++ decoding_of alphabet (block.now ++ rest)) }
+{
+    let (values, n) = close_up(classes);
+    let last = n % alphabet.quantum_characters();
+    append_values(&some_values(&values, alphabet), n - last, alphabet, out)?;
+    Ok(start_of_last(classes, last))
+}
+
+// Where the last `n` values start, with the strays between them and behind them.
+#[inline(always)]
+fn start_of_last(classes: &[u8; 32], n: usize) -> usize
+    requires { n ≤ length (values_among classes.now) }
+    ensures within { result ≤ 32 }
+    ensures values { length (values_among (drop result classes.now)) ≡ n }
+{
+    let mut start = 32;
+    let mut left = n;
+    'values: while left > 0 {
+        start -= 1;
+        if classes[start] != STRAY {
+            left -= 1;
+        }
+    }
+    start
 }
 
 // Appends the octets of the next quantum, whatever strays interrupt it, and gives what follows it: nothing, where the
@@ -167,6 +224,16 @@ pub fn block_octets(text: &[u8], alphabet: Alphabet) -> ([u8; 32], usize)
     let (values, n) = close_up(&classify(&block, alphabet));
     let octets = join(&some_values(&values, alphabet), alphabet);
     (octets, n * alphabet.width() / 8)
+}
+
+#[inline(always)]
+fn has_padding(octets: &[u8; 32]) -> bool
+    ensures { result ≡ list_any (λ octet. octet == padding) octets.now }
+{
+    u8x32::from_array(*octets)
+        .simd_eq(u8x32::splat(PADDING))
+        .to_bitmask()
+        != 0
 }
 
 // What comes before the first `=`.

@@ -38,7 +38,7 @@ runs-preserved c =
     let long : length block ≡ 32 = ap length cases.0 ∙ length-take-le 32 text (omega (arith, cases.2)) in
     let after = rest_of_block text block read cases.0 (omega (arith, c.in_ok-read.ensures.within)) in
     let whole : block ++ drop 32 text ≡ text = ap (λ l. l ++ drop 32 text) cases.0 ∙ take-append-drop 32 text in
-    let now = c.append_run.new.out.items in
+    let now = c.append_front.new.out.items in
     record {
       octets =
           ap (λ l. now ++ decoding_of a l) (c.split_at.ensures.back ∙ sym after)
@@ -54,7 +54,7 @@ returns-then-read-eq0-clause-octets c =
     let block = c.in-Some.block.now in
     let cases = c.in-Some.ensures.cases in
     let whole : block ++ drop 32 text ≡ text = ap (λ l. l ++ drop 32 text) cases.0 ∙ take-append-drop 32 text in
-    ap (λ l. c.append_run.new.out.items ++ decoding_of a l) (sym whole)
-    ∙ ap (λ n. c.append_run.new.out.items ++ decoding_of a (drop n block ++ drop 32 text)) (sym c.if-read-eq0.true)
+    ap (λ l. c.append_front.new.out.items ++ decoding_of a l) (sym whole)
+    ∙ ap (λ n. c.append_front.new.out.items ++ decoding_of a (drop n block ++ drop 32 text)) (sym c.if-read-eq0.true)
     ∙ c.in_ok-read.ensures.octets (drop 32 text)
     ∙ ap (λ l. c.runs.out.items ++ decoding_of a l) whole ∙ c.runs.invariant.octets
