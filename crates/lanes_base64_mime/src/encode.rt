@@ -12,7 +12,7 @@ const LINE_OCTETS: usize = 57;
 
 const LINE_BREAK: &[u8; 2] = b"\r\n";
 
-/// The octets of a line's blocks with what the last block's lanes hold beside it: 48 and 32.
+/// How many octets a line's three blocks read: the third one starts behind 48, and has 32 lanes.
 const LANES: usize = 80;
 
 /// A whole line with its break.
