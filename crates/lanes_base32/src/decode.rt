@@ -1,10 +1,10 @@
-ghost use Rattle.std.specs.Prelude.{◌≡◌, ℕ, List, IfErr, IfOk};
-ghost use Rattle.octet_lanes.specs.Encoding.{IsOctets, Spells};
+ghost use Rattle.std.specs.Prelude.{◌≡◌, ℕ, ◌+◌, ◌*◌, ◌++◌, ◌<◌, ◌≤◌, List, IfErr, IfOk, MatchOption, OnOk, drop, length, take};
+ghost use Rattle.octet_lanes.specs.Encoding.{IsOctets, Spells, width};
 ghost use Rattle.octet_lanes.specs.declared.alphabet.Alphabet.TheVariants.{Base32, Base32Hex};
 ghost use Rattle.lanes_base32.specs.declared.error.Refusal.TheVariants.{NotCanonical};
 
 use crate::error::Refusal;
-use octet_lanes::{Alphabet, encode};
+use octet_lanes::{Alphabet, PADDING, block_octets, block_text, classify, has_stray, join};
 use std::alloc::Global;
 
 /// The octets that a base32 text spells (RFC 4648, section 6).
@@ -33,16 +33,71 @@ pub fn decode32hex(alloc: Global, text: &[u8]) -> Result<Vec<u8>, Refusal>
     decode(alloc, text, Alphabet::Base32Hex)
 }
 
-// A text spells octets just where it is the text of the octets that it reads as.
+// Whole blocks are read as they stand, and the last one is written again: a text spells octets just where it is the text
+// of the octets that it reads as.
 #[inline(always)]
 fn decode(alloc: Global, text: &[u8], alphabet: Alphabet) -> Result<Vec<u8>, Refusal>
     ensures octets { IfOk result (λ octets. Spells alphabet text.now octets.items) }
     ensures refused { IfErr result (λ e. e ≡ NotCanonical → (octets : List ℕ) → IsOctets octets → Spells alphabet text.now octets → ⊥) }
 {
-    let octets = octet_lanes::decode(alloc, text, alphabet)?;
-    let written = encode(alloc, &octets, alphabet)?;
-    if written.as_slice() != text {
+    let mut out = Vec::with_capacity(alloc, octets_len(text, alphabet))?;
+    let mut rest = text;
+    'whole: while let Some((block, after)) = first_block(rest) {
+        append_block(block, alphabet, &mut out)?;
+        rest = after;
+    }
+    append_last(rest, alphabet, &mut out)?;
+    Ok(out)
+}
+
+// The number of the octets that a text spells, if it spells any.
+fn octets_len(text: &[u8], alphabet: Alphabet) -> usize {
+    let symbols = match text.iter().rposition(|octet| *octet != PADDING) {
+        Some(last) => last + 1,
+        None => 0,
+    };
+    (symbols / 8)
+        .saturating_mul(alphabet.width())
+        .saturating_add(symbols % 8 * alphabet.width() / 8)
+}
+
+// The first block and what follows it, where something does.
+#[inline(always)]
+fn first_block(text: &[u8]) -> Option<(&[u8; 32], &[u8])>
+    ensures { MatchOption result (length text.now ≤ 32) (λ parts. (parts.0.now ≡ take 32 text.now) × (parts.1.now ≡ drop 32 text.now) × (length parts.1.now + 32 ≡ length text.now) × (32 < length text.now)) }
+{
+    if text.len() <= 32 {
+        return None;
+    }
+    text.split_first_chunk::<32>()
+}
+
+// Appends the octets of a block, all of whose octets have to be symbols.
+#[inline(always)]
+fn append_block(block: &[u8; 32], alphabet: Alphabet, out: &mut Vec<u8>) -> Result<(), Refusal>
+    ensures octets { OnOk result ((octets : List ℕ) × (out.new.items ≡ out.old.items ++ octets) × (length octets ≡ 4 * width alphabet) × Spells alphabet block.now octets) }
+    ensures refused { IfErr result (λ e. e ≡ NotCanonical → (octets : List ℕ) → length octets ≡ 4 * width alphabet → Spells alphabet block.now octets → ⊥) }
+{
+    let classes = classify(block, alphabet);
+    if has_stray(&classes) {
         return Err(Refusal::NotCanonical);
     }
-    Ok(octets)
+    out.extend_from_slice(&join(&classes, alphabet)[..4 * alphabet.width()])?;
+    Ok(())
+}
+
+// Appends the octets of the last block, which may be shorter and padded.
+fn append_last(text: &[u8], alphabet: Alphabet, out: &mut Vec<u8>) -> Result<(), Refusal>
+    requires { length text.now ≤ 32 }
+    ensures octets { OnOk result ((octets : List ℕ) × (out.new.items ≡ out.old.items ++ octets) × Spells alphabet text.now octets) }
+    ensures refused { IfErr result (λ e. e ≡ NotCanonical → (octets : List ℕ) → IsOctets octets → Spells alphabet text.now octets → ⊥) }
+{
+    let (octets, n) = block_octets(text, alphabet);
+    let octets = &octets[..n];
+    let (written, len) = block_text(octets, alphabet);
+    if &written[..len] != text {
+        return Err(Refusal::NotCanonical);
+    }
+    out.extend_from_slice(octets)?;
+    Ok(())
 }

@@ -1,8 +1,8 @@
 -- Texts in lines.
-use Rattle.std.proofs.Common.{◌≡◌, ℕ, zero, suc, ◌+◌, ◌*◌, ◌/◌, ◌<◌, ◌≤◌, Bool, true, false, not, cond, eqb, List, [], ◌∷◌, ◌++◌, length, take, drop, min, refl, sym, ap, ◌∙◌, inl, inr, arith}
+use Rattle.std.proofs.Common.{◌≡◌, ℕ, zero, suc, ◌+◌, ◌-◌, ◌*◌, ◌/◌, ◌<◌, ◌≤◌, Bool, true, false, not, cond, eqb, List, [], ◌∷◌, ◌++◌, length, take, drop, min, refl, sym, ap, ◌∙◌, inl, inr, arith}
 use Rattle.std.specs.List.{flat_map, prefix_len}
 use Rattle.std.proofs.lemmas.Bool.{cases_lt}
-use Rattle.std.proofs.lemmas.List.{append_assoc, append-nil, take-append-drop, take_all, drop_all, length-take-le, length-drop}
+use Rattle.std.proofs.lemmas.List.{append_assoc, append-nil, take-append-drop, take_all, drop_all, length-take-le, length-drop, take-take, take_at, drop-take, drop-drop}
 use Rattle.octet_lanes.specs.declared.alphabet.Alphabet.TheVariants.{Base64}
 use Rattle.octet_lanes.specs.Encoding.{IsOctets, all_bits, before_padding, class_of, cut, decoding_of, encoding_of, first_pieces, octets_of, padding, stray, values_of}
 use Rattle.octet_lanes.proofs.Pieces.{cut-nil, cut-step, cut-append}
@@ -44,6 +44,36 @@ next_line rest some =
           ∙ ap in_lines two.0
           ∙ ap (flat_map (λ line. line ++ line_break)) (cut-append 76 (encoding_of Base64 (take m rest)) (encoding_of Base64 (drop m rest)) (omega arith) two.1)
     ]
+
+-- ---- a whole line, by blocks
+
+-- a front part and what follows it
+in_two : (n m : ℕ) (xs : List ℕ) → n ≤ m → take m xs ≡ take n xs ++ take (m - n) (drop n xs)
+in_two n m xs le =
+    let count : n + (m - n) ≡ m = omega arith in
+    sym (take-append-drop n (take m xs))
+    ∙ (λ i. take-take n m xs le i ++ (ap (λ k. drop n (take k xs)) (sym count) ∙ drop-take n (m - n) xs) i)
+
+-- two blocks, and the front of a third
+pub whole_line : (octets : List ℕ) → length octets ≡ 80
+    → encoding_of Base64 (take 24 octets) ++ (encoding_of Base64 (take 24 (drop 24 octets)) ++ take 12 (encoding_of Base64 (take 24 (drop 48 octets)))) ≡ encoding_of Base64 (take 57 octets)
+whole_line octets long =
+    let text = encoding_of Base64 in
+    let a = take 24 octets in
+    let b = take 24 (drop 24 octets) in
+    let c = take 9 (drop 48 octets) in
+    let d = take 15 (drop 9 (drop 48 octets)) in
+    let a_long : length a * 8 ≡ 8 * 4 * 6 = omega (arith, length-take-le 24 octets (omega arith)) in
+    let b_long : length b * 8 ≡ 8 * 4 * 6 = omega (arith, length-take-le 24 (drop 24 octets) (omega (arith, length-drop 24 octets))) in
+    let c_long : length c * 8 ≡ 3 * 4 * 6 = omega (arith, length-take-le 9 (drop 48 octets) (omega (arith, length-drop 48 octets))) in
+    let parts : take 57 octets ≡ a ++ (b ++ c) =
+    in_two 24 57 octets (omega arith) ∙ ap (λ l. a ++ l) (in_two 24 33 (drop 24 octets) (omega arith) ∙ ap (λ l. b ++ take 9 l) (drop-drop 24 24 octets)) in
+    let first = encoding_whole_quanta Base64 a (b ++ c) 8 a_long in
+    let second = encoding_whole_quanta Base64 b c 8 b_long in
+    let third = encoding_whole_quanta Base64 c d 3 c_long in
+    let front : take 12 (text (take 24 (drop 48 octets))) ≡ text c =
+    ap (λ l. take 12 (text l)) (in_two 9 24 (drop 48 octets) (omega arith)) ∙ ap (take 12) third.0 ∙ take_at (text c) (text d) 12 third.1 in
+    ap (λ l. text a ++ (text b ++ l)) front ∙ ap (λ l. text a ++ l) (sym second.0) ∙ sym first.0 ∙ ap text (sym parts)
 
 -- ---- line breaks are passed over
 

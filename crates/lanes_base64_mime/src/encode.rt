@@ -1,13 +1,19 @@
-ghost use Rattle.std.specs.Prelude.{◌≡◌, ◌<◌, IfOk, length};
-ghost use Rattle.lanes_base64_mime.specs.MimeBase64.{mime_encoding_of};
+ghost use Rattle.std.specs.Prelude.{◌≡◌, ◌++◌, ◌<◌, ◌≤◌, IfOk, OnOk, drop, length, min, take};
+ghost use Rattle.octet_lanes.specs.Encoding.{encoding_of};
+ghost use Rattle.octet_lanes.specs.declared.alphabet.Alphabet.TheVariants.{Base64};
+ghost use Rattle.lanes_base64_mime.specs.MimeBase64.{line_break, mime_encoding_of};
 
-use octet_lanes::{Alphabet, append_encoding};
+use octet_lanes::{Alphabet, append_encoding, block_symbols};
 use std::alloc::{AllocError, Global};
+use std::simd::prelude::*;
 
 /// The octets of a line's 76 characters.
 const LINE_OCTETS: usize = 57;
 
 const LINE_BREAK: &[u8; 2] = b"\r\n";
+
+/// How many octets a line's three blocks read: the third one starts behind 48, and has 32 lanes.
+const LANES: usize = 80;
 
 /// A whole line with its break.
 const LINE_LEN: usize = 78;
@@ -24,12 +30,45 @@ pub fn encode_mime(alloc: Global, octets: &[u8]) -> Result<Vec<u8>, AllocError>
     let mut out = Vec::with_capacity(alloc, text_len(octets.len()))?;
     let mut rest = octets;
     'lines: while !rest.is_empty() {
-        let (line, after) = rest.split_at(rest.len().min(LINE_OCTETS));
-        append_encoding(&mut out, line, Alphabet::Base64)?;
-        out.extend_from_slice(LINE_BREAK)?;
+        append_line(rest, &mut out)?;
+        let (_, after) = rest.split_at(rest.len().min(LINE_OCTETS));
         rest = after;
     }
     Ok(out)
+}
+
+// Appends the first line.
+#[inline(always)]
+fn append_line(octets: &[u8], out: &mut Vec<u8>) -> Result<(), AllocError>
+    ensures { OnOk result (out.new.items ≡ out.old.items ++ (encoding_of Base64 (take (min (length octets.now) 57) octets.now) ++ line_break)) }
+{
+    if let Some(lanes) = octets.first_chunk::<LANES>() {
+        return append_whole_line(lanes, out);
+    }
+    let (line, _) = octets.split_at(octets.len().min(LINE_OCTETS));
+    append_encoding(out, line, Alphabet::Base64)?;
+    out.extend_from_slice(LINE_BREAK)
+}
+
+// Appends a line of 57 octets: two blocks of 24, and the front of a third one.
+#[inline(always)]
+fn append_whole_line(octets: &[u8; LANES], out: &mut Vec<u8>) -> Result<(), AllocError>
+    ensures { OnOk result (out.new.items ≡ out.old.items ++ (encoding_of Base64 (take 57 octets.now) ++ line_break)) }
+{
+    out.extend_from_slice(&symbols_at(octets, 0))?;
+    out.extend_from_slice(&symbols_at(octets, 24))?;
+    out.extend_from_slice(&symbols_at(octets, 48)[..12])?;
+    out.extend_from_slice(LINE_BREAK)
+}
+
+// The text of the 24 octets from a place on.
+#[inline(always)]
+fn symbols_at(octets: &[u8; LANES], at: usize) -> [u8; 32]
+    requires { at ≤ 48 }
+    ensures { result ≡ encoding_of Base64 (take 24 (drop at octets.now)) }
+{
+    let lanes = u8x32::from_slice(&octets[at..]);
+    block_symbols(&lanes.to_array(), Alphabet::Base64)
 }
 
 // The length of the text, and the greatest `usize` where that can't hold it.

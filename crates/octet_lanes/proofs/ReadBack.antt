@@ -7,7 +7,7 @@ use Rattle.std.proofs.lemmas.List.{take_at}
 use Rattle.std.proofs.lemmas.Simd.{Each1-from_get_or}
 use Rattle.octet_lanes.specs.declared.alphabet.Alphabet.{Alphabet}
 use Rattle.octet_lanes.specs.declared.alphabet.Alphabet.TheVariants.{Base64, Base32, Base32Hex}
-use Rattle.octet_lanes.specs.Encoding.{width, quantum, symbol_of, class_of, stray, padding, all_bits, filled, groups_of, encoding_of, IsOctets, Spells, values_of, before_padding, whole, octets_of, decoding_of}
+use Rattle.octet_lanes.specs.Encoding.{width, quantum, symbol_of, class_of, stray, padding, all_bits, filled, groups_of, encoding_of, IsOctets, Spells, values_of, before_padding, whole, decoding_of}
 use Rattle.octet_lanes.proofs.Bits.{length-all_bits}
 use Rattle.octet_lanes.proofs.Pieces.{groups_of_bits}
 use Rattle.octet_lanes.proofs.Symbols.{read_back}
@@ -51,8 +51,9 @@ filled_octets Base64 n = omega arith
 filled_octets Base32 n = omega arith
 filled_octets Base32Hex n = omega arith
 
-pub octets_of_text : (alphabet : Alphabet) (octets : List ℕ) → IsOctets octets → octets_of (all_bits (width alphabet) (values_of alphabet (before_padding (encoding_of alphabet octets)))) ≡ octets
-octets_of_text alphabet octets are =
+-- the bits of a text's symbols, as whole octets
+pub bits_of_text : (alphabet : Alphabet) (octets : List ℕ) → whole 8 (all_bits (width alphabet) (values_of alphabet (before_padding (encoding_of alphabet octets)))) ≡ all_bits 8 octets
+bits_of_text alphabet octets =
     let w = width alphabet in
     let g = text_groups alphabet octets in
     let bits = all_bits 8 octets in
@@ -63,11 +64,11 @@ octets_of_text alphabet octets are =
     ∙ values_of-symbols alphabet g.numbers g.small in
     let count : length (filled w 0 bits) / 8 * 8 ≡ length octets * 8 = ap (λ n. n / 8 * 8) (filled-length alphabet octets) ∙ ap (λ n. n * 8) (filled_octets alphabet (length octets)) in
     let whole_bits : whole 8 (filled w 0 bits) ≡ bits = ap (λ n. take n (filled w 0 bits)) count ∙ take_at bits _ (length octets * 8) (length-all_bits 8 octets) in
-    ap (λ v. octets_of (all_bits w v)) values ∙ ap octets_of g.same ∙ ap (groups_of 8) whole_bits ∙ groups_of_bits 8 octets (omega arith) (small_octets octets are)
+    ap (λ v. whole 8 (all_bits w v)) values ∙ ap (whole 8) g.same ∙ whole_bits
 
 pub reads_back : (alphabet : Alphabet) (octets : List ℕ) → IsOctets octets → decoding_of alphabet (encoding_of alphabet octets) ≡ octets
 unfolding decoding_of
-reads_back alphabet octets are = octets_of_text alphabet octets are
+reads_back alphabet octets are = ap (groups_of 8) (bits_of_text alphabet octets) ∙ groups_of_bits 8 octets (omega arith) (small_octets octets are)
 
 pub spelled_by_one : (alphabet : Alphabet) (text x y : List ℕ) → IsOctets x → IsOctets y → Spells alphabet text x → Spells alphabet text y → x ≡ y
 spelled_by_one alphabet text x y p q e f = sym (reads_back alphabet x p) ∙ ap (decoding_of alphabet) (sym e ∙ f) ∙ reads_back alphabet y q

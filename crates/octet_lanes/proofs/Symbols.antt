@@ -1,6 +1,7 @@
 -- Symbols and classes, computed at each value and at each octet.
-use Rattle.std.proofs.Common.{◌≡◌, ℕ, zero, suc, ◌-◌, ◌^◌, ◌<◌, ◌≢◌, Bool, true, not, ◌&&◌, T, eqb, List, [], ◌∷◌, map, refl, ap, subst, inl, inr, arith, eq-zero-or-pos, eqb→eq, eq-eqb}
+use Rattle.std.proofs.Common.{◌≡◌, ltb, ℕ, zero, suc, ◌-◌, ◌^◌, ◌<◌, ◌≢◌, Bool, true, not, ◌&&◌, T, eqb, List, [], ◌∷◌, map, refl, ap, subst, inl, inr, arith, eq-zero-or-pos, eqb→eq, eq-eqb}
 use Rattle.std.specs.Simd.Lanes.{Each1}
+use Rattle.std.proofs.Math.Facts.{ltb_yes}
 use lib.Ieee.Fits.{and_l, and_r}
 use Rattle.octet_lanes.specs.declared.alphabet.Alphabet.{Alphabet}
 use Rattle.octet_lanes.specs.declared.alphabet.Alphabet.TheVariants.{Base64, Base32, Base32Hex}
@@ -22,6 +23,11 @@ every_below p (suc n) h i l =
 pub map_same : (f g : ℕ → ℕ) (n : ℕ) → T (all_below (λ b. eqb (f b) (g b)) n) → (xs : List ℕ) → Each1 (λ x. x < n) xs → map f xs ≡ map g xs
 map_same f g n h [] small = refl
 map_same f g n h (x ∷ xs) small = λ i. eqb→eq _ _ (every_below (λ b. eqb (f b) (g b)) n h x small.0) i ∷ map_same f g n h xs small.1 i
+
+-- a function whose numbers are small
+pub map_below : (f : ℕ → ℕ) (m n : ℕ) → T (all_below (λ b. ltb (f b) m) n) → (xs : List ℕ) → Each1 (λ x. x < n) xs → Each1 (λ y. y < m) (map f xs)
+map_below f m n h [] small = tt
+map_below f m n h (x ∷ xs) small = (ltb_yes (every_below (λ b. ltb (f b) m) n h x small.0), map_below f m n h xs small.1)
 
 -- what holds of each value's symbol
 abbrev pub IsReadBack : Alphabet → ℕ → Type 0

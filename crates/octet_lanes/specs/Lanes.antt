@@ -1,5 +1,5 @@
 -- What the steps of the kernels hold in a lane.
-use Rattle.std.specs.Prelude.{ℕ, ◌+◌, ◌-◌, ◌*◌, ◌/◌, ◌%◌, ◌^◌, nat_le, nat_lt, if◌then◌else◌, List, [], ◌∷◌}
+use Rattle.std.specs.Prelude.{ℕ, ◌+◌, ◌-◌, ◌*◌, ◌/◌, ◌%◌, ◌^◌, ◌==◌, nat_le, nat_lt, if◌then◌else◌, List, [], ◌∷◌}
 
 -- the sum, less 256 where it is as many
 abbrev pub added : ℕ → ℕ → ℕ
@@ -16,6 +16,10 @@ if_below n x y = if nat_lt x n then y else 0
 -- the number y from n on
 abbrev pub if_from : ℕ → ℕ → ℕ → ℕ
 if_from n y x = if nat_le n x then y else 0
+
+-- the number y where x is n
+abbrev pub if_equal : ℕ → ℕ → ℕ → ℕ
+if_equal n y x = if x == n then y else 0
 
 -- the place in the run of n octets from the first on, and mark; 0 outside of the run
 abbrev pub in_run : ℕ → ℕ → ℕ → ℕ → ℕ

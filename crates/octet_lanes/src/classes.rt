@@ -1,12 +1,15 @@
 // Classes and symbols, each lane by the alphabet's table.
-ghost use Rattle.std.specs.Prelude.{◌≡◌, ◌<◌, ◌^◌, ◌==◌, map};
-ghost use Rattle.std.specs.List.{All, list_any};
+ghost use Rattle.std.specs.Prelude.{◌≡◌, ◌<◌, ◌%◌, ◌^◌, ◌==◌, map};
+ghost use Rattle.std.specs.List.{All, list_any, position_or_len};
 ghost use Rattle.octet_lanes.specs.Encoding.{class_of, stray, symbol_of, upper_of, width};
 ghost use Rattle.octet_lanes.specs.Lanes.{in_run};
 ghost use Rattle.octet_lanes.specs.declared.alphabet.Alphabet.TheVariants.{Base32, Base32Hex, Base64};
 
 use crate::alphabet::{Alphabet, STRAY};
-use crate::operations::{less, more, plus, where_below, where_from};
+use crate::operations::{
+    both, either, high_halves, less, look_up, low_bits, more, plus, where_below, where_equal,
+    where_from,
+};
 use std::simd::prelude::*;
 
 /// The class of each octet in the alphabet: its value, or [`STRAY`] where it is no symbol.
@@ -33,13 +36,35 @@ fn run(lanes: u8x32, first: u8, n: u8, mark: u8) -> u8x32
     where_below(places, n, more(places, mark))
 }
 
+// The kinds of base64 symbols that have an octet's low four bits, and those that have its high four: 1 for `+` and `/`,
+// 2 for the digits, 4 and 8 for letters. An octet is a symbol where the two have a kind in common.
+const LOW_KINDS: [u8; 32] = [
+    10, 14, 14, 14, 14, 14, 14, 14, 14, 14, 12, 5, 4, 4, 4, 5, 10, 14, 14, 14, 14, 14, 14, 14, 14,
+    14, 12, 5, 4, 4, 4, 5,
+];
+
+const HIGH_KINDS: [u8; 32] = [
+    0, 0, 1, 2, 4, 8, 4, 8, 0, 0, 0, 0, 0, 0, 0, 0, 0, 0, 1, 2, 4, 8, 4, 8, 0, 0, 0, 0, 0, 0, 0, 0,
+];
+
+// How much farther the value of a base64 symbol is than its octet (less 256, where it is nearer), by the high four bits
+// of the octet, and by 1 less for `/`.
+const STEPS: [u8; 32] = [
+    0, 16, 19, 4, 191, 191, 185, 185, 0, 0, 0, 0, 0, 0, 0, 0, 0, 16, 19, 4, 191, 191, 185, 185, 0,
+    0, 0, 0, 0, 0, 0, 0,
+];
+
 #[inline(always)]
 fn base64_classes(lanes: u8x32) -> u8x32
     ensures { result ≡ map (class_of Base64) lanes }
 {
-    let letters = plus(run(lanes, b'A', 26, 1), run(lanes, b'a', 26, 27));
-    let others = plus(run(lanes, b'+', 1, 63), run(lanes, b'/', 1, 64));
-    less(plus(plus(letters, run(lanes, b'0', 10, 53)), others), 1)
+    let high = high_halves(lanes);
+    let low_kinds = look_up(u8x32::from_array(LOW_KINDS), low_bits(lanes, 0xf));
+    let kinds = both(low_kinds, look_up(u8x32::from_array(HIGH_KINDS), high));
+    // 255 is 1 less, in the low 8 bits
+    let places = plus(high, where_equal(lanes, b'/', 255));
+    let values = plus(lanes, look_up(u8x32::from_array(STEPS), places));
+    either(values, where_equal(kinds, 0, STRAY))
 }
 
 #[inline(always)]
@@ -65,6 +90,50 @@ pub fn has_stray(classes: &[u8; 32]) -> bool
         .simd_eq(u8x32::splat(STRAY))
         .to_bitmask()
         != 0
+}
+
+/// Whether strays are so many that runs between them are short.
+#[inline(always)]
+pub(crate) fn has_many_strays(classes: &[u8; 32]) -> bool {
+    let strays = u8x32::from_array(*classes)
+        .simd_eq(u8x32::splat(STRAY))
+        .to_bitmask();
+    strays.count_ones() > 3
+}
+
+/// How many classes come before the first stray.
+#[inline(always)]
+pub(crate) fn run_len(classes: &[u8; 32]) -> usize
+    ensures { result ≡ position_or_len (λ class. class == stray) classes.now }
+{
+    let strays = u8x32::from_array(*classes)
+        .simd_eq(u8x32::splat(STRAY))
+        .to_bitmask();
+    if strays == 0 {
+        return 32;
+    }
+    strays.trailing_zeros() as usize
+}
+
+/// The class of one octet.
+#[inline(always)]
+pub(crate) fn class(octet: u8, alphabet: Alphabet) -> u8
+    ensures { result ≡ class_of alphabet octet }
+{
+    classify(&[octet; 32], alphabet)[0]
+}
+
+/// The values among the classes as they are, and some value in place of each stray.
+#[inline(always)]
+pub(crate) fn some_values(classes: &[u8; 32], alphabet: Alphabet) -> [u8; 32]
+    ensures { result ≡ map (λ class. class % 2 ^ width alphabet) classes.now }
+{
+    let lanes = u8x32::from_array(*classes);
+    let values = match alphabet {
+        Alphabet::Base64 => low_bits(lanes, 0x3f),
+        Alphabet::Base32 | Alphabet::Base32Hex => low_bits(lanes, 0x1f),
+    };
+    values.to_array()
 }
 
 /// The symbol of each value in the alphabet.

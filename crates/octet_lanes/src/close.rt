@@ -1,5 +1,5 @@
 // Values closed up over strays.
-ghost use Rattle.std.specs.Prelude.{◌≡◌, ◌++◌, ◌-◌, length, replicate};
+ghost use Rattle.std.specs.Prelude.{◌≡◌, ◌++◌, ◌-◌, ◌≤◌, length, replicate};
 ghost use Rattle.octet_lanes.specs.Encoding.{stray, values_among};
 
 use crate::alphabet::STRAY;
@@ -10,6 +10,7 @@ use crate::classes::has_stray;
 pub fn close_up(classes: &[u8; 32]) -> ([u8; 32], usize)
     ensures lanes { result.0 ≡ values_among classes.now ++ replicate (32 - length (values_among classes.now)) stray }
     ensures number { result.1 ≡ length (values_among classes.now) }
+    ensures few { result.1 ≤ 32 }
 {
     if !has_stray(classes) {
         return (*classes, 32);

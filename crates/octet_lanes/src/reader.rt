@@ -1,10 +1,11 @@
 // Texts that any octets may interrupt.
-ghost use Rattle.std.specs.Prelude.{◌≡◌, false, ℕ, ◌+◌, ◌*◌, ◌/◌, ◌++◌, ◌<◌, ◌≤◌, ◌^◌, ◌==◌, List, IfOk, OnOk, length, take};
+ghost use Rattle.std.specs.Prelude.{◌≡◌, ◌≢◌, ◌==◌, false, ℕ, ◌-◌, ◌*◌, ◌++◌, ◌<◌, ◌≤◌, ◌^◌, ◌⊎◌, List, [], IfOk, OnOk, drop, length, map, slice_index, take};
 ghost use Rattle.std.specs.List.{All, list_any, position};
-ghost use Rattle.octet_lanes.specs.Encoding.{IsOctets, all_bits, before_padding, decoding_of, octets_of, padding, values_among, values_of, width};
+ghost use Rattle.octet_lanes.specs.Encoding.{all_bits, before_padding, class_of, decoding_of, octets_of, padding, quantum, stray, values_among, values_of, whole, width};
+ghost use Rattle.octet_lanes.specs.Reading.{decoding_behind};
 
 use crate::alphabet::{Alphabet, PADDING, STRAY};
-use crate::classes::classify;
+use crate::classes::{class, classify, has_many_strays, has_stray, run_len, some_values};
 use crate::close::close_up;
 use crate::groups::join;
 use std::alloc::{AllocError, Global};
@@ -20,41 +21,209 @@ use std::simd::prelude::*;
 pub fn decode(alloc: Global, text: &[u8], alphabet: Alphabet) -> Result<Vec<u8>, AllocError>
     ensures { IfOk result (λ octets. octets.items ≡ decoding_of alphabet text.now) }
 {
-    let text = up_to_padding(text);
     let mut out = Vec::with_capacity(alloc, (text.len() / 8 + 1).saturating_mul(alphabet.width()))?;
-    let mut window = Window {
-        values: [0; 32],
-        held: 0,
-    };
-    window.feed(text, alphabet, &mut out)?;
-    window.give_whole(alphabet, &mut out)?;
+    let mut rest = text;
+    'quanta: while !rest.is_empty() {
+        rest = append_runs(rest, alphabet, &mut out)?;
+        rest = append_quantum(rest, alphabet, &mut out)?;
+    }
     Ok(out)
 }
 
-// What comes before the first `=`.
-fn up_to_padding(text: &[u8]) -> &[u8]
-    ensures { result.now ≡ before_padding text.now }
+// Appends the octets of whole quanta in front, a block at a time, and gives what follows them: fewer than 32 octets, or
+// a quantum that strays interrupt.
+#[inline(always)]
+fn append_runs<'a>(
+    text: &'a [u8],
+    alphabet: Alphabet,
+    out: &mut Vec<u8>,
+) -> Result<&'a [u8], AllocError>
+    ensures octets { IfOk result (λ rest. out.new.items ++ decoding_of alphabet rest.now ≡ out.old.items ++ decoding_of alphabet text.now) }
+    ensures shorter { IfOk result (λ rest. length rest.now ≤ length text.now) }
 {
-    let free = padding_free(text);
-    match first_padding(&text[free..]) {
-        Some(end) => &text[..free + end],
-        None => text,
+    let mut rest = text;
+    'runs: while let Some((block, after)) = rest.split_first_chunk::<32>() {
+        let classes = classify(block, alphabet);
+        if !has_stray(&classes) {
+            append_values(&classes, 32, alphabet, out)?;
+            rest = after;
+            continue;
+        }
+        let read = append_front(block, &classes, alphabet, out)?;
+        if read == 0 {
+            return Ok(rest);
+        }
+        let (_, after) = rest.split_at(read);
+        rest = after;
     }
+    Ok(rest)
 }
 
-// How many octets at least come before the first `=`, in whole blocks.
-fn padding_free(text: &[u8]) -> usize
-    ensures within { result ≤ length text.now }
-    ensures free { list_any (λ octet. octet == padding) (take result text.now) ≡ false }
+// Appends the octets of whole quanta in front of a block with strays, and gives where they end. Which of the two ways
+// it goes changes the time alone.
+#[inline(always)]
+fn append_front(
+    block: &[u8; 32],
+    classes: &[u8; 32],
+    alphabet: Alphabet,
+    out: &mut Vec<u8>,
+) -> Result<usize, AllocError>
+    requires { classes.now ≡ map (class_of alphabet) block.now }
+    ensures within { IfOk result (λ end. end ≤ 32) }
+    ensures octets { IfOk result (λ end. (rest : List ℕ) → out.new.items ++ decoding_of alphabet (drop end block.now ++ rest) ≡ out.old.items ++ decoding_of alphabet (block.now ++ rest)) }
 {
-    let mut at = 0;
-    'free: while let Some(block) = text[at..].first_chunk::<32>() {
-        if has_padding(block) {
-            break;
-        }
-        at += 32;
+    if has_many_strays(classes) && !has_padding(block) {
+        return append_closed(block, classes, alphabet, out);
     }
-    at
+    append_run(block, classes, alphabet, out)
+}
+
+// Appends the octets of the whole quanta in front of a block, and gives where they and the strays behind them end.
+#[inline(always)]
+fn append_run(
+    block: &[u8; 32],
+    classes: &[u8; 32],
+    alphabet: Alphabet,
+    out: &mut Vec<u8>,
+) -> Result<usize, AllocError>
+    requires { classes.now ≡ map (class_of alphabet) block.now }
+    ensures within { IfOk result (λ end. end ≤ 32) }
+    ensures octets { IfOk result (λ end. (rest : List ℕ) → out.new.items ++ decoding_of alphabet (drop end block.now ++ rest) ≡ out.old.items ++ decoding_of alphabet (block.now ++ rest)) }
+{
+    let run = run_len(classes);
+    let whole = run - run % alphabet.quantum_characters();
+    append_values(&some_values(classes, alphabet), whole, alphabet, out)?;
+    if whole < run {
+        return Ok(whole);
+    }
+    Ok(end_of_strays(block, classes, whole))
+}
+
+// Where the strays from `start` on end, at the first `=` at the latest.
+#[inline(always)]
+fn end_of_strays(block: &[u8; 32], classes: &[u8; 32], start: usize) -> usize
+    requires { start ≤ 32 }
+    ensures within { (start ≤ result) × (result ≤ 32) }
+    ensures strays { (i : ℕ) → start ≤ i → i < result → (slice_index classes.now i ≡ stray) × (slice_index block.now i ≢ padding) }
+{
+    let mut end = start;
+    'strays: while end < 32 && classes[end] == STRAY && block[end] != PADDING {
+        end += 1;
+    }
+    end
+}
+
+// Appends the octets of the whole quanta in front of a block, whatever strays interrupt them, and gives where they end.
+#[inline(always)]
+fn append_closed(
+    block: &[u8; 32],
+    classes: &[u8; 32],
+    alphabet: Alphabet,
+    out: &mut Vec<u8>,
+) -> Result<usize, AllocError>
+    requires classes { classes.now ≡ map (class_of alphabet) block.now }
+    requires free { list_any (λ octet. octet == padding) block.now ≡ false }
+    ensures within { IfOk result (λ end. end ≤ 32) }
+    ensures octets { IfOk result (λ end. (rest : List ℕ) → out.new.items ++ decoding_of alphabet (drop end block.now ++ rest) ≡ out.old.items ++ decoding_of alphabet (block.now ++ rest)) }
+{
+    let (values, n) = close_up(classes);
+    let last = n % alphabet.quantum_characters();
+    append_values(&some_values(&values, alphabet), n - last, alphabet, out)?;
+    Ok(start_of_last(classes, last))
+}
+
+// Where the last `n` values start, with the strays between them and behind them.
+#[inline(always)]
+fn start_of_last(classes: &[u8; 32], n: usize) -> usize
+    requires { n ≤ length (values_among classes.now) }
+    ensures within { result ≤ 32 }
+    ensures values { length (values_among (drop result classes.now)) ≡ n }
+{
+    let mut start = 32;
+    let mut left = n;
+    'values: while left > 0 {
+        start -= 1;
+        if classes[start] != STRAY {
+            left -= 1;
+        }
+    }
+    start
+}
+
+// Appends the octets of the next quantum, whatever strays interrupt it, and gives what follows it: nothing, where the
+// text or the padding ends it.
+#[inline(always)]
+fn append_quantum<'a>(
+    text: &'a [u8],
+    alphabet: Alphabet,
+    out: &mut Vec<u8>,
+) -> Result<&'a [u8], AllocError>
+    ensures octets { IfOk result (λ rest. out.new.items ++ decoding_of alphabet rest.now ≡ out.old.items ++ decoding_of alphabet text.now) }
+    ensures shorter { IfOk result (λ rest. length rest.now ≤ length text.now - 1) }
+{
+    let (values, n, rest) = next_quantum(text, alphabet);
+    append_values(&values, n, alphabet, out)?;
+    Ok(rest)
+}
+
+// The values of the next quantum, in front, their number, and what follows them. There are fewer only where the text or
+// the padding ends them, and then nothing follows.
+fn next_quantum<'a>(text: &'a [u8], alphabet: Alphabet) -> ([u8; 32], usize, &'a [u8])
+    ensures few { (length result.0 ≡ 32) × (result.1 ≤ quantum alphabet) }
+    ensures small { All (λ value. value < 2 ^ width alphabet) result.0 }
+    ensures same { decoding_behind alphabet (take result.1 result.0) result.2.now ≡ decoding_of alphabet text.now }
+    ensures whole { (result.1 ≡ quantum alphabet) ⊎ (result.2.now ≡ []) }
+    ensures shorter { length result.2.now ≤ length text.now - 1 }
+{
+    let mut values = [0; 32];
+    let mut n = 0;
+    let mut rest = text;
+    'octets: while n < alphabet.quantum_characters() {
+        let Some((octet, after)) = rest.split_first() else {
+            return (values, n, rest);
+        };
+        if *octet == PADDING {
+            return (values, n, &[]);
+        }
+        rest = after;
+        let value = class(*octet, alphabet);
+        if value != STRAY {
+            values[n] = value;
+            n += 1;
+        }
+    }
+    (values, n, rest)
+}
+
+// Appends the whole octets of the first `n` values.
+#[inline(always)]
+fn append_values(
+    values: &[u8; 32],
+    n: usize,
+    alphabet: Alphabet,
+    out: &mut Vec<u8>,
+) -> Result<(), AllocError>
+    requires few { n ≤ 32 }
+    requires small { All (λ value. value < 2 ^ width alphabet) values.now }
+    ensures { OnOk result (out.new.items ≡ out.old.items ++ octets_of (all_bits (width alphabet) (take n values.now))) }
+{
+    out.extend_from_slice(&join(values, alphabet)[..n * alphabet.width() / 8])
+}
+
+/// The octets of at most a block of text, in front, and their number: the bits of its symbols before the first `=`, as
+/// whole octets.
+#[inline(always)]
+pub fn block_octets(text: &[u8], alphabet: Alphabet) -> ([u8; 32], usize)
+    requires { length text.now ≤ 32 }
+    ensures bits { all_bits 8 (take result.1 result.0) ≡ whole 8 (all_bits (width alphabet) (values_of alphabet (before_padding text.now))) }
+    ensures few { result.1 ≤ 4 * width alphabet }
+{
+    let symbols = up_to_padding(text);
+    let mut block = [PADDING; 32];
+    block[..symbols.len()].copy_from_slice(symbols);
+    let (values, n) = close_up(&classify(&block, alphabet));
+    let octets = join(&some_values(&values, alphabet), alphabet);
+    (octets, n * alphabet.width() / 8)
 }
 
 #[inline(always)]
@@ -67,98 +236,20 @@ fn has_padding(octets: &[u8; 32]) -> bool
         != 0
 }
 
+// What comes before the first `=`.
+#[inline(always)]
+fn up_to_padding(text: &[u8]) -> &[u8]
+    ensures { result.now ≡ before_padding text.now }
+{
+    match first_padding(text) {
+        Some(end) => &text[..end],
+        None => text,
+    }
+}
+
 #[inline(always)]
 fn first_padding(text: &[u8]) -> Option<usize>
     ensures { result ≡ position (λ octet. octet == padding) text.now }
 {
     text.iter().position(|octet| *octet == PADDING)
-}
-
-// The values whose octets haven't been given out: the first `held` ones, fewer than a block.
-#[derive(Drop)]
-struct Window {
-    values: [u8; 32],
-    held: usize,
-}
-
-impl Window {
-    // Takes in the values of `text`, and appends the octets of each whole block.
-    #[inline(always)]
-    fn feed(&mut self, text: &[u8], alphabet: Alphabet, out: &mut Vec<u8>) -> Result<(), AllocError>
-        requires held { self.old.held < 32 }
-        requires small { All (λ value. value < 2 ^ width alphabet) (take self.old.held self.old.values) }
-        ensures held { self.new.held < 32 }
-        ensures small { All (λ value. value < 2 ^ width alphabet) (take self.new.held self.new.values) }
-        ensures bits { OnOk result (all_bits 8 out.new.items ++ all_bits (width alphabet) (take self.new.held self.new.values)
-            ≡ all_bits 8 out.old.items ++ all_bits (width alphabet) (take self.old.held self.old.values ++ values_of alphabet text.now)) }
-        ensures octets { OnOk result (IsOctets out.new.items) }
-    {
-        let mut rest = text;
-        'whole: while let Some((block, after)) = rest.split_first_chunk::<32>() {
-            self.take_in(&classify(block, alphabet), alphabet, out)?;
-            rest = after;
-        }
-        let mut last = [PADDING; 32];
-        last[..rest.len()].copy_from_slice(rest);
-        self.take_in(&classify(&last, alphabet), alphabet, out)
-    }
-
-    // Takes in the values among the classes, and appends the octets of a whole block.
-    #[inline(always)]
-    fn take_in(
-        &mut self,
-        classes: &[u8; 32],
-        alphabet: Alphabet,
-        out: &mut Vec<u8>,
-    ) -> Result<(), AllocError>
-        requires held { self.old.held < 32 }
-        requires small { All (λ value. value < 2 ^ width alphabet) (take self.old.held self.old.values) }
-        requires classes { All (λ value. value < 2 ^ width alphabet) (values_among classes.now) }
-        ensures held { self.new.held < 32 }
-        ensures small { All (λ value. value < 2 ^ width alphabet) (take self.new.held self.new.values) }
-        ensures bits { OnOk result (all_bits 8 out.new.items ++ all_bits (width alphabet) (take self.new.held self.new.values)
-            ≡ all_bits 8 out.old.items ++ all_bits (width alphabet) (take self.old.held self.old.values ++ values_among classes.now)) }
-    {
-        let (closed, n) = close_up(classes);
-        if self.held == 0 && n == 32 {
-            return append_block(&closed, alphabet, out);
-        }
-        let mut both = [STRAY; 64];
-        both[..32].copy_from_slice(&self.values);
-        both[self.held..self.held + 32].copy_from_slice(&closed);
-        let (front, back) = both.split_at(32);
-        let held = self.held + n;
-        if held < 32 {
-            self.held = held;
-            self.values.copy_from_slice(front);
-            return Ok(());
-        }
-        self.held = held - 32;
-        self.values.copy_from_slice(back);
-        append_block(front, alphabet, out)
-    }
-
-    // Appends the whole octets of the values that are held.
-    #[inline(always)]
-    fn give_whole(&self, alphabet: Alphabet, out: &mut Vec<u8>) -> Result<(), AllocError>
-        requires held { self.now.held < 32 }
-        requires small { All (λ value. value < 2 ^ width alphabet) (take self.now.held self.now.values) }
-        ensures { OnOk result (out.new.items ≡ out.old.items ++ octets_of (all_bits (width alphabet) (take self.now.held self.now.values))) }
-    {
-        let mut values = [0; 32];
-        values[..self.held].copy_from_slice(&self.values[..self.held]);
-        out.extend_from_slice(&join(&values, alphabet)[..self.held * alphabet.width() / 8])
-    }
-}
-
-// Appends the octets of a whole block of values.
-#[inline(always)]
-fn append_block(values: &[u8], alphabet: Alphabet, out: &mut Vec<u8>) -> Result<(), AllocError>
-    requires len { length values.now ≡ 32 }
-    requires small { All (λ value. value < 2 ^ width alphabet) values.now }
-    ensures { OnOk result (all_bits 8 out.new.items ≡ all_bits 8 out.old.items ++ all_bits (width alphabet) values.now) }
-{
-    let mut lanes = [0; 32];
-    lanes.copy_from_slice(values);
-    out.extend_from_slice(&join(&lanes, alphabet)[..4 * alphabet.width()])
 }

@@ -70,9 +70,9 @@ fn append_block(out: &mut Vec<u8>, octets: &[u8], alphabet: Alphabet) -> Result<
     out.extend_from_slice(&text[..len])
 }
 
-// The text of at most a block of octets, in front, and its length.
+/// The text of at most a block of octets, in front, and its length.
 #[inline(always)]
-fn block_text(octets: &[u8], alphabet: Alphabet) -> ([u8; 32], usize)
+pub fn block_text(octets: &[u8], alphabet: Alphabet) -> ([u8; 32], usize)
     requires { length octets.now ≤ 4 * width alphabet }
     ensures text { take result.1 result.0 ≡ encoding_of alphabet octets.now }
     ensures len { result.1 ≤ 32 }
@@ -86,9 +86,9 @@ fn block_text(octets: &[u8], alphabet: Alphabet) -> ([u8; 32], usize)
     (text, quanta * alphabet.quantum_characters())
 }
 
-// The text of a whole block, the first `4 * width` octets.
+/// The text of a whole block, the first `4 * width` octets.
 #[inline(always)]
-fn block_symbols(octets: &[u8; 32], alphabet: Alphabet) -> [u8; 32]
+pub fn block_symbols(octets: &[u8; 32], alphabet: Alphabet) -> [u8; 32]
     ensures { result ≡ encoding_of alphabet (take (4 * width alphabet) octets.now) }
 {
     spell(&split(octets, alphabet), alphabet)

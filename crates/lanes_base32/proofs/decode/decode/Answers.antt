@@ -1,19 +1,36 @@
-use Rattle.std.proofs.Common.{◌≡◌, List, [], ◌∷◌, ℕ, true, not, ◌&&◌, eqb, eq-eqb, refl, sym, ap, ◌∙◌}
-use Rattle.std.specs.Cmp.Lexicographic.{pointwise}
-use Rattle.std.proofs.lemmas.Bool.{false≢true}
-use Rattle.octet_lanes.specs.Encoding.{encoding_of, decoding_of}
-use Rattle.octet_lanes.proofs.ReadBack.{reads_back}
+use Rattle.std.proofs.Common.{◌<◌, ◌*◌, ◌++◌, take, drop, sym, ap, ◌∙◌}
+use Rattle.std.proofs.lemmas.List.{append_assoc}
+use Rattle.std.proofs.lemmas.List.Elements.{All-drop}
+use Rattle.std.proofs.lemmas.Result.{err_from_is_err_and}
+use Rattle.octet_lanes.specs.Encoding.{encoding_of, width}
+use Rattle.lanes_base32.proofs.Blocks.{block_before, in_front}
 use Rattle.lanes_base32.proofs.decode.decode.Goals as goal
 
-itself : (xs : List ℕ) → pointwise eqb xs xs ≡ true
-itself [] = refl
-itself (x ∷ xs) = ap (λ b. b && pointwise eqb xs xs) (eq-eqb x x refl) ∙ itself xs
+pub returns-in_err-append_block-clause-refused : goal.returns-in_err-append_block-clause-refused
+returns-in_err-append_block-clause-refused c =
+    let parts = c.in-Some.ensures in
+    let p = err_from_is_err_and c.from_residual-in_err-append_block.result c.from_residual-in_err-append_block.ensures.1 in
+    rw (p.1, p.2) (λ e octets are spells.
+    let l = c.whole.invariant.left octets are spells in
+    let front = in_front c.args.alphabet c.whole.rest.now c.in-Some.block.now c.in-Some.after.now l.0 parts.0 parts.1 parts.3 l.2 in
+    c.in_err-append_block.ensures.refused e (take (4 * width c.args.alphabet) l.0) front.long front.first)
 
-pub returns-then-ne-clause-refused : goal.returns-then-ne-clause-refused
-returns-then-ne-clause-refused c = λ e x are spells.
+pub whole-preserved : goal.whole-preserved
+whole-preserved c =
     let a = c.args.alphabet in
-    let read : c.in_ok-octets.octets.items ≡ x = c.in_ok-octets.ensures ∙ ap (decoding_of a) spells ∙ reads_back a x are in
-    let written : c.as_slice.result.now ≡ c.args.text.now =
-    c.as_slice.ensures.value ∙ c.in_ok-written.ensures ∙ ap (encoding_of a) (c.deref.ensures.value ∙ read) ∙ sym spells in
-    let equal : pointwise eqb c.as_slice.result.now c.args.text.now ≡ true = ap (λ l. pointwise eqb l c.args.text.now) written ∙ itself c.args.text.now in
-    false≢true (ap not (sym equal) ∙ sym c.ne.ensures ∙ c.if-ne.true)
+    let text = c.whole.rest.now in
+    let block = c.in-Some.block.now in
+    let after = c.in-Some.after.now in
+    let out = c.whole.out.items in
+    let parts = c.in-Some.ensures in
+    let read = c.in_ok-append_block.ensures.octets in
+    let first = read.0 in
+    record {
+      spelled = λ octets spells.
+          c.whole.invariant.spelled (first ++ octets) (block_before a text block after first octets parts.0 parts.1 read.2 read.3 spells)
+          ∙ ap (λ l. encoding_of a l) (sym (append_assoc out first octets) ∙ ap (λ l. l ++ octets) (sym read.1));
+      left = λ octets are spells.
+          let l = c.whole.invariant.left octets are spells in
+          let front = in_front a text block after l.0 parts.0 parts.1 parts.3 l.2 in
+          (drop (4 * width a) l.0, All-drop (λ octet. octet < 256) (4 * width a) l.0 l.1, front.second);
+    }

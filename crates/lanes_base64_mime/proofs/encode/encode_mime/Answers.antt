@@ -1,7 +1,6 @@
 use Rattle.std.proofs.Common.{◌≡◌, ◌++◌, ◌<◌, ℕ, length, take, drop, min, sym, ap, ◌∙◌, arith, eqb, eqb-true, false, []}
 use Rattle.std.proofs.lemmas.Bool.{eqb-false}
 use Rattle.std.proofs.lemmas.List.{append_assoc, append-nil, nil_from_length}
-use Rattle.std.proofs.lemmas.Slice.{pushed}
 use Rattle.octet_lanes.specs.declared.alphabet.Alphabet.TheVariants.{Base64}
 use Rattle.octet_lanes.specs.Encoding.{encoding_of}
 use Rattle.lanes_base64_mime.specs.MimeBase64.{line_break, mime_encoding_of}
@@ -16,15 +15,11 @@ lines-preserved c =
     let rest = c.lines.rest.now in
     let out = c.lines.out.items in
     let m = min (length rest) 57 in
-    let line = encoding_of Base64 (take m rest) in
-    let text : c.append_encoding.new.out.items ≡ out ++ line =
-    c.in_ok-append_encoding.ensures ∙ ap (λ l. out ++ encoding_of Base64 l) (c.split_at.ensures.front ∙ ap (λ n. take n rest) c.min.ensures) in
-    let more = pushed line_break text c.in_ok-extend_from_slice.was c.extend_from_slice.ensures.items in
+    let line = encoding_of Base64 (take m rest) ++ line_break in
     let after = c.split_at.ensures.back ∙ ap (λ n. drop n rest) c.min.ensures in
     let some : 0 < length rest = not_empty (length rest) (sym c.is_empty.ensures ∙ c.lines-test.true) in
-    (λ i. more i ++ mime_encoding_of (after i))
-    ∙ ap (λ l. l ++ mime_encoding_of (drop m rest)) (append_assoc out line line_break)
-    ∙ append_assoc out (line ++ line_break) (mime_encoding_of (drop m rest))
+    (λ i. c.in_ok-append_line.ensures i ++ mime_encoding_of (after i))
+    ∙ append_assoc out line (mime_encoding_of (drop m rest))
     ∙ ap (λ l. out ++ l) (sym (next_line rest some))
     ∙ c.lines.invariant
 

@@ -13,6 +13,7 @@ returns-then-not-has_stray c =
     record {
       lanes = sym is ∙ sym (append-nil _) ∙ ap (λ m. values_among c.args.classes.now ++ replicate (32 - m) stray) (sym n);
       number = sym n;
+      few = omega arith;
     }
 
 pub loop-class-preserved : goal.loop-class-preserved

@@ -1,18 +1,21 @@
-use Rattle.std.proofs.Common.{◌++◌, take, sym, ap, ◌∙◌}
-use Rattle.octet_lanes.specs.Encoding.{all_bits, decoding_of, octets_of, values_of, width}
-use Rattle.octet_lanes.proofs.ReadBack.{small_octets}
-use Rattle.octet_lanes.proofs.Reading.{octets_of-front}
+use Rattle.std.proofs.Common.{◌≡◌, ◌++◌, ◌<◌, ◌≤◌, ◌-◌, [], length, sym, ap, ◌∙◌, arith, eqb-true}
+use Rattle.std.proofs.lemmas.Bool.{eqb-false}
+use Rattle.std.proofs.lemmas.List.{append-nil, nil_from_length}
+use Rattle.octet_lanes.specs.Encoding.{decoding_of}
+use Rattle.octet_lanes.proofs.Reading.{decoding_of-none}
 use Rattle.octet_lanes.proofs.reader.decode.Goals as goal
 
+pub quanta-smaller : goal.quanta-smaller
+quanta-smaller c =
+    let runs : length c.in_ok-rest.rest.now ≤ length c.quanta.rest.now = c.in_ok-rest.ensures.shorter in
+    let quantum : length c.in_ok-rest-2.rest.now ≤ length c.in_ok-rest.rest.now - 1 = c.in_ok-rest-2.ensures.shorter in
+    let some = eqb-false (length c.quanta.rest.now) 0 (sym c.is_empty.ensures ∙ c.quanta-test.true) in
+    let less : length c.in_ok-rest-2.rest.now < length c.quanta.rest.now = omega arith in
+    less
+
 pub returns : goal.returns
-unfolding decoding_of
 returns c =
     let a = c.args.alphabet in
-    let w = width a in
-    let given = c.feed.new.out.items in
-    let held = all_bits w (take c.feed.new.self.held c.feed.new.self.values) in
-    c.in_ok-give_whole.ensures
-    ∙ sym (octets_of-front given held (small_octets given c.in_ok-feed.ensures.octets))
-    ∙ ap octets_of c.in_ok-feed.ensures.bits
-    ∙ ap (λ l. octets_of (all_bits 8 l ++ all_bits w (values_of a c.up_to_padding-text.result.now))) c.in_ok-out.ensures.items
-    ∙ ap (λ l. octets_of (all_bits w (values_of a l))) c.up_to_padding-text.ensures
+    let rest = c.quanta.rest.now in
+    let none : rest ≡ [] = nil_from_length rest (eqb-true _ _ (sym c.is_empty.ensures ∙ c.quanta-test.false)) in
+    sym (append-nil c.quanta.out.items) ∙ ap (λ l. c.quanta.out.items ++ l) (sym (ap (decoding_of a) none ∙ decoding_of-none a)) ∙ c.quanta.invariant
