@@ -51,8 +51,32 @@ fn scripts_without_faults(rt: HostRuntime) {
             "{script:?}"
         );
     }
-    let nested = repeated(rt.alloc(), b"if ", b"not ", 31, b"true {}");
-    assert!(rt; nested.is_some_and(|script| outcome_of(rt.alloc(), &script) == Outcome::Accepted));
+}
+
+#[test]
+fn long_scripts_without_faults(rt: HostRuntime) {
+    let alloc = rt.alloc();
+    for script in [
+        repeated(alloc, b"if ", b"not ", 31, b"true {}"),
+        repeated(
+            alloc,
+            b"",
+            b"if true {",
+            32,
+            b"}}}}}}}}}}}}}}}}}}}}}}}}}}}}}}}}",
+        ),
+        repeated(
+            alloc,
+            b"if anyof (true",
+            b", not size :over 10",
+            3000,
+            b") {}",
+        ),
+        repeated(alloc, b"if true {}", b"elsif true {}", 5000, b"else {}"),
+        repeated(alloc, b"", b"keep;", 13107, b""),
+    ] {
+        assert!(rt; script.is_some_and(|script| outcome_of(alloc, &script) == Outcome::Accepted));
+    }
 }
 
 // Each script, and the number and place of the fault that is named.

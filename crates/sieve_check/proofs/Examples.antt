@@ -1,9 +1,12 @@
 -- Rows that were worked out by hand.
-use Rattle.std.proofs.Common.{◌≡◌, ℕ, [], ◌∷◌, Some, None, refl}
+use Rattle.std.proofs.Common.{◌≡◌, ℕ, [], ◌∷◌, Some, None, true, inl, inr, refl}
 use Rattle.std.specs.Prelude.{codes}
 use Rattle.sieve_parser.specs.Tree.{text, text_list, amount, label, InvocationTree, invocation, no_test, one_test, test_list, last, next, CommandsTree, simple, block, no_command, command}
 use Rattle.sieve_check.specs.declared.error.CheckError.TheVariants.{UnknownCommand, UnknownCapability, BadArguments}
+use Rattle.sieve_check.specs.FormOf.{IsFormOf}
 use Rattle.sieve_check.specs.Rules.{fault_of}
+use Rattle.sieve_check.specs.Typed.{constant, keep, stop, choice, otherwise, branch}
+use Rattle.sieve_check.specs.Typed as typed
 
 abbrev keep_at : ℕ → CommandsTree → CommandsTree
 keep_at n others = command (simple (invocation n (codes "keep") [] no_test)) others
@@ -52,3 +55,38 @@ faultless :
     (command (block (invocation 19 (codes "Else") [] no_test) (keep_at 21 no_command)) (keep_at 24 no_command)))))
     ≡ None
 faultless = refl
+
+-- require "mime"; if true {} else { keep; } stop;
+one_form :
+    IsFormOf
+    (command (simple (invocation 0 (codes "require") (text (codes "mime") ∷ []) no_test))
+    (command (block (invocation 3 (codes "if") [] (one_test (true_at 4))) no_command)
+    (command (block (invocation 7 (codes "else") [] no_test) (keep_at 9 no_command))
+    (command (simple (invocation 12 (codes "stop") [] no_test)) no_command))))
+    (typed.command (choice (branch (constant true) typed.no_command (otherwise (typed.command keep typed.no_command)))) (typed.command stop typed.no_command))
+one_form =
+    inl (record {
+      is = record { args = text (codes "mime") ∷ []; tests = no_test; is = record { token = 0; word = codes "require"; same = refl; named = refl } };
+      begins = refl;
+      rest = inl (record {
+        f = constant true;
+        body = typed.no_command;
+        more = otherwise (typed.command keep typed.no_command);
+        others = typed.command stop typed.no_command;
+        is = record {
+          guard = true_at 4;
+          is = record { token = 3; word = codes "if"; same = refl; named = refl };
+          test = record { token = 4; word = codes "true"; same = refl; named = refl };
+          block = (refl, refl);
+        };
+        begins = refl;
+        same = refl;
+        rest = inr (inr (record {
+          body = typed.command keep typed.no_command;
+          is = record { token = 7; word = codes "else"; same = refl; named = refl };
+          block = inr (record { action = keep; others = typed.no_command; is = record { token = 9; word = codes "keep"; same = refl; named = refl }; begins = refl; same = refl; rest = (refl, refl) });
+          same = refl;
+          rest = inr (record { action = stop; others = typed.no_command; is = record { token = 12; word = codes "stop"; same = refl; named = refl }; begins = refl; same = refl; rest = (refl, refl) });
+        }));
+      });
+    })

@@ -36,13 +36,13 @@ pub record IsCommand (name : CommandName) (args : List ArgumentTree) (tests : Te
   pub same : i ≡ invocation token word args tests
   pub named : command_named word ≡ Some name
 
--- a require, with whatever arguments and tests
+-- a require, with whatever arguments and tests: they are a matter of the static rules
 pub record IsRequire (i : InvocationTree) : Type 0 where
   pub args : List ArgumentTree
   pub tests : TestsTree
   pub is : IsCommand Require args tests i
 
--- a command that is a name alone
+-- a command that is a name alone, as its own form
 abbrev pub IsAction : CommandForm → InvocationTree → Type 0
 IsAction keep i = IsCommand Keep [] no_test i
 IsAction discard i = IsCommand Discard [] no_test i
@@ -56,8 +56,9 @@ pub record IsBranch (name : CommandName) (i : InvocationTree) (Block : CommandFo
   pub test : IsTestForm f guard
   pub block : Block body
 
--- What follows is the form of commands in two parts: the branches with which they go on behind an if, which are none where they
--- begin with neither elsif nor else; and the commands behind these. Each stands before commands of which Rest says the same.
+-- Commands are read in two parts: the branches with which they go on with an if that stands before them, its elsifs and its else,
+-- none where they begin with neither; then the forms of the commands behind these. Below, Rest says this of the commands behind
+-- the one at hand, and Block says what form its block has.
 
 -- a require gives nothing
 pub record GivesNothing (i : InvocationTree) (Rest : BranchForms → CommandForms → Type 0) (branches : BranchForms) (forms : CommandForms) : Type 0 where

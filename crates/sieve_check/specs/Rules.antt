@@ -27,7 +27,7 @@ strings_in (label name) = []
 abbrev pub strings_of : List ArgumentTree → List (List ℕ)
 strings_of args = flat_map strings_in args
 
--- the capability that has to be required for a command or a test: none, for those that there are
+-- the capability that a command or test needs: none, for those that have come, and so what was required needn't be kept
 abbrev pub command_needs : CommandName → Option (List ℕ)
 command_needs name = None
 
@@ -62,7 +62,7 @@ may_stand context Elsif = context.behind_if
 may_stand context Else = context.behind_if
 may_stand context _ = true
 
--- a require names something else than a capability
+-- a require names something else than a capability, wherever it stands and however it is written
 abbrev pub has_unknown_capability : CommandName → List ArgumentTree → Bool
 has_unknown_capability Require args = list_any (λ s. not (is_capability s)) (strings_of args)
 has_unknown_capability _ args = false

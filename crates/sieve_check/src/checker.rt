@@ -106,8 +106,8 @@ fn commands(alloc: Global, trees: &[Tree], takes_require: bool) -> Result<Vec<Co
 /// of which something is wrong is refused, at the number of its identifier's token: as
 /// [`CheckError::UnknownCommand`] where its name isn't known; else as [`CheckError::UnknownCapability`] where a
 /// `require` names something else than a capability; else as [`CheckError::BadArguments`] where it stands at a
-/// wrong place, or has other arguments, tests or another end than it takes.
-/// [`CheckError::Memory`] comes only where memory was refused.
+/// wrong place, or has other arguments, tests or another end than it takes. The other faults don't come with the
+/// commands that there are. [`CheckError::Memory`] comes only where memory was refused.
 pub fn check(alloc: Global, script: Script) -> Result<Checked, CheckError>
     ensures script { IfOk result (λ checked. checked.script ≡ script) }
     ensures form { IfOk result (λ checked. IsFormOf (commands_tree script) (commands_form checked.commands)) }
