@@ -1,8 +1,13 @@
-//! Programs on messages, from octets to final actions.
+//! Programs and scripts on messages, from octets to final actions.
 //!
-//! [`execute`] carries the promise that this project exists for: every program that the verifier
-//! accepts, wherever its octets came from, runs on every read message without a trap, charges at most
-//! the budget, and ends with an action list, or memory was refused (`specs/Execution`).
+//! Two calls carry the promise that this project exists for. Every program that the verifier accepts, wherever its
+//! octets came from, runs on every read message without a trap, charges at most the budget, and ends with an action
+//! list, or memory was refused: [`execute`] answers that run (`specs/Execution`). Where the program was compiled from
+//! a script, the list is the script's meaning over the message: [`evaluate`] answers it (`specs/Evaluation`).
+//!
+//! *Accepts* is `IsAccepted` of bytecode_verifier; *runs*, *traps* and *charges* are `step`, `Run` and `charge` of
+//! sieve_vm; the *budget* is `budget_of`, and a report's limit its value at the message; a *read message* is `mail_of`
+//! any octets up to the limit; *compiled* is `code_of` of sieve_compiler, and the *meaning* `meaning` of sieve_meaning.
 #![tactic(auto)]
 
 mod error;
