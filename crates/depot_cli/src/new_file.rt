@@ -11,7 +11,8 @@ use std::fs::File;
 #[derive(Drop)]
 pub struct NewFile<'a> {
     rt: &'a HostRuntime,
-    name: &'a str,
+    /// The file's name.
+    pub name: &'a str,
     made: Option<OfWrite<File>>,
     /// How many calls have failed, at most 2^64 - 1.
     pub faults: u64,
@@ -20,7 +21,8 @@ pub struct NewFile<'a> {
 impl<'a> NewFile<'a> {
     /// The file of this name, which isn't touched yet.
     pub fn new(rt: &'a HostRuntime, name: &'a str) -> NewFile<'a>
-        ensures { result.faults ≡ 0 }
+        ensures name { result.name.now ≡ name.entry.now }
+        ensures faults { result.faults ≡ 0 }
     {
         NewFile {
             rt,
