@@ -1,5 +1,5 @@
 -- What the reader's steps do to the octets of a text.
-use Rattle.std.proofs.Common.{replicate, subst, ltb, ltb-false, ◌≡◌, ℕ, zero, suc, ◌+◌, ◌-◌, ◌*◌, ◌/◌, ◌%◌, ◌^◌, ◌<◌, ◌≤◌, ◌≢◌, ◌⊎◌, inl, inr, Bool, true, false, not, cond, ◌||◌, eqb, List, [], ◌∷◌, ◌++◌, length, map, take, drop, get_or, refl, sym, ap, ◌∙◌, arith, eqb-true, eq-eqb}
+use Rattle.std.proofs.Common.{replicate, subst, ltb, ltb-false, ◌≡◌, ℕ, zero, suc, ◌+◌, ◌-◌, ◌*◌, ◌/◌, ◌%◌, ◌^◌, ◌<◌, ◌≤◌, ◌≢◌, Bool, true, false, not, cond, ◌||◌, eqb, List, [], ◌∷◌, ◌++◌, length, map, take, drop, get_or, refl, sym, ap, ◌∙◌, arith, eqb-true, eq-eqb}
 use Rattle.std.specs.declared.option.Option.TheVariants.{Some, None}
 use Rattle.std.specs.Option.{unwrap_or}
 use Rattle.std.specs.declared.result.Result.{Result}
@@ -17,7 +17,8 @@ use Rattle.std.proofs.Math.Nat.{mod-eq_of_lt}
 use Rattle.octet_lanes.specs.declared.alphabet.Alphabet.{Alphabet}
 use Rattle.octet_lanes.specs.declared.alphabet.Alphabet.TheVariants.{Base64, Base32, Base32Hex}
 use Rattle.octet_lanes.specs.Encoding.{width, quantum, table, class_of, stray, padding, bits_of, all_bits, groups_of, values_among, values_of, before_padding, whole, octets_of, decoding_of}
-use Rattle.octet_lanes.specs.Reading.{decoding_behind}
+use Rattle.octet_lanes.specs.declared.reader.Held.{Held}
+use Rattle.octet_lanes.specs.Reading.{decoding_behind, decoding_held}
 use Rattle.octet_lanes.proofs.Bits.{length-all_bits, take-all_bits, AreBits, AreBits-all_bits}
 use Rattle.octet_lanes.proofs.Lanes.{all_values}
 use Rattle.octet_lanes.proofs.Pieces.{groups_of-all_bits, groups_of_bits, in_groups}
@@ -52,6 +53,11 @@ class_small alphabet octet h =
 
 pub class_below : (alphabet : Alphabet) (octet class : ℕ) → class ≡ class_of alphabet octet → class ≢ stray → class < 2 ^ width alphabet
 class_below alphabet octet class is value = omega (arith, class_small alphabet octet (ne_eqb _ _ (λ e. value (is ∙ e))))
+
+pub some_characters : (alphabet : Alphabet) → 0 < quantum alphabet
+some_characters Base64 = omega arith
+some_characters Base32 = omega arith
+some_characters Base32Hex = omega arith
 
 pub few_characters : (alphabet : Alphabet) → quantum alphabet ≤ 32
 few_characters Base64 = omega arith
@@ -158,14 +164,6 @@ behind_whole alphabet m held text is =
     ap octets_of (flat_map-append (bits_of w) held rest)
     ∙ octets_of-whole m (all_bits w held) (all_bits w rest) (AreBits-all_bits w held) (length-all_bits w held ∙ is)
 
--- so are those at the end
-pub behind_end : (alphabet : Alphabet) (held : List ℕ) → decoding_behind alphabet held [] ≡ octets_of (all_bits (width alphabet) held) ++ decoding_of alphabet []
-unfolding decoding_of
-behind_end alphabet held = ap (λ l. octets_of (all_bits (width alphabet) l)) (append-nil held) ∙ sym (append-nil (octets_of (all_bits (width alphabet) held)))
-
-pub behind_padding : (alphabet : Alphabet) (held : List ℕ) (octet : ℕ) (text : List ℕ) → octet ≡ padding → decoding_behind alphabet held (octet ∷ text) ≡ decoding_behind alphabet held []
-behind_padding alphabet held octet text e = ap (λ o. decoding_behind alphabet held (o ∷ text)) e
-
 before_next : (octet : ℕ) (text : List ℕ) → octet ≢ padding → before_padding (octet ∷ text) ≡ octet ∷ before_padding text
 before_next octet text ne =
     let n = prefix_len (λ o. not (eqb o padding)) text in
@@ -190,6 +188,15 @@ behind_stray alphabet held octet text other is =
     let rest = values_of alphabet (before_padding text) in
     ap (λ l. octets_of (all_bits w (held ++ values_of alphabet l))) (before_next octet text other)
     ∙ ap (λ b. octets_of (all_bits w (held ++ cond (not b) (class ∷ rest) rest))) (eq-eqb class stray is)
+
+-- ---- what is held between pieces of a text
+
+pub goes_on : (alphabet : Alphabet) (held : Held) (text : List ℕ) → held.ended ≡ false → decoding_held alphabet held text ≡ decoding_behind alphabet (take held.n held.values) text
+goes_on alphabet held text e = ap (λ b. decoding_behind alphabet (take held.n held.values) (cond b [] text)) e
+
+-- where no value is held, the text stands alone
+pub held_none : (alphabet : Alphabet) (held : Held) (text : List ℕ) → held.ended ≡ false → held.n ≡ 0 → decoding_held alphabet held text ≡ decoding_of alphabet text
+held_none alphabet held text e none = goes_on alphabet held text e ∙ ap (λ n. decoding_behind alphabet (take n held.values) text) none ∙ behind_none alphabet text
 
 -- ---- a run of symbols
 
@@ -269,16 +276,17 @@ pub given : (now more octets rest whole all : List ℕ) → more ≡ now ++ octe
 given now more octets rest whole all e f g = ap (λ l. l ++ rest) e ∙ append_assoc now octets rest ∙ ap (λ l. now ++ l) (sym f) ∙ g
 
 -- a block of symbols
-pub block_octets : (alphabet : Alphabet) (text block after classes : List ℕ) → block ≡ take 32 text → after ≡ drop 32 text → length classes ≡ 32 → classes ≡ map (class_of alphabet) block
-    → list_any (λ class. eqb class stray) classes ≡ false → decoding_of alphabet text ≡ octets_of (all_bits (width alphabet) (take 32 classes)) ++ decoding_of alphabet after
-block_octets alphabet text block after classes front back long is free =
+pub block_octets : (alphabet : Alphabet) (text block after classes more : List ℕ) → block ≡ take 32 text → after ≡ drop 32 text → length classes ≡ 32 → classes ≡ map (class_of alphabet) block
+    → list_any (λ class. eqb class stray) classes ≡ false → decoding_of alphabet (text ++ more) ≡ octets_of (all_bits (width alphabet) (take 32 classes)) ++ decoding_of alphabet (after ++ more)
+block_octets alphabet text block after classes more front back long is free =
     let w = width alphabet in
     let many : length block ≡ 32 = sym (length-map block (class_of alphabet)) ∙ ap length (sym is) ∙ long in
     let count : length block * w ≡ 4 * w * 8 = ap (λ n. n * w) many ∙ (omega arith) in
     let all : take 32 classes ≡ map (class_of alphabet) block = take_all 32 classes (omega arith) ∙ is in
-    ap (decoding_of alphabet) (sym (take-append-drop 32 text) ∙ (λ i. sym front i ++ sym back i))
-    ∙ run_read alphabet (4 * w) block after (ap (list_any (λ class. eqb class stray)) (sym is) ∙ free) count
-    ∙ ap (λ l. octets_of (all_bits w l) ++ decoding_of alphabet after) (sym all)
+    ap (λ l. decoding_of alphabet (l ++ more)) (sym (take-append-drop 32 text) ∙ (λ i. sym front i ++ sym back i))
+    ∙ ap (decoding_of alphabet) (append_assoc block after more)
+    ∙ run_read alphabet (4 * w) block (after ++ more) (ap (list_any (λ class. eqb class stray)) (sym is) ∙ free) count
+    ∙ ap (λ l. octets_of (all_bits w l) ++ decoding_of alphabet (after ++ more)) (sym all)
 
 -- the whole quanta in front of a stray
 pub run_octets : (alphabet : Alphabet) (run n : ℕ) (block classes values rest : List ℕ) → classes ≡ map (class_of alphabet) block
@@ -301,24 +309,23 @@ run_octets alphabet run n block classes values rest is found quanta from =
 pub run_within : (classes : List ℕ) (run q : ℕ) → length classes ≡ 32 → run ≡ position_or_len (λ class. eqb class stray) classes → run - run % q ≤ 32
 run_within classes run q long found = omega (arith, prefix_le (λ class. not (eqb class stray)) classes)
 
--- a whole quantum, or the last values
-pub quantum_octets : (alphabet : Alphabet) (n : ℕ) (values rest : List ℕ) → length values ≡ 32 → n ≤ quantum alphabet → (n ≡ quantum alphabet) ⊎ (rest ≡ [])
-    → decoding_behind alphabet (take n values) rest ≡ octets_of (all_bits (width alphabet) (take n values)) ++ decoding_of alphabet rest
-quantum_octets alphabet n values rest long few whole = go whole
+-- a whole quantum
+pub quantum_octets : (alphabet : Alphabet) (n : ℕ) (values text : List ℕ) → length values ≡ 32 → n ≡ quantum alphabet
+    → decoding_behind alphabet (take n values) text ≡ octets_of (all_bits (width alphabet) (take n values)) ++ decoding_of alphabet text
+quantum_octets alphabet n values text long e =
+    let b = bits alphabet n e in
+    let many : length (take n values) ≡ n = length-take-le n values (omega (arith, b.1)) in
+    behind_whole alphabet (n * width alphabet / 8) (take n values) text (ap (λ k. k * width alphabet) many ∙ b.0)
   where
     bits : (alphabet : Alphabet) (k : ℕ) → k ≡ quantum alphabet → (k * width alphabet ≡ k * width alphabet / 8 * 8) × (k ≤ 32)
     bits Base64 k e = (omega arith, omega arith)
     bits Base32 k e = (omega arith, omega arith)
     bits Base32Hex k e = (omega arith, omega arith)
 
-    go : (n ≡ quantum alphabet) ⊎ (rest ≡ []) → decoding_behind alphabet (take n values) rest ≡ octets_of (all_bits (width alphabet) (take n values)) ++ decoding_of alphabet rest
-    go (inl e) =
-        let b = bits alphabet n e in
-        let many : length (take n values) ≡ n = length-take-le n values (omega (arith, b.1)) in
-        behind_whole alphabet (n * width alphabet / 8) (take n values) rest (ap (λ k. k * width alphabet) many ∙ b.0)
-    go (inr e) =
-        ap (decoding_behind alphabet (take n values)) e ∙ behind_end alphabet (take n values)
-        ∙ ap (λ l. octets_of (all_bits (width alphabet) (take n values)) ++ decoding_of alphabet l) (sym e)
+-- a text from its first block on
+pub block_and_rest : (text block more : List ℕ) → block ≡ take 32 text → block ++ (drop 32 text ++ more) ≡ text ++ more
+block_and_rest text block more front =
+    sym (append_assoc block (drop 32 text) more) ∙ ap (λ l. l ++ more) (ap (λ l. l ++ drop 32 text) front ∙ take-append-drop 32 text)
 
 -- what is left of a text where a part of its first block was read
 pub rest_of_block : (text block : List ℕ) (n : ℕ) → block ≡ take 32 text → n ≤ length block → drop n block ++ drop 32 text ≡ drop n text

@@ -1,8 +1,9 @@
 // Texts that any octets may interrupt.
-ghost use Rattle.std.specs.Prelude.{◌≡◌, ◌≢◌, ◌==◌, false, ℕ, ◌-◌, ◌*◌, ◌++◌, ◌<◌, ◌≤◌, ◌^◌, ◌⊎◌, List, [], IfOk, OnOk, drop, length, map, slice_index, take};
+ghost use Rattle.std.specs.Prelude.{◌≡◌, ◌≢◌, ◌==◌, false, true, ℕ, ◌-◌, ◌*◌, ◌++◌, ◌<◌, ◌≤◌, ◌^◌, ◌⊎◌, List, [], IfOk, OnOk, drop, length, map, slice_index, take};
 ghost use Rattle.std.specs.List.{All, list_any, position};
 ghost use Rattle.octet_lanes.specs.Encoding.{all_bits, before_padding, class_of, decoding_of, octets_of, padding, quantum, stray, values_among, values_of, whole, width};
-ghost use Rattle.octet_lanes.specs.Reading.{decoding_behind};
+ghost use Rattle.octet_lanes.specs.Reading.{IsHeld, decoding_held};
+ghost use Rattle.octet_lanes.specs.declared.alphabet.Alphabet.{Alphabet};
 
 use crate::alphabet::{Alphabet, PADDING, STRAY};
 use crate::classes::{class, classify, has_many_strays, has_stray, run_len, some_values};
@@ -22,12 +23,119 @@ pub fn decode(alloc: Global, text: &[u8], alphabet: Alphabet) -> Result<Vec<u8>,
     ensures { IfOk result (λ octets. octets.items ≡ decoding_of alphabet text.now) }
 {
     let mut out = Vec::with_capacity(alloc, (text.len() / 8 + 1).saturating_mul(alphabet.width()))?;
-    let mut rest = text;
-    'quanta: while !rest.is_empty() {
-        rest = append_runs(rest, alphabet, &mut out)?;
-        rest = append_quantum(rest, alphabet, &mut out)?;
-    }
+    let mut held = Held::new();
+    held.take_in(text, alphabet, &mut out)?;
+    held.end(alphabet, &mut out)?;
     Ok(out)
+}
+
+// What is kept of a text between its pieces: the values of an open quantum, in the front of a block, as `join` takes
+// one; their number; and whether a `=` came, behind which nothing counts.
+#[derive(Drop)]
+struct Held {
+    values: [u8; 32],
+    n: usize,
+    ended: bool,
+}
+
+impl Held {
+    // What is kept before a text.
+    fn new() -> Held
+        ensures held { (alphabet : Alphabet) → IsHeld alphabet result }
+        ensures nothing { (alphabet : Alphabet) (text : List ℕ) → decoding_held alphabet result text ≡ decoding_of alphabet text }
+    {
+        Held {
+            values: [0; 32],
+            n: 0,
+            ended: false,
+        }
+    }
+
+    // Takes in a piece of a text: completes the open quantum, appends the octets of whole quanta, and holds the values
+    // that are left over.
+    #[inline(always)]
+    fn take_in(
+        &mut self,
+        piece: &[u8],
+        alphabet: Alphabet,
+        out: &mut Vec<u8>,
+    ) -> Result<(), AllocError>
+        requires { IsHeld alphabet self.old }
+        ensures held { OnOk result (IsHeld alphabet self.new) }
+        ensures octets { OnOk result ((more : List ℕ) → out.new.items ++ decoding_held alphabet self.new more ≡ out.old.items ++ decoding_held alphabet self.old (piece.now ++ more)) }
+    {
+        let mut rest = piece;
+        'quanta: while !self.ended && !rest.is_empty() {
+            // blocks go whole only from a quantum's edge on
+            if self.n == 0 {
+                rest = append_runs(rest, alphabet, out)?;
+            }
+            rest = self.append_quantum(rest, alphabet, out)?;
+        }
+        Ok(())
+    }
+
+    // Appends the octets of the open quantum where the text completes it, whatever strays interrupt it, and gives what
+    // follows it.
+    #[inline(always)]
+    fn append_quantum<'a>(
+        &mut self,
+        text: &'a [u8],
+        alphabet: Alphabet,
+        out: &mut Vec<u8>,
+    ) -> Result<&'a [u8], AllocError>
+        requires held { IsHeld alphabet self.old }
+        requires goes_on { self.old.ended ≡ false }
+        ensures held { OnOk result (IsHeld alphabet self.new) }
+        ensures octets { IfOk result (λ rest. (more : List ℕ) → out.new.items ++ decoding_held alphabet self.new (rest.now ++ more) ≡ out.old.items ++ decoding_held alphabet self.old (text.now ++ more)) }
+        ensures shorter { IfOk result (λ rest. length rest.now ≤ length text.now - 1) }
+    {
+        let rest = self.next_quantum(text, alphabet);
+        if self.n == alphabet.quantum_characters() {
+            append_values(&self.values, self.n, alphabet, out)?;
+            self.n = 0;
+        }
+        Ok(rest)
+    }
+
+    // Takes values up to a whole quantum, and gives what follows them. There are fewer only where the text or a `=`
+    // ends them.
+    fn next_quantum<'a>(&mut self, text: &'a [u8], alphabet: Alphabet) -> &'a [u8]
+        requires held { IsHeld alphabet self.old }
+        requires goes_on { self.old.ended ≡ false }
+        ensures few { (length self.new.values ≡ 32) × (self.new.n ≤ quantum alphabet) }
+        ensures small { All (λ value. value < 2 ^ width alphabet) self.new.values }
+        ensures same { (more : List ℕ) → decoding_held alphabet self.new (result.now ++ more) ≡ decoding_held alphabet self.old (text.now ++ more) }
+        ensures whole { self.new.n ≡ quantum alphabet → self.new.ended ≡ false }
+        ensures shorter { length result.now ≤ length text.now - 1 }
+    {
+        let mut rest = text;
+        'octets: while self.n < alphabet.quantum_characters() {
+            let Some((octet, after)) = rest.split_first() else {
+                return rest;
+            };
+            rest = after;
+            if *octet == PADDING {
+                self.ended = true;
+                return rest;
+            }
+            let value = class(*octet, alphabet);
+            if value != STRAY {
+                self.values[self.n] = value;
+                self.n += 1;
+            }
+        }
+        rest
+    }
+
+    // Appends the whole octets of the values that are left at the end of a text.
+    #[inline(always)]
+    fn end(&self, alphabet: Alphabet, out: &mut Vec<u8>) -> Result<(), AllocError>
+        requires { IsHeld alphabet self.now }
+        ensures { OnOk result (out.new.items ≡ out.old.items ++ decoding_held alphabet self.now []) }
+    {
+        append_values(&self.values, self.n, alphabet, out)
+    }
 }
 
 // Appends the octets of whole quanta in front, a block at a time, and gives what follows them: fewer than 32 octets, or
@@ -38,7 +146,7 @@ fn append_runs<'a>(
     alphabet: Alphabet,
     out: &mut Vec<u8>,
 ) -> Result<&'a [u8], AllocError>
-    ensures octets { IfOk result (λ rest. out.new.items ++ decoding_of alphabet rest.now ≡ out.old.items ++ decoding_of alphabet text.now) }
+    ensures octets { IfOk result (λ rest. (more : List ℕ) → out.new.items ++ decoding_of alphabet (rest.now ++ more) ≡ out.old.items ++ decoding_of alphabet (text.now ++ more)) }
     ensures shorter { IfOk result (λ rest. length rest.now ≤ length text.now) }
 {
     let mut rest = text;
@@ -148,51 +256,6 @@ fn start_of_last(classes: &[u8; 32], n: usize) -> usize
         }
     }
     start
-}
-
-// Appends the octets of the next quantum, whatever strays interrupt it, and gives what follows it: nothing, where the
-// text or the padding ends it.
-#[inline(always)]
-fn append_quantum<'a>(
-    text: &'a [u8],
-    alphabet: Alphabet,
-    out: &mut Vec<u8>,
-) -> Result<&'a [u8], AllocError>
-    ensures octets { IfOk result (λ rest. out.new.items ++ decoding_of alphabet rest.now ≡ out.old.items ++ decoding_of alphabet text.now) }
-    ensures shorter { IfOk result (λ rest. length rest.now ≤ length text.now - 1) }
-{
-    let (values, n, rest) = next_quantum(text, alphabet);
-    append_values(&values, n, alphabet, out)?;
-    Ok(rest)
-}
-
-// The values of the next quantum, in front, their number, and what follows them. There are fewer only where the text or
-// the padding ends them, and then nothing follows.
-fn next_quantum<'a>(text: &'a [u8], alphabet: Alphabet) -> ([u8; 32], usize, &'a [u8])
-    ensures few { (length result.0 ≡ 32) × (result.1 ≤ quantum alphabet) }
-    ensures small { All (λ value. value < 2 ^ width alphabet) result.0 }
-    ensures same { decoding_behind alphabet (take result.1 result.0) result.2.now ≡ decoding_of alphabet text.now }
-    ensures whole { (result.1 ≡ quantum alphabet) ⊎ (result.2.now ≡ []) }
-    ensures shorter { length result.2.now ≤ length text.now - 1 }
-{
-    let mut values = [0; 32];
-    let mut n = 0;
-    let mut rest = text;
-    'octets: while n < alphabet.quantum_characters() {
-        let Some((octet, after)) = rest.split_first() else {
-            return (values, n, rest);
-        };
-        if *octet == PADDING {
-            return (values, n, &[]);
-        }
-        rest = after;
-        let value = class(*octet, alphabet);
-        if value != STRAY {
-            values[n] = value;
-            n += 1;
-        }
-    }
-    (values, n, rest)
 }
 
 // Appends the whole octets of the first `n` values.

@@ -1,10 +1,10 @@
 use Rattle.std.proofs.Common.{◌≡◌, ◌^◌, ◌<◌, ◌++◌, map, false, length, take, drop, sym, ap, ◌∙◌, eqb, arith}
 use Rattle.std.specs.List.{list_any}
-use Rattle.std.proofs.lemmas.List.{take-append-drop, length-drop, length-map, length-take-le}
+use Rattle.std.proofs.lemmas.List.{append_assoc, length-drop, length-map, length-take-le}
 use Rattle.std.proofs.lemmas.List.Elements.{All-same}
 use Rattle.octet_lanes.specs.Encoding.{all_bits, class_of, decoding_of, octets_of, stray, values_of, width}
 use Rattle.octet_lanes.proofs.Lanes.{all_values}
-use Rattle.octet_lanes.proofs.Reading.{block_octets, given, rest_of_block, values_small}
+use Rattle.octet_lanes.proofs.Reading.{block_and_rest, block_octets, given, rest_of_block, values_small}
 use Rattle.octet_lanes.proofs.reader.append_runs.Goals as goal
 
 pub append_values-requires-clause-small : goal.append_values-requires-clause-small
@@ -19,12 +19,13 @@ runs-preserved-then-not-has_stray c =
     let a = c.args.alphabet in
     let text = c.runs.rest.now in
     let classes = c.classify-classes.result in
-    let whole = block_octets a text c.in-Some.block.now c.in-Some.after.now classes c.in-Some.ensures.cases.0 c.in-Some.ensures.cases.1 (ap length c.classify-classes.ensures ∙ length-map c.in-Some.block.now (class_of a) ∙ ap length c.in-Some.ensures.cases.0 ∙ length-take-le 32 text (omega (arith, c.in-Some.ensures.cases.2))) c.classify-classes.ensures
-    (sym c.has_stray.ensures ∙ c.if-not-has_stray.true) in
+    let long = ap length c.classify-classes.ensures ∙ length-map c.in-Some.block.now (class_of a) ∙ ap length c.in-Some.ensures.cases.0 ∙ length-take-le 32 text (omega (arith, c.in-Some.ensures.cases.2)) in
     record {
-      octets =
-          given c.runs.out.items c.append_values.new.out.items (octets_of (all_bits (width a) (take 32 classes))) (decoding_of a c.in-Some.after.now) (decoding_of a text) _
-          c.in_ok-append_values.ensures whole c.runs.invariant.octets;
+      octets = λ more.
+          given c.runs.out.items c.append_values.new.out.items (octets_of (all_bits (width a) (take 32 classes))) (decoding_of a (c.in-Some.after.now ++ more)) (decoding_of a (text ++ more)) _
+          c.in_ok-append_values.ensures
+          (block_octets a text c.in-Some.block.now c.in-Some.after.now classes more c.in-Some.ensures.cases.0 c.in-Some.ensures.cases.1 long c.classify-classes.ensures (sym c.has_stray.ensures ∙ c.if-not-has_stray.true))
+          (c.runs.invariant.octets more);
       shorter = omega (arith, c.in-Some.ensures.cases.2, c.runs.invariant.shorter);
     }
 
@@ -37,24 +38,24 @@ runs-preserved c =
     let cases = c.in-Some.ensures.cases in
     let long : length block ≡ 32 = ap length cases.0 ∙ length-take-le 32 text (omega (arith, cases.2)) in
     let after = rest_of_block text block read cases.0 (omega (arith, c.in_ok-read.ensures.within)) in
-    let whole : block ++ drop 32 text ≡ text = ap (λ l. l ++ drop 32 text) cases.0 ∙ take-append-drop 32 text in
     let now = c.append_front.new.out.items in
     record {
-      octets =
-          ap (λ l. now ++ decoding_of a l) (c.split_at.ensures.back ∙ sym after)
-          ∙ c.in_ok-read.ensures.octets (drop 32 text)
-          ∙ ap (λ l. c.runs.out.items ++ decoding_of a l) whole ∙ c.runs.invariant.octets;
+      octets = λ more.
+          ap (λ l. now ++ decoding_of a (l ++ more)) (c.split_at.ensures.back ∙ sym after)
+          ∙ ap (λ l. now ++ decoding_of a l) (append_assoc (drop read block) (drop 32 text) more)
+          ∙ c.in_ok-read.ensures.octets (drop 32 text ++ more)
+          ∙ ap (λ l. c.runs.out.items ++ decoding_of a l) (block_and_rest text block more cases.0)
+          ∙ c.runs.invariant.octets more;
       shorter = omega (arith, ap length c.split_at.ensures.back ∙ length-drop read text, c.runs.invariant.shorter);
     }
 
 pub returns-then-read-eq0-clause-octets : goal.returns-then-read-eq0-clause-octets
-returns-then-read-eq0-clause-octets c =
+returns-then-read-eq0-clause-octets c = λ more.
     let a = c.args.alphabet in
     let text = c.runs.rest.now in
     let block = c.in-Some.block.now in
-    let cases = c.in-Some.ensures.cases in
-    let whole : block ++ drop 32 text ≡ text = ap (λ l. l ++ drop 32 text) cases.0 ∙ take-append-drop 32 text in
+    let whole = block_and_rest text block more c.in-Some.ensures.cases.0 in
     ap (λ l. c.append_front.new.out.items ++ decoding_of a l) (sym whole)
-    ∙ ap (λ n. c.append_front.new.out.items ++ decoding_of a (drop n block ++ drop 32 text)) (sym c.if-read-eq0.true)
-    ∙ c.in_ok-read.ensures.octets (drop 32 text)
-    ∙ ap (λ l. c.runs.out.items ++ decoding_of a l) whole ∙ c.runs.invariant.octets
+    ∙ ap (λ n. c.append_front.new.out.items ++ decoding_of a (drop n block ++ (drop 32 text ++ more))) (sym c.if-read-eq0.true)
+    ∙ c.in_ok-read.ensures.octets (drop 32 text ++ more)
+    ∙ ap (λ l. c.runs.out.items ++ decoding_of a l) whole ∙ c.runs.invariant.octets more

@@ -1,10 +1,10 @@
-use Rattle.std.proofs.Common.{◌≡◌, ◌++◌, ◌≤◌, length}
+use Rattle.std.proofs.Common.{◌≡◌, ◌++◌, ◌≤◌, ℕ, List, length}
 use Rattle.octet_lanes.specs.Encoding.{decoding_of}
 use Rattle.octet_lanes.proofs.reader.append_runs.Given as goal
 
 abbrev pub invariant-runs : goal.invariant-runs
 invariant-runs l = record {
-  octets : l.out.items ++ decoding_of l.alphabet l.rest ≡ l.fn.out.items ++ decoding_of l.alphabet l.text;
+  octets : (more : List ℕ) → l.out.items ++ decoding_of l.alphabet (l.rest ++ more) ≡ l.fn.out.items ++ decoding_of l.alphabet (l.text ++ more);
   shorter : length l.rest ≤ length l.text;
 }
 
