@@ -1,6 +1,6 @@
 // Scripts checked and compiled, at 16,384 and at 65,536 octets: plain text, and what users may hand in to keep the compiler
 // busy. A rate counts the script's octets, so that a linear pass has the same at both sizes.
-use crate::scripts::repeated;
+use crate::scripts::{rate_of, repeated};
 use sieve_check::{Checked, check};
 use sieve_compiler::compile;
 use sieve_parser::parse;
@@ -57,14 +57,14 @@ fn rates(rt: &HostRuntime, name: &str, script: &[u8]) -> anyhow::Result<()> {
     for _ in 0..ROUNDS {
         let _checked = checked(rt.alloc(), script)?;
     }
-    let checking = rate_of(octets, start.elapsed(rt)?.as_micros());
+    let checking = rate_of(octets, ROUNDS, start.elapsed(rt)?.as_micros());
     let checked = checked(rt.alloc(), script)?;
     let start = Instant::now(rt)?;
     let mut instructions: usize = 0;
     for _ in 0..ROUNDS {
         instructions = compile(rt.alloc(), &checked)?.instructions().len();
     }
-    let compiling = rate_of(octets, start.elapsed(rt)?.as_micros());
+    let compiling = rate_of(octets, ROUNDS, start.elapsed(rt)?.as_micros());
     println!(rt;
         "{octets} octets, {name}: parsed and checked {checking} MB/s, compiled {compiling} MB/s, {instructions} instructions"
     )?;
@@ -73,10 +73,4 @@ fn rates(rt: &HostRuntime, name: &str, script: &[u8]) -> anyhow::Result<()> {
 
 fn checked(alloc: Global, script: &[u8]) -> anyhow::Result<Checked> {
     Ok(check(alloc, parse(alloc, script)?)?)
-}
-
-// Millions of octets a second.
-fn rate_of(octets: usize, micros: u128) -> u64 {
-    let micros = u64::try_from(micros).unwrap_or(u64::MAX).max(1);
-    (octets as u64).saturating_mul(ROUNDS) / micros
 }

@@ -54,10 +54,10 @@ pub(crate) fn repeated(
     Ok(script)
 }
 
-// Millions of octets a second.
-fn rate_of(octets: usize, micros: u128) -> u64 {
+// Millions of octets a second, of so many octets so many times.
+pub(crate) fn rate_of(octets: usize, rounds: u64, micros: u128) -> u64 {
     let micros = u64::try_from(micros).unwrap_or(u64::MAX).max(1);
-    (octets as u64).saturating_mul(ROUNDS) / micros
+    (octets as u64).saturating_mul(rounds) / micros
 }
 
 fn tokens_rate(rt: &HostRuntime, script: &[u8]) -> anyhow::Result<u64> {
@@ -70,7 +70,7 @@ fn tokens_rate(rt: &HostRuntime, script: &[u8]) -> anyhow::Result<u64> {
     }
     let micros = start.elapsed(rt)?.as_micros();
     println!(rt; "  {seen} tokens in all")?;
-    Ok(rate_of(script.len(), micros))
+    Ok(rate_of(script.len(), ROUNDS, micros))
 }
 
 fn parse_rate(rt: &HostRuntime, script: &[u8]) -> anyhow::Result<u64> {
@@ -83,5 +83,5 @@ fn parse_rate(rt: &HostRuntime, script: &[u8]) -> anyhow::Result<u64> {
     }
     let micros = start.elapsed(rt)?.as_micros();
     println!(rt; "  {seen} of {ROUNDS} are scripts")?;
-    Ok(rate_of(script.len(), micros))
+    Ok(rate_of(script.len(), ROUNDS, micros))
 }

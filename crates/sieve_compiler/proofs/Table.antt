@@ -1,23 +1,19 @@
 -- The table of numbers has each number that it is made of.
-use Rattle.std.proofs.Common.{◌≡◌, ℕ, Bool, true, false, not, ◌==◌, List, [], ◌∷◌, ◌++◌, Some, slice_get, refl, sym, ◌∙◌, inl, inr, filter}
+use Rattle.std.proofs.Common.{◌≡◌, ℕ, true, false, not, ◌==◌, List, [], ◌∷◌, ◌++◌, Some, slice_get, refl, sym, ◌∙◌, inl, inr, filter}
 use Rattle.std.proofs.Math.Bool.{or-true}
-use Rattle.std.specs.List.{list_any}
 use Rattle.std.proofs.lemmas.Bool.{cases_Bool, cases_eq, eq-eqb, eqb-true, ne_eqb}
 use Rattle.std.proofs.lemmas.List.Folds.{list_any-append}
 use Rattle.sieve_compiler.specs.Numbers.{distinct, place_in}
-
--- whether the table has the number
-abbrev pub has : List ℕ → ℕ → Bool
-has table n = list_any (λ m. m == n) table
+use Rattle.sieve_compiler.specs.Table.{is_listed}
 
 -- each number of these is in the table
 abbrev pub Has : List ℕ → List ℕ → Type 0
-Has table ns = (n : ℕ) → has ns n ≡ true → has table n ≡ true
+Has table ns = (n : ℕ) → is_listed n ns ≡ true → is_listed n table ≡ true
 
-pub has_itself : (n : ℕ) → has (n ∷ []) n ≡ true
+pub has_itself : (n : ℕ) → is_listed n (n ∷ []) ≡ true
 has_itself n = rw (eq-eqb n n refl) refl
 
-pub found : (table : List ℕ) (n : ℕ) → has table n ≡ true → slice_get table (place_in table n) ≡ Some n
+pub found : (table : List ℕ) (n : ℕ) → is_listed n table ≡ true → slice_get table (place_in table n) ≡ Some n
 found [] n h = absurd (cc)
 found (m ∷ ms) n h =
     elim (cases_Bool (m == n)) [
@@ -25,7 +21,7 @@ found (m ∷ ms) n h =
       | inr other ↦ rw other (found ms n (rw other at h))
     ]
 
-kept : (ns : List ℕ) (m n : ℕ) → (m ≡ n → ⊥) → has ns n ≡ true → has (filter (λ k. not (k == m)) ns) n ≡ true
+kept : (ns : List ℕ) (m n : ℕ) → (m ≡ n → ⊥) → is_listed n ns ≡ true → is_listed n (filter (λ k. not (k == m)) ns) ≡ true
 kept [] m n other h = absurd (cc)
 kept (k ∷ ns) m n other h =
     elim (cases_Bool (k == n)) [
@@ -51,4 +47,4 @@ pub has_left : (table a b : List ℕ) → Has table (a ++ b) → Has table a
 has_left table a b h n here = h n (list_any-append (λ m. m == n) a b ∙ rw here refl)
 
 pub has_right : (table a b : List ℕ) → Has table (a ++ b) → Has table b
-has_right table a b h n here = h n (list_any-append (λ m. m == n) a b ∙ rw here (or-true (has a n)))
+has_right table a b h n here = h n (list_any-append (λ m. m == n) a b ∙ rw here (or-true (is_listed n a)))
