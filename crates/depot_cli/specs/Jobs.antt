@@ -39,9 +39,13 @@ IsUnread encoding text refusals.Memory = Unit {0}
 IsUnread encoding text refusals.NotCanonical = (octets : List ℕ) → IsOctets octets → Reads encoding text octets → ⊥
 IsUnread encoding text _ = ⊥
 
+-- the first refusal of a script
+abbrev pub IsScriptRefused : List ℕ → Refusal → Type 0
+IsScriptRefused script refusal = (error : EngineError) × IsScriptRefusal script error × (refusal ≡ of_engine error)
+
 -- the first refusal of a job's files
 abbrev pub IsRefused : Job → Refusal → Type 0
-IsRefused (Check script) refusal = (error : EngineError) × IsScriptRefusal script.now error × (refusal ≡ of_engine error)
+IsRefused (Check script) refusal = IsScriptRefused script.now refusal
 IsRefused (Verify program) refusal = (error : EngineError) × IsProgramRefusal program.now error × (refusal ≡ of_engine error)
 IsRefused (Run program message) refusal = (error : EngineError) × IsRefusal program.now message.now error × (refusal ≡ of_engine error)
 IsRefused (Eval script message) refusal = (error : EngineError) × IsEvaluationRefusal script.now message.now error × (refusal ≡ of_engine error)
@@ -71,10 +75,6 @@ HasTold refusal old before new after = HasPrinted (refusal_line refusal) old bef
 abbrev pub HasRefused : Job → Option (List ℕ) → ℕ → Option (List ℕ) → ℕ → Type 0
 HasRefused job old before new after =
     (refusal : Refusal) × IsRefused job refusal × HasTold refusal old before new after
-
--- why a script isn't compiled
-abbrev pub IsUncompiled : List ℕ → Refusal → Type 0
-IsUncompiled script refusal = (error : EngineError) × IsScriptRefusal script error × (refusal ≡ of_engine error)
 
 -- the line behind a program that was written
 abbrev pub wrote_line : Code → List ℕ

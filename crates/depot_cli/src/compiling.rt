@@ -4,7 +4,7 @@ ghost use Rattle.std.specs.Fmt.{decimal};
 ghost use Rattle.bytecode_format.specs.Code.{Code};
 ghost use Rattle.bytecode_format.specs.Spelling.{spelling};
 ghost use Rattle.sieve_engine.specs.Evaluation.{IsCompiled};
-ghost use Rattle.depot_cli.specs.Jobs.{HasTold, IsUncompiled, wrote_line};
+ghost use Rattle.depot_cli.specs.Jobs.{HasTold, IsScriptRefused, wrote_line};
 ghost use Rattle.depot_cli.specs.Printed.{line, wrote_text};
 ghost use Rattle.depot_cli.specs.Printing.{HasBroken, HasPrinted};
 ghost use Rattle.depot_cli.specs.declared.error.Refusal.{Refusal};
@@ -35,7 +35,7 @@ pub fn compile_to<F: Sink, O: Sink, E: Sink>(
         × HasPrinted (wrote_line code) (O.written out.old) (O.faults out.old) (O.written out.new) (O.faults out.new)
         × (err.new ≡ err.old) }
     ensures failed { result ≡ 1 →
-        ((refusal : Refusal) × IsUncompiled script.now refusal
+        ((refusal : Refusal) × IsScriptRefused script.now refusal
         × HasTold refusal (E.written err.old) (E.faults err.old) (E.written err.new) (E.faults err.new)
         × (file.new ≡ file.old) × (out.new ≡ out.old))
         ⊎ (((code : Code) × IsCompiled script.now code
@@ -71,7 +71,7 @@ fn tell<E: Sink>(err: &mut E, refusal: &Refusal) -> u8
 // The octets of a script's program.
 fn program_octets(alloc: Global, script: &[u8]) -> Result<Vec<u8>, Refusal>
     ensures compiled { IfOk result (λ octets. (code : Code) × IsCompiled script.now code × (octets.items ≡ spelling code)) }
-    ensures refused { IfErr result (λ refusal. IsUncompiled script.now refusal) }
+    ensures refused { IfErr result (λ refusal. IsScriptRefused script.now refusal) }
 {
     let program = compile_script(alloc, script)?;
     Ok(program.write(alloc)?)
