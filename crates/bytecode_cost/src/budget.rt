@@ -1,5 +1,6 @@
 // The eight sums of a program.
 ghost use Rattle.std.specs.Prelude.{◌≡◌, ◌+◌, ◌*◌, ◌^◌, ◌<◌, ◌≤◌, slice_index, Some};
+ghost use Rattle.octets.specs.Limits.{max_message, max_parts};
 ghost use Rattle.bytecode_cost.specs.Sums.{no_sums, with_cap, budget_at, term_at};
 ghost use Rattle.bytecode_cost.specs.Text.{budget_text, level_text};
 
@@ -56,8 +57,8 @@ impl Budget {
 
     /// The budget at a message of `n` octets and `p` parts, exactly.
     pub fn at(&self, n: u64, p: u64) -> u128
-        requires octets { n ≤ 2 ^ 26 }
-        requires parts { p ≤ 4096 }
+        requires octets { n ≤ max_message }
+        requires parts { p ≤ max_parts }
         ensures { result ≡ budget_at self.now n p }
     {
         let one = p as u128;
@@ -71,7 +72,7 @@ impl Budget {
     // What `k` open loops allow at a message of `n` octets, `turns` times.
     fn term(&self, k: usize, n: u64, turns: u128) -> u128
         requires level { k < 4 }
-        requires octets { n ≤ 2 ^ 26 }
+        requires octets { n ≤ max_message }
         requires turns { turns ≤ 2 ^ 36 }
         ensures value { result ≡ (slice_index self.now.fixed k + slice_index self.now.scaled k * (n + 1)) * turns }
         ensures bound { result < 2 ^ 126 }

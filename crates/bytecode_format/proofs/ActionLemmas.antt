@@ -34,7 +34,7 @@ is_listed-others : (x action : Action) (listed : List Action) → is_same x acti
 is_listed-others x action [] differs = refl
 is_listed-others x action (y ∷ ys) differs = others_step x y action (is_same x y) (filter (λ z. not (is_same x z)) ys) ys refl differs (is_listed-others x action ys differs)
 
--- behind a first action x: b says whether x equals the new action, d whether the new action is listed
+-- after a first action x: b says whether x equals the new action, d whether the new action is listed
 push_step : (x action : Action) (listed : List Action) (b d : Bool) → is_same x action ≡ b → is_listed action listed ≡ d
     → x ∷ filter (λ y. not (is_same x y)) (cond d listed (listed ++ action ∷ [])) ≡ with_action (x ∷ filter (λ y. not (is_same x y)) listed) action
 push_step x action listed true true e f =

@@ -42,7 +42,7 @@ pub neither : (a b : Bool) → (a || b) ≡ false → (a ≡ false) × (b ≡ fa
 neither true b e = absurd cc
 neither false b e = (refl, e)
 
--- what a reader took from the front
+-- what a reader took from the prefix
 pub record Takes (octets text rest : List ℕ) : Type 0 where
   pub parts : octets ≡ text ++ rest
   pub rest_fits : AreOctets rest
@@ -103,9 +103,9 @@ number_takes w limit wide octets x fits e =
     let read : ℕ × List ℕ = (from_be_bytes w (take (byte_len w) octets), drop (byte_len w) octets) in
     let g = guard_some (ltb (length octets) (byte_len w)) (Some read) x e in
     let long : byte_len w ≤ length octets = ltb-false _ _ g.0 in
-    let front : to_be_bytes w read.0 ≡ take (byte_len w) octets = wide.back (take (byte_len w) octets) (omega (arith, length-take (byte_len w) octets)) (AreOctets-take (byte_len w) octets fits) in
+    let prefix : to_be_bytes w read.0 ≡ take (byte_len w) octets = wide.back (take (byte_len w) octets) (omega (arith, length-take (byte_len w) octets)) (AreOctets-take (byte_len w) octets fits) in
     subst (λ (y : ℕ × List ℕ). Takes octets (to_be_bytes w y.0) y.1 × (y.0 < limit)) (some_is read x g.1)
-    (record { parts = rw front (sym (take-append-drop (byte_len w) octets)); rest_fits = AreOctets-drop (byte_len w) octets fits }, wide.below (take (byte_len w) octets) (AreOctets-take (byte_len w) octets fits))
+    (record { parts = rw prefix (sym (take-append-drop (byte_len w) octets)); rest_fits = AreOctets-drop (byte_len w) octets fits }, wide.below (take (byte_len w) octets) (AreOctets-take (byte_len w) octets fits))
 
 number_again : (w : Width) (limit : ℕ) (wide : IsWide w limit) (n : ℕ) (rest : List ℕ) → n < limit → number_at w (to_be_bytes w n ++ rest) ≡ Some (n, rest)
 number_again w limit wide n rest lt =

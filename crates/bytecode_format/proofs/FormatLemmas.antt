@@ -73,8 +73,8 @@ after_takes : (text octets rest : List ℕ) → AreOctets octets → after text 
 unfolding after
 after_takes text octets rest fits e =
     let g = guard_then (pointwise nat_eq (take (length text) octets) text) (drop (length text) octets) rest e in
-    let front : take (length text) octets ≡ text = (bytes_eq-Decides (take (length text) octets) text).0 g.0 in
-    record { parts = sym (take-append-drop (length text) octets) ∙ ap (λ (t : List ℕ). t ++ drop (length text) octets) front ∙ ap (λ (t : List ℕ). text ++ t) g.1; rest_fits = rw (← g.1) (AreOctets-drop (length text) octets fits) }
+    let prefix : take (length text) octets ≡ text = (bytes_eq-Decides (take (length text) octets) text).0 g.0 in
+    record { parts = sym (take-append-drop (length text) octets) ∙ ap (λ (t : List ℕ). t ++ drop (length text) octets) prefix ∙ ap (λ (t : List ℕ). text ++ t) g.1; rest_fits = rw (← g.1) (AreOctets-drop (length text) octets fits) }
 
 after_again : (text rest : List ℕ) → after text (text ++ rest) ≡ Some rest
 unfolding after

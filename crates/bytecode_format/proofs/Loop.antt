@@ -6,33 +6,33 @@ use Rattle.bytecode_format.specs.declared.error.FormatError.TheVariants.{Memory,
 use Rattle.bytecode_format.specs.Reading.{◌>>=◌, Fails, many_at}
 
 -- what was read before, and what is still read
-abbrev pub with_front : {A : Type 0} → List A → Option (List A × List ℕ) → Option (List A × List ℕ)
-with_front front read = read >>= λ x. Some (front ++ x.0, x.1)
+abbrev pub with_prefix : {A : Type 0} → List A → Option (List A × List ℕ) → Option (List A × List ℕ)
+with_prefix prefix read = read >>= λ x. Some (prefix ++ x.0, x.1)
 
-regroup : {A : Type 0} (front : List A) (n : A) (read : Option (List A × List ℕ)) → with_front front (read >>= λ x. Some (n ∷ x.0, x.1)) ≡ with_front (front ++ n ∷ []) read
-regroup {A} front n (Some x) = ap (λ (ns : List A). Some (ns, x.1)) (simp append_assoc)
-regroup front n None = refl
+regroup : {A : Type 0} (prefix : List A) (n : A) (read : Option (List A × List ℕ)) → with_prefix prefix (read >>= λ x. Some (n ∷ x.0, x.1)) ≡ with_prefix (prefix ++ n ∷ []) read
+regroup {A} prefix n (Some x) = ap (λ (ns : List A). Some (ns, x.1)) (simp append_assoc)
+regroup prefix n None = refl
 
-pub goes_on : {A : Type 0} (item : List ℕ → Option (A × List ℕ)) (front : List A) (count i : ℕ) (octets : List ℕ) (n : A) (after : List ℕ) (total : Option (List A × List ℕ)) → i < count → item octets ≡ Some (n, after)
-    → with_front front (many_at item (count - i) octets) ≡ total → with_front (front ++ n ∷ []) (many_at item (count - (i + 1)) after) ≡ total
+pub goes_on : {A : Type 0} (item : List ℕ → Option (A × List ℕ)) (prefix : List A) (count i : ℕ) (octets : List ℕ) (n : A) (after : List ℕ) (total : Option (List A × List ℕ)) → i < count → item octets ≡ Some (n, after)
+    → with_prefix prefix (many_at item (count - i) octets) ≡ total → with_prefix (prefix ++ n ∷ []) (many_at item (count - (i + 1)) after) ≡ total
 unfolding many_at
-goes_on item front count i octets n after total lt h so_far =
+goes_on item prefix count i octets n after total lt h so_far =
     let k : count - i ≡ suc (count - (i + 1)) = omega arith in
-    let one : with_front front (many_at item (count - i) octets) ≡ with_front (front ++ n ∷ []) (many_at item (count - (i + 1)) after) = rw (k, h) (regroup front n (many_at item (count - (i + 1)) after)) in
+    let one : with_prefix prefix (many_at item (count - i) octets) ≡ with_prefix (prefix ++ n ∷ []) (many_at item (count - (i + 1)) after) = rw (k, h) (regroup prefix n (many_at item (count - (i + 1)) after)) in
     sym one ∙ so_far
 
-pub ends : {A : Type 0} (item : List ℕ → Option (A × List ℕ)) (e : FormatError) (front : List A) (count i : ℕ) (octets : List ℕ) (total : Option (List A × List ℕ)) → i < count → Fails e (item octets)
-    → with_front front (many_at item (count - i) octets) ≡ total → Fails e total
+pub ends : {A : Type 0} (item : List ℕ → Option (A × List ℕ)) (e : FormatError) (prefix : List A) (count i : ℕ) (octets : List ℕ) (total : Option (List A × List ℕ)) → i < count → Fails e (item octets)
+    → with_prefix prefix (many_at item (count - i) octets) ≡ total → Fails e total
 unfolding many_at
-ends item Memory front count i octets total lt h so_far = tt
-ends item Spelling front count i octets total lt h so_far =
+ends item Memory prefix count i octets total lt h so_far = tt
+ends item Spelling prefix count i octets total lt h so_far =
     let k : count - i ≡ suc (count - (i + 1)) = omega arith in
-    let one : with_front front (many_at item (count - i) octets) ≡ None = rw (k, h) refl in
+    let one : with_prefix prefix (many_at item (count - i) octets) ≡ None = rw (k, h) refl in
     sym so_far ∙ one
 
-pub is_done : {A : Type 0} (item : List ℕ → Option (A × List ℕ)) (front : List A) (count i : ℕ) (octets : List ℕ) (total : Option (List A × List ℕ)) → count ≤ i → with_front front (many_at item (count - i) octets) ≡ total → total ≡ Some (front, octets)
+pub is_done : {A : Type 0} (item : List ℕ → Option (A × List ℕ)) (prefix : List A) (count i : ℕ) (octets : List ℕ) (total : Option (List A × List ℕ)) → count ≤ i → with_prefix prefix (many_at item (count - i) octets) ≡ total → total ≡ Some (prefix, octets)
 unfolding many_at
-is_done {A} item front count i octets total le so_far =
+is_done {A} item prefix count i octets total le so_far =
     let k : count - i ≡ 0 = omega arith in
-    let one : with_front front (many_at item (count - i) octets) ≡ Some (front, octets) = rw k (ap (λ (ns : List A). Some (ns, octets)) (append-nil front)) in
+    let one : with_prefix prefix (many_at item (count - i) octets) ≡ Some (prefix, octets) = rw k (ap (λ (ns : List A). Some (ns, octets)) (append-nil prefix)) in
     sym so_far ∙ one

@@ -3,6 +3,7 @@
 use Rattle.std.specs.Prelude.{◌≡◌, ℕ, zero, suc, List, [], ◌∷◌, length, take, drop, Option, Some, None, Result, Ok, Err, nat_lt, nat_eq, ◌==◌, ◌||◌, ◌++◌, codes, if◌then◌else◌}
 use Rattle.std.specs.Int.{Width, w16, w32, w64, byte_len, from_be_bytes}
 use Rattle.std.specs.Cmp.Lexicographic.{pointwise}
+use Rattle.octets.specs.Limits.{max_program, max_instructions, max_variables, max_string}
 use Rattle.bytecode_format.specs.declared.error.FormatError.{FormatError}
 use Rattle.bytecode_format.specs.declared.error.FormatError.TheVariants.{Memory, Spelling}
 use Rattle.bytecode_format.specs.declared.instruction.Instruction.{Instruction}
@@ -36,7 +37,7 @@ number_at w octets = if nat_lt (length octets) (byte_len w) then None else Some 
 unfoldable pub string_at : List ℕ → Option (List ℕ × List ℕ)
 string_at octets = do
   n ← number_at w16 octets
-  if nat_lt 16384 n.0 || nat_lt (length n.1) n.0 then None else Some (take n.0 n.1, drop n.0 n.1)
+  if nat_lt max_string n.0 || nat_lt (length n.1) n.0 then None else Some (take n.0 n.1, drop n.0 n.1)
 
 unfoldable pub instruction_at : List ℕ → Option (Instruction × List ℕ)
 instruction_at octets = do
@@ -67,18 +68,18 @@ counts_at octets = do
   numbers ← number_at w16 variables.1
   strings ← number_at w16 numbers.1
   instructions ← number_at w32 strings.1
-  if nat_lt 128 variables.0 || nat_lt 65536 instructions.0
+  if nat_lt max_variables variables.0 || nat_lt max_instructions instructions.0
       then None
       else Some (record { variables = variables.0; numbers = numbers.0; strings = strings.0; instructions = instructions.0 }, instructions.1)
 
--- the version's octet behind the name of the format
+-- the version's octet after the name of the format
 abbrev pub opening : List ℕ
 opening = codes "SVBC" ++ 1 ∷ []
 
 -- all of the octets
 unfoldable pub program_at : List ℕ → Option Code
 program_at octets =
-    if nat_lt 4194304 (length octets)
+    if nat_lt max_program (length octets)
     then None
     else after opening octets
     >>= λ counted. counts_at counted

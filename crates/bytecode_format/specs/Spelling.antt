@@ -2,6 +2,7 @@
 use Rattle.std.specs.Prelude.{◌≡◌, ℕ, ◌^◌, ◌<◌, ◌≤◌, List, [], ◌∷◌, ◌++◌, length, All, codes}
 use Rattle.std.specs.List.{flat_map}
 use Rattle.std.specs.Int.{w16, w32, w64, to_be_bytes}
+use Rattle.octets.specs.Limits.{max_program, max_instructions, max_variables, max_string}
 use Rattle.bytecode_format.specs.declared.instruction.Instruction.{Instruction}
 use Rattle.bytecode_format.specs.Code.{Code}
 
@@ -50,11 +51,11 @@ pub record Fits (i : Instruction) : Type 0 where
 -- the limits of a program
 pub record IsProgram (code : Code) : Type 0 where
   pub version : code.version ≡ 1
-  pub variables : code.variables ≤ 128
+  pub variables : code.variables ≤ max_variables
   pub numbers : length code.numbers < 2 ^ 16
   pub each_number : All (λ n. n < 2 ^ 64) code.numbers
   pub strings : length code.strings < 2 ^ 16
-  pub each_string : All (λ text. length text ≤ 16384) code.strings
-  pub instructions : length code.instructions ≤ 65536
+  pub each_string : All (λ text. length text ≤ max_string) code.strings
+  pub instructions : length code.instructions ≤ max_instructions
   pub each_instruction : All Fits code.instructions
-  pub octets : length (spelling code) ≤ 4194304
+  pub octets : length (spelling code) ≤ max_program

@@ -1,6 +1,7 @@
 // Programs from their parts.
 ghost use Rattle.std.specs.Prelude.{◌≡◌, ◌+◌, ◌*◌, ◌<◌, ◌≤◌, ◌^◌, length, All, IfOk, IfErr, IsTrue, ◌↔◌};
 ghost use Rattle.std.specs.List.{flat_map};
+ghost use Rattle.octets.specs.Limits.{max_string};
 ghost use Rattle.bytecode_format.specs.Code.{Code};
 ghost use Rattle.bytecode_format.specs.Spelling.{string, Fits, IsProgram};
 
@@ -19,7 +20,7 @@ const ROW_LEN: usize = 8;
 
 /// Whether each string is within its limit.
 fn are_short(strings: &[Octets]) -> bool
-    ensures { IsTrue result ↔ All (λ text. length text ≤ 16384) strings.now }
+    ensures { IsTrue result ↔ All (λ text. length text ≤ max_string) strings.now }
 {
     strings.iter().all(|text| text.len() <= MAX_STRING)
 }
@@ -27,7 +28,7 @@ fn are_short(strings: &[Octets]) -> bool
 /// How many octets the strings take, each with its length.
 fn strings_len(strings: &[Octets]) -> usize
     requires few { length strings.now < 2 ^ 16 }
-    requires short { All (λ text. length text ≤ 16384) strings.now }
+    requires short { All (λ text. length text ≤ max_string) strings.now }
     ensures len { result ≡ length (flat_map string strings.now) }
     ensures small { result ≤ 2 ^ 16 * 16386 }
 {

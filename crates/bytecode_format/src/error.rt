@@ -8,7 +8,7 @@ use thiserror::Error;
 /// Why octets or parts are no program.
 #[derive(Debug, Drop, Error)]
 pub enum FormatError {
-    /// A growth was refused.
+    /// An allocation was refused.
     #[error("refused 1 Memory")]
     Memory,
     /// The octets spell no program, or the parts exceed a program's limits.

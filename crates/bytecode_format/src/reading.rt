@@ -35,8 +35,8 @@ fn u16_of(octets: &[u8]) -> Result<(u16, &[u8]), FormatError>
     if octets.len() < 2 {
         return Err(FormatError::Spelling);
     }
-    let (front, rest) = octets.split_at(2);
-    Ok((u16::from_be_bytes([front[0], front[1]]), rest))
+    let (prefix, rest) = octets.split_at(2);
+    Ok((u16::from_be_bytes([prefix[0], prefix[1]]), rest))
 }
 
 fn u32_of(octets: &[u8]) -> Result<(u32, &[u8]), FormatError>
@@ -45,8 +45,8 @@ fn u32_of(octets: &[u8]) -> Result<(u32, &[u8]), FormatError>
     if octets.len() < 4 {
         return Err(FormatError::Spelling);
     }
-    let (front, rest) = octets.split_at(4);
-    let number = u32::from_be_bytes([front[0], front[1], front[2], front[3]]);
+    let (prefix, rest) = octets.split_at(4);
+    let number = u32::from_be_bytes([prefix[0], prefix[1], prefix[2], prefix[3]]);
     Ok((number, rest))
 }
 
@@ -56,9 +56,9 @@ fn u64_of(octets: &[u8]) -> Result<(u64, &[u8]), FormatError>
     if octets.len() < 8 {
         return Err(FormatError::Spelling);
     }
-    let (front, rest) = octets.split_at(8);
+    let (prefix, rest) = octets.split_at(8);
     let number = u64::from_be_bytes([
-        front[0], front[1], front[2], front[3], front[4], front[5], front[6], front[7],
+        prefix[0], prefix[1], prefix[2], prefix[3], prefix[4], prefix[5], prefix[6], prefix[7],
     ]);
     Ok((number, rest))
 }
@@ -186,8 +186,8 @@ impl Program {
     /// The program that the octets spell, all of the octets.
     ///
     /// `Spelling` comes exactly where they spell no program: where the opening, a count or a length
-    /// is outside the limits, a table passes the end, or octets stand behind the last instruction.
-    /// `Memory` comes only where a growth was refused. What is allocated grows with what is read,
+    /// is outside the limits, a table passes the end, or octets stand after the last instruction.
+    /// `Memory` comes only where an allocation was refused. What is allocated grows with what is read,
     /// and not with what a count claims.
     pub fn read(alloc: Global, octets: &[u8]) -> Result<Program, FormatError>
         ensures found { IfOk result (λ p. IsProgram p × (octets.now ≡ spelling p)) }

@@ -1,6 +1,7 @@
 // Programs as octets.
 ghost use Rattle.std.specs.Prelude.{◌≡◌, ◌+◌, ◌*◌, ◌<◌, ◌≤◌, ◌^◌, ◌++◌, length, All, OnOk, IfOk};
 ghost use Rattle.std.specs.List.{flat_map};
+ghost use Rattle.octets.specs.Limits.{max_string};
 ghost use Rattle.bytecode_format.specs.Spelling.{eight_octets, string, instruction, spelling};
 
 use crate::instruction::Instruction;
@@ -18,7 +19,7 @@ fn put_numbers(out: &mut Vec<u8>, numbers: &[u64]) -> Result<(), AllocError>
 }
 
 fn put_strings(out: &mut Vec<u8>, strings: &[Octets]) -> Result<(), AllocError>
-    requires { All (λ text. length text ≤ 16384) strings.now }
+    requires { All (λ text. length text ≤ max_string) strings.now }
     ensures { OnOk result (out.new.items ≡ out.old.items ++ flat_map string strings.now) }
 {
     'table: for text in strings {

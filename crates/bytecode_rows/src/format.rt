@@ -72,7 +72,7 @@ fn refused_octets(rt: HostRuntime) -> Result<(), Fail> {
     let mut longer = KEEP_HALT.to_vec(rt.alloc())?;
     longer.push(0)?;
     assert_eq!(rt; read(rt.alloc(), &longer)?.as_str(), spelling);
-    // Each field of the head at a value outside its limits, and large counts with nothing behind.
+    // Each field of the head at a value outside its limits, and large counts with nothing after.
     for (at, octet) in [
         (0, 0x54),
         (4, 2),

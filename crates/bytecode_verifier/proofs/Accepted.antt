@@ -23,7 +23,7 @@ place_none : (f : ℕ → Refusal) (o : Option ℕ) → option_map f o ≡ None 
 place_none f None h = refl
 place_none f (Some x) h = absurd (cc)
 
--- the last place isn't behind the end
+-- the last place isn't after the end
 past_end : (code : Code) (place : ℕ) → length code.instructions < place → breaks_end code place ≡ false
 past_end code place lt = rw (ne_eqb place (length code.instructions - 1) (λ same. omega arith)) refl
 

@@ -9,7 +9,7 @@ use Rattle.bytecode_format.specs.Operations.{operation_of}
 use Rattle.bytecode_format.specs.Code.{Code}
 use Rattle.bytecode_verifier.specs.Loops.{same_loops}
 use Rattle.bytecode_verifier.specs.Form.{is_well_formed}
-use Rattle.bytecode_verifier.specs.Shape.{Entries, is_empty, is_jump, is_target, shape_after, shape_behind, shape_at}
+use Rattle.bytecode_verifier.specs.Shape.{Entries, is_empty, is_jump, is_target, shape_after, shape_following, shape_at}
 use Rattle.bytecode_verifier.specs.Rules.{misses_index, is_halt}
 use Rattle.bytecode_verifier.specs.Acceptance.{IsAccepted}
 use Rattle.bytecode_verifier.proofs.Tests.{same_place}
@@ -94,18 +94,18 @@ module _ (code : Code) (is : IsAccepted code) where
   shape_known (suc place) = let before = shape_known place in shape_goes_on place before.0 before.1
 
   module _ (place : ℕ) (i : Instruction) (entries : Entries) (here : slice_get code.instructions place ≡ Some i) (at : shape_at code place ≡ Some entries) where
-    behind : (next : Entries) × (shape_at code (suc place) ≡ Some next) × (shape_behind code (is_target code.instructions place) (operation_of i.op) i entries ≡ Some next)
-    behind =
+    following : (next : Entries) × (shape_at code (suc place) ≡ Some next) × (shape_following code (is_target code.instructions place) (operation_of i.op) i entries ≡ Some next)
+    following =
         let next = shape_goes_on place entries at in
         (next.0, next.1, rw (at, here) at next.1)
 
     -- the instruction takes the shape to that of the next place
     pub shape_next : (next : Entries) × (shape_after code (operation_of i.op) i entries ≡ Some next) × (shape_at code (suc place) ≡ Some next)
-    shape_next = let b = behind in (b.0, (guarded _ _ b.0 b.2).1, b.1)
+    shape_next = let b = following in (b.0, (guarded _ _ b.0 b.2).1, b.1)
 
     -- where a jump leads to there are no entries
     pub target_empty : is_target code.instructions place ≡ true → entries ≡ []
     target_empty target =
-        let b = behind in
+        let b = following in
         let none : (is_target code.instructions place && not (is_empty entries)) ≡ false = (guarded _ _ b.0 b.2).0 in
         empty_from entries (rw target at none)

@@ -20,7 +20,7 @@ use Rattle.bytecode_verifier.proofs.Tests.{same_place}
 use Rattle.bytecode_verifier.proofs.Least.{least_none, least_of_none, least_at_end, or_none_right}
 use Rattle.bytecode_verifier.proofs.Loopless.{misses_no_loop, needs_no_part, form_at, no_loops}
 
--- behind the last instruction no test holds
+-- after the last instruction no test holds
 pub past_rule : (code : Code) (place : ℕ) (test : Instruction → Bool) → length code.instructions ≤ place → holds_at code place test ≡ false
 past_rule code place test h = rw (slice_get_past code.instructions place h) refl
 
@@ -32,7 +32,7 @@ stays code place (Some entries) = refl
 pub past_stack : (code : Code) (place : ℕ) → length code.instructions ≤ place → breaks_stack code place ≡ false
 past_stack code place h = rw (slice_get_past code.instructions place h) (stays code place (shape_at code place))
 
--- behind the end, as a number above the count
+-- after the end, as a number above the count
 pub beyond : (code : Code) (place : ℕ) (test : Instruction → Bool) → length code.instructions < place → holds_at code place test ≡ false
 beyond code place test h = past_rule code place test (omega arith)
 
@@ -47,7 +47,7 @@ none_passes (Some i) test h = h i refl
 pub nowhere : (code : Code) (place : ℕ) (test : Instruction → Bool) → ((i : Instruction) → slice_get code.instructions place ≡ Some i → test i ≡ false) → holds_at code place test ≡ false
 nowhere code place test h = none_passes (slice_get code.instructions place) test h
 
--- a rule that isn't broken up to the end, nor behind it, is broken nowhere
+-- a rule that isn't broken up to the end, nor after it, is broken nowhere
 pub anywhere : (test : ℕ → Bool) (code : Code) → least_place test code ≡ None → ((place : ℕ) → length code.instructions < place → test place ≡ false) → (place : ℕ) → test place ≡ false
 anywhere test code none past place =
     elim (cases_lt place (suc (length code.instructions))) [

@@ -11,7 +11,7 @@ use Rattle.bytecode_verifier.specs.declared.pass.Pass.{Pass}
 use Rattle.bytecode_verifier.specs.Places.{least_below}
 use Rattle.bytecode_verifier.specs.Loops.{loops, open_loops}
 use Rattle.bytecode_verifier.specs.Form.{is_well_formed}
-use Rattle.bytecode_verifier.specs.Shape.{Entries, is_empty, is_jump, is_target, shape_after, shape_behind, shape_at}
+use Rattle.bytecode_verifier.specs.Shape.{Entries, is_empty, is_jump, is_target, shape_after, shape_following, shape_at}
 use Rattle.bytecode_verifier.specs.Rules.{misses_index, breaks_index, breaks_form, breaks_jump, breaks_stack}
 use Rattle.bytecode_verifier.specs.Budget.{Cap, cap_of, cap_at, sums_inside, budget_below}
 use Rattle.bytecode_verifier.specs.Pass.{unless_failed, HasPassed}
@@ -20,7 +20,7 @@ use Rattle.bytecode_verifier.proofs.Least.{or_none, least_more}
 
 -- the shape goes on from a place to the next
 pub shape_more : (code : Code) (place : ℕ) (i : Instruction) (old new : Option Entries) → slice_get code.instructions place ≡ Some i → shape_at code place ≡ old
-    → new ≡ option_and_then (shape_behind code (is_target code.instructions place) (operation_of i.op) i) old → shape_at code (place + 1) ≡ new
+    → new ≡ option_and_then (shape_following code (is_target code.instructions place) (operation_of i.op) i) old → shape_at code (place + 1) ≡ new
 shape_more code place i old new here before e = rw (add-one, here, before) (sym e)
 
 is_some_unless : (failed : Option ℕ) (entries : Entries) → is_some (unless_failed failed entries) ≡ is_none failed
@@ -43,7 +43,7 @@ stack_more code place old new before after e b a n =
 -- the shape over an instruction at which it hasn't failed before
 pub shape_over : (code : Code) (i : Instruction) (targeted fine : Bool) (operation : Option Operation) (place : ℕ) (failed after : Option ℕ) (old new : Entries) → failed ≡ None → (targeted && not (is_empty old)) ≡ false
     → (if fine then Some new else None) ≡ shape_after code operation i old → after ≡ then_some (not fine) place
-    → unless_failed after new ≡ option_and_then (shape_behind code targeted operation i) (unless_failed failed old)
+    → unless_failed after new ≡ option_and_then (shape_following code targeted operation i) (unless_failed failed old)
 shape_over code i targeted true operation place failed after old new f t e a = rw (f, t, a) e
 shape_over code i targeted false operation place failed after old new f t e a = rw (f, t, a) e
 
@@ -86,14 +86,14 @@ pub passed_more : (code : Code) (place : ℕ) (i : Instruction) (operation : Opt
     → formed ≡ is_well_formed operation i → new.form ≡ option_or old.form (then_some (not formed) place)
     → astray ≡ (is_jump operation && (nat_le i.c place || nat_le count i.c)) → new.jump ≡ option_or old.jump (then_some astray place)
     → new.stack ≡ option_or old.stack (then_some (is_none old.stack && is_some new.stack) place)
-    → unless_failed new.stack new.shape ≡ option_and_then (shape_behind code targeted operation i) (unless_failed old.stack old.shape)
+    → unless_failed new.stack new.shape ≡ option_and_then (shape_following code targeted operation i) (unless_failed old.stack old.shape)
     → new.budget ≡ with_cap old.budget 0 1 0
     → HasPassed code (place + 1) new
 passed_more code place i operation old new targeted misses formed astray count here before target op counted missed index form_is form astray_is jump stack shape budget =
     let goes : shape_at code (place + 1) ≡ unless_failed new.stack new.shape =
     shape_more code place i (unless_failed old.stack old.shape) (unless_failed new.stack new.shape) here before.shape
-    (shape ∙ ap (λ t. option_and_then (shape_behind code t operation i) (unless_failed old.stack old.shape)) target
-    ∙ ap (λ o. option_and_then (shape_behind code (is_target code.instructions place) o i) (unless_failed old.stack old.shape)) op) in
+    (shape ∙ ap (λ t. option_and_then (shape_following code t operation i) (unless_failed old.stack old.shape)) target
+    ∙ ap (λ o. option_and_then (shape_following code (is_target code.instructions place) o i) (unless_failed old.stack old.shape)) op) in
     let forward : astray ≡ (is_jump operation && (nat_le i.c place || nat_le (length code.instructions) i.c)) = astray_is ∙ ap (λ n. is_jump operation && (nat_le i.c place || nat_le n i.c)) counted in
     record {
       index = least_more (breaks_index code) place old.index new.index misses before.index (index_here code place i operation misses here op missed) index;

@@ -28,7 +28,7 @@ is_balanced instructions first last =
     let stretch = slice_range instructions first (suc last) in
     count_by (λ i. opens (operation_of i.op)) stretch == count_by (λ i. closes (operation_of i.op)) stretch
 
--- the Next of the Each at a place: the first place behind it up to which all that it and others open is closed
+-- the Next of the Each at a place: the first place after it up to which all that it and others open is closed
 abbrev pub next_of : List Instruction → ℕ → Option ℕ
 next_of instructions each = least_below (λ place. nat_lt each place && is_balanced instructions each place) (length instructions)
 
@@ -41,7 +41,7 @@ loop_from instructions place i =
 abbrev pub loops : Code → List Loop
 loops code = filter_map (λ at. loop_from code.instructions at.0 at.1) (enumerate_from 0 code.instructions)
 
--- the loop is open at the place: behind its Each, and not behind its Next
+-- the loop is open at the place: after its Each, and not after its Next
 abbrev pub is_open : ℕ → Loop → Bool
 is_open place loop = nat_lt loop.each place && nat_le place loop.next
 

@@ -1,6 +1,7 @@
 -- The rules of acceptance: for each the places at which it is broken.
 use Rattle.std.specs.Prelude.{ℕ, suc, Bool, true, false, ◌&&◌, ◌||◌, not, Option, Some, length, ◌-◌, nat_lt, nat_le, ◌==◌, is_some, is_none}
 use Rattle.std.specs.List.{list_any}
+use Rattle.octets.specs.Limits.{max_loops}
 use Rattle.bytecode_format.specs.declared.instruction.Instruction.{Instruction}
 use Rattle.bytecode_format.specs.declared.operation.Operation.{Operation}
 use Rattle.bytecode_format.specs.declared.operation.Operation.TheVariants.{Halt, Size, PartSize, PartBody, PartDigest, Store, Each, Next, Break}
@@ -38,7 +39,7 @@ has_loop code each next = list_any (λ loop. (loop.each == each) && (loop.next =
 
 -- an Each or Next without its partner, or that names another place; an Each inside three loops; a Break of more loops than are open
 abbrev pub misses_loop : Code → ℕ → Option Operation → Instruction → Bool
-misses_loop code place (Some Each) i = not (has_loop code place i.c) || nat_le 3 (length (open_loops code place))
+misses_loop code place (Some Each) i = not (has_loop code place i.c) || nat_le max_loops (length (open_loops code place))
 misses_loop code place (Some Next) i = not (has_loop code i.c place)
 misses_loop code place (Some Break) i = nat_lt (length (open_loops code place)) i.a
 misses_loop code place _ i = false
@@ -47,7 +48,7 @@ misses_loop code place _ i = false
 abbrev pub breaks_loop : Code → ℕ → Bool
 breaks_loop code place = holds_at code place (λ i. misses_loop code place (operation_of i.op) i)
 
--- Jump: a jump that isn't forward, that leads behind the last instruction, or to a place with other open loops
+-- Jump: a jump that isn't forward, that leads after the last instruction, or to a place with other open loops
 abbrev pub breaks_jump : Code → ℕ → Bool
 breaks_jump code place =
     holds_at code place (λ i. is_jump (operation_of i.op) && (nat_le i.c place || nat_le (length code.instructions) i.c || not (same_loops code place i.c)))

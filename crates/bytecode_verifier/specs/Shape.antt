@@ -2,6 +2,7 @@
 use Rattle.std.specs.Prelude.{ℕ, zero, suc, Bool, true, false, ◌&&◌, not, List, [], ◌∷◌, Option, Some, None, if◌then◌else◌, length, nat_lt, ◌==◌, slice_get}
 use Rattle.std.specs.List.{list_any}
 use Rattle.std.specs.Option.{option_and_then}
+use Rattle.octets.specs.Limits.{max_stack}
 use Rattle.bytecode_format.specs.declared.instruction.Instruction.{Instruction}
 use Rattle.bytecode_format.specs.declared.operation.Operation.{Operation}
 use Rattle.bytecode_format.specs.declared.operation.Operation.TheVariants.{Halt, Bool as BoolOp, Not, Jump, JumpIfTrue, JumpIfFalse, Size, Keep, Discard}
@@ -14,13 +15,9 @@ use Rattle.bytecode_verifier.specs.declared.shape.Entry.TheVariants.{Truth}
 abbrev pub Entries : Type 0
 Entries = List Entry
 
--- how many entries the stack takes at most
-abbrev pub room : ℕ
-room = 1024
-
 -- one more entry on top, where there is room for it
 abbrev pub with_entry : Entry → Entries → Option Entries
-with_entry entry entries = if nat_lt (length entries) room then Some (entry ∷ entries) else None
+with_entry entry entries = if nat_lt (length entries) max_stack then Some (entry ∷ entries) else None
 
 abbrev pub is_empty : Entries → Bool
 is_empty [] = true
@@ -59,14 +56,14 @@ is_jump _ = false
 abbrev pub is_target : List Instruction → ℕ → Bool
 is_target instructions place = list_any (λ i. is_jump (operation_of i.op) && (i.c == place)) instructions
 
--- the entries behind an instruction: where a jump leads to it there must be none before it
-abbrev pub shape_behind : Code → Bool → Option Operation → Instruction → Entries → Option Entries
-shape_behind code targeted operation i entries = if targeted && not (is_empty entries) then None else shape_after code operation i entries
+-- the entries after an instruction: where a jump leads to it there must be none before it
+abbrev pub shape_following : Code → Bool → Option Operation → Instruction → Entries → Option Entries
+shape_following code targeted operation i entries = if targeted && not (is_empty entries) then None else shape_after code operation i entries
 
--- the entries behind a place; there is nothing to fail behind the last instruction
+-- the entries after a place; there is nothing to fail after the last instruction
 abbrev pub shape_beyond : Code → ℕ → Option Instruction → Entries → Option Entries
 shape_beyond code place None entries = Some entries
-shape_beyond code place (Some i) entries = shape_behind code (is_target code.instructions place) (operation_of i.op) i entries
+shape_beyond code place (Some i) entries = shape_following code (is_target code.instructions place) (operation_of i.op) i entries
 
 -- the entries before the instruction at a place, or None where the shape has failed before it
 abbrev pub shape_at : Code → ℕ → Option Entries

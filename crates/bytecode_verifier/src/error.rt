@@ -8,7 +8,7 @@ use thiserror::Error;
 /// Why a program isn't accepted: the rule that is broken, and the place of the instruction.
 #[derive(Debug, Drop, Error)]
 pub enum Refusal {
-    /// A growth was refused.
+    /// An allocation was refused.
     #[error("refused 1 Memory")]
     Memory,
     /// An index of what isn't there.

@@ -4,7 +4,7 @@ ghost use Rattle.std.specs.Bool.{then_some};
 ghost use Rattle.std.specs.Option.{option_or, option_and_then};
 ghost use Rattle.bytecode_format.specs.Code.{Code};
 ghost use Rattle.bytecode_format.specs.declared.instruction.Instruction.{Instruction};
-ghost use Rattle.bytecode_verifier.specs.Shape.{shape_behind, is_target};
+ghost use Rattle.bytecode_verifier.specs.Shape.{shape_following, is_target};
 ghost use Rattle.bytecode_verifier.specs.Pass.{HasPassed, unless_failed};
 
 use crate::rules::{is_well_formed, misses_index, misses_target};
@@ -96,7 +96,7 @@ fn advance(
 ) -> Result<Option<usize>, AllocError>
     ensures place { IfOk result (λ after. after ≡ option_or failed (then_some (is_none failed && is_some after) place)) }
     ensures shape { IfOk result (λ after. (code : Code) (i : Instruction) →
-        unless_failed after shape.new ≡ option_and_then (shape_behind code targeted operation i) (unless_failed failed shape.old)) }
+        unless_failed after shape.new ≡ option_and_then (shape_following code targeted operation i) (unless_failed failed shape.old)) }
 {
     if failed.is_some() {
         return Ok(failed);

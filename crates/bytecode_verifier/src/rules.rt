@@ -67,7 +67,7 @@ pub fn is_halt(operation: Option<Operation>) -> bool
     matches!(operation, Some(Operation::Halt))
 }
 
-/// Whether the instruction at a place is a jump that isn't forward, or leads behind the last of
+/// Whether the instruction at a place is a jump that isn't forward, or leads after the last of
 /// `count` instructions.
 pub fn misses_target(
     count: usize,

@@ -9,7 +9,7 @@ use std::alloc::{AllocError, Global};
 use std::marker::Model;
 
 /// How many entries the stack takes at most.
-const ROOM: usize = 1024;
+const MAX_STACK: usize = 1024;
 
 /// What is known of an entry of the stack.
 #[derive(Clone, Copy, Debug, PartialEq, Eq)]
@@ -63,7 +63,7 @@ impl Shape {
     pub fn push(&mut self, entry: Entry) -> Result<bool, AllocError>
         ensures { IfOk result (λ fine. (if fine then Some self.new else None) ≡ with_entry entry self.old) }
     {
-        let fine = self.entries.len() < ROOM;
+        let fine = self.entries.len() < MAX_STACK;
         if fine {
             self.entries.push(entry)?;
         }

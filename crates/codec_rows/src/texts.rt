@@ -58,7 +58,7 @@ fn the_vectors_of_the_standard(rt: HostRuntime) {
 #[test]
 fn texts_that_spell_nothing(rt: HostRuntime) {
     let alloc = rt.alloc();
-    // spare bits, lower case, no padding, a whole quantum of padding, an octet outside of the alphabet, padding in front
+    // spare bits, lower case, no padding, a whole quantum of padding, an octet outside of the alphabet, padding at the start
     for text in [
         "MZ======",
         "my======",

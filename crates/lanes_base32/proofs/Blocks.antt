@@ -11,7 +11,7 @@ use Rattle.octet_lanes.proofs.Bits.{length-all_bits, AreBits-all_bits}
 use Rattle.octet_lanes.proofs.Pieces.{in_groups}
 use Rattle.octet_lanes.proofs.Reading.{class_below}
 use Rattle.octet_lanes.proofs.Symbols.{every_below, read_back}
-use Rattle.octet_lanes.proofs.Texts.{AreGroups, encoding_front, encoding_whole, few_characters, length-encoding_of, length-encoding_whole, some_width}
+use Rattle.octet_lanes.proofs.Texts.{AreGroups, encoding_prefix, encoding_whole, few_characters, length-encoding_of, length-encoding_whole, some_width}
 
 -- ---- a block of symbols
 
@@ -71,12 +71,12 @@ spelled_free alphabet block octets long spells =
     ap (λ l. list_any (λ class. eqb class stray) (map (class_of alphabet) l)) (spells ∙ encoding_whole alphabet g.numbers octets g.small g.same long)
     ∙ symbols_free alphabet g.numbers g.small
 
--- ---- a block in front
+-- ---- a first block
 
 pub block_before : (alphabet : Alphabet) (text block after octets more : List ℕ) → block ≡ take 32 text → after ≡ drop 32 text → length octets ≡ 4 * width alphabet
     → Spells alphabet block octets → Spells alphabet after more → Spells alphabet text (octets ++ more)
-block_before alphabet text block after octets more front back long first second =
-    sym (take-append-drop 32 text) ∙ (λ i. (sym front ∙ first) i ++ (sym back ∙ second) i) ∙ sym (encoding_front alphabet octets more long)
+block_before alphabet text block after octets more prefix back long first second =
+    sym (take-append-drop 32 text) ∙ (λ i. (sym prefix ∙ first) i ++ (sym back ∙ second) i) ∙ sym (encoding_prefix alphabet octets more long)
 
 -- more than a block of text is that of more than a block of octets
 enough : (alphabet : Alphabet) (text octets : List ℕ) → 32 < length text → Spells alphabet text octets → 4 * width alphabet ≤ length octets
@@ -86,23 +86,23 @@ enough alphabet text octets long spells =
       | inr g ↦ omega arith
     ]
 
--- what a block in front and what follows it spell
-pub record InFront (alphabet : Alphabet) (block after octets : List ℕ) : Type 0 where
+-- what a first block and what follows it spell
+pub record IsAhead (alphabet : Alphabet) (block after octets : List ℕ) : Type 0 where
   pub long : length (take (4 * width alphabet) octets) ≡ 4 * width alphabet
   pub first : Spells alphabet block (take (4 * width alphabet) octets)
   pub second : Spells alphabet after (drop (4 * width alphabet) octets)
 
-pub in_front : (alphabet : Alphabet) (text block after octets : List ℕ) → block ≡ take 32 text → after ≡ drop 32 text → 32 < length text → Spells alphabet text octets
-    → InFront alphabet block after octets
-in_front alphabet text block after octets front back long spells =
+pub in_prefix : (alphabet : Alphabet) (text block after octets : List ℕ) → block ≡ take 32 text → after ≡ drop 32 text → 32 < length text → Spells alphabet text octets
+    → IsAhead alphabet block after octets
+in_prefix alphabet text block after octets prefix back long spells =
     let n = 4 * width alphabet in
     let whole : length (take n octets) ≡ n = length-take-le n octets (enough alphabet text octets long spells) in
     let both : text ≡ encoding_of alphabet (take n octets) ++ encoding_of alphabet (drop n octets) =
-    spells ∙ ap (encoding_of alphabet) (sym (take-append-drop n octets)) ∙ encoding_front alphabet (take n octets) (drop n octets) whole in
+    spells ∙ ap (encoding_of alphabet) (sym (take-append-drop n octets)) ∙ encoding_prefix alphabet (take n octets) (drop n octets) whole in
     let many : length (encoding_of alphabet (take n octets)) ≡ 32 = length-encoding_whole alphabet (take n octets) whole in
     record {
       long = whole;
-      first = front ∙ ap (take 32) both ∙ take_at (encoding_of alphabet (take n octets)) (encoding_of alphabet (drop n octets)) 32 many;
+      first = prefix ∙ ap (take 32) both ∙ take_at (encoding_of alphabet (take n octets)) (encoding_of alphabet (drop n octets)) 32 many;
       second = back ∙ ap (drop 32) both ∙ drop_at (encoding_of alphabet (take n octets)) (encoding_of alphabet (drop n octets)) 32 many;
     }
 

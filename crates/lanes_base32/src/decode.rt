@@ -12,7 +12,7 @@ use std::alloc::Global;
 /// # Errors
 ///
 /// `NotCanonical` where the text spells no octets: a length that is no multiple of 8, an octet outside of the alphabet,
-/// also a lower-case letter, a padding that is missing or too long, a bit that isn't zero behind the last octet.
+/// also a lower-case letter, a padding that is missing or too long, a bit that isn't zero after the last octet.
 /// `Memory` where memory ran out.
 pub fn decode32(alloc: Global, text: &[u8]) -> Result<Vec<u8>, Refusal>
     ensures octets { IfOk result (λ octets. Spells Base32 text.now octets.items) }

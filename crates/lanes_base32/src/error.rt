@@ -7,7 +7,7 @@ use thiserror::Error;
 /// Why no octets are given.
 #[derive(Debug, Drop, PartialEq, Eq, Error)]
 pub enum Refusal {
-    /// A growth was refused.
+    /// An allocation was refused.
     #[error("refused 1 Memory")]
     Memory,
     /// The text isn't one that the encoder writes.

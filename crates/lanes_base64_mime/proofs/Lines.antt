@@ -38,8 +38,8 @@ next_line rest some =
       | inr g ↦
           let m = min (length rest) 57 in
           let some_line : m ≡ 57 = omega arith in
-          let front : length (take m rest) * 8 ≡ 19 * 4 * 6 = omega (arith, length-take-le m rest (omega arith)) in
-          let two = encoding_whole_quanta Base64 (take m rest) (drop m rest) 19 front in
+          let prefix : length (take m rest) * 8 ≡ 19 * 4 * 6 = omega (arith, length-take-le m rest (omega arith)) in
+          let two = encoding_whole_quanta Base64 (take m rest) (drop m rest) 19 prefix in
           ap (λ l. in_lines (encoding_of Base64 l)) (sym (take-append-drop m rest))
           ∙ ap in_lines two.0
           ∙ ap (flat_map (λ line. line ++ line_break)) (cut-append 76 (encoding_of Base64 (take m rest)) (encoding_of Base64 (drop m rest)) (omega arith) two.1)
@@ -47,14 +47,14 @@ next_line rest some =
 
 -- ---- a whole line, by blocks
 
--- a front part and what follows it
+-- a prefix part and what follows it
 in_two : (n m : ℕ) (xs : List ℕ) → n ≤ m → take m xs ≡ take n xs ++ take (m - n) (drop n xs)
 in_two n m xs le =
     let count : n + (m - n) ≡ m = omega arith in
     sym (take-append-drop n (take m xs))
     ∙ (λ i. take-take n m xs le i ++ (ap (λ k. drop n (take k xs)) (sym count) ∙ drop-take n (m - n) xs) i)
 
--- two blocks, and the front of a third
+-- two blocks, and the prefix of a third
 pub whole_line : (octets : List ℕ) → length octets ≡ 80
     → encoding_of Base64 (take 24 octets) ++ (encoding_of Base64 (take 24 (drop 24 octets)) ++ take 12 (encoding_of Base64 (take 24 (drop 48 octets)))) ≡ encoding_of Base64 (take 57 octets)
 whole_line octets long =
@@ -71,9 +71,9 @@ whole_line octets long =
     let first = encoding_whole_quanta Base64 a (b ++ c) 8 a_long in
     let second = encoding_whole_quanta Base64 b c 8 b_long in
     let third = encoding_whole_quanta Base64 c d 3 c_long in
-    let front : take 12 (text (take 24 (drop 48 octets))) ≡ text c =
+    let prefix : take 12 (text (take 24 (drop 48 octets))) ≡ text c =
     ap (λ l. take 12 (text l)) (in_two 9 24 (drop 48 octets) (omega arith)) ∙ ap (take 12) third.0 ∙ take_at (text c) (text d) 12 third.1 in
-    ap (λ l. text a ++ (text b ++ l)) front ∙ ap (λ l. text a ++ l) (sym second.0) ∙ sym first.0 ∙ ap text (sym parts)
+    ap (λ l. text a ++ (text b ++ l)) prefix ∙ ap (λ l. text a ++ l) (sym second.0) ∙ sym first.0 ∙ ap text (sym parts)
 
 -- ---- line breaks are passed over
 
@@ -81,7 +81,7 @@ whole_line octets long =
 abbrev read : List ℕ → List ℕ
 read text = values_of Base64 (before_padding text)
 
--- the same behind an octet, which is the padding where b says so
+-- the same after an octet, which is the padding where b says so
 abbrev read_at : ℕ → Bool → List ℕ → List ℕ
 read_at c b rest = values_of Base64 (take (cond (not b) (1 + prefix_len (λ x. not (eqb x padding)) rest) 0) (c ∷ rest))
 
@@ -97,10 +97,10 @@ read_at-same c false xs ys h =
     ∙ ap (λ l. cond (not (eqb (class_of Base64 c) stray)) (class_of Base64 c ∷ l) l) h
     ∙ sym (read_next c ys)
 
--- a part in front is read in the same way
-read_behind : (front xs ys : List ℕ) → read xs ≡ read ys → read (front ++ xs) ≡ read (front ++ ys)
-read_behind [] xs ys h = h
-read_behind (c ∷ front) xs ys h = read_at-same c (eqb c padding) (front ++ xs) (front ++ ys) (read_behind front xs ys h)
+-- a first part is read in the same way
+read_after : (prefix xs ys : List ℕ) → read xs ≡ read ys → read (prefix ++ xs) ≡ read (prefix ++ ys)
+read_after [] xs ys h = h
+read_after (c ∷ prefix) xs ys h = read_at-same c (eqb c padding) (prefix ++ xs) (prefix ++ ys) (read_after prefix xs ys h)
 
 read_break : (xs : List ℕ) → read (line_break ++ xs) ≡ read xs
 read_break xs =
@@ -111,7 +111,7 @@ read_lines : (lines : List (List ℕ)) → read (flat_map (λ line. line ++ line
 read_lines [] = refl
 read_lines (line ∷ lines) =
     ap read (append_assoc line line_break (flat_map (λ l. l ++ line_break) lines))
-    ∙ read_behind line (line_break ++ flat_map (λ l. l ++ line_break) lines) (flat_map (λ l. l) lines) (read_break (flat_map (λ l. l ++ line_break) lines) ∙ read_lines lines)
+    ∙ read_after line (line_break ++ flat_map (λ l. l ++ line_break) lines) (flat_map (λ l. l) lines) (read_break (flat_map (λ l. l ++ line_break) lines) ∙ read_lines lines)
 
 joined_pieces : (k n : ℕ) (xs : List ℕ) → length xs ≤ n * k → flat_map (λ piece. piece) (first_pieces k n xs) ≡ xs
 joined_pieces k zero [] h = refl

@@ -12,7 +12,7 @@ const LINE_OCTETS: usize = 57;
 
 const LINE_BREAK: &[u8; 2] = b"\r\n";
 
-/// How many octets a line's three blocks read: the third one starts behind 48, and has 32 lanes.
+/// How many octets a line's three blocks read: the third one starts after 48, and has 32 lanes.
 const LANES: usize = 80;
 
 /// A whole line with its break.
@@ -50,7 +50,7 @@ fn append_line(octets: &[u8], out: &mut Vec<u8>) -> Result<(), AllocError>
     out.extend_from_slice(LINE_BREAK)
 }
 
-// Appends a line of 57 octets: two blocks of 24, and the front of a third one.
+// Appends a line of 57 octets: two blocks of 24, and the prefix of a third one.
 #[inline(always)]
 fn append_whole_line(octets: &[u8; LANES], out: &mut Vec<u8>) -> Result<(), AllocError>
     ensures { OnOk result (out.new.items ≡ out.old.items ++ (encoding_of Base64 (take 57 octets.now) ++ line_break)) }

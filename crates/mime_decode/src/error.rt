@@ -8,7 +8,7 @@ use thiserror::Error;
 /// Why octets can't be read as a message.
 #[derive(Debug, Drop, Error)]
 pub enum MessageError {
-    /// A growth was refused.
+    /// An allocation was refused.
     #[error("refused 1 Memory")]
     Memory,
     /// More octets than [`MAX_MESSAGE`](crate::MAX_MESSAGE).

@@ -109,7 +109,7 @@ all_values (x ∷ xs) h = go (eqb x stray) refl (all_values xs)
 values_more : (xs : List ℕ) (i : ℕ) → i < length xs → values_among (take (i + 1) xs) ≡ values_among (take i xs) ++ cond (not (eqb (get_or xs i 0) stray)) (get_or xs i 0 ∷ []) []
 values_more xs i l = filter_more (λ class. not (eqb class stray)) xs i 0 l
 
--- a written class goes in front of the fillers
+-- a written class goes before the fillers
 written : (values : List ℕ) (n x : ℕ) → length values ≡ n → n < 32 → set (values ++ replicate (32 - n) stray) n x ≡ values ++ x ∷ replicate (31 - n) stray
 written values n x e l =
     let room : 32 - n ≡ suc (31 - n) = omega arith in

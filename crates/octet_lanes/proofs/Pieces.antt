@@ -81,7 +81,7 @@ in_groups k (suc n) bits h long are =
     AreBits-drop (suc k) [] h = tt
     AreBits-drop (suc k) (b ∷ bits) h = AreBits-drop k bits h.1
 
--- whole pieces in front need no filling
+-- whole first pieces need no filling
 pub lacking_more : (k m n : ℕ) → lacking k (m * k + n) ≡ lacking k n
 lacking_more k m n = ap (λ r. (k - r) % k) (mul-add-mod_self_right m k n)
 

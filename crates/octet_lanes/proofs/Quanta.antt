@@ -40,25 +40,25 @@ pub number-padded : (xs : List ℕ) (n : ℕ) → number_l 256 (xs ++ replicate 
 number-padded xs n = number_l-append 256 xs (replicate n 0) ∙ ap (λ m. number_l 256 xs + 256 ^ length xs * m) (number_l-zeros 256 n) ∙ (omega arith)
 
 -- the first lane of wider lanes
-wide_step : (w n : ℕ) (front rest : List ℕ) → length front ≡ w → Each1 (λ x. x < 256) front
-    → digits_l (256 ^ w) (suc n) (number_l 256 (front ++ rest)) ≡ number_l 256 front ∷ digits_l (256 ^ w) n (number_l 256 rest)
-wide_step w n front rest long small =
+wide_step : (w n : ℕ) (prefix rest : List ℕ) → length prefix ≡ w → Each1 (λ x. x < 256) prefix
+    → digits_l (256 ^ w) (suc n) (number_l 256 (prefix ++ rest)) ≡ number_l 256 prefix ∷ digits_l (256 ^ w) n (number_l 256 rest)
+wide_step w n prefix rest long small =
     let P = 256 ^ w in
     let N = number_l 256 rest in
-    let below : number_l 256 front < P = subst (λ k. number_l 256 front < 256 ^ k) long (number-lt 256 front small) in
-    let all : number_l 256 (front ++ rest) ≡ number_l 256 front + P * N = number_l-append 256 front rest ∙ ap (λ k. number_l 256 front + 256 ^ k * N) long in
-    let none : number_l 256 front / P ≡ 0 = div-eq_of_lt below in
-    let first : number_l 256 (front ++ rest) % P ≡ number_l 256 front = ap (λ x. x % P) all ∙ add-mul-mod_self_left (number_l 256 front) P N ∙ mod-eq_of_lt below in
-    let next : number_l 256 (front ++ rest) / P ≡ N = ap (λ x. x / P) all ∙ add-mul-div_left (number_l 256 front) N (one-le-pow w 256 (omega arith)) ∙ (omega arith) in
+    let below : number_l 256 prefix < P = subst (λ k. number_l 256 prefix < 256 ^ k) long (number-lt 256 prefix small) in
+    let all : number_l 256 (prefix ++ rest) ≡ number_l 256 prefix + P * N = number_l-append 256 prefix rest ∙ ap (λ k. number_l 256 prefix + 256 ^ k * N) long in
+    let none : number_l 256 prefix / P ≡ 0 = div-eq_of_lt below in
+    let first : number_l 256 (prefix ++ rest) % P ≡ number_l 256 prefix = ap (λ x. x % P) all ∙ add-mul-mod_self_left (number_l 256 prefix) P N ∙ mod-eq_of_lt below in
+    let next : number_l 256 (prefix ++ rest) / P ≡ N = ap (λ x. x / P) all ∙ add-mul-div_left (number_l 256 prefix) N (one-le-pow w 256 (omega arith)) ∙ (omega arith) in
     λ i. first i ∷ digits_l P n (next i)
 
 -- ---- quanta in lanes
 
-pub lanes_of-quanta : (w : ℕ) (front : ℕ → List ℕ) → ((j : ℕ) → length (front j) ≡ w) → ((j : ℕ) → Each1 (λ x. x < 256) (front j))
-    → (js : List ℕ) → digits_l (256 ^ w) (length js) (number_l 256 (flat_map front js)) ≡ map (λ j. number_l 256 (front j)) js
-lanes_of-quanta w front long small [] = refl
-lanes_of-quanta w front long small (j ∷ js) =
-    wide_step w (length js) (front j) (flat_map front js) (long j) (small j) ∙ ap (λ l. number_l 256 (front j) ∷ l) (lanes_of-quanta w front long small js)
+pub lanes_of-quanta : (w : ℕ) (prefix : ℕ → List ℕ) → ((j : ℕ) → length (prefix j) ≡ w) → ((j : ℕ) → Each1 (λ x. x < 256) (prefix j))
+    → (js : List ℕ) → digits_l (256 ^ w) (length js) (number_l 256 (flat_map prefix js)) ≡ map (λ j. number_l 256 (prefix j)) js
+lanes_of-quanta w prefix long small [] = refl
+lanes_of-quanta w prefix long small (j ∷ js) =
+    wide_step w (length js) (prefix j) (flat_map prefix js) (long j) (small j) ∙ ap (λ l. number_l 256 (prefix j) ∷ l) (lanes_of-quanta w prefix long small js)
 
 pub bits_of-quanta : (k : ℕ) (number : ℕ → ℕ) (quantum : ℕ → List ℕ) → ((j : ℕ) → bits_of k (number j) ≡ all_bits 8 (quantum j))
     → (js : List ℕ) → all_bits k (map number js) ≡ all_bits 8 (flat_map quantum js)

@@ -18,7 +18,7 @@ use Rattle.octet_lanes.specs.declared.alphabet.Alphabet.{Alphabet}
 use Rattle.octet_lanes.specs.declared.alphabet.Alphabet.TheVariants.{Base64, Base32, Base32Hex}
 use Rattle.octet_lanes.specs.Encoding.{width, quantum, table, class_of, stray, padding, bits_of, all_bits, groups_of, values_among, values_of, before_padding, whole, octets_of, decoding_of}
 use Rattle.octet_lanes.specs.declared.reader.Held.{Held}
-use Rattle.octet_lanes.specs.Reading.{decoding_behind, decoding_held}
+use Rattle.octet_lanes.specs.Reading.{decoding_after, decoding_held}
 use Rattle.octet_lanes.proofs.Bits.{length-all_bits, take-all_bits, AreBits, AreBits-all_bits}
 use Rattle.octet_lanes.proofs.Lanes.{all_values}
 use Rattle.octet_lanes.proofs.Pieces.{groups_of-all_bits, groups_of_bits, in_groups}
@@ -84,9 +84,9 @@ padding_strays Base32Hex = refl
 
 -- ---- octets of bits
 
--- octets in front of bits
-pub octets_of-front : (octets bits : List ℕ) → Each1 (λ octet. octet < 2 ^ 8) octets → octets_of (all_bits 8 octets ++ bits) ≡ octets ++ octets_of bits
-octets_of-front octets bits small =
+-- octets before bits
+pub octets_of-prefix : (octets bits : List ℕ) → Each1 (λ octet. octet < 2 ^ 8) octets → octets_of (all_bits 8 octets ++ bits) ≡ octets ++ octets_of bits
+octets_of-prefix octets bits small =
     let n = length (all_bits 8 octets) in
     let m = length bits / 8 * 8 in
     let count : length (all_bits 8 octets ++ bits) / 8 * 8 ≡ n + m = omega (arith, length-append (all_bits 8 octets) bits, length-all_bits 8 octets) in
@@ -112,13 +112,13 @@ pub octets_of-values : (w m : ℕ) (values filler octets : List ℕ) → m ≡ l
 octets_of-values w m values filler octets is small few same =
     ap (groups_of 8) (bits_of-values w m values filler octets is few same) ∙ groups_of_bits 8 (take m octets) (omega arith) small
 
--- whole octets' bits in front of bits
+-- whole octets' bits before bits
 octets_of-whole : (m : ℕ) (bits rest : List ℕ) → AreBits bits → length bits ≡ m * 8 → octets_of (bits ++ rest) ≡ octets_of bits ++ octets_of rest
 octets_of-whole m bits rest are long =
     let g = in_groups 8 m bits (omega arith) long are in
     let alone : octets_of bits ≡ g.numbers =
-    ap octets_of (sym g.same ∙ sym (append-nil (all_bits 8 g.numbers))) ∙ octets_of-front g.numbers [] g.small ∙ append-nil g.numbers in
-    ap (λ l. octets_of (l ++ rest)) (sym g.same) ∙ octets_of-front g.numbers rest g.small ∙ ap (λ l. l ++ octets_of rest) (sym alone)
+    ap octets_of (sym g.same ∙ sym (append-nil (all_bits 8 g.numbers))) ∙ octets_of-prefix g.numbers [] g.small ∙ append-nil g.numbers in
+    ap (λ l. octets_of (l ++ rest)) (sym g.same) ∙ octets_of-prefix g.numbers rest g.small ∙ ap (λ l. l ++ octets_of rest) (sym alone)
 
 -- what an `extend_from_slice` appended, and what follows from it
 pub ok_then : {T F Q : Type 0} (r : Result T F) (now was more : List ℕ) → now ≡ cond (is_ok r) (was ++ more) was → (now ≡ was ++ more → Q) → OnOk r Q
@@ -136,9 +136,9 @@ zero_small Base32 = omega arith
 zero_small Base32Hex = omega arith
 
 -- nothing before a part without `=` is the first one
-pub free_front : (xs ys : List ℕ) → list_any (λ octet. eqb octet padding) xs ≡ false → before_padding (xs ++ ys) ≡ xs ++ before_padding ys
-free_front [] ys h = refl
-free_front (x ∷ xs) ys h = go (eqb x padding) h (free_front xs ys)
+pub free_prefix : (xs ys : List ℕ) → list_any (λ octet. eqb octet padding) xs ≡ false → before_padding (xs ++ ys) ≡ xs ++ before_padding ys
+free_prefix [] ys h = refl
+free_prefix (x ∷ xs) ys h = go (eqb x padding) h (free_prefix xs ys)
   where
     go : (b : Bool) → (b || list_any (λ octet. eqb octet padding) xs) ≡ false
         → (list_any (λ octet. eqb octet padding) xs ≡ false → before_padding (xs ++ ys) ≡ xs ++ before_padding ys)
@@ -150,15 +150,15 @@ free_front (x ∷ xs) ys h = go (eqb x padding) h (free_front xs ys)
 
 -- ---- an octet of a text, with values held
 
-pub behind_none : (alphabet : Alphabet) (text : List ℕ) → decoding_behind alphabet [] text ≡ decoding_of alphabet text
+pub after_none : (alphabet : Alphabet) (text : List ℕ) → decoding_after alphabet [] text ≡ decoding_of alphabet text
 unfolding decoding_of
-behind_none alphabet text = refl
+after_none alphabet text = refl
 
 -- values that are whole octets are given out
-pub behind_whole : (alphabet : Alphabet) (m : ℕ) (held text : List ℕ) → length held * width alphabet ≡ m * 8
-    → decoding_behind alphabet held text ≡ octets_of (all_bits (width alphabet) held) ++ decoding_of alphabet text
+pub after_whole : (alphabet : Alphabet) (m : ℕ) (held text : List ℕ) → length held * width alphabet ≡ m * 8
+    → decoding_after alphabet held text ≡ octets_of (all_bits (width alphabet) held) ++ decoding_of alphabet text
 unfolding decoding_of
-behind_whole alphabet m held text is =
+after_whole alphabet m held text is =
     let w = width alphabet in
     let rest = values_of alphabet (before_padding text) in
     ap octets_of (flat_map-append (bits_of w) held rest)
@@ -170,9 +170,9 @@ before_next octet text ne =
     let more : 1 + n ≡ suc n = omega arith in
     ap (λ b. take (cond (not b) (1 + n) 0) (octet ∷ text)) (ne_eqb _ _ ne) ∙ ap (λ k. take k (octet ∷ text)) more
 
-pub behind_value : (alphabet : Alphabet) (held : List ℕ) (octet : ℕ) (text : List ℕ) → octet ≢ padding → class_of alphabet octet ≢ stray
-    → decoding_behind alphabet held (octet ∷ text) ≡ decoding_behind alphabet (held ++ class_of alphabet octet ∷ []) text
-behind_value alphabet held octet text other value =
+pub after_value : (alphabet : Alphabet) (held : List ℕ) (octet : ℕ) (text : List ℕ) → octet ≢ padding → class_of alphabet octet ≢ stray
+    → decoding_after alphabet held (octet ∷ text) ≡ decoding_after alphabet (held ++ class_of alphabet octet ∷ []) text
+after_value alphabet held octet text other value =
     let w = width alphabet in
     let class = class_of alphabet octet in
     let rest = values_of alphabet (before_padding text) in
@@ -180,9 +180,9 @@ behind_value alphabet held octet text other value =
     ∙ ap (λ b. octets_of (all_bits w (held ++ cond (not b) (class ∷ rest) rest))) (ne_eqb _ _ value)
     ∙ ap (λ l. octets_of (all_bits w l)) (sym (append_assoc held (class ∷ []) rest))
 
-pub behind_stray : (alphabet : Alphabet) (held : List ℕ) (octet : ℕ) (text : List ℕ) → octet ≢ padding → class_of alphabet octet ≡ stray
-    → decoding_behind alphabet held (octet ∷ text) ≡ decoding_behind alphabet held text
-behind_stray alphabet held octet text other is =
+pub after_stray : (alphabet : Alphabet) (held : List ℕ) (octet : ℕ) (text : List ℕ) → octet ≢ padding → class_of alphabet octet ≡ stray
+    → decoding_after alphabet held (octet ∷ text) ≡ decoding_after alphabet held text
+after_stray alphabet held octet text other is =
     let w = width alphabet in
     let class = class_of alphabet octet in
     let rest = values_of alphabet (before_padding text) in
@@ -191,12 +191,12 @@ behind_stray alphabet held octet text other is =
 
 -- ---- what is held between pieces of a text
 
-pub goes_on : (alphabet : Alphabet) (held : Held) (text : List ℕ) → held.ended ≡ false → decoding_held alphabet held text ≡ decoding_behind alphabet (take held.n held.values) text
-goes_on alphabet held text e = ap (λ b. decoding_behind alphabet (take held.n held.values) (cond b [] text)) e
+pub goes_on : (alphabet : Alphabet) (held : Held) (text : List ℕ) → held.ended ≡ false → decoding_held alphabet held text ≡ decoding_after alphabet (take held.n held.values) text
+goes_on alphabet held text e = ap (λ b. decoding_after alphabet (take held.n held.values) (cond b [] text)) e
 
 -- where no value is held, the text stands alone
 pub held_none : (alphabet : Alphabet) (held : Held) (text : List ℕ) → held.ended ≡ false → held.n ≡ 0 → decoding_held alphabet held text ≡ decoding_of alphabet text
-held_none alphabet held text e none = goes_on alphabet held text e ∙ ap (λ n. decoding_behind alphabet (take n held.values) text) none ∙ behind_none alphabet text
+held_none alphabet held text e none = goes_on alphabet held text e ∙ ap (λ n. decoding_after alphabet (take n held.values) text) none ∙ after_none alphabet text
 
 -- ---- a run of symbols
 
@@ -213,16 +213,16 @@ no_padding alphabet (x ∷ run) free = go (eqb x padding) refl (eqb (class_of al
         let is : class_of alphabet x ≡ stray = ap (class_of alphabet) (eqb-true x padding e) ∙ padding_strays alphabet in
         absurd (eqb-false (class_of alphabet x) stray f is)
 
--- a run of symbols in front that are whole octets
+-- a first run of symbols that are whole octets
 pub run_read : (alphabet : Alphabet) (m : ℕ) (run rest : List ℕ) → list_any (λ class. eqb class stray) (map (class_of alphabet) run) ≡ false → length run * width alphabet ≡ m * 8
     → decoding_of alphabet (run ++ rest) ≡ octets_of (all_bits (width alphabet) (map (class_of alphabet) run)) ++ decoding_of alphabet rest
 unfolding decoding_of
 run_read alphabet m run rest free is =
     let w = width alphabet in
     let values = map (class_of alphabet) run in
-    ap (λ l. octets_of (all_bits w (values_of alphabet l))) (free_front run rest (no_padding alphabet run free))
+    ap (λ l. octets_of (all_bits w (values_of alphabet l))) (free_prefix run rest (no_padding alphabet run free))
     ∙ ap (λ l. octets_of (all_bits w l)) (values_of-append alphabet run (before_padding rest) ∙ ap (λ l. l ++ values_of alphabet (before_padding rest)) (all_values values free))
-    ∙ behind_whole alphabet m values rest (ap (λ n. n * w) (length-map run (class_of alphabet)) ∙ is)
+    ∙ after_whole alphabet m values rest (ap (λ n. n * w) (length-map run (class_of alphabet)) ∙ is)
 
 -- whole quanta are whole octets
 pub whole_quanta : (alphabet : Alphabet) (n : ℕ) → (n - n % quantum alphabet) * width alphabet ≡ (n - n % quantum alphabet) * width alphabet / 8 * 8
@@ -231,12 +231,12 @@ whole_quanta Base32 n = omega arith
 whole_quanta Base32Hex n = omega arith
 
 -- what comes before the first stray is values
-pub front_values : (alphabet : Alphabet) (n : ℕ) (block : List ℕ) → n ≤ position_or_len (λ class. eqb class stray) (map (class_of alphabet) block)
+pub prefix_values : (alphabet : Alphabet) (n : ℕ) (block : List ℕ) → n ≤ position_or_len (λ class. eqb class stray) (map (class_of alphabet) block)
     → (list_any (λ class. eqb class stray) (map (class_of alphabet) (take n block)) ≡ false)
     × (take n (map (λ class. class % 2 ^ width alphabet) (map (class_of alphabet) block)) ≡ map (class_of alphabet) (take n block))
-front_values alphabet zero block le = (refl, refl)
-front_values alphabet (suc n) [] le = (refl, refl)
-front_values alphabet (suc n) (x ∷ block) le = go (eqb (class_of alphabet x) stray) refl le (front_values alphabet n block)
+prefix_values alphabet zero block le = (refl, refl)
+prefix_values alphabet (suc n) [] le = (refl, refl)
+prefix_values alphabet (suc n) (x ∷ block) le = go (eqb (class_of alphabet x) stray) refl le (prefix_values alphabet n block)
   where
     go : (b : Bool) → eqb (class_of alphabet x) stray ≡ b → suc n ≤ cond (not b) (1 + prefix_len (λ c. not (eqb c stray)) (map (class_of alphabet) block)) 0
         → (n ≤ prefix_len (λ c. not (eqb c stray)) (map (class_of alphabet) block)
@@ -263,9 +263,9 @@ strays_passed alphabet block rest start (suc k) le strays =
     let is : class_of alphabet octet ≡ stray = sym (get_or-map (class_of alphabet) block start 0 0 within) ∙ here.0 in
     let count : start + 1 + k ≡ start + suc k = omega arith in
     ap (λ l. decoding_of alphabet (l ++ rest)) (drop_more block start 0 within)
-    ∙ sym (behind_none alphabet (octet ∷ (drop (start + 1) block ++ rest)))
-    ∙ behind_stray alphabet [] octet (drop (start + 1) block ++ rest) here.1 is
-    ∙ behind_none alphabet (drop (start + 1) block ++ rest)
+    ∙ sym (after_none alphabet (octet ∷ (drop (start + 1) block ++ rest)))
+    ∙ after_stray alphabet [] octet (drop (start + 1) block ++ rest) here.1 is
+    ∙ after_none alphabet (drop (start + 1) block ++ rest)
     ∙ strays_passed alphabet block rest (start + 1) k (omega arith) (λ i l h. strays i (omega arith) (omega arith))
     ∙ ap (λ n. decoding_of alphabet (drop n block ++ rest)) count
 
@@ -278,17 +278,17 @@ given now more octets rest whole all e f g = ap (λ l. l ++ rest) e ∙ append_a
 -- a block of symbols
 pub block_octets : (alphabet : Alphabet) (text block after classes more : List ℕ) → block ≡ take 32 text → after ≡ drop 32 text → length classes ≡ 32 → classes ≡ map (class_of alphabet) block
     → list_any (λ class. eqb class stray) classes ≡ false → decoding_of alphabet (text ++ more) ≡ octets_of (all_bits (width alphabet) (take 32 classes)) ++ decoding_of alphabet (after ++ more)
-block_octets alphabet text block after classes more front back long is free =
+block_octets alphabet text block after classes more prefix back long is free =
     let w = width alphabet in
     let many : length block ≡ 32 = sym (length-map block (class_of alphabet)) ∙ ap length (sym is) ∙ long in
     let count : length block * w ≡ 4 * w * 8 = ap (λ n. n * w) many ∙ (omega arith) in
     let all : take 32 classes ≡ map (class_of alphabet) block = take_all 32 classes (omega arith) ∙ is in
-    ap (λ l. decoding_of alphabet (l ++ more)) (sym (take-append-drop 32 text) ∙ (λ i. sym front i ++ sym back i))
+    ap (λ l. decoding_of alphabet (l ++ more)) (sym (take-append-drop 32 text) ∙ (λ i. sym prefix i ++ sym back i))
     ∙ ap (decoding_of alphabet) (append_assoc block after more)
     ∙ run_read alphabet (4 * w) block (after ++ more) (ap (list_any (λ class. eqb class stray)) (sym is) ∙ free) count
     ∙ ap (λ l. octets_of (all_bits w l) ++ decoding_of alphabet (after ++ more)) (sym all)
 
--- the whole quanta in front of a stray
+-- the whole quanta before a stray
 pub run_octets : (alphabet : Alphabet) (run n : ℕ) (block classes values rest : List ℕ) → classes ≡ map (class_of alphabet) block
     → run ≡ position_or_len (λ class. eqb class stray) classes → n ≡ run - run % quantum alphabet → values ≡ map (λ class. class % 2 ^ width alphabet) classes
     → decoding_of alphabet (block ++ rest) ≡ octets_of (all_bits (width alphabet) (take n values)) ++ decoding_of alphabet (drop n block ++ rest)
@@ -297,7 +297,7 @@ run_octets alphabet run n block classes values rest is found quanta from =
     let p : ℕ → Bool = λ class. eqb class stray in
     let place : run ≡ position_or_len p (map (class_of alphabet) block) = found ∙ ap (position_or_len p) is in
     let before : n ≤ position_or_len p (map (class_of alphabet) block) = omega arith in
-    let v = front_values alphabet n block before in
+    let v = prefix_values alphabet n block before in
     let within : n ≤ length block = omega (arith, prefix_le (λ class. not (eqb class stray)) (map (class_of alphabet) block), length-map block (class_of alphabet)) in
     let count : length (take n block) * w ≡ n * w / 8 * 8 = ap (λ k. k * w) (length-take-le n block within ∙ quanta) ∙ whole_quanta alphabet run ∙ ap (λ k. k * w / 8 * 8) (sym quanta) in
     let values_are : take n values ≡ map (class_of alphabet) (take n block) = ap (take n) (from ∙ ap (map (λ class. class % 2 ^ w)) is) ∙ v.1 in
@@ -311,11 +311,11 @@ run_within classes run q long found = omega (arith, prefix_le (λ class. not (eq
 
 -- a whole quantum
 pub quantum_octets : (alphabet : Alphabet) (n : ℕ) (values text : List ℕ) → length values ≡ 32 → n ≡ quantum alphabet
-    → decoding_behind alphabet (take n values) text ≡ octets_of (all_bits (width alphabet) (take n values)) ++ decoding_of alphabet text
+    → decoding_after alphabet (take n values) text ≡ octets_of (all_bits (width alphabet) (take n values)) ++ decoding_of alphabet text
 quantum_octets alphabet n values text long e =
     let b = bits alphabet n e in
     let many : length (take n values) ≡ n = length-take-le n values (omega (arith, b.1)) in
-    behind_whole alphabet (n * width alphabet / 8) (take n values) text (ap (λ k. k * width alphabet) many ∙ b.0)
+    after_whole alphabet (n * width alphabet / 8) (take n values) text (ap (λ k. k * width alphabet) many ∙ b.0)
   where
     bits : (alphabet : Alphabet) (k : ℕ) → k ≡ quantum alphabet → (k * width alphabet ≡ k * width alphabet / 8 * 8) × (k ≤ 32)
     bits Base64 k e = (omega arith, omega arith)
@@ -324,13 +324,13 @@ quantum_octets alphabet n values text long e =
 
 -- a text from its first block on
 pub block_and_rest : (text block more : List ℕ) → block ≡ take 32 text → block ++ (drop 32 text ++ more) ≡ text ++ more
-block_and_rest text block more front =
-    sym (append_assoc block (drop 32 text) more) ∙ ap (λ l. l ++ more) (ap (λ l. l ++ drop 32 text) front ∙ take-append-drop 32 text)
+block_and_rest text block more prefix =
+    sym (append_assoc block (drop 32 text) more) ∙ ap (λ l. l ++ more) (ap (λ l. l ++ drop 32 text) prefix ∙ take-append-drop 32 text)
 
 -- what is left of a text where a part of its first block was read
 pub rest_of_block : (text block : List ℕ) (n : ℕ) → block ≡ take 32 text → n ≤ length block → drop n block ++ drop 32 text ≡ drop n text
-rest_of_block text block n front le =
-    sym (drop-append-le n block (drop 32 text) le) ∙ ap (drop n) (ap (λ l. l ++ drop 32 text) front ∙ take-append-drop 32 text)
+rest_of_block text block n prefix le =
+    sym (drop-append-le n block (drop 32 text) le) ∙ ap (drop n) (ap (λ l. l ++ drop 32 text) prefix ∙ take-append-drop 32 text)
 
 pub decoding_of-none : (alphabet : Alphabet) → decoding_of alphabet [] ≡ []
 unfolding decoding_of
@@ -357,7 +357,7 @@ values_of-padding alphabet zero = refl
 values_of-padding alphabet (suc n) =
     ap (λ c. cond (not (eqb c stray)) (c ∷ values_of alphabet (replicate n padding)) (values_of alphabet (replicate n padding))) (padding_strays alphabet) ∙ values_of-padding alphabet n
 
--- padding behind a text has no values
+-- padding after a text has no values
 pub values_of-padded : (alphabet : Alphabet) (text : List ℕ) (n : ℕ) → values_of alphabet (text ++ drop n (replicate 32 padding)) ≡ values_of alphabet text
 values_of-padded alphabet text n =
     values_of-append alphabet text (drop n (replicate 32 padding))
@@ -383,14 +383,14 @@ closed_octets alphabet m kept filler octets small few is same =
 
 -- ---- values with strays between them
 
--- a part in front without padding, whose values are whole octets
-front_read : (alphabet : Alphabet) (m : ℕ) (front rest : List ℕ) → list_any (λ octet. eqb octet padding) front ≡ false → length (values_of alphabet front) * width alphabet ≡ m * 8
-    → decoding_of alphabet (front ++ rest) ≡ octets_of (all_bits (width alphabet) (values_of alphabet front)) ++ decoding_of alphabet rest
+-- a first part without padding, whose values are whole octets
+prefix_read : (alphabet : Alphabet) (m : ℕ) (prefix rest : List ℕ) → list_any (λ octet. eqb octet padding) prefix ≡ false → length (values_of alphabet prefix) * width alphabet ≡ m * 8
+    → decoding_of alphabet (prefix ++ rest) ≡ octets_of (all_bits (width alphabet) (values_of alphabet prefix)) ++ decoding_of alphabet rest
 unfolding decoding_of
-front_read alphabet m front rest free is =
-    ap (λ l. octets_of (all_bits (width alphabet) (values_of alphabet l))) (free_front front rest free)
-    ∙ ap (λ l. octets_of (all_bits (width alphabet) l)) (values_of-append alphabet front (before_padding rest))
-    ∙ behind_whole alphabet m (values_of alphabet front) rest is
+prefix_read alphabet m prefix rest free is =
+    ap (λ l. octets_of (all_bits (width alphabet) (values_of alphabet l))) (free_prefix prefix rest free)
+    ∙ ap (λ l. octets_of (all_bits (width alphabet) l)) (values_of-append alphabet prefix (before_padding rest))
+    ∙ after_whole alphabet m (values_of alphabet prefix) rest is
 
 free_part : (n : ℕ) (block : List ℕ) → list_any (λ octet. eqb octet padding) block ≡ false → list_any (λ octet. eqb octet padding) (take n block) ≡ false
 free_part zero block free = refl
@@ -408,24 +408,24 @@ pub closed_read : (alphabet : Alphabet) (n last end : ℕ) (block classes closed
     → n ≡ length (values_among classes) → closed ≡ values_among classes ++ replicate (32 - length (values_among classes)) stray → values ≡ map (λ value. value % 2 ^ width alphabet) closed
     → last ≡ n % quantum alphabet → length (values_among (drop end classes)) ≡ last
     → decoding_of alphabet (block ++ rest) ≡ octets_of (all_bits (width alphabet) (take (n - last) values)) ++ decoding_of alphabet (drop end block ++ rest)
-closed_read alphabet n last end block classes closed values rest is free count closed_is values_are last_is behind =
+closed_read alphabet n last end block classes closed values rest is free count closed_is values_are last_is following =
     let w = width alphabet in
     let low : ℕ → ℕ = λ value. value % 2 ^ w in
     let kept = values_among classes in
-    let front = values_among (take end classes) in
+    let prefix = values_among (take end classes) in
     let back = values_among (drop end classes) in
-    let both : kept ≡ front ++ back = ap values_among (sym (take-append-drop end classes)) ∙ filter-append (λ class. not (eqb class stray)) (take end classes) (drop end classes) in
-    let many : length front ≡ n - last = omega (arith, ap length both ∙ length-append front back) in
+    let both : kept ≡ prefix ++ back = ap values_among (sym (take-append-drop end classes)) ∙ filter-append (λ class. not (eqb class stray)) (take end classes) (drop end classes) in
+    let many : length prefix ≡ n - last = omega (arith, ap length both ∙ length-append prefix back) in
     let of_text : kept ≡ values_of alphabet block = ap values_among is in
     let small : Each1 (λ value. value < 2 ^ w) kept = subst (Each1 (λ value. value < 2 ^ w)) (sym of_text) (Each1-from_get_or (λ value. value < 2 ^ w) (values_of alphabet block) 0 (λ i l. values_small alphabet block i 0 l)) in
     let filler = map low (replicate (32 - length kept) stray) in
-    let all : values ≡ front ++ (back ++ filler) =
-    values_are ∙ ap (map low) closed_is ∙ map-append low kept (replicate (32 - length kept) stray) ∙ ap (λ l. l ++ filler) (low_values w kept small ∙ both) ∙ append_assoc front back filler in
-    let taken : take (n - last) values ≡ front = ap (take (n - last)) all ∙ take_at front (back ++ filler) (n - last) many in
-    let front_is : values_of alphabet (take end block) ≡ front = ap values_among (sym (take-map (class_of alphabet) end block) ∙ ap (take end) (sym is)) in
+    let all : values ≡ prefix ++ (back ++ filler) =
+    values_are ∙ ap (map low) closed_is ∙ map-append low kept (replicate (32 - length kept) stray) ∙ ap (λ l. l ++ filler) (low_values w kept small ∙ both) ∙ append_assoc prefix back filler in
+    let taken : take (n - last) values ≡ prefix = ap (take (n - last)) all ∙ take_at prefix (back ++ filler) (n - last) many in
+    let prefix_is : values_of alphabet (take end block) ≡ prefix = ap values_among (sym (take-map (class_of alphabet) end block) ∙ ap (take end) (sym is)) in
     let octets : length (values_of alphabet (take end block)) * w ≡ (n - last) * w / 8 * 8 =
-    ap (λ l. length l * w) front_is ∙ ap (λ k. k * w) (many ∙ ap (λ k. n - k) last_is) ∙ whole_quanta alphabet n ∙ ap (λ k. (n - k) * w / 8 * 8) (sym last_is) in
+    ap (λ l. length l * w) prefix_is ∙ ap (λ k. k * w) (many ∙ ap (λ k. n - k) last_is) ∙ whole_quanta alphabet n ∙ ap (λ k. (n - k) * w / 8 * 8) (sym last_is) in
     ap (λ l. decoding_of alphabet (l ++ rest)) (sym (take-append-drop end block))
     ∙ ap (decoding_of alphabet) (append_assoc (take end block) (drop end block) rest)
-    ∙ front_read alphabet ((n - last) * w / 8) (take end block) (drop end block ++ rest) (free_part end block free) octets
-    ∙ ap (λ l. octets_of (all_bits w l) ++ decoding_of alphabet (drop end block ++ rest)) (front_is ∙ sym taken)
+    ∙ prefix_read alphabet ((n - last) * w / 8) (take end block) (drop end block ++ rest) (free_part end block free) octets
+    ∙ ap (λ l. octets_of (all_bits w l) ++ decoding_of alphabet (drop end block ++ rest)) (prefix_is ∙ sym taken)

@@ -21,15 +21,15 @@ some_width Base32Hex = omega arith
 abbrev pub AreGroups : Alphabet → List ℕ → Type 0
 AreGroups alphabet = Each1 (λ group. group < 2 ^ width alphabet)
 
--- a block of 32 groups stands in front of the text of what follows
-pub encoding_block : (alphabet : Alphabet) (groups front rest : List ℕ) → length groups ≡ 32 → AreGroups alphabet groups
-    → all_bits (width alphabet) groups ≡ all_bits 8 front → encoding_of alphabet (front ++ rest) ≡ map (symbol_of alphabet) groups ++ encoding_of alphabet rest
+-- a block of 32 groups stands before the text of what follows
+pub encoding_block : (alphabet : Alphabet) (groups prefix rest : List ℕ) → length groups ≡ 32 → AreGroups alphabet groups
+    → all_bits (width alphabet) groups ≡ all_bits 8 prefix → encoding_of alphabet (prefix ++ rest) ≡ map (symbol_of alphabet) groups ++ encoding_of alphabet rest
 unfolding encoding_of
-encoding_block alphabet groups front rest long small same =
+encoding_block alphabet groups prefix rest long small same =
     let w = width alphabet in
     let symbols = map (symbol_of alphabet) in
-    let bits : all_bits 8 (front ++ rest) ≡ all_bits w groups ++ all_bits 8 rest =
-    flat_map-append (bits_of 8) front rest ∙ ap (λ l. l ++ all_bits 8 rest) (sym same) in
+    let bits : all_bits 8 (prefix ++ rest) ≡ all_bits w groups ++ all_bits 8 rest =
+    flat_map-append (bits_of 8) prefix rest ∙ ap (λ l. l ++ all_bits 8 rest) (sym same) in
     ap (λ l. filled (quantum alphabet) padding (symbols (groups_of w (filled w 0 l)))) bits
     ∙ ap (λ l. filled (quantum alphabet) padding (symbols (groups_of w l))) (filled-append w 0 32 (all_bits w groups) (all_bits 8 rest) (length-all_bits w groups ∙ ap (λ n. n * w) long))
     ∙ ap (λ l. filled (quantum alphabet) padding (symbols l)) (groups_of-all_bits w groups (filled w 0 (all_bits 8 rest)) (some_width alphabet) small)
@@ -172,20 +172,20 @@ encoding_of-none Base64 = refl
 encoding_of-none Base32 = refl
 encoding_of-none Base32Hex = refl
 
--- a block's text stands in front
-pub encoding_front : (alphabet : Alphabet) (front rest : List ℕ) → length front ≡ 4 * width alphabet → encoding_of alphabet (front ++ rest) ≡ encoding_of alphabet front ++ encoding_of alphabet rest
-encoding_front alphabet front rest long =
+-- a block's text stands first
+pub encoding_prefix : (alphabet : Alphabet) (prefix rest : List ℕ) → length prefix ≡ 4 * width alphabet → encoding_of alphabet (prefix ++ rest) ≡ encoding_of alphabet prefix ++ encoding_of alphabet rest
+encoding_prefix alphabet prefix rest long =
     let w = width alphabet in
-    let count : length (all_bits 8 front) ≡ 32 * w = omega (arith, length-all_bits 8 front) in
-    let g = in_groups w 32 (all_bits 8 front) (some_width alphabet) count (AreBits-all_bits 8 front) in
-    let alone : encoding_of alphabet front ≡ map (symbol_of alphabet) g.numbers =
-    ap (encoding_of alphabet) (sym (append-nil front)) ∙ encoding_block alphabet g.numbers front [] g.many g.small g.same
+    let count : length (all_bits 8 prefix) ≡ 32 * w = omega (arith, length-all_bits 8 prefix) in
+    let g = in_groups w 32 (all_bits 8 prefix) (some_width alphabet) count (AreBits-all_bits 8 prefix) in
+    let alone : encoding_of alphabet prefix ≡ map (symbol_of alphabet) g.numbers =
+    ap (encoding_of alphabet) (sym (append-nil prefix)) ∙ encoding_block alphabet g.numbers prefix [] g.many g.small g.same
     ∙ ap (λ l. map (symbol_of alphabet) g.numbers ++ l) (encoding_of-none alphabet) ∙ append-nil (map (symbol_of alphabet) g.numbers) in
-    encoding_block alphabet g.numbers front rest g.many g.small g.same ∙ ap (λ l. l ++ encoding_of alphabet rest) (sym alone)
+    encoding_block alphabet g.numbers prefix rest g.many g.small g.same ∙ ap (λ l. l ++ encoding_of alphabet rest) (sym alone)
 
-groups_many : (alphabet : Alphabet) (groups front : List ℕ) → all_bits (width alphabet) groups ≡ all_bits 8 front → length front ≡ 4 * width alphabet → length groups ≡ 32
-groups_many alphabet groups front same long =
-    let many : length groups * width alphabet ≡ length front * 8 = sym (length-all_bits (width alphabet) groups) ∙ ap length same ∙ length-all_bits 8 front in
+groups_many : (alphabet : Alphabet) (groups prefix : List ℕ) → all_bits (width alphabet) groups ≡ all_bits 8 prefix → length prefix ≡ 4 * width alphabet → length groups ≡ 32
+groups_many alphabet groups prefix same long =
+    let many : length groups * width alphabet ≡ length prefix * 8 = sym (length-all_bits (width alphabet) groups) ∙ ap length same ∙ length-all_bits 8 prefix in
     by_width alphabet (length groups) (omega arith)
   where
     by_width : (alphabet : Alphabet) (n : ℕ) → n * width alphabet ≡ 4 * width alphabet * 8 → n ≡ 32
@@ -194,10 +194,10 @@ groups_many alphabet groups front same long =
     by_width Base32Hex n e = omega arith
 
 -- a whole block has no padding
-pub encoding_whole : (alphabet : Alphabet) (groups front : List ℕ) → AreGroups alphabet groups → all_bits (width alphabet) groups ≡ all_bits 8 front → length front ≡ 4 * width alphabet
-    → encoding_of alphabet front ≡ map (symbol_of alphabet) groups
-encoding_whole alphabet groups front small same long =
-    ap (encoding_of alphabet) (sym (append-nil front)) ∙ encoding_block alphabet groups front [] (groups_many alphabet groups front same long) small same
+pub encoding_whole : (alphabet : Alphabet) (groups prefix : List ℕ) → AreGroups alphabet groups → all_bits (width alphabet) groups ≡ all_bits 8 prefix → length prefix ≡ 4 * width alphabet
+    → encoding_of alphabet prefix ≡ map (symbol_of alphabet) groups
+encoding_whole alphabet groups prefix small same long =
+    ap (encoding_of alphabet) (sym (append-nil prefix)) ∙ encoding_block alphabet groups prefix [] (groups_many alphabet groups prefix same long) small same
     ∙ ap (λ l. map (symbol_of alphabet) groups ++ l) (encoding_of-none alphabet) ∙ append-nil (map (symbol_of alphabet) groups)
 
 -- the text of octets, out of that of the block that zeros fill
@@ -213,32 +213,32 @@ encoding_padded alphabet octets text few is =
     ∙ ap (λ l. take (symbols_in alphabet (length octets)) l ++ replicate (lacking (quantum alphabet) (symbols_in alphabet (length octets))) padding)
     (sym (encoding_whole alphabet g.numbers block g.small g.same long) ∙ sym is)
 
-pub length-encoding_whole : (alphabet : Alphabet) (front : List ℕ) → length front ≡ 4 * width alphabet → length (encoding_of alphabet front) ≡ 32
-length-encoding_whole alphabet front long =
+pub length-encoding_whole : (alphabet : Alphabet) (prefix : List ℕ) → length prefix ≡ 4 * width alphabet → length (encoding_of alphabet prefix) ≡ 32
+length-encoding_whole alphabet prefix long =
     let w = width alphabet in
-    let g = in_groups w 32 (all_bits 8 front) (some_width alphabet) (length-all_bits 8 front ∙ (omega arith)) (AreBits-all_bits 8 front) in
-    ap length (encoding_whole alphabet g.numbers front g.small g.same long) ∙ length-map g.numbers (symbol_of alphabet) ∙ g.many
+    let g = in_groups w 32 (all_bits 8 prefix) (some_width alphabet) (length-all_bits 8 prefix ∙ (omega arith)) (AreBits-all_bits 8 prefix) in
+    ap length (encoding_whole alphabet g.numbers prefix g.small g.same long) ∙ length-map g.numbers (symbol_of alphabet) ∙ g.many
 
--- the rest behind a block
+-- the rest after a block
 pub encoding_rest : (alphabet : Alphabet) (rest lanes : List ℕ) → lanes ≡ take 32 rest → 32 ≤ length rest
     → encoding_of alphabet rest ≡ encoding_of alphabet (take (4 * width alphabet) lanes) ++ encoding_of alphabet (drop (4 * width alphabet) rest)
 encoding_rest alphabet rest lanes is enough =
     let b = 4 * width alphabet in
-    let front : take b lanes ≡ take b rest = ap (take b) is ∙ take-take b 32 rest (in_lanes alphabet) in
+    let prefix : take b lanes ≡ take b rest = ap (take b) is ∙ take-take b 32 rest (in_lanes alphabet) in
     let within : b ≤ length rest = omega (arith, in_lanes alphabet) in
-    ap (encoding_of alphabet) (sym (take-append-drop b rest)) ∙ encoding_front alphabet (take b rest) (drop b rest) (length-take-le b rest within)
-    ∙ ap (λ l. encoding_of alphabet l ++ encoding_of alphabet (drop b rest)) (sym front)
+    ap (encoding_of alphabet) (sym (take-append-drop b rest)) ∙ encoding_prefix alphabet (take b rest) (drop b rest) (length-take-le b rest within)
+    ∙ ap (λ l. encoding_of alphabet l ++ encoding_of alphabet (drop b rest)) (sym prefix)
 
 -- ---- whole quanta, however many
 
-encoding_quanta : (alphabet : Alphabet) (groups front rest : List ℕ) (m : ℕ) → length groups ≡ m * quantum alphabet → AreGroups alphabet groups
-    → all_bits (width alphabet) groups ≡ all_bits 8 front → encoding_of alphabet (front ++ rest) ≡ map (symbol_of alphabet) groups ++ encoding_of alphabet rest
+encoding_quanta : (alphabet : Alphabet) (groups prefix rest : List ℕ) (m : ℕ) → length groups ≡ m * quantum alphabet → AreGroups alphabet groups
+    → all_bits (width alphabet) groups ≡ all_bits 8 prefix → encoding_of alphabet (prefix ++ rest) ≡ map (symbol_of alphabet) groups ++ encoding_of alphabet rest
 unfolding encoding_of
-encoding_quanta alphabet groups front rest m long small same =
+encoding_quanta alphabet groups prefix rest m long small same =
     let w = width alphabet in
     let symbols = map (symbol_of alphabet) in
-    let bits : all_bits 8 (front ++ rest) ≡ all_bits w groups ++ all_bits 8 rest =
-    flat_map-append (bits_of 8) front rest ∙ ap (λ l. l ++ all_bits 8 rest) (sym same) in
+    let bits : all_bits 8 (prefix ++ rest) ≡ all_bits w groups ++ all_bits 8 rest =
+    flat_map-append (bits_of 8) prefix rest ∙ ap (λ l. l ++ all_bits 8 rest) (sym same) in
     ap (λ l. filled (quantum alphabet) padding (symbols (groups_of w (filled w 0 l)))) bits
     ∙ ap (λ l. filled (quantum alphabet) padding (symbols (groups_of w l))) (filled-append w 0 (length groups) (all_bits w groups) (all_bits 8 rest) (length-all_bits w groups))
     ∙ ap (λ l. filled (quantum alphabet) padding (symbols l)) (groups_of-all_bits w groups (filled w 0 (all_bits 8 rest)) (some_width alphabet) small)
@@ -246,15 +246,15 @@ encoding_quanta alphabet groups front rest m long small same =
     ∙ filled-append (quantum alphabet) padding m (symbols groups) _ (length-map groups (symbol_of alphabet) ∙ long)
 
 -- m whole quanta of octets
-pub encoding_whole_quanta : (alphabet : Alphabet) (front rest : List ℕ) (m : ℕ) → length front * 8 ≡ m * quantum alphabet * width alphabet
-    → (encoding_of alphabet (front ++ rest) ≡ encoding_of alphabet front ++ encoding_of alphabet rest) × (length (encoding_of alphabet front) ≡ m * quantum alphabet)
-encoding_whole_quanta alphabet front rest m long =
+pub encoding_whole_quanta : (alphabet : Alphabet) (prefix rest : List ℕ) (m : ℕ) → length prefix * 8 ≡ m * quantum alphabet * width alphabet
+    → (encoding_of alphabet (prefix ++ rest) ≡ encoding_of alphabet prefix ++ encoding_of alphabet rest) × (length (encoding_of alphabet prefix) ≡ m * quantum alphabet)
+encoding_whole_quanta alphabet prefix rest m long =
     let w = width alphabet in
-    let g = in_groups w (m * quantum alphabet) (all_bits 8 front) (some_width alphabet) (length-all_bits 8 front ∙ long) (AreBits-all_bits 8 front) in
-    let alone : encoding_of alphabet front ≡ map (symbol_of alphabet) g.numbers =
-    ap (encoding_of alphabet) (sym (append-nil front)) ∙ encoding_quanta alphabet g.numbers front [] m g.many g.small g.same
+    let g = in_groups w (m * quantum alphabet) (all_bits 8 prefix) (some_width alphabet) (length-all_bits 8 prefix ∙ long) (AreBits-all_bits 8 prefix) in
+    let alone : encoding_of alphabet prefix ≡ map (symbol_of alphabet) g.numbers =
+    ap (encoding_of alphabet) (sym (append-nil prefix)) ∙ encoding_quanta alphabet g.numbers prefix [] m g.many g.small g.same
     ∙ ap (λ l. map (symbol_of alphabet) g.numbers ++ l) (encoding_of-none alphabet) ∙ append-nil (map (symbol_of alphabet) g.numbers) in (
-      encoding_quanta alphabet g.numbers front rest m g.many g.small g.same ∙ ap (λ l. l ++ encoding_of alphabet rest) (sym alone),
+      encoding_quanta alphabet g.numbers prefix rest m g.many g.small g.same ∙ ap (λ l. l ++ encoding_of alphabet rest) (sym alone),
       ap length alone ∙ length-map g.numbers (symbol_of alphabet) ∙ g.many,
     )
 

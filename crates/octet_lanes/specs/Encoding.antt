@@ -97,11 +97,11 @@ cut k xs = first_pieces k ((length xs + (k - 1)) / k) xs
 abbrev pub groups_of : ℕ → List ℕ → List ℕ
 groups_of k bits = map number_of (cut k bits)
 
--- the whole pieces of k, from the front
+-- the whole pieces of k, from the prefix
 abbrev pub whole : ℕ → List ℕ → List ℕ
 whole k xs = take (length xs / k * k) xs
 
--- the whole octets that bits write, from the front
+-- the whole octets that bits write, from the prefix
 abbrev pub octets_of : List ℕ → List ℕ
 octets_of bits = groups_of 8 (whole 8 bits)
 

@@ -6,12 +6,12 @@ use Rattle.octet_lanes.specs.declared.reader.Held.{Held}
 use Rattle.octet_lanes.specs.Encoding.{all_bits, before_padding, octets_of, quantum, values_of, width}
 
 -- the octets of a text, where values of what came before it are held
-abbrev pub decoding_behind : Alphabet → List ℕ → List ℕ → List ℕ
-decoding_behind alphabet held text = octets_of (all_bits (width alphabet) (held ++ values_of alphabet (before_padding text)))
+abbrev pub decoding_after : Alphabet → List ℕ → List ℕ → List ℕ
+decoding_after alphabet held text = octets_of (all_bits (width alphabet) (held ++ values_of alphabet (before_padding text)))
 
--- the octets of a text behind what is held: where a `=` came, nothing of the text counts
+-- the octets of a text after what is held: where a `=` came, nothing of the text counts
 abbrev pub decoding_held : Alphabet → Held → List ℕ → List ℕ
-decoding_held alphabet held text = decoding_behind alphabet (take held.n held.values) (if held.ended then [] else text)
+decoding_held alphabet held text = decoding_after alphabet (take held.n held.values) (if held.ended then [] else text)
 
 -- What is held between pieces are values of the alphabet, fewer than a quantum's.
 pub record IsHeld (alphabet : Alphabet) (held : Held) : Type 0 where

@@ -253,7 +253,7 @@ fn wholes_64(lanes: u64x4, width: u64) -> u64x4
     (first << u64x4::splat(width)) + second
 }
 
-// The three octets of each quantum, in front.
+// The three octets of each quantum, from the first on.
 #[inline(always)]
 fn sextet_octets(quanta: u32x8) -> u8x32
     requires { Each1 (λ quantum. quantum < 2 ^ 24) quanta }
@@ -265,7 +265,7 @@ fn sextet_octets(quanta: u32x8) -> u8x32
     ])
 }
 
-// The five octets of each quantum, in front.
+// The five octets of each quantum, from the first on.
 #[inline(always)]
 fn quintet_octets(quanta: u64x4) -> u8x32
     requires { Each1 (λ quantum. quantum < 2 ^ 40) quanta }

@@ -29,8 +29,8 @@ pub fn decode(alloc: Global, text: &[u8], alphabet: Alphabet) -> Result<Vec<u8>,
     Ok(out)
 }
 
-// What is kept of a text between its pieces: the values of an open quantum, in the front of a block, as `join` takes
-// one; their number; and whether a `=` came, behind which nothing counts.
+// What is kept of a text between its pieces: the values of an open quantum, in the prefix of a block, as `join` takes
+// one; their number; and whether a `=` came, after which nothing counts.
 #[derive(Drop)]
 struct Held {
     values: [u8; 32],
@@ -138,7 +138,7 @@ impl Held {
     }
 }
 
-// Appends the octets of whole quanta in front, a block at a time, and gives what follows them: fewer than 32 octets, or
+// Appends the octets of whole quanta from the start, a block at a time, and gives what follows them: fewer than 32 octets, or
 // a quantum that strays interrupt.
 #[inline(always)]
 fn append_runs<'a>(
@@ -157,7 +157,7 @@ fn append_runs<'a>(
             rest = after;
             continue;
         }
-        let read = append_front(block, &classes, alphabet, out)?;
+        let read = append_prefix(block, &classes, alphabet, out)?;
         if read == 0 {
             return Ok(rest);
         }
@@ -167,10 +167,10 @@ fn append_runs<'a>(
     Ok(rest)
 }
 
-// Appends the octets of whole quanta in front of a block with strays, and gives where they end. Which of the two ways
+// Appends the octets of whole quanta before a block with strays, and gives where they end. Which of the two ways
 // it goes changes the time alone.
 #[inline(always)]
-fn append_front(
+fn append_prefix(
     block: &[u8; 32],
     classes: &[u8; 32],
     alphabet: Alphabet,
@@ -186,7 +186,7 @@ fn append_front(
     append_run(block, classes, alphabet, out)
 }
 
-// Appends the octets of the whole quanta in front of a block, and gives where they and the strays behind them end.
+// Appends the octets of the whole quanta before a block, and gives where they and the strays after them end.
 #[inline(always)]
 fn append_run(
     block: &[u8; 32],
@@ -221,7 +221,7 @@ fn end_of_strays(block: &[u8; 32], classes: &[u8; 32], start: usize) -> usize
     end
 }
 
-// Appends the octets of the whole quanta in front of a block, whatever strays interrupt them, and gives where they end.
+// Appends the octets of the whole quanta before a block, whatever strays interrupt them, and gives where they end.
 #[inline(always)]
 fn append_closed(
     block: &[u8; 32],
@@ -240,7 +240,7 @@ fn append_closed(
     Ok(start_of_last(classes, last))
 }
 
-// Where the last `n` values start, with the strays between them and behind them.
+// Where the last `n` values start, with the strays between them and after them.
 #[inline(always)]
 fn start_of_last(classes: &[u8; 32], n: usize) -> usize
     requires { n ≤ length (values_among classes.now) }
@@ -273,7 +273,7 @@ fn append_values(
     out.extend_from_slice(&join(values, alphabet)[..n * alphabet.width() / 8])
 }
 
-/// The octets of at most a block of text, in front, and their number: the bits of its symbols before the first `=`, as
+/// The octets of at most a block of text, from the first octet on, and their number: the bits of its symbols before the first `=`, as
 /// whole octets.
 #[inline(always)]
 pub fn block_octets(text: &[u8], alphabet: Alphabet) -> ([u8; 32], usize)

@@ -55,8 +55,8 @@ fn append_rest(out: &mut Vec<u8>, octets: &[u8], alphabet: Alphabet) -> Result<(
     if octets.len() <= block {
         return append_block(out, octets, alphabet);
     }
-    let (front, back) = octets.split_at(block);
-    append_block(out, front, alphabet)?;
+    let (prefix, back) = octets.split_at(block);
+    append_block(out, prefix, alphabet)?;
     append_block(out, back, alphabet)
 }
 
@@ -70,7 +70,7 @@ fn append_block(out: &mut Vec<u8>, octets: &[u8], alphabet: Alphabet) -> Result<
     out.extend_from_slice(&text[..len])
 }
 
-/// The text of at most a block of octets, in front, and its length.
+/// The text of at most a block of octets, from the first octet on, and its length.
 #[inline(always)]
 pub fn block_text(octets: &[u8], alphabet: Alphabet) -> ([u8; 32], usize)
     requires { length octets.now ≤ 4 * width alphabet }

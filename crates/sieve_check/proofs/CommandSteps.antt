@@ -23,7 +23,7 @@ use Rattle.sieve_check.specs.Typed.{no_branch}
 use Rattle.sieve_check.specs.TypedView.{test_form, commands_form}
 use Rattle.sieve_check.proofs.HeadSteps.{refusal_from, no_list, no_simple_test, all_wrong}
 use Rattle.sieve_check.proofs.TestSteps.{others_of}
-use Rattle.sieve_check.proofs.Visits.{refused_first, refused_next, refused_before, refused_behind, neither, faultless_both}
+use Rattle.sieve_check.proofs.Visits.{refused_first, refused_next, refused_before, refused_after, neither, faultless_both}
 
 -- the fault of a command itself
 pub command_refused : (context : Context) (i : InvocationTree) (head : Head) (tests : TestsTree) (ending : Ending) (e : CheckError) → i ≡ head_tree head tests
@@ -54,7 +54,7 @@ module _ (context : Context) (tree : CommandTree) (i : InvocationTree) (cs : Com
 
   pub block_refused : first_fault (head_visits context i braces) ≡ None → IsRefusal (first_fault (commands_visits in_block cs)) e → IsRefusal (first_fault (command_visits context tree)) e
   block_refused none h =
-      subst (λ t. IsRefusal (first_fault (command_visits context t)) e) (sym is) (refused_behind (head_visits context i braces) (commands_visits in_block cs) e none h)
+      subst (λ t. IsRefusal (first_fault (command_visits context t)) e) (sym is) (refused_after (head_visits context i braces) (commands_visits in_block cs) e none h)
 
 pub block_faultless : (context : Context) (tree : CommandTree) (i : InvocationTree) (cs : CommandsTree) → tree ≡ block i cs → first_fault (head_visits context i braces) ≡ None → first_fault (commands_visits in_block cs) ≡ None → first_fault (command_visits context tree) ≡ None
 block_faultless context tree i cs is first second =
@@ -70,7 +70,7 @@ module _ (context : Context) (i : InvocationTree) (head : Head) (t : InvocationT
   guard_faultless first second =
       ap (λ u. first_fault (head_visits context u braces)) is ∙ neither (refusal_of (command_visit context head (one_test t) braces)) (first_fault (test_visits t)) first second
 
--- a block behind tests in round brackets
+-- a block after tests in round brackets
 pub list_refused : (context : Context) (i : InvocationTree) (head : Head) (t : InvocationTree) (ts : MoreTests) (e : CheckError) → i ≡ head_tree head (test_list t ts)
     → ((tests : TestsTree) → IsWrong context head tests braces → refusal_of (command_visit context head tests braces) ≡ Some e)
     → IsRefusal (first_fault (head_visits context i braces)) e

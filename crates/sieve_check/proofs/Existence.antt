@@ -14,7 +14,7 @@ use Rattle.sieve_check.specs.declared.typed.Order.{Order}
 use Rattle.sieve_check.specs.FormOf.{IsTestForm, AreTestForms, AreForms, IsFormOf}
 use Rattle.sieve_check.specs.Names.{command_named, test_named, order_tagged}
 use Rattle.sieve_check.specs.Refusals.{MissingCapability, UnknownCapability, BadArguments, Limit, refusal}
-use Rattle.sieve_check.specs.Rules.{semicolon, braces, is_command_well_formed, is_test_well_formed, may_stand, has_unknown_capability, has_long_string, least, fault_by_name, command_faults, test_faults, Visit, test_visits, tests_visits, more_visits, head_visits, at_start, in_block, behind, name_of, command_visits, commands_visits, first_fault, fault_of}
+use Rattle.sieve_check.specs.Rules.{semicolon, braces, is_command_well_formed, is_test_well_formed, may_stand, has_unknown_capability, has_long_string, least, fault_by_name, command_faults, test_faults, Visit, test_visits, tests_visits, more_visits, head_visits, at_start, in_block, following, name_of, command_visits, commands_visits, first_fault, fault_of}
 use Rattle.sieve_check.specs.Typed.{TestForm, constant, negation, all_of, any_of, size, TestForms, no_test as no_other, test, keep, discard, stop, choice, CommandForms, no_command, command, BranchForms, no_branch, otherwise, branch}
 use Rattle.sieve_check.proofs.HeadSteps.{no_require_block}
 use Rattle.sieve_check.proofs.Visits.{first_fault-append}
@@ -89,39 +89,39 @@ mutual
 pub record HasForms (context : Context) (cs : CommandsTree) : Type 0 where
   pub branches : BranchForms
   pub forms : CommandForms
-  pub begins : context.behind_if ≡ false → branches ≡ no_branch
+  pub begins : context.after_if ≡ false → branches ≡ no_branch
   pub are : AreForms cs branches forms
 
 -- with no branch, where none may be
-alone : (context : Context) (cs : CommandsTree) (r : HasForms context cs) → context.behind_if ≡ false → AreForms cs no_branch r.forms
+alone : (context : Context) (cs : CommandsTree) (r : HasForms context cs) → context.after_if ≡ false → AreForms cs no_branch r.forms
 alone context cs r shut = subst (λ bs. AreForms cs bs r.forms) (r.begins shut) r.are
 
 module _ (context : Context) (rest : CommandsTree) (n : ℕ) (name : List ℕ) where
   by_simple : (known : CommandName) (args : List ArgumentTree) (tests : TestsTree) → command_named name ≡ Some known → is_command_well_formed known args tests semicolon ≡ true
-      → HasForms (behind context (Some known)) rest → HasForms context (then (simple (invocation n name args tests)) rest)
+      → HasForms (following context (Some known)) rest → HasForms context (then (simple (invocation n name args tests)) rest)
   by_simple Require args tests named w r = record {
     branches = no_branch;
     forms = r.forms;
     begins = λ _. refl;
-    are = inl (record { is = record { args = args; tests = tests; is = record { token = n; word = name; same = refl; named = named } }; begins = refl; rest = alone (behind context (Some Require)) rest r refl });
+    are = inl (record { is = record { args = args; tests = tests; is = record { token = n; word = name; same = refl; named = named } }; begins = refl; rest = alone (following context (Some Require)) rest r refl });
   }
   by_simple Keep [] no_test named w r = record {
     branches = no_branch;
     forms = command keep r.forms;
     begins = λ _. refl;
-    are = inr (record { action = keep; others = r.forms; is = record { token = n; word = name; same = refl; named = named }; begins = refl; same = refl; rest = alone (behind context (Some Keep)) rest r refl });
+    are = inr (record { action = keep; others = r.forms; is = record { token = n; word = name; same = refl; named = named }; begins = refl; same = refl; rest = alone (following context (Some Keep)) rest r refl });
   }
   by_simple Discard [] no_test named w r = record {
     branches = no_branch;
     forms = command discard r.forms;
     begins = λ _. refl;
-    are = inr (record { action = discard; others = r.forms; is = record { token = n; word = name; same = refl; named = named }; begins = refl; same = refl; rest = alone (behind context (Some Discard)) rest r refl });
+    are = inr (record { action = discard; others = r.forms; is = record { token = n; word = name; same = refl; named = named }; begins = refl; same = refl; rest = alone (following context (Some Discard)) rest r refl });
   }
   by_simple Stop [] no_test named w r = record {
     branches = no_branch;
     forms = command stop r.forms;
     begins = λ _. refl;
-    are = inr (record { action = stop; others = r.forms; is = record { token = n; word = name; same = refl; named = named }; begins = refl; same = refl; rest = alone (behind context (Some Stop)) rest r refl });
+    are = inr (record { action = stop; others = r.forms; is = record { token = n; word = name; same = refl; named = named }; begins = refl; same = refl; rest = alone (following context (Some Stop)) rest r refl });
   }
   by_simple known [] no_test named w r = absurd (both_ways false refl w)
   by_simple known [] (one_test t) named w r = absurd (both_ways false refl w)
@@ -129,7 +129,7 @@ module _ (context : Context) (rest : CommandsTree) (n : ℕ) (name : List ℕ) w
   by_simple known (a ∷ args) tests named w r = absurd (both_ways false refl w)
 
   by_block : (known : CommandName) (args : List ArgumentTree) (tests : TestsTree) (cs : CommandsTree) → command_named name ≡ Some known → may_stand context known ≡ true → is_command_well_formed known args tests braces ≡ true
-      → PartsHaveForms tests → HasForms in_block cs → HasForms (behind context (Some known)) rest → HasForms context (then (block (invocation n name args tests) cs) rest)
+      → PartsHaveForms tests → HasForms in_block cs → HasForms (following context (Some known)) rest → HasForms context (then (block (invocation n name args tests) cs) rest)
   by_block If [] (one_test t) cs named s w (f, is) body r = record {
     branches = no_branch;
     forms = command (choice (branch f body.forms r.branches)) r.forms;
@@ -148,7 +148,7 @@ module _ (context : Context) (rest : CommandsTree) (n : ℕ) (name : List ℕ) w
   by_block Elsif [] (one_test t) cs named s w (f, is) body r = record {
     branches = branch f body.forms r.branches;
     forms = r.forms;
-    begins = λ shut. absurd (both_ways context.behind_if shut s);
+    begins = λ shut. absurd (both_ways context.after_if shut s);
     are = inr (inl (record {
       f = f;
       body = body.forms;
@@ -161,13 +161,13 @@ module _ (context : Context) (rest : CommandsTree) (n : ℕ) (name : List ℕ) w
   by_block Else [] no_test cs named s w parts body r = record {
     branches = otherwise body.forms;
     forms = r.forms;
-    begins = λ shut. absurd (both_ways context.behind_if shut s);
+    begins = λ shut. absurd (both_ways context.after_if shut s);
     are = inr (inr (record {
       body = body.forms;
       is = record { token = n; word = name; same = refl; named = named };
       block = alone in_block cs body refl;
       same = refl;
-      rest = alone (behind context (Some Else)) rest r refl;
+      rest = alone (following context (Some Else)) rest r refl;
     }));
   }
   by_block Require args tests cs named s w parts body r = absurd (both_ways _ (no_require_block args tests) w)
@@ -178,21 +178,21 @@ module _ (context : Context) (rest : CommandsTree) (n : ℕ) (name : List ℕ) w
 
   known_simple : (o : Option CommandName) (args : List ArgumentTree) (tests : TestsTree) → command_named name ≡ o
       → option_map (refusal n) (fault_by_name (λ known. command_faults context known args tests semicolon) o) ≡ None
-      → HasForms (behind context o) rest → HasForms context (then (simple (invocation n name args tests)) rest)
+      → HasForms (following context o) rest → HasForms context (then (simple (invocation n name args tests)) rest)
   known_simple None args tests named h r = absurd (cc)
   known_simple (Some known) args tests named h r =
       by_simple known args tests named (stands_well_formed n (has_unknown_capability known args) (may_stand context known) (is_command_well_formed known args tests semicolon) (has_long_string args) h).1 r
 
   known_block : (o : Option CommandName) (args : List ArgumentTree) (tests : TestsTree) (cs : CommandsTree) → command_named name ≡ o
       → option_map (refusal n) (fault_by_name (λ known. command_faults context known args tests braces) o) ≡ None
-      → PartsHaveForms tests → HasForms in_block cs → HasForms (behind context o) rest → HasForms context (then (block (invocation n name args tests) cs) rest)
+      → PartsHaveForms tests → HasForms in_block cs → HasForms (following context o) rest → HasForms context (then (block (invocation n name args tests) cs) rest)
   known_block None args tests cs named h parts body r = absurd (cc)
   known_block (Some known) args tests cs named h parts body r =
       let both = stands_well_formed n (has_unknown_capability known args) (may_stand context known) (is_command_well_formed known args tests braces) (has_long_string args) h in
       by_block known args tests cs named both.0 both.1 parts body r
 
 mutual
-  command_exists : (c : CommandTree) (rest : CommandsTree) (context : Context) → first_fault (command_visits context c) ≡ None → HasForms (behind context (name_of c)) rest → HasForms context (then c rest)
+  command_exists : (c : CommandTree) (rest : CommandsTree) (context : Context) → first_fault (command_visits context c) ≡ None → HasForms (following context (name_of c)) rest → HasForms context (then c rest)
   command_exists (simple (invocation n name args tests)) rest context h r =
       let parts = both_none (option_map (refusal n) (fault_by_name (λ known. command_faults context known args tests semicolon) (command_named name))) (first_fault (tests_visits tests)) h in
       known_simple context rest n name (command_named name) args tests refl parts.0 r
@@ -204,8 +204,8 @@ mutual
   pub forms_exist : (cs : CommandsTree) (context : Context) → first_fault (commands_visits context cs) ≡ None → HasForms context cs
   forms_exist no_more context h = record { branches = no_branch; forms = no_command; begins = λ _. refl; are = (refl, refl) }
   forms_exist (then c rest) context h =
-      let parts = none_both (command_visits context c) (commands_visits (behind context (name_of c)) rest) h in
-      command_exists c rest context parts.0 (forms_exist rest (behind context (name_of c)) parts.1)
+      let parts = none_both (command_visits context c) (commands_visits (following context (name_of c)) rest) h in
+      command_exists c rest context parts.0 (forms_exist rest (following context (name_of c)) parts.1)
 
 pub form_exists : (script : CommandsTree) → fault_of script ≡ None → (forms : CommandForms) × IsFormOf script forms
 form_exists script h = let r = forms_exist script at_start h in (r.forms, alone at_start script r refl)

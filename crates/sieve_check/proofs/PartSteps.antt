@@ -15,7 +15,7 @@ use Rattle.sieve_check.specs.declared.sequence.Sequence.{Sequence}
 use Rattle.sieve_check.specs.Checking.{IsRefusal}
 use Rattle.sieve_check.specs.FormOf.{IsCommand, IsAction, AreForms, IsFormOf}
 use Rattle.sieve_check.specs.Parts.{IsPart}
-use Rattle.sieve_check.specs.Rules.{name_of, behind, command_visits, commands_visits, first_fault}
+use Rattle.sieve_check.specs.Rules.{name_of, following, command_visits, commands_visits, first_fault}
 use Rattle.sieve_check.specs.Sequences.{onto, choice_onto, has_branch, joined, is_open, Pushed}
 use Rattle.sieve_check.specs.Typed.{CommandForm, keep, discard, stop, choice, CommandForms, no_command, command, BranchForms, no_branch, otherwise, branch}
 use Rattle.sieve_check.specs.TypedView.{test_form, command_form, commands_form}
@@ -27,27 +27,27 @@ simple_name name args tests i is = ap (λ j. name_of (simple j)) is.same ∙ is.
 block_name : (name : CommandName) (args : List ArgumentTree) (tests : TestsTree) (i : InvocationTree) (cs : CommandsTree) → IsCommand name args tests i → name_of (block i cs) ≡ Some name
 block_name name args tests i cs is = ap (λ j. name_of (block j cs)) is.same ∙ is.named
 
-no_if_behind_action : (context : Context) (f : CommandForm) (i : InvocationTree) → IsAction f i → (behind context (name_of (simple i))).behind_if ≡ false
-no_if_behind_action context keep i is = ap (λ n. (behind context n).behind_if) (simple_name Keep [] no_test i is)
-no_if_behind_action context discard i is = ap (λ n. (behind context n).behind_if) (simple_name Discard [] no_test i is)
-no_if_behind_action context stop i is = ap (λ n. (behind context n).behind_if) (simple_name Stop [] no_test i is)
-no_if_behind_action context (choice branches) i is = absurd is
+no_if_after_action : (context : Context) (f : CommandForm) (i : InvocationTree) → IsAction f i → (following context (name_of (simple i))).after_if ≡ false
+no_if_after_action context keep i is = ap (λ n. (following context n).after_if) (simple_name Keep [] no_test i is)
+no_if_after_action context discard i is = ap (λ n. (following context n).after_if) (simple_name Discard [] no_test i is)
+no_if_after_action context stop i is = ap (λ n. (following context n).after_if) (simple_name Stop [] no_test i is)
+no_if_after_action context (choice branches) i is = absurd is
 
--- what a command adds, in front of the form of the commands behind it
+-- what a command adds, before the form of the commands after it
 pub record Adds (context : Context) (tree : CommandTree) (rest : CommandsTree) (old new : Sequence) (more : BranchForms) (others : CommandForms) : Type 0 where
   pub branches : BranchForms
   pub forms : CommandForms
-  pub begins : context.behind_if ≡ false → branches ≡ no_branch
+  pub begins : context.after_if ≡ false → branches ≡ no_branch
   pub are : AreForms (then tree rest) branches forms
   pub same : joined new more others ≡ joined old branches forms
 
-module _ (context : Context) (rest : CommandsTree) (old new : Sequence) (open_as : is_open old ≡ context.behind_if) where
-  pub opened : (tree : CommandTree) (part : Part) → IsPart context tree part → Pushed old part new → is_open new ≡ (behind context (name_of tree)).behind_if
-  opened (simple i) Nothing is added = added.closed ∙ sym (ap (λ n. (behind context n).behind_if) (simple_name Require is.args is.tests i is.is))
-  opened (simple i) (Action c) is added = added.closed ∙ sym (no_if_behind_action context (command_form c) i is)
-  opened (block i cs) (First b) is added = added.0 ∙ sym (ap (λ n. (behind context n).behind_if) (block_name If [] (one_test is.guard) i cs is.is))
-  opened (block i cs) (Next b) is added = (added (open_as ∙ is.0)).0 ∙ sym (ap (λ n. (behind context n).behind_if) (block_name Elsif [] (one_test is.1.guard) i cs is.1.is))
-  opened (block i cs) (Last body) is added = added.0 ∙ sym (ap (λ n. (behind context n).behind_if) (block_name Else [] no_test i cs is.1.0))
+module _ (context : Context) (rest : CommandsTree) (old new : Sequence) (open_as : is_open old ≡ context.after_if) where
+  pub opened : (tree : CommandTree) (part : Part) → IsPart context tree part → Pushed old part new → is_open new ≡ (following context (name_of tree)).after_if
+  opened (simple i) Nothing is added = added.closed ∙ sym (ap (λ n. (following context n).after_if) (simple_name Require is.args is.tests i is.is))
+  opened (simple i) (Action c) is added = added.closed ∙ sym (no_if_after_action context (command_form c) i is)
+  opened (block i cs) (First b) is added = added.0 ∙ sym (ap (λ n. (following context n).after_if) (block_name If [] (one_test is.guard) i cs is.is))
+  opened (block i cs) (Next b) is added = (added (open_as ∙ is.0)).0 ∙ sym (ap (λ n. (following context n).after_if) (block_name Elsif [] (one_test is.1.guard) i cs is.1.is))
+  opened (block i cs) (Last body) is added = added.0 ∙ sym (ap (λ n. (following context n).after_if) (block_name Else [] no_test i cs is.1.0))
   opened (simple i) (First b) is added = absurd is
   opened (simple i) (Next b) is added = absurd is
   opened (simple i) (Last body) is added = absurd is
@@ -82,7 +82,7 @@ module _ (context : Context) (rest : CommandsTree) (old new : Sequence) (open_as
   adds (block i cs) (Next b) is added more others begins h = record {
     branches = branch (test_form b.test) (commands_form b.block.items) more;
     forms = others;
-    begins = λ no. absurd (both_ways context.behind_if no is.0);
+    begins = λ no. absurd (both_ways context.after_if no is.0);
     are = inr (inl (record { f = test_form b.test; body = commands_form b.block.items; more = more; is = is.1; same = refl; rest = h }));
     same = (added (open_as ∙ is.0)).1 more others;
   }
@@ -90,7 +90,7 @@ module _ (context : Context) (rest : CommandsTree) (old new : Sequence) (open_as
       let none = begins added.0 in record {
         branches = otherwise (commands_form body.items);
         forms = others;
-        begins = λ no. absurd (both_ways context.behind_if no is.0);
+        begins = λ no. absurd (both_ways context.after_if no is.0);
         are = inr (inr (record { body = commands_form body.items; is = is.1.0; block = is.1.1; same = refl; rest = subst (λ m. AreForms rest m others) none h }));
         same = ap (λ m. joined new m others) none ∙ added.1 others;
       }
@@ -103,8 +103,8 @@ module _ (context : Context) (rest : CommandsTree) (old new : Sequence) (open_as
 -- the commands before the index are checked
 pub record AreCheckedUpTo (trees : List Tree) (start : Context) (i : ℕ) (context : Context) (s : Sequence) : Type 0 where
   pub faultless : first_fault (commands_visits context (commands_tree (drop i trees))) ≡ first_fault (commands_visits start (commands_tree trees))
-  pub open_as : is_open s ≡ context.behind_if
-  pub forms : (more : BranchForms) (others : CommandForms) → (context.behind_if ≡ false → more ≡ no_branch) → AreForms (commands_tree (drop i trees)) more others
+  pub open_as : is_open s ≡ context.after_if
+  pub forms : (more : BranchForms) (others : CommandForms) → (context.after_if ≡ false → more ≡ no_branch) → AreForms (commands_tree (drop i trees)) more others
       → AreForms (commands_tree trees) no_branch (joined s more others)
 
 module _ (trees : List Tree) (start : Context) (i : ℕ) (x : Tree) (lt : i < length trees) (is : x ≡ get_or trees i x) (context : Context) (s : Sequence) (so_far : AreCheckedUpTo trees start i context s) where
@@ -114,15 +114,15 @@ module _ (trees : List Tree) (start : Context) (i : ℕ) (x : Tree) (lt : i < le
   pub part_refused : (e : CheckError) → IsRefusal (first_fault (command_visits context (command_tree x))) e → IsRefusal (first_fault (commands_visits start (commands_tree trees))) e
   part_refused e h =
       subst (λ o. IsRefusal o e) (sym (ap (λ cs. first_fault (commands_visits context cs)) here) ∙ so_far.faultless)
-      (refused_before (command_visits context (command_tree x)) (commands_visits (behind context (name_of (command_tree x))) (commands_tree (drop (i + 1) trees))) e h)
+      (refused_before (command_visits context (command_tree x)) (commands_visits (following context (name_of (command_tree x))) (commands_tree (drop (i + 1) trees))) e h)
 
   pub part_more : (part : Part) (new : Context) (t : Sequence) → first_fault (command_visits context (command_tree x)) ≡ None → IsPart context (command_tree x) part
-      → new ≡ behind context (name_of (command_tree x)) → Pushed s part t → AreCheckedUpTo trees start (i + 1) new t
+      → new ≡ following context (name_of (command_tree x)) → Pushed s part t → AreCheckedUpTo trees start (i + 1) new t
   part_more part new t none is_part after pushed =
       let rest = commands_tree (drop (i + 1) trees) in
-      let open_after = opened context rest s t so_far.open_as (command_tree x) part is_part pushed ∙ ap (λ (k : Context). k.behind_if) (sym after) in record {
+      let open_after = opened context rest s t so_far.open_as (command_tree x) part is_part pushed ∙ ap (λ (k : Context). k.after_if) (sym after) in record {
         faultless = ap (λ k. first_fault (commands_visits k rest)) after
-            ∙ sym (goes_on (command_visits context (command_tree x)) (commands_visits (behind context (name_of (command_tree x))) rest) none)
+            ∙ sym (goes_on (command_visits context (command_tree x)) (commands_visits (following context (name_of (command_tree x))) rest) none)
             ∙ sym (ap (λ cs. first_fault (commands_visits context cs)) here) ∙ so_far.faultless;
         open_as = open_after;
         forms = λ more others begins h.
@@ -131,7 +131,7 @@ module _ (trees : List Tree) (start : Context) (i : ℕ) (x : Tree) (lt : i < le
             (so_far.forms a.branches a.forms a.begins (subst (λ cs. AreForms cs a.branches a.forms) (sym here) a.are));
       }
 
-pub parts_begin : (trees : List Tree) (start : Context) (s : Sequence) → start.behind_if ≡ false → s.commands.items ≡ [] → s.branches.items ≡ [] → AreCheckedUpTo trees start 0 start s
+pub parts_begin : (trees : List Tree) (start : Context) (s : Sequence) → start.after_if ≡ false → s.commands.items ≡ [] → s.branches.items ≡ [] → AreCheckedUpTo trees start 0 start s
 parts_begin trees start s first commands branches = record {
   faultless = refl;
   open_as = ap has_branch branches ∙ sym first;

@@ -54,7 +54,7 @@ closed old new branches last are some more none = record {
       ∙ ap (λ (bs : Vec Branch). onto (map command_form old.commands.items) (choice_onto bs.items (else_form last) others)) are;
 }
 
--- a command behind a choice that is closed
+-- a command after a choice that is closed
 pub added : (old shut new : Sequence) (c : Command) → Closed old no_branch shut → new.commands.items ≡ shut.commands.items ++ c ∷ [] → new.branches.items ≡ shut.branches.items
     → Added old (λ others. command (command_form c) others) new
 added old shut new c is more same = record {
@@ -66,7 +66,7 @@ added old shut new c is more same = record {
       ∙ is.same (command (command_form c) others);
 }
 
--- a branch behind another
+-- a branch after another
 pub branch_added : (old new : Sequence) (b : Branch) → new.commands ≡ old.commands → new.branches.items ≡ old.branches.items ++ b ∷ [] → is_open old ≡ true
     → (is_open new ≡ true) × ((more : BranchForms) (others : CommandForms) → joined new more others ≡ joined old (branch (test_form b.test) (commands_form b.block.items) more) others)
 branch_added old new b same more_branches is_open_before = (

@@ -21,7 +21,7 @@ use Rattle.sieve_check.specs.TypedView.{test_form, tests_of}
 use Rattle.sieve_check.proofs.Forms.{form_all_of, form_any_of}
 use Rattle.sieve_check.proofs.Visits.{refused_first, refused_next, refused_before, neither, faultless_both, goes_on, split_at}
 
--- the trees of a list of tests behind its first
+-- the trees of a list of tests after its first
 abbrev pub others_of : List Invocation → MoreTests
 others_of list = more_tests_of (map invocation_tree list)
 
@@ -88,19 +88,19 @@ tests_faultless i head t ts is first second third =
 module _ (i : InvocationTree) (head : Head) (t : InvocationTree) (ts : MoreTests) (is : i ≡ head_tree head (test_list t ts))
     (junction : Junction) (first : Box Test) (others : Vec Test)
     (itself : (refusal_of (test_visit head (test_list t ts)) ≡ None) × IsTest (junction_name junction) [] (test_list t ts) (head_tree head (test_list t ts)))
-    (front : (first_fault (test_visits t) ≡ None) × IsTestForm (test_form first.value) t)
+    (prefix : (first_fault (test_visits t) ≡ None) × IsTestForm (test_form first.value) t)
     (rest : (first_fault (more_visits ts) ≡ None) × AreTestForms (tests_of (map test_form others.items)) ts) where
   named : (name : TestName) → junction_name junction ≡ name → IsTest name [] (test_list t ts) i
   named name same = subst (λ n. IsTest n [] (test_list t ts) i) same (subst (λ u. IsTest (junction_name junction) [] (test_list t ts) u) (sym is) itself.1)
 
   pub all_found : junction ≡ All → (first_fault (test_visits i) ≡ None) × IsTestForm (test_form (AllOf first others)) i
   all_found all = (
-    tests_faultless i head t ts is itself.0 front.0 rest.0,
-    subst (λ f. IsTestForm f i) (sym (form_all_of first others)) (t, (ts, (named names.AllOf (ap junction_name all), front.1, rest.1))),
+    tests_faultless i head t ts is itself.0 prefix.0 rest.0,
+    subst (λ f. IsTestForm f i) (sym (form_all_of first others)) (t, (ts, (named names.AllOf (ap junction_name all), prefix.1, rest.1))),
   )
 
   pub any_found : junction ≡ Any → (first_fault (test_visits i) ≡ None) × IsTestForm (test_form (AnyOf first others)) i
   any_found any = (
-    tests_faultless i head t ts is itself.0 front.0 rest.0,
-    subst (λ f. IsTestForm f i) (sym (form_any_of first others)) (t, (ts, (named names.AnyOf (ap junction_name any), front.1, rest.1))),
+    tests_faultless i head t ts is itself.0 prefix.0 rest.0,
+    subst (λ f. IsTestForm f i) (sym (form_any_of first others)) (t, (ts, (named names.AnyOf (ap junction_name any), prefix.1, rest.1))),
   )

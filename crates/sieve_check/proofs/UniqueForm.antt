@@ -114,24 +114,24 @@ mutual
   begun_unique (block i b) rest below bs cs fs gs (inl h) (inl k) =
       let f = test_unique h.f k.f h.is.guard h.is.test (subst (IsTestForm k.f) (sym (same_guard If If h.is.guard k.is.guard i h.is.is k.is.is)) k.is.test) in
       let body = (forms_unique b no_branch no_branch h.body k.body h.is.block k.is.block).1 in
-      let behind = below h.more k.more h.others k.others h.rest k.rest in
-      let more = behind.0 in
-      let others = behind.1 in
+      let following = below h.more k.more h.others k.others h.rest k.rest in
+      let more = following.0 in
+      let others = following.1 in
       let one = h.same in
       let other = k.same in
       (h.begins ∙ sym k.begins, cc)
   begun_unique (block i b) rest below bs cs fs gs (inr (inl h)) (inr (inl k)) =
       let f = test_unique h.f k.f h.is.guard h.is.test (subst (IsTestForm k.f) (sym (same_guard Elsif Elsif h.is.guard k.is.guard i h.is.is k.is.is)) k.is.test) in
       let body = (forms_unique b no_branch no_branch h.body k.body h.is.block k.is.block).1 in
-      let behind = below h.more k.more fs gs h.rest k.rest in
-      let more = behind.0 in
+      let following = below h.more k.more fs gs h.rest k.rest in
+      let more = following.0 in
       let one = h.same in
       let other = k.same in
-      (cc, behind.1)
+      (cc, following.1)
   begun_unique (block i b) rest below bs cs fs gs (inr (inr h)) (inr (inr k)) =
       let body = (forms_unique b no_branch no_branch h.body k.body h.block k.block).1 in
-      let behind = below no_branch no_branch fs gs h.rest k.rest in
-      (h.same ∙ ap otherwise body ∙ sym k.same, behind.1)
+      let following = below no_branch no_branch fs gs h.rest k.rest in
+      (h.same ∙ ap otherwise body ∙ sym k.same, following.1)
   begun_unique (block i b) rest below bs cs fs gs (inl h) (inr (inl k)) = absurd (let s = same_name If Elsif _ _ _ _ i h.is.is k.is.is in cc)
   begun_unique (block i b) rest below bs cs fs gs (inl h) (inr (inr k)) = absurd (let s = same_name If Else _ _ _ _ i h.is.is k.is in cc)
   begun_unique (block i b) rest below bs cs fs gs (inr (inl h)) (inl k) = absurd (let s = same_name Elsif If _ _ _ _ i h.is.is k.is.is in cc)

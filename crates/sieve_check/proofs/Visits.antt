@@ -34,13 +34,13 @@ neither a b first second = ap (λ o. option_or o b) first ∙ second
 pub refused_before : (vs ws : List Visit) (e : CheckError) → IsRefusal (first_fault vs) e → IsRefusal (first_fault (vs ++ ws)) e
 refused_before vs ws e h = subst (λ o. IsRefusal o e) (sym (first_fault-append vs ws)) (refused_first (first_fault vs) (first_fault ws) e h)
 
-pub refused_behind : (vs ws : List Visit) (e : CheckError) → first_fault vs ≡ None → IsRefusal (first_fault ws) e → IsRefusal (first_fault (vs ++ ws)) e
-refused_behind vs ws e none h = subst (λ o. IsRefusal o e) (sym (first_fault-append vs ws)) (refused_next (first_fault vs) (first_fault ws) e none h)
+pub refused_after : (vs ws : List Visit) (e : CheckError) → first_fault vs ≡ None → IsRefusal (first_fault ws) e → IsRefusal (first_fault (vs ++ ws)) e
+refused_after vs ws e none h = subst (λ o. IsRefusal o e) (sym (first_fault-append vs ws)) (refused_next (first_fault vs) (first_fault ws) e none h)
 
 pub faultless_both : (vs ws : List Visit) → first_fault vs ≡ None → first_fault ws ≡ None → first_fault (vs ++ ws) ≡ None
 faultless_both vs ws first second = first_fault-append vs ws ∙ neither (first_fault vs) (first_fault ws) first second
 
--- behind visits without a fault
+-- after visits without a fault
 pub goes_on : (vs ws : List Visit) → first_fault vs ≡ None → first_fault (vs ++ ws) ≡ first_fault ws
 goes_on vs ws none = first_fault-append vs ws ∙ ap (λ o. option_or o (first_fault ws)) none
 

@@ -65,11 +65,11 @@ abbrev pub opening_name : Opening → CommandName
 opening_name First = If
 opening_name Next = Elsif
 
--- an elsif stands directly behind an if or elsif
+-- an elsif stands directly after an if or elsif
 abbrev pub MayOpen : Context → Opening → Type 0
 MayOpen context First = Unit {0}
-MayOpen context Next = context.behind_if ≡ true
+MayOpen context Next = context.after_if ≡ true
 
 -- before the first command of a script, which may be a require, or of a block
 abbrev pub first_context : Bool → Context
-first_context takes_require = record { takes_require = takes_require; behind_if = false }
+first_context takes_require = record { takes_require = takes_require; after_if = false }

@@ -24,7 +24,7 @@ abbrev mutual
   IsTestForm (any_of f fs) i = (t : InvocationTree) × ((ts : MoreTests) × (IsTest AnyOf [] (test_list t ts) i × IsTestForm f t × AreTestForms fs ts))
   IsTestForm (size order n) i = (tag : List ℕ) × (IsTest Size (label tag ∷ amount n ∷ []) no_test i × (order_tagged tag ≡ Some order))
 
-  -- the tests of a list behind its first are written so
+  -- the tests of a list after its first are written so
   pub AreTestForms : TestForms → MoreTests → Type 0
   AreTestForms no_other ts = ts ≡ last
   AreTestForms (test f fs) others = (t : InvocationTree) × ((ts : MoreTests) × ((others ≡ next t ts) × IsTestForm f t × AreTestForms fs ts))
@@ -57,7 +57,7 @@ pub record IsBranch (name : CommandName) (i : InvocationTree) (Block : CommandFo
   pub block : Block body
 
 -- Commands are read in two parts: the branches with which they go on with an if that stands before them, its elsifs and its else,
--- none where they begin with neither; then the forms of the commands behind these. Below, Rest says this of the commands behind
+-- none where they begin with neither; then the forms of the commands after these. Below, Rest says this of the commands after
 -- the one at hand, and Block says what form its block has.
 
 -- a require gives nothing
@@ -75,7 +75,7 @@ pub record GivesAction (i : InvocationTree) (Rest : BranchForms → CommandForms
   pub same : forms ≡ command action others
   pub rest : Rest no_branch others
 
--- an if gives a choice, of its own branch and of those behind it
+-- an if gives a choice, of its own branch and of those after it
 pub record GivesChoice (i : InvocationTree) (Block : CommandForms → Type 0) (Rest : BranchForms → CommandForms → Type 0) (branches : BranchForms) (forms : CommandForms) : Type 0 where
   pub f : TestForm
   pub body : CommandForms
@@ -104,7 +104,7 @@ pub record GivesLast (i : InvocationTree) (Block : CommandForms → Type 0) (Res
   pub rest : Rest no_branch forms
 
 abbrev mutual
-  -- a command, and what stands behind it
+  -- a command, and what stands after it
   pub Begins : CommandTree → (BranchForms → CommandForms → Type 0) → BranchForms → CommandForms → Type 0
   Begins (simple i) Rest branches forms = GivesNothing i Rest branches forms ⊎ GivesAction i Rest branches forms
   Begins (block i cs) Rest branches forms =

@@ -14,6 +14,6 @@ abbrev pub IsPart : Context → CommandTree → Part → Type 0
 IsPart context (simple i) Nothing = IsRequire i
 IsPart context (simple i) (Action c) = IsAction (command_form c) i
 IsPart context (block i cs) (First b) = IsBranch If i (λ body. AreForms cs no_branch body) (test_form b.test) (commands_form b.block.items)
-IsPart context (block i cs) (Next b) = (context.behind_if ≡ true) × IsBranch Elsif i (λ body. AreForms cs no_branch body) (test_form b.test) (commands_form b.block.items)
-IsPart context (block i cs) (Last body) = (context.behind_if ≡ true) × (IsCommand Else [] no_test i × AreForms cs no_branch (commands_form body.items))
+IsPart context (block i cs) (Next b) = (context.after_if ≡ true) × IsBranch Elsif i (λ body. AreForms cs no_branch body) (test_form b.test) (commands_form b.block.items)
+IsPart context (block i cs) (Last body) = (context.after_if ≡ true) × (IsCommand Else [] no_test i × AreForms cs no_branch (commands_form body.items))
 IsPart context _ _ = ⊥

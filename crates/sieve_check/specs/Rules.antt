@@ -2,6 +2,7 @@
 use Rattle.std.specs.Prelude.{ℕ, Bool, true, false, ◌&&◌, not, nat_lt, List, [], ◌∷◌, ◌++◌, length, flat_map, Option, Some, None, is_some, option_map}
 use Rattle.std.specs.List.{list_any}
 use Rattle.std.specs.Option.{option_or}
+use Rattle.octets.specs.Limits.{max_string}
 use Rattle.sieve_parser.specs.Tree.{ArgumentTree, text, text_list, amount, label, InvocationTree, invocation, TestsTree, no_test, one_test, test_list, MoreTests, last, next, CommandTree, simple, block, CommandsTree, no_command, command}
 use Rattle.sieve_check.specs.declared.context.Context.{Context}
 use Rattle.sieve_check.specs.declared.error.CheckError.{CheckError}
@@ -34,7 +35,7 @@ command_needs name = None
 abbrev pub test_needs : TestName → Option (List ℕ)
 test_needs name = None
 
--- the arguments that each command takes, the tests behind them, and its end
+-- the arguments that each command takes, the tests after them, and its end
 abbrev pub is_command_well_formed : CommandName → List ArgumentTree → TestsTree → Ending → Bool
 is_command_well_formed Require (text s ∷ []) no_test semicolon = true
 is_command_well_formed Require (text_list s ss ∷ []) no_test semicolon = true
@@ -46,7 +47,7 @@ is_command_well_formed Keep [] no_test semicolon = true
 is_command_well_formed Discard [] no_test semicolon = true
 is_command_well_formed _ _ _ _ = false
 
--- the arguments that each test takes, and the tests behind them
+-- the arguments that each test takes, and the tests after them
 abbrev pub is_test_well_formed : TestName → List ArgumentTree → TestsTree → Bool
 is_test_well_formed (Constant b) [] no_test = true
 is_test_well_formed Not [] (one_test t) = true
@@ -55,11 +56,11 @@ is_test_well_formed AnyOf [] (test_list t ts) = true
 is_test_well_formed Size (label tag ∷ amount n ∷ []) no_test = is_some (order_tagged tag)
 is_test_well_formed _ _ _ = false
 
--- where each command may stand: a require at the top level behind nothing else, an elsif and an else directly behind an if or elsif
+-- where each command may stand: a require at the top level after nothing else, an elsif and an else directly after an if or elsif
 abbrev pub may_stand : Context → CommandName → Bool
 may_stand context Require = context.takes_require
-may_stand context Elsif = context.behind_if
-may_stand context Else = context.behind_if
+may_stand context Elsif = context.after_if
+may_stand context Else = context.after_if
 may_stand context _ = true
 
 -- a require names something else than a capability, wherever it stands and however it is written
@@ -69,7 +70,7 @@ has_unknown_capability _ args = false
 
 -- a string is longer than the limit
 abbrev pub has_long_string : List ArgumentTree → Bool
-has_long_string args = list_any (λ s. nat_lt 16384 (length s)) (strings_of args)
+has_long_string args = list_any (λ s. nat_lt max_string (length s)) (strings_of args)
 
 -- of faults in the order of their numbers, the first that is there
 abbrev pub least : List (Bool × Fault) → Option Fault
@@ -132,18 +133,18 @@ head_visits context (invocation n name args tests) ending =
 
 -- before the first command of a script
 abbrev pub at_start : Context
-at_start = record { takes_require = true; behind_if = false }
+at_start = record { takes_require = true; after_if = false }
 
 -- before the first command of a block
 abbrev pub in_block : Context
-in_block = record { takes_require = false; behind_if = false }
+in_block = record { takes_require = false; after_if = false }
 
--- behind a command that is known by that name
-abbrev pub behind : Context → Option CommandName → Context
-behind context (Some Require) = record { takes_require = context.takes_require; behind_if = false }
-behind context (Some If) = record { takes_require = false; behind_if = true }
-behind context (Some Elsif) = record { takes_require = false; behind_if = true }
-behind context _ = record { takes_require = false; behind_if = false }
+-- after a command that is known by that name
+abbrev pub following : Context → Option CommandName → Context
+following context (Some Require) = record { takes_require = context.takes_require; after_if = false }
+following context (Some If) = record { takes_require = false; after_if = true }
+following context (Some Elsif) = record { takes_require = false; after_if = true }
+following context _ = record { takes_require = false; after_if = false }
 
 abbrev pub name_of : CommandTree → Option CommandName
 name_of (simple (invocation n name args tests)) = command_named name
@@ -158,7 +159,7 @@ abbrev mutual
   -- the visits of commands, in order
   pub commands_visits : Context → CommandsTree → List Visit
   commands_visits context no_command = []
-  commands_visits context (command c cs) = command_visits context c ++ commands_visits (behind context (name_of c)) cs
+  commands_visits context (command c cs) = command_visits context c ++ commands_visits (following context (name_of c)) cs
 
 -- what a visit is refused as, where there is a fault
 abbrev pub refusal_of : Visit → Option CheckError

@@ -1,5 +1,6 @@
 // Scripts that were checked.
 ghost use Rattle.std.specs.Prelude.{◌≡◌, ◌≤◌, None};
+ghost use Rattle.octets.specs.Limits.{max_script};
 ghost use Rattle.sieve_parser.specs.Scripts.{IsTree};
 ghost use Rattle.sieve_parser.specs.View.{commands_tree};
 ghost use Rattle.sieve_check.specs.Extent.{commands_extent};
@@ -60,7 +61,7 @@ impl Checked {
     pub fn commands(&self) -> &[Command]
         ensures value { result.now ≡ self.now.commands }
         ensures form { IsFormOf (commands_tree self.now.script) (commands_form self.now.commands) }
-        ensures extent { commands_extent (commands_form self.now.commands) ≤ 65536 }
+        ensures extent { commands_extent (commands_form self.now.commands) ≤ max_script }
     {
         &self.commands
     }

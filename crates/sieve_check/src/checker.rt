@@ -20,7 +20,7 @@ use crate::typed::{Branch, Command};
 use sieve_parser::{Command as Tree, Head, Invocation, Script};
 use std::alloc::Global;
 
-// A command that ends in a semicolon, and behind whose arguments no test stands.
+// A command that ends in a semicolon, and after whose arguments no test stands.
 fn plain_command(head: &Head, context: Context) -> Result<Part, CheckError>
     ensures { Answers (refusal_of (command_visit context head.now no_test semicolon)) result (λ part. IsPart context (simple (head_tree head.now no_test)) part) }
 {
@@ -89,12 +89,12 @@ fn commands(alloc: Global, trees: &[Tree], takes_require: bool) -> Result<Vec<Co
 {
     let mut context = Context {
         takes_require,
-        behind_if: false,
+        after_if: false,
     };
     let mut sequence = Sequence::new(alloc);
     'trees: for tree in trees {
         let part = part(alloc, tree, context)?;
-        context = context.behind(&part);
+        context = context.following(&part);
         sequence.push(alloc, part)?;
     }
     Ok(sequence.finish(alloc)?)

@@ -4,34 +4,34 @@ use crate::sequence::Part;
 /// Where a command stands.
 #[derive(Clone, Copy, Debug, PartialEq, Eq)]
 pub struct Context {
-    /// At the top level, and behind no other command than `require` (RFC 5228, section 3.2).
+    /// At the top level, and after no other command than `require` (RFC 5228, section 3.2).
     pub takes_require: bool,
-    /// Directly behind an `if` or `elsif` of the same block (RFC 5228, section 3.1).
-    pub behind_if: bool,
+    /// Directly after an `if` or `elsif` of the same block (RFC 5228, section 3.1).
+    pub after_if: bool,
 }
 
 impl Context {
     ghost use Rattle.std.specs.Prelude.{◌≡◌};
     ghost use Rattle.sieve_parser.specs.Tree.{CommandTree};
     ghost use Rattle.sieve_check.specs.Parts.{IsPart};
-    ghost use Rattle.sieve_check.specs.Rules.{behind, name_of};
+    ghost use Rattle.sieve_check.specs.Rules.{following, name_of};
 
     /// What a command before it makes of the context.
-    pub fn behind(self, part: &Part) -> Context
-        ensures { (tree : CommandTree) → IsPart self tree part.now → result ≡ behind self (name_of tree) }
+    pub fn following(self, part: &Part) -> Context
+        ensures { (tree : CommandTree) → IsPart self tree part.now → result ≡ following self (name_of tree) }
     {
         match part {
             Part::Nothing => Context {
                 takes_require: self.takes_require,
-                behind_if: false,
+                after_if: false,
             },
             Part::First(_) | Part::Next(_) => Context {
                 takes_require: false,
-                behind_if: true,
+                after_if: true,
             },
             Part::Action(_) | Part::Last(_) => Context {
                 takes_require: false,
-                behind_if: false,
+                after_if: false,
             },
         }
     }

@@ -8,7 +8,7 @@ use thiserror::Error;
 /// Why a script isn't accepted. A place is the number of an identifier's token.
 #[derive(Debug, Drop, Error)]
 pub enum CheckError {
-    /// A growth was refused.
+    /// An allocation was refused.
     #[error("refused 1 Memory")]
     Memory,
     /// A command or test of this name isn't known (RFC 5228, section 2.10.5).

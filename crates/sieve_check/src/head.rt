@@ -116,16 +116,16 @@ pub fn require(head: &Head, context: Context) -> Result<(), CheckError>
     }
 }
 
-// Nothing, where this is an `else` with its block behind it (RFC 5228, section 3.1).
+// Nothing, where this is an `else` with its block after it (RFC 5228, section 3.1).
 pub fn last_branch(head: &Head, context: Context) -> Result<(), CheckError>
-    ensures { Answers (refusal_of (command_visit context head.now no_test braces)) result (λ _. (context.behind_if ≡ true) × IsCommand Else [] no_test (head_tree head.now no_test)) }
+    ensures { Answers (refusal_of (command_visit context head.now no_test braces)) result (λ _. (context.after_if ≡ true) × IsCommand Else [] no_test (head_tree head.now no_test)) }
 {
     let Some(name) = command_named(head.name.as_slice()) else {
         return Err(fault_of_wrong(head));
     };
     match name {
         CommandName::Else => {
-            if context.behind_if {
+            if context.after_if {
                 no_arguments(head)
             } else {
                 Err(CheckError::BadArguments { place: head.token })
@@ -140,7 +140,7 @@ pub fn last_branch(head: &Head, context: Context) -> Result<(), CheckError>
     }
 }
 
-// Which branch this opens, with one test and a block behind it (RFC 5228, section 3.1).
+// Which branch this opens, with one test and a block after it (RFC 5228, section 3.1).
 pub fn opened(head: &Head, context: Context) -> Result<Opening, CheckError>
     ensures { (t : InvocationTree) → Answers (refusal_of (command_visit context head.now (one_test t) braces)) result (λ opening. MayOpen context opening × IsCommand (opening_name opening) [] (one_test t) (head_tree head.now (one_test t))) }
 {
@@ -150,7 +150,7 @@ pub fn opened(head: &Head, context: Context) -> Result<Opening, CheckError>
     let opening = match name {
         CommandName::If => Opening::First,
         CommandName::Elsif => {
-            if !context.behind_if {
+            if !context.after_if {
                 return Err(CheckError::BadArguments { place: head.token });
             }
             Opening::Next

@@ -43,7 +43,7 @@ fn size_of(arguments: &[Argument]) -> Option<(Order, u64)>
     }
 }
 
-// A test behind whose arguments no test stands.
+// A test after whose arguments no test stands.
 fn plain_test(head: &Head) -> Result<Test, CheckError>
     ensures { Answers (refusal_of (test_visit head.now no_test)) result (λ t. IsTestForm (test_form t) (head_tree head.now no_test)) }
 {
@@ -73,7 +73,7 @@ enum Junction {
     Any,
 }
 
-// Nothing, where one test may stand behind the arguments.
+// Nothing, where one test may stand after the arguments.
 fn negation(head: &Head) -> Result<(), CheckError>
     ensures { (t : InvocationTree) → Answers (refusal_of (test_visit head.now (one_test t))) result (λ _. IsTest Not [] (one_test t) (head_tree head.now (one_test t))) }
 {
@@ -89,7 +89,7 @@ fn negation(head: &Head) -> Result<(), CheckError>
     }
 }
 
-// How the tests in round brackets behind the arguments are combined.
+// How the tests in round brackets after the arguments are combined.
 fn combining(head: &Head) -> Result<Junction, CheckError>
     ensures { (t : InvocationTree) (ts : MoreTests) → Answers (refusal_of (test_visit head.now (test_list t ts))) result (λ junction. IsTest (junction_name junction) [] (test_list t ts) (head_tree head.now (test_list t ts))) }
 {
@@ -108,7 +108,7 @@ fn combining(head: &Head) -> Result<Junction, CheckError>
     Ok(junction)
 }
 
-// A test with the tests behind it.
+// A test with the tests after it.
 #[cycle(tests)]
 pub fn test(alloc: Global, invocation: &Invocation) -> Result<Test, CheckError>
     ensures { Answers (first_fault (test_visits (invocation_tree invocation.now))) result (λ t. IsTestForm (test_form t) (invocation_tree invocation.now)) }
@@ -133,7 +133,7 @@ pub fn test(alloc: Global, invocation: &Invocation) -> Result<Test, CheckError>
     }
 }
 
-// The tests of a list behind its first.
+// The tests of a list after its first.
 #[cycle(tests)]
 fn tests(alloc: Global, list: &[Invocation]) -> Result<Vec<Test>, CheckError>
     ensures { Answers (first_fault (more_visits (more_tests_of (map invocation_tree list.now)))) result (λ ts. AreTestForms (tests_of (map test_form ts.items)) (more_tests_of (map invocation_tree list.now))) }

@@ -16,9 +16,9 @@ pub enum Test {
     Constant(bool),
     /// `not`.
     Not(Box<Test>),
-    /// `allof`: the first test, and those behind it.
+    /// `allof`: the first test, and those after it.
     AllOf(Box<Test>, Vec<Test>),
-    /// `anyof`: the first test, and those behind it.
+    /// `anyof`: the first test, and those after it.
     AnyOf(Box<Test>, Vec<Test>),
     /// `size`.
     Size(Order, u64),
@@ -42,6 +42,6 @@ pub enum Command {
     Discard,
     /// `stop`.
     Stop,
-    /// `if` and each `elsif` behind it, as tests with their blocks; and the block of `else`, if there is one.
+    /// `if` and each `elsif` after it, as tests with their blocks; and the block of `else`, if there is one.
     If(Vec<Branch>, Option<Vec<Command>>),
 }

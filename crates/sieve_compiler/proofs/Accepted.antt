@@ -14,7 +14,7 @@ use Rattle.bytecode_verifier.specs.Acceptance.{IsAccepted}
 use Rattle.bytecode_verifier.specs.Loops.{loops, same_loops}
 use Rattle.bytecode_verifier.specs.Places.{holds_at}
 use Rattle.bytecode_verifier.specs.Rules.{misses_index, is_halt, breaks_form, breaks_end, breaks_stack}
-use Rattle.bytecode_verifier.specs.Shape.{Entries, is_jump, is_target, shape_behind, shape_at}
+use Rattle.bytecode_verifier.specs.Shape.{Entries, is_jump, is_target, shape_following, shape_at}
 use Rattle.bytecode_verifier.proofs.Ends.{nowhere, past_stack}
 use Rattle.bytecode_verifier.proofs.Loopless.{needs_no_part, misses_no_loop, no_loops}
 use Rattle.sieve_check.specs.Typed.{CommandForms}
@@ -45,7 +45,7 @@ abbrev left : Bool → Entries
 left true = Truth ∷ []
 left false = []
 
-shape_kept : (code : Code) (targeted : Bool) (o : Option Operation) (i : Instruction) → is_emitted o ≡ true → (targeted && takes o) ≡ false → shape_behind code targeted o i (left (takes o)) ≡ Some (left (pushes o))
+shape_kept : (code : Code) (targeted : Bool) (o : Option Operation) (i : Instruction) → is_emitted o ≡ true → (targeted && takes o) ≡ false → shape_following code targeted o i (left (takes o)) ≡ Some (left (pushes o))
 shape_kept code true (Some Halt) i h e = refl
 shape_kept code false (Some Halt) i h e = refl
 shape_kept code true (Some BoolOp) i h e = refl

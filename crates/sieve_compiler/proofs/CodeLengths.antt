@@ -17,9 +17,9 @@ module _ (table : List ℕ) where
     test_code_length (any_of t ts) place asked target = length_two _ _ _ _ (test_code_length t place _ _) (tests_code_length ts (place + test_length t) _ _ _ target)
     test_code_length (size order number) place asked target = refl
 
-    pub tests_code_length : (ts : TestForms) (place : ℕ) (deciding asked : Bool) (behind target : ℕ) → length (tests_code table place ts deciding asked behind target) ≡ tests_length ts
-    tests_code_length no_test place deciding asked behind target = refl
-    tests_code_length (test t ts) place deciding asked behind target = length_two _ _ _ _ (test_code_length t place _ _) (tests_code_length ts (place + test_length t) deciding asked behind target)
+    pub tests_code_length : (ts : TestForms) (place : ℕ) (deciding asked : Bool) (following target : ℕ) → length (tests_code table place ts deciding asked following target) ≡ tests_length ts
+    tests_code_length no_test place deciding asked following target = refl
+    tests_code_length (test t ts) place deciding asked following target = length_two _ _ _ _ (test_code_length t place _ _) (tests_code_length ts (place + test_length t) deciding asked following target)
 
   pub leave_code_length : (bs : BranchForms) (end : ℕ) → length (leave_code bs end) ≡ leave_length bs
   leave_code_length no_branch end = refl

@@ -129,33 +129,33 @@ fits_push_size Under place small = fits_instruction Size 1 place (omega arith) (
 fits_simple : (i : Instruction) (asked : Bool) (target : ℕ) → Fits i → target < 2 ^ 32 → All Fits (i ∷ jump_if asked target ∷ [])
 fits_simple i asked target fits small = All-cons Fits i (jump_if asked target ∷ []) fits (one (jump_if asked target) (fits_jump_if asked target small))
 
-aim_within : (deciding asked : Bool) (ts : TestForms) (behind target : ℕ) → behind < 2 ^ 32 → target < 2 ^ 32 → aim_of deciding asked ts behind target < 2 ^ 32
-aim_within deciding asked no_test behind target b t = t
-aim_within true true (test u us) behind target b t = t
-aim_within false false (test u us) behind target b t = t
-aim_within true false (test u us) behind target b t = b
-aim_within false true (test u us) behind target b t = b
+aim_within : (deciding asked : Bool) (ts : TestForms) (following target : ℕ) → following < 2 ^ 32 → target < 2 ^ 32 → aim_of deciding asked ts following target < 2 ^ 32
+aim_within deciding asked no_test following target b t = t
+aim_within true true (test u us) following target b t = t
+aim_within false false (test u us) following target b t = t
+aim_within true false (test u us) following target b t = b
+aim_within false true (test u us) following target b t = b
 
 mutual
   fits_test : (table : List ℕ) (place : ℕ) (t : TestForm) (asked : Bool) (target : ℕ) → length table < 2 ^ 32 → place + test_length t < 2 ^ 32 → target < 2 ^ 32 → All Fits (test_code table place t asked target)
   fits_test table place (constant b) asked target few room small = fits_simple (push_bool b) asked target (fits_push_bool b) small
   fits_test table place (negation t) asked target few room small = fits_test table place t (not asked) target few room small
   fits_test table place (all_of t ts) asked target few room small =
-      let behind : ℕ = place + (test_length t + tests_length ts) in
-      All-append Fits _ _ (fits_test table place t (asked_of false asked ts) (aim_of false asked ts behind target) few (omega (arith, room)) (aim_within false asked ts behind target room small))
-      (fits_tests table (place + test_length t) ts false asked behind target few (omega (arith, room)) room small)
+      let following : ℕ = place + (test_length t + tests_length ts) in
+      All-append Fits _ _ (fits_test table place t (asked_of false asked ts) (aim_of false asked ts following target) few (omega (arith, room)) (aim_within false asked ts following target room small))
+      (fits_tests table (place + test_length t) ts false asked following target few (omega (arith, room)) room small)
   fits_test table place (any_of t ts) asked target few room small =
-      let behind : ℕ = place + (test_length t + tests_length ts) in
-      All-append Fits _ _ (fits_test table place t (asked_of true asked ts) (aim_of true asked ts behind target) few (omega (arith, room)) (aim_within true asked ts behind target room small))
-      (fits_tests table (place + test_length t) ts true asked behind target few (omega (arith, room)) room small)
+      let following : ℕ = place + (test_length t + tests_length ts) in
+      All-append Fits _ _ (fits_test table place t (asked_of true asked ts) (aim_of true asked ts following target) few (omega (arith, room)) (aim_within true asked ts following target room small))
+      (fits_tests table (place + test_length t) ts true asked following target few (omega (arith, room)) room small)
   fits_test table place (size order number) asked target few room small =
       fits_simple (push_size order (place_in table number)) asked target (fits_push_size order (place_in table number) (omega (arith, place_within table number, few))) small
 
-  fits_tests : (table : List ℕ) (place : ℕ) (ts : TestForms) (deciding asked : Bool) (behind target : ℕ) → length table < 2 ^ 32 → place + tests_length ts < 2 ^ 32 → behind < 2 ^ 32 → target < 2 ^ 32 → All Fits (tests_code table place ts deciding asked behind target)
-  fits_tests table place no_test deciding asked behind target few room b small = All-nil Fits
-  fits_tests table place (test t ts) deciding asked behind target few room b small =
-      All-append Fits _ _ (fits_test table place t (asked_of deciding asked ts) (aim_of deciding asked ts behind target) few (omega (arith, room)) (aim_within deciding asked ts behind target b small))
-      (fits_tests table (place + test_length t) ts deciding asked behind target few (omega (arith, room)) b small)
+  fits_tests : (table : List ℕ) (place : ℕ) (ts : TestForms) (deciding asked : Bool) (following target : ℕ) → length table < 2 ^ 32 → place + tests_length ts < 2 ^ 32 → following < 2 ^ 32 → target < 2 ^ 32 → All Fits (tests_code table place ts deciding asked following target)
+  fits_tests table place no_test deciding asked following target few room b small = All-nil Fits
+  fits_tests table place (test t ts) deciding asked following target few room b small =
+      All-append Fits _ _ (fits_test table place t (asked_of deciding asked ts) (aim_of deciding asked ts following target) few (omega (arith, room)) (aim_within deciding asked ts following target b small))
+      (fits_tests table (place + test_length t) ts deciding asked following target few (omega (arith, room)) b small)
 
 fits_leave : (bs : BranchForms) (end : ℕ) → end < 2 ^ 32 → All Fits (leave_code bs end)
 fits_leave no_branch end small = All-nil Fits

@@ -25,23 +25,23 @@ use Rattle.sieve_compiler.proofs.Table.{Has, has_left, has_right, has_itself, fo
 use Rattle.sieve_compiler.proofs.Sound.{branch_parts_of}
 use Rattle.sieve_compiler.proofs.Accepted.{halt_at, sound, loopless}
 
--- where code that was asked for a value stands behind it
+-- where code that was asked for a value stands after it
 abbrev lands : Bool → Bool → ℕ → ℕ → ℕ
-lands true true target behind = target
-lands false false target behind = target
-lands true false target behind = behind
-lands false true target behind = behind
+lands true true target following = target
+lands false false target following = target
+lands true false target following = following
+lands false true target following = following
 
 -- the value of a list of tests, from that of the one before the rest
 abbrev value : Mail → Bool → Bool → TestForms → Bool
 value mail false v ts = v && all_hold mail ts
 value mail true v ts = v || any_holds mail ts
 
-aim_lands : (deciding asked : Bool) (t : TestForm) (ts : TestForms) (behind target : ℕ) → aim_of deciding asked (test t ts) behind target ≡ lands deciding asked target behind
-aim_lands true true t ts behind target = refl
-aim_lands true false t ts behind target = refl
-aim_lands false true t ts behind target = refl
-aim_lands false false t ts behind target = refl
+aim_lands : (deciding asked : Bool) (t : TestForm) (ts : TestForms) (following target : ℕ) → aim_of deciding asked (test t ts) following target ≡ lands deciding asked target following
+aim_lands true true t ts following target = refl
+aim_lands true false t ts following target = refl
+aim_lands false true t ts following target = refl
+aim_lands false false t ts following target = refl
 
 module _ (script : CommandForms) (mail : Mail) where
   abbrev code : Code
@@ -53,7 +53,7 @@ module _ (script : CommandForms) (mail : Mail) where
   abbrev table : List ℕ
   table = code.numbers
 
-  -- at a place where nothing is on the stack, behind these effects
+  -- at a place where nothing is on the stack, after these effects
   abbrev at : ℕ → Effects → ℕ → State
   at place e charge = record (start code) { place = place; actions = e.actions; implicit_keep = e.implicit_keep; charge = charge }
 
@@ -119,13 +119,13 @@ module _ (script : CommandForms) (mail : Mail) where
       let same : suc (suc p) ≡ p + 2 = omega arith in
       (c + 1 + 1, (2, (holding b (suc p) e (c + 1), first, (at (lands b asked target (p + 2)) e (c + 1 + 1), subst (λ n. Goes (holding b (suc p) e (c + 1)) (at (lands b asked target n) e (c + 1 + 1))) same second, refl))))
 
-  turned : (b asked : Bool) (target behind : ℕ) → lands b (not asked) target behind ≡ lands (not b) asked target behind
-  turned true true target behind = refl
-  turned true false target behind = refl
-  turned false true target behind = refl
-  turned false false target behind = refl
+  turned : (b asked : Bool) (target following : ℕ) → lands b (not asked) target following ≡ lands (not b) asked target following
+  turned true true target following = refl
+  turned true false target following = refl
+  turned false true target following = refl
+  turned false false target following = refl
 
-  -- a test goes to its target where it is as asked, and on behind its code where it isn't
+  -- a test goes to its target where it is as asked, and on after its code where it isn't
   mutual
     test_run : (t : TestForm) (p : ℕ) (asked : Bool) (target : ℕ) (e : Effects) → Stands all p (test_code table p t asked target) → Has table (test_numbers t) → Comes p e (lands (holds mail t) asked target (p + test_length t)) e
     test_run (constant b) p asked target e h known = λ c.
@@ -135,38 +135,38 @@ module _ (script : CommandForms) (mail : Mail) where
     test_run (negation t) p asked target e h known =
         subst (λ q. Comes p e q e) (turned (holds mail t) asked target (p + test_length t)) (test_run t p (not asked) target e h known)
     test_run (all_of t ts) p asked target e h known =
-        let behind = p + (test_length t + tests_length ts) in
-        let same : (p + test_length t) + tests_length ts ≡ behind = omega arith in
+        let following = p + (test_length t + tests_length ts) in
+        let same : (p + test_length t) + tests_length ts ≡ following = omega arith in
         let first = test_run t p _ _ e (stands_left all p _ _ h) (has_left table (test_numbers t) (tests_numbers ts) known) in
         let there = stands_right all p (test_length t) _ _ (test_code_length table t p _ _) h in
-        let rest = tests_run ts (p + test_length t) false asked behind target (holds mail t) e there (has_right table (test_numbers t) (tests_numbers ts) known) same in
+        let rest = tests_run ts (p + test_length t) false asked following target (holds mail t) e there (has_right table (test_numbers t) (tests_numbers ts) known) same in
         comes_then p _ _ e e e first rest
     test_run (any_of t ts) p asked target e h known =
-        let behind = p + (test_length t + tests_length ts) in
-        let same : (p + test_length t) + tests_length ts ≡ behind = omega arith in
+        let following = p + (test_length t + tests_length ts) in
+        let same : (p + test_length t) + tests_length ts ≡ following = omega arith in
         let first = test_run t p _ _ e (stands_left all p _ _ h) (has_left table (test_numbers t) (tests_numbers ts) known) in
         let there = stands_right all p (test_length t) _ _ (test_code_length table t p _ _) h in
-        let rest = tests_run ts (p + test_length t) true asked behind target (holds mail t) e there (has_right table (test_numbers t) (tests_numbers ts) known) same in
+        let rest = tests_run ts (p + test_length t) true asked following target (holds mail t) e there (has_right table (test_numbers t) (tests_numbers ts) known) same in
         comes_then p _ _ e e e first rest
 
     -- from where the test before the rest has gone, by its value v
-    tests_run : (ts : TestForms) (p : ℕ) (deciding asked : Bool) (behind target : ℕ) (v : Bool) (e : Effects) → Stands all p (tests_code table p ts deciding asked behind target) → Has table (tests_numbers ts) → p + tests_length ts ≡ behind
-        → Comes (lands v (asked_of deciding asked ts) (aim_of deciding asked ts behind target) p) e (lands (value mail deciding v ts) asked target behind) e
-    tests_run no_test p false asked behind target v e h known done = comes_here _ _ e (let here : p ≡ behind = omega (arith, done) in rw (here, and-true v) refl)
-    tests_run no_test p true asked behind target v e h known done = comes_here _ _ e (let here : p ≡ behind = omega (arith, done) in rw (here, or-false v) refl)
-    tests_run (test t ts) p false asked behind target false e h known done = comes_here _ _ e (aim_lands false asked t ts behind target)
-    tests_run (test t ts) p true asked behind target true e h known done = comes_here _ _ e (aim_lands true asked t ts behind target)
-    tests_run (test t ts) p false asked behind target true e h known done =
-        let same : (p + test_length t) + tests_length ts ≡ behind = omega (arith, done) in
+    tests_run : (ts : TestForms) (p : ℕ) (deciding asked : Bool) (following target : ℕ) (v : Bool) (e : Effects) → Stands all p (tests_code table p ts deciding asked following target) → Has table (tests_numbers ts) → p + tests_length ts ≡ following
+        → Comes (lands v (asked_of deciding asked ts) (aim_of deciding asked ts following target) p) e (lands (value mail deciding v ts) asked target following) e
+    tests_run no_test p false asked following target v e h known done = comes_here _ _ e (let here : p ≡ following = omega (arith, done) in rw (here, and-true v) refl)
+    tests_run no_test p true asked following target v e h known done = comes_here _ _ e (let here : p ≡ following = omega (arith, done) in rw (here, or-false v) refl)
+    tests_run (test t ts) p false asked following target false e h known done = comes_here _ _ e (aim_lands false asked t ts following target)
+    tests_run (test t ts) p true asked following target true e h known done = comes_here _ _ e (aim_lands true asked t ts following target)
+    tests_run (test t ts) p false asked following target true e h known done =
+        let same : (p + test_length t) + tests_length ts ≡ following = omega (arith, done) in
         let first = test_run t p _ _ e (stands_left all p _ _ h) (has_left table (test_numbers t) (tests_numbers ts) known) in
         let there = stands_right all p (test_length t) _ _ (test_code_length table t p _ _) h in
-        let rest = tests_run ts (p + test_length t) false asked behind target (holds mail t) e there (has_right table (test_numbers t) (tests_numbers ts) known) same in
+        let rest = tests_run ts (p + test_length t) false asked following target (holds mail t) e there (has_right table (test_numbers t) (tests_numbers ts) known) same in
         comes_then p _ _ e e e first rest
-    tests_run (test t ts) p true asked behind target false e h known done =
-        let same : (p + test_length t) + tests_length ts ≡ behind = omega (arith, done) in
+    tests_run (test t ts) p true asked following target false e h known done =
+        let same : (p + test_length t) + tests_length ts ≡ following = omega (arith, done) in
         let first = test_run t p _ _ e (stands_left all p _ _ h) (has_left table (test_numbers t) (tests_numbers ts) known) in
         let there = stands_right all p (test_length t) _ _ (test_code_length table t p _ _) h in
-        let rest = tests_run ts (p + test_length t) true asked behind target (holds mail t) e there (has_right table (test_numbers t) (tests_numbers ts) known) same in
+        let rest = tests_run ts (p + test_length t) true asked following target (holds mail t) e there (has_right table (test_numbers t) (tests_numbers ts) known) same in
         comes_then p _ _ e e e first rest
 
   -- where commands lead that begin at a place, by how they end

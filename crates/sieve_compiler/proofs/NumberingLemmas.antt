@@ -10,16 +10,16 @@ use Rattle.sieve_check.specs.Typed.{BranchForms}
 use Rattle.sieve_check.specs.TypedView.{test_form, tests_of, command_form, commands_form, branch_forms, else_form}
 use Rattle.sieve_compiler.specs.Numbers.{test_numbers, tests_numbers, command_numbers, commands_numbers, branches_numbers}
 use Rattle.sieve_compiler.specs.Table.{with_numbers}
-use Rattle.sieve_compiler.proofs.TableLemmas.{numbers_behind}
+use Rattle.sieve_compiler.proofs.TableLemmas.{numbers_after}
 use Rattle.sieve_compiler.proofs.Walks.{all_form, any_form, first_test, first_command, first_branch, no_branch_left, if_form}
 
 -- the numbers of one piece, then those that are left
 then_left : (table next ms ns all : List ℕ) → next ≡ with_numbers table ms → ms ++ ns ≡ all → with_numbers next ns ≡ with_numbers table all
-then_left table next ms ns all e f = ap (λ l. with_numbers l ns) e ∙ sym (numbers_behind table ms ns) ∙ ap (λ l. with_numbers table l) f
+then_left table next ms ns all e f = ap (λ l. with_numbers l ns) e ∙ sym (numbers_after table ms ns) ∙ ap (λ l. with_numbers table l) f
 
-added_behind : {T E : Type 0} (r : Result T E) (table middle new ms ns : List ℕ) → middle ≡ with_numbers table ms → OnOk r (new ≡ with_numbers middle ns) → OnOk r (new ≡ with_numbers table (ms ++ ns))
-added_behind (Ok x) table middle new ms ns e f = f ∙ then_left table middle ms ns (ms ++ ns) e refl
-added_behind (Err x) table middle new ms ns e f = f
+added_after : {T E : Type 0} (r : Result T E) (table middle new ms ns : List ℕ) → middle ≡ with_numbers table ms → OnOk r (new ≡ with_numbers middle ns) → OnOk r (new ≡ with_numbers table (ms ++ ns))
+added_after (Ok x) table middle new ms ns e f = f ∙ then_left table middle ms ns (ms ++ ns) e refl
+added_after (Err x) table middle new ms ns e f = f
 
 -- the numbers of a list of tests
 list_numbers : (t : Test) (first : Box Test) (others : Vec Test) (inner : Test) (items : List Test) → ((t ≡ AllOf first others) ⊎ (t ≡ AnyOf first others)) → inner ≡ first.value → items ≡ others.items
@@ -32,7 +32,7 @@ pub list_added : {T E : Type 0} (r : Result T E) (table middle new : List ℕ) (
 list_added r table middle new t first others inner items is f g e h =
     let ms : List ℕ = test_numbers (test_form inner) in
     let ns : List ℕ = tests_numbers (tests_of (map test_form items)) in
-    subst (λ (l : List ℕ). OnOk r (new ≡ with_numbers table l)) (list_numbers t first others inner items is f g) (added_behind r table middle new ms ns e h)
+    subst (λ (l : List ℕ). OnOk r (new ≡ with_numbers table l)) (list_numbers t first others inner items is f g) (added_after r table middle new ms ns e h)
 
 pub test_added : (table next : List ℕ) (ts : List Test) (i : ℕ) (t : Test) → i < length ts → t ≡ get_or ts i t → next ≡ with_numbers table (test_numbers (test_form t)) → with_numbers next (tests_numbers (tests_of (map test_form (drop (i + 1) ts)))) ≡ with_numbers table (tests_numbers (tests_of (map test_form (drop i ts))))
 test_added table next ts i t lt is e = then_left table next (test_numbers (test_form t)) (tests_numbers (tests_of (map test_form (drop (i + 1) ts)))) (tests_numbers (tests_of (map test_form (drop i ts)))) e (sym (ap tests_numbers (first_test ts i t lt is)))

@@ -44,7 +44,7 @@ abbrev pub pushes_at : Option Instruction → Bool
 pushes_at None = false
 pushes_at (Some i) = pushes (operation_of i.op)
 
--- behind an instruction that leaves a truth value
+-- after an instruction that leaves a truth value
 abbrev pub follows_push : List Instruction → ℕ → Bool
 follows_push all zero = false
 follows_push all (suc place) = pushes_at (slice_get all place)
@@ -104,17 +104,17 @@ module _ (all : List Instruction) (table : List ℕ) (last : ℕ) where
       let same : place + n ≡ suc place + length a = omega (arith, e) in
       (h.0, sound_both a b (suc place) (length a) refl h.1 (subst (λ p. AreSound p b) same k))
 
-  behind_jump : (place : ℕ) (asked : Bool) (target : ℕ) → slice_get all place ≡ Some (jump_if asked target) → follows_push all (suc place) ≡ false
-  behind_jump place true target h = rw h refl
-  behind_jump place false target h = rw h refl
+  following_jump : (place : ℕ) (asked : Bool) (target : ℕ) → slice_get all place ≡ Some (jump_if asked target) → follows_push all (suc place) ≡ false
+  following_jump place true target h = rw h refl
+  following_jump place false target h = rw h refl
 
-  behind_bool : (place : ℕ) (b : Bool) → slice_get all place ≡ Some (push_bool b) → follows_push all (suc place) ≡ true
-  behind_bool place true h = rw h refl
-  behind_bool place false h = rw h refl
+  following_bool : (place : ℕ) (b : Bool) → slice_get all place ≡ Some (push_bool b) → follows_push all (suc place) ≡ true
+  following_bool place true h = rw h refl
+  following_bool place false h = rw h refl
 
-  behind_size : (place : ℕ) (order : Order) (n : ℕ) → slice_get all place ≡ Some (push_size order n) → follows_push all (suc place) ≡ true
-  behind_size place Over n h = rw h refl
-  behind_size place Under n h = rw h refl
+  following_size : (place : ℕ) (order : Order) (n : ℕ) → slice_get all place ≡ Some (push_size order n) → follows_push all (suc place) ≡ true
+  following_size place Over n h = rw h refl
+  following_size place Under n h = rw h refl
 
   bool_sound : (place : ℕ) (b : Bool) → follows_push all place ≡ false → IsSound all table last place (push_bool b)
   bool_sound place true h = record { form = refl; emitted = refl; index = λ e. absurd (cc); jump = λ e. absurd (cc); stack = h }
@@ -135,22 +135,22 @@ module _ (all : List Instruction) (table : List ℕ) (last : ℕ) where
   abbrev pub IsTarget : ℕ → ℕ → Type 0
   IsTarget end target = (end ≤ target) × (target ≤ last) × (follows_push all target ≡ false)
 
-  aim_is_target : (deciding asked : Bool) (ts : TestForms) (end behind target : ℕ) → end ≤ behind → behind ≤ target → IsTarget behind behind → IsTarget behind target → IsTarget end (aim_of deciding asked ts behind target)
-  aim_is_target deciding asked no_test end behind target le far h k = (omega arith, k.1, k.2)
-  aim_is_target true true (test t ts) end behind target le far h k = (omega arith, k.1, k.2)
-  aim_is_target false false (test t ts) end behind target le far h k = (omega arith, k.1, k.2)
-  aim_is_target true false (test t ts) end behind target le far h k = (le, h.1, h.2)
-  aim_is_target false true (test t ts) end behind target le far h k = (le, h.1, h.2)
+  aim_is_target : (deciding asked : Bool) (ts : TestForms) (end following target : ℕ) → end ≤ following → following ≤ target → IsTarget following following → IsTarget following target → IsTarget end (aim_of deciding asked ts following target)
+  aim_is_target deciding asked no_test end following target le far h k = (omega arith, k.1, k.2)
+  aim_is_target true true (test t ts) end following target le far h k = (omega arith, k.1, k.2)
+  aim_is_target false false (test t ts) end following target le far h k = (omega arith, k.1, k.2)
+  aim_is_target true false (test t ts) end following target le far h k = (le, h.1, h.2)
+  aim_is_target false true (test t ts) end following target le far h k = (le, h.1, h.2)
 
-  -- behind the code of a test no truth value is left
+  -- after the code of a test no truth value is left
   mutual
     pub test_ends : (t : TestForm) (place : ℕ) (asked : Bool) (target : ℕ) → Stands all place (test_code table place t asked target) → follows_push all (place + test_length t) ≡ false
     test_ends (constant b) place asked target h =
         let same : suc (suc place) ≡ place + 2 = omega arith in
-        subst (λ p. follows_push all p ≡ false) same (behind_jump (suc place) asked target (stands_first all (suc place) _ [] (stands_next all place _ (jump_if asked target ∷ []) h)))
+        subst (λ p. follows_push all p ≡ false) same (following_jump (suc place) asked target (stands_first all (suc place) _ [] (stands_next all place _ (jump_if asked target ∷ []) h)))
     test_ends (size order n) place asked target h =
         let same : suc (suc place) ≡ place + 2 = omega arith in
-        subst (λ p. follows_push all p ≡ false) same (behind_jump (suc place) asked target (stands_first all (suc place) _ [] (stands_next all place _ (jump_if asked target ∷ []) h)))
+        subst (λ p. follows_push all p ≡ false) same (following_jump (suc place) asked target (stands_first all (suc place) _ [] (stands_next all place _ (jump_if asked target ∷ []) h)))
     test_ends (negation t) place asked target h = test_ends t place _ target h
     test_ends (all_of t ts) place asked target h =
         let first = test_ends t place _ _ (stands_left all place _ _ h) in
@@ -161,74 +161,74 @@ module _ (all : List Instruction) (table : List ℕ) (last : ℕ) where
         let same : (place + test_length t) + tests_length ts ≡ place + (test_length t + tests_length ts) = omega arith in
         subst (λ p. follows_push all p ≡ false) same (tests_end ts (place + test_length t) true asked _ target (stands_right all place (test_length t) _ _ (test_code_length table t place _ _) h) first)
 
-    pub tests_end : (ts : TestForms) (place : ℕ) (deciding asked : Bool) (behind target : ℕ) → Stands all place (tests_code table place ts deciding asked behind target) → follows_push all place ≡ false → follows_push all (place + tests_length ts) ≡ false
-    tests_end no_test place deciding asked behind target h start = let same : place ≡ place + 0 = omega arith in subst (λ p. follows_push all p ≡ false) same start
-    tests_end (test t ts) place deciding asked behind target h start =
+    pub tests_end : (ts : TestForms) (place : ℕ) (deciding asked : Bool) (following target : ℕ) → Stands all place (tests_code table place ts deciding asked following target) → follows_push all place ≡ false → follows_push all (place + tests_length ts) ≡ false
+    tests_end no_test place deciding asked following target h start = let same : place ≡ place + 0 = omega arith in subst (λ p. follows_push all p ≡ false) same start
+    tests_end (test t ts) place deciding asked following target h start =
         let first = test_ends t place _ _ (stands_left all place _ _ h) in
         let same : (place + test_length t) + tests_length ts ≡ place + (test_length t + tests_length ts) = omega arith in
-        subst (λ p. follows_push all p ≡ false) same (tests_end ts (place + test_length t) deciding asked behind target (stands_right all place (test_length t) _ _ (test_code_length table t place _ _) h) first)
+        subst (λ p. follows_push all p ≡ false) same (tests_end ts (place + test_length t) deciding asked following target (stands_right all place (test_length t) _ _ (test_code_length table t place _ _) h) first)
 
   mutual
     pub test_sound : (t : TestForm) (place : ℕ) (asked : Bool) (target : ℕ) → Stands all place (test_code table place t asked target) → Has table (test_numbers t) → follows_push all place ≡ false → IsTarget (place + test_length t) target → AreSound place (test_code table place t asked target)
     test_sound (constant b) place asked target h known start aim =
-        simple_sound place asked target (push_bool b) (bool_sound place b start) (behind_bool place b (stands_first all place _ (jump_if asked target ∷ []) h)) (record { forward = omega (arith, aim.0); within = aim.1; between = aim.2 })
+        simple_sound place asked target (push_bool b) (bool_sound place b start) (following_bool place b (stands_first all place _ (jump_if asked target ∷ []) h)) (record { forward = omega (arith, aim.0); within = aim.1; between = aim.2 })
     test_sound (size order n) place asked target h known start aim =
-        simple_sound place asked target (push_size order (place_in table n)) (size_sound place order n known start) (behind_size place order (place_in table n) (stands_first all place _ (jump_if asked target ∷ []) h)) (record { forward = omega (arith, aim.0); within = aim.1; between = aim.2 })
+        simple_sound place asked target (push_size order (place_in table n)) (size_sound place order n known start) (following_size place order (place_in table n) (stands_first all place _ (jump_if asked target ∷ []) h)) (record { forward = omega (arith, aim.0); within = aim.1; between = aim.2 })
     test_sound (negation t) place asked target h known start aim = test_sound t place _ target h known start aim
     test_sound (all_of t ts) place asked target h known start aim =
-        let behind = place + (test_length t + tests_length ts) in
-        let near : place + test_length t ≤ behind = omega arith in
-        let same : behind ≡ (place + test_length t) + tests_length ts = omega arith in
-        let closed : IsTarget behind behind = (omega arith, omega (arith, aim.0, aim.1), test_ends (all_of t ts) place asked target h) in
+        let following = place + (test_length t + tests_length ts) in
+        let near : place + test_length t ≤ following = omega arith in
+        let same : following ≡ (place + test_length t) + tests_length ts = omega arith in
+        let closed : IsTarget following following = (omega arith, omega (arith, aim.0, aim.1), test_ends (all_of t ts) place asked target h) in
         let here = stands_left all place _ _ h in
         let there = stands_right all place (test_length t) _ _ (test_code_length table t place _ _) h in
-        let first_aim = aim_is_target false asked ts (place + test_length t) behind target near aim.0 closed aim in
+        let first_aim = aim_is_target false asked ts (place + test_length t) following target near aim.0 closed aim in
         let first = test_sound t place _ _ here (has_left table (test_numbers t) (tests_numbers ts) known) start first_aim in
-        let rest = tests_sound ts (place + test_length t) false asked behind target there (has_right table (test_numbers t) (tests_numbers ts) known) (test_ends t place _ _ here) same aim.0 closed aim in
+        let rest = tests_sound ts (place + test_length t) false asked following target there (has_right table (test_numbers t) (tests_numbers ts) known) (test_ends t place _ _ here) same aim.0 closed aim in
         sound_both _ _ place (test_length t) (test_code_length table t place _ _) first rest
     test_sound (any_of t ts) place asked target h known start aim =
-        let behind = place + (test_length t + tests_length ts) in
-        let near : place + test_length t ≤ behind = omega arith in
-        let same : behind ≡ (place + test_length t) + tests_length ts = omega arith in
-        let closed : IsTarget behind behind = (omega arith, omega (arith, aim.0, aim.1), test_ends (any_of t ts) place asked target h) in
+        let following = place + (test_length t + tests_length ts) in
+        let near : place + test_length t ≤ following = omega arith in
+        let same : following ≡ (place + test_length t) + tests_length ts = omega arith in
+        let closed : IsTarget following following = (omega arith, omega (arith, aim.0, aim.1), test_ends (any_of t ts) place asked target h) in
         let here = stands_left all place _ _ h in
         let there = stands_right all place (test_length t) _ _ (test_code_length table t place _ _) h in
-        let first_aim = aim_is_target true asked ts (place + test_length t) behind target near aim.0 closed aim in
+        let first_aim = aim_is_target true asked ts (place + test_length t) following target near aim.0 closed aim in
         let first = test_sound t place _ _ here (has_left table (test_numbers t) (tests_numbers ts) known) start first_aim in
-        let rest = tests_sound ts (place + test_length t) true asked behind target there (has_right table (test_numbers t) (tests_numbers ts) known) (test_ends t place _ _ here) same aim.0 closed aim in
+        let rest = tests_sound ts (place + test_length t) true asked following target there (has_right table (test_numbers t) (tests_numbers ts) known) (test_ends t place _ _ here) same aim.0 closed aim in
         sound_both _ _ place (test_length t) (test_code_length table t place _ _) first rest
 
-    tests_sound : (ts : TestForms) (place : ℕ) (deciding asked : Bool) (behind target : ℕ) → Stands all place (tests_code table place ts deciding asked behind target) → Has table (tests_numbers ts) → follows_push all place ≡ false
-        → behind ≡ place + tests_length ts → behind ≤ target → IsTarget behind behind → IsTarget behind target → AreSound place (tests_code table place ts deciding asked behind target)
-    tests_sound no_test place deciding asked behind target h known start at le closed aim = tt
-    tests_sound (test t ts) place deciding asked behind target h known start at le closed aim =
-        let near : place + test_length t ≤ behind = omega (arith, at) in
-        let same : behind ≡ (place + test_length t) + tests_length ts = omega (arith, at) in
+    tests_sound : (ts : TestForms) (place : ℕ) (deciding asked : Bool) (following target : ℕ) → Stands all place (tests_code table place ts deciding asked following target) → Has table (tests_numbers ts) → follows_push all place ≡ false
+        → following ≡ place + tests_length ts → following ≤ target → IsTarget following following → IsTarget following target → AreSound place (tests_code table place ts deciding asked following target)
+    tests_sound no_test place deciding asked following target h known start at le closed aim = tt
+    tests_sound (test t ts) place deciding asked following target h known start at le closed aim =
+        let near : place + test_length t ≤ following = omega (arith, at) in
+        let same : following ≡ (place + test_length t) + tests_length ts = omega (arith, at) in
         let here = stands_left all place _ _ h in
         let there = stands_right all place (test_length t) _ _ (test_code_length table t place _ _) h in
-        let first_aim = aim_is_target deciding asked ts (place + test_length t) behind target near le closed aim in
+        let first_aim = aim_is_target deciding asked ts (place + test_length t) following target near le closed aim in
         let first = test_sound t place _ _ here (has_left table (test_numbers t) (tests_numbers ts) known) start first_aim in
-        let rest = tests_sound ts (place + test_length t) deciding asked behind target there (has_right table (test_numbers t) (tests_numbers ts) known) (test_ends t place _ _ here) same le closed aim in
+        let rest = tests_sound ts (place + test_length t) deciding asked following target there (has_right table (test_numbers t) (tests_numbers ts) known) (test_ends t place _ _ here) same le closed aim in
         sound_both _ _ place (test_length t) (test_code_length table t place _ _) first rest
 
   at_same : (p q : ℕ) → p ≡ q → follows_push all p ≡ false → follows_push all q ≡ false
   at_same p q same h = subst (λ n. follows_push all n ≡ false) same h
 
-  -- behind an instruction that leaves no truth value
-  behind_plain : (place : ℕ) (i : Instruction) → slice_get all place ≡ Some i → pushes (operation_of i.op) ≡ false → follows_push all (place + 1) ≡ false
-  behind_plain place i h none = let same : suc place ≡ place + 1 = omega arith in at_same (suc place) (place + 1) same (rw h none)
+  -- after an instruction that leaves no truth value
+  after_plain : (place : ℕ) (i : Instruction) → slice_get all place ≡ Some i → pushes (operation_of i.op) ≡ false → follows_push all (place + 1) ≡ false
+  after_plain place i h none = let same : suc place ≡ place + 1 = omega arith in at_same (suc place) (place + 1) same (rw h none)
 
   leave_end : (bs : BranchForms) (place end : ℕ) → Stands all place (leave_code bs end) → follows_push all place ≡ false → follows_push all (place + leave_length bs) ≡ false
   leave_end no_branch place end h start = let same : place ≡ place + 0 = omega arith in at_same place (place + 0) same start
-  leave_end (otherwise cs) place end h start = behind_plain place _ (stands_first all place _ [] h) refl
-  leave_end (branch t cs bs) place end h start = behind_plain place _ (stands_first all place _ [] h) refl
+  leave_end (otherwise cs) place end h start = after_plain place _ (stands_first all place _ [] h) refl
+  leave_end (branch t cs bs) place end h start = after_plain place _ (stands_first all place _ [] h) refl
 
-  -- behind the code of commands no truth value is left
+  -- after the code of commands no truth value is left
   mutual
     pub command_ends : (c : CommandForm) (place : ℕ) → Stands all place (command_code table place c) → follows_push all place ≡ false → follows_push all (place + command_length c) ≡ false
-    command_ends keep place h start = behind_plain place _ (stands_first all place _ [] h) refl
-    command_ends discard place h start = behind_plain place _ (stands_first all place _ [] h) refl
-    command_ends stop place h start = behind_plain place _ (stands_first all place _ [] h) refl
+    command_ends keep place h start = after_plain place _ (stands_first all place _ [] h) refl
+    command_ends discard place h start = after_plain place _ (stands_first all place _ [] h) refl
+    command_ends stop place h start = after_plain place _ (stands_first all place _ [] h) refl
     command_ends (choice bs) place h start = branches_end bs place _ h start
 
     pub commands_end : (cs : CommandForms) (place : ℕ) → Stands all place (commands_code table place cs) → follows_push all place ≡ false → follows_push all (place + commands_length cs) ≡ false

@@ -47,7 +47,7 @@ place_within (m ∷ ms) n = step (m == n) (place_in ms n) (length ms) (place_wit
     step true place len h = omega arith
     step false place len h = omega arith
 
--- one more number behind a table without it
+-- one more number after a table without it
 pub found_push : (table : List ℕ) (n q : ℕ) → is_listed n table ≡ false → found_in (table ++ n ∷ []) q ≡ cond (n == q) (Some (length table)) (found_in table q)
 found_push [] n q fresh = refl
 found_push (m ∷ ms) n q fresh =
@@ -71,10 +71,10 @@ listed_kept table n listed = sym (rw listed refl)
 pub unlisted_added : (table : List ℕ) (n : ℕ) → is_listed n table ≡ false → table ++ n ∷ [] ≡ with_number table n
 unlisted_added table n fresh = sym (rw fresh refl)
 
--- numbers behind others
-pub numbers_behind : (table ms ns : List ℕ) → with_numbers table (ms ++ ns) ≡ with_numbers (with_numbers table ms) ns
-numbers_behind table [] ns = refl
-numbers_behind table (m ∷ ms) ns = numbers_behind (with_number table m) ms ns
+-- numbers after others
+pub numbers_after : (table ms ns : List ℕ) → with_numbers table (ms ++ ns) ≡ with_numbers (with_numbers table ms) ns
+numbers_after table [] ns = refl
+numbers_after table (m ∷ ms) ns = numbers_after (with_number table m) ms ns
 
 -- without the numbers that equal x, a list still lists those that don't
 others_step : (x n m : ℕ) (b : Bool) (kept all : List ℕ) → (m == x) ≡ b → (x == n) ≡ false → is_listed n kept ≡ is_listed n all → is_listed n (cond (not b) (m ∷ kept) kept) ≡ is_listed n (m ∷ all)
@@ -90,7 +90,7 @@ listed_others x n (m ∷ ms) differs = others_step x n m (m == x) (filter (λ k.
 turned : (a b : ℕ) → (a == b) ≡ (b == a)
 turned a b = grind (arith, nat_tests)
 
--- behind a first number x: b says whether x equals the new number, d whether the new number is listed
+-- after a first number x: b says whether x equals the new number, d whether the new number is listed
 push_step : (x n : ℕ) (table : List ℕ) (b d : Bool) → (x == n) ≡ b → is_listed n table ≡ d
     → x ∷ filter (λ m. not (m == x)) (cond d table (table ++ n ∷ [])) ≡ with_number (x ∷ filter (λ m. not (m == x)) table) n
 push_step x n table true true e f = sym (rw e refl)
@@ -116,13 +116,13 @@ distinct_push (x ∷ xs) n =
     ap (λ (l : List ℕ). x ∷ filter (λ m. not (m == x)) l) (distinct_push xs n)
     ∙ push_step x n (distinct xs) (x == n) (is_listed n (distinct xs)) refl refl
 
-distinct_behind : (ms ns : List ℕ) → with_numbers (distinct ms) ns ≡ distinct (ms ++ ns)
-distinct_behind ms [] = sym (ap distinct (append-nil ms))
-distinct_behind ms (n ∷ ns) =
+distinct_after : (ms ns : List ℕ) → with_numbers (distinct ms) ns ≡ distinct (ms ++ ns)
+distinct_after ms [] = sym (ap distinct (append-nil ms))
+distinct_after ms (n ∷ ns) =
     ap (λ l. with_numbers l ns) (sym (distinct_push ms n))
-    ∙ distinct_behind (ms ++ n ∷ []) ns
+    ∙ distinct_after (ms ++ n ∷ []) ns
     ∙ ap distinct (append_assoc ms (n ∷ []) ns)
 
 -- numbers added one by one are the different ones
 pub all_added : (ns : List ℕ) → with_numbers [] ns ≡ distinct ns
-all_added ns = distinct_behind [] ns
+all_added ns = distinct_after [] ns

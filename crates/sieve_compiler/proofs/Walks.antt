@@ -14,7 +14,7 @@ use Rattle.sieve_check.specs.Typed.{TestForm, all_of, any_of, test, choice, comm
 use Rattle.sieve_check.specs.TypedView.{GuardedForm, test_step, test_form, tests_of, command_form, commands_form, branch_forms, else_form}
 use Rattle.sieve_check.proofs.Forms.{form_if, form_branch}
 
--- the first that is left, and those behind it
+-- the first that is left, and those after it
 split : {A : Type 0} (xs : List A) (i : ℕ) (x : A) → i < length xs → x ≡ get_or xs i x → drop i xs ≡ x ∷ drop (i + 1) xs
 split xs i x lt is = drop-cons xs i x lt ∙ ap (λ n. get_or xs i x ∷ drop n xs) (sym (add-one i)) ∙ ap (λ y. y ∷ drop (i + 1) xs) (sym is)
 

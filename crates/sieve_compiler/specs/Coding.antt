@@ -35,39 +35,39 @@ push_size Over place = instruction Size 0 place
 push_size Under place = instruction Size 1 place
 
 -- a test of a list jumps where it decides the list alone, as a false one does of allof and a true one of anyof;
--- the last one, behind which nothing stands, jumps where the list has the value that is asked for
+-- the last one, after which nothing stands, jumps where the list has the value that is asked for
 abbrev pub asked_of : Bool → Bool → TestForms → Bool
 asked_of deciding asked no_test = asked
 asked_of deciding asked (test t ts) = deciding
 
--- where a test of a list jumps to: where it decides the list otherwise than is asked for, behind the list
+-- where a test of a list jumps to: where it decides the list otherwise than is asked for, after the list
 abbrev pub aim_of : Bool → Bool → TestForms → ℕ → ℕ → ℕ
-aim_of deciding asked no_test behind target = target
-aim_of true true (test t ts) behind target = target
-aim_of false false (test t ts) behind target = target
-aim_of true false (test t ts) behind target = behind
-aim_of false true (test t ts) behind target = behind
+aim_of deciding asked no_test following target = target
+aim_of true true (test t ts) following target = target
+aim_of false false (test t ts) following target = target
+aim_of true false (test t ts) following target = following
+aim_of false true (test t ts) following target = following
 
 abbrev mutual
-  -- goes to the target where the test is as asked, true or false, and else on behind the code
+  -- goes to the target where the test is as asked, true or false, and else on after the code
   pub test_code : List ℕ → ℕ → TestForm → Bool → ℕ → List Instruction
   test_code table place (constant b) asked target = push_bool b ∷ jump_if asked target ∷ []
   test_code table place (negation t) asked target = test_code table place t (not asked) target
   test_code table place (all_of t ts) asked target =
-      let behind = place + (test_length t + tests_length ts) in
-      test_code table place t (asked_of false asked ts) (aim_of false asked ts behind target) ++ tests_code table (place + test_length t) ts false asked behind target
+      let following = place + (test_length t + tests_length ts) in
+      test_code table place t (asked_of false asked ts) (aim_of false asked ts following target) ++ tests_code table (place + test_length t) ts false asked following target
   test_code table place (any_of t ts) asked target =
-      let behind = place + (test_length t + tests_length ts) in
-      test_code table place t (asked_of true asked ts) (aim_of true asked ts behind target) ++ tests_code table (place + test_length t) ts true asked behind target
+      let following = place + (test_length t + tests_length ts) in
+      test_code table place t (asked_of true asked ts) (aim_of true asked ts following target) ++ tests_code table (place + test_length t) ts true asked following target
   test_code table place (size order number) asked target = push_size order (place_in table number) ∷ jump_if asked target ∷ []
 
-  -- the tests of a list behind its first
+  -- the tests of a list after its first
   pub tests_code : List ℕ → ℕ → TestForms → Bool → Bool → ℕ → ℕ → List Instruction
-  tests_code table place no_test deciding asked behind target = []
-  tests_code table place (test t ts) deciding asked behind target =
-      test_code table place t (asked_of deciding asked ts) (aim_of deciding asked ts behind target) ++ tests_code table (place + test_length t) ts deciding asked behind target
+  tests_code table place no_test deciding asked following target = []
+  tests_code table place (test t ts) deciding asked following target =
+      test_code table place t (asked_of deciding asked ts) (aim_of deciding asked ts following target) ++ tests_code table (place + test_length t) ts deciding asked following target
 
--- behind a block, to the end of the if, where another branch follows
+-- after a block, to the end of the if, where another branch follows
 abbrev pub leave_code : BranchForms → ℕ → List Instruction
 leave_code no_branch end = []
 leave_code (otherwise cs) end = instruction Jump 0 end ∷ []

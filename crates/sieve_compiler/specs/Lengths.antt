@@ -15,7 +15,7 @@ abbrev mutual
   tests_length no_test = 0
   tests_length (test t ts) = test_length t + tests_length ts
 
--- the jump behind a block: where nothing follows there is none
+-- the jump after a block: where nothing follows there is none
 abbrev pub leave_length : BranchForms → ℕ
 leave_length no_branch = 0
 leave_length (otherwise cs) = 1

@@ -98,11 +98,11 @@ impl<'a> Coder<'a> {
         }
     }
 
-    // Puts the code of the tests of a list behind its first.
+    // Puts the code of the tests of a list after its first.
     #[cycle(tests)]
     fn put_tests(&mut self, others: &[Test], list: ListExit) -> Result<(), AllocError>
         requires { length self.old.instructions.items + tests_length (tests_of (map test_form others.now)) < 2 ^ 32 }
-        ensures code { OnOk result (Puts self.old self.new (tests_code self.old.numbers.now (length self.old.instructions.items) (tests_of (map test_form others.now)) list.deciding list.exit.asked list.behind list.exit.target)) }
+        ensures code { OnOk result (Puts self.old self.new (tests_code self.old.numbers.now (length self.old.instructions.items) (tests_of (map test_form others.now)) list.deciding list.exit.asked list.following list.exit.target)) }
         ensures room { OnOk result (length self.new.instructions.items ≡ length self.old.instructions.items + tests_length (tests_of (map test_form others.now))) }
     {
         'tests: for (i, test) in others.iter().enumerate() {
@@ -116,12 +116,12 @@ impl<'a> Coder<'a> {
         requires { length self.now.instructions.items + (test_length (test_form first.now) + tests_length (tests_of (map test_form others.now))) < 2 ^ 32 }
         ensures deciding { result.deciding ≡ deciding }
         ensures exit { result.exit ≡ exit }
-        ensures behind { result.behind ≡ length self.now.instructions.items + (test_length (test_form first.now) + tests_length (tests_of (map test_form others.now))) }
+        ensures following { result.following ≡ length self.now.instructions.items + (test_length (test_form first.now) + tests_length (tests_of (map test_form others.now))) }
     {
         ListExit {
             deciding,
             exit,
-            behind: self.place() + (test_length(first) + tests_length(others)),
+            following: self.place() + (test_length(first) + tests_length(others)),
         }
     }
 
@@ -166,7 +166,7 @@ impl<'a> Coder<'a> {
         Ok(())
     }
 
-    // Where the test of a branch goes to that begins here: where it is false, to what is behind the branch.
+    // Where the test of a branch goes to that begins here: where it is false, to what is after the branch.
     fn branch_exit(
         &self,
         branch: &Branch,
@@ -178,14 +178,14 @@ impl<'a> Coder<'a> {
         ensures target { result.target ≡ length self.now.instructions.items + test_length (test_form branch.now.test) + commands_length (commands_form branch.now.block.items) + leave_length (branch_forms after.now (else_form otherwise.now)) }
     {
         let block = self.place() + test_length(&branch.test);
-        let behind = block + commands_length(&branch.block);
+        let following = block + commands_length(&branch.block);
         Exit {
             asked: false,
-            target: behind + u32::from(is_left(after, otherwise)),
+            target: following + u32::from(is_left(after, otherwise)),
         }
     }
 
-    // Puts the jump behind a block to the end of its `if`, where branches or an `else` are left.
+    // Puts the jump after a block to the end of its `if`, where branches or an `else` are left.
     fn put_leave(
         &mut self,
         after: &[Branch],

@@ -1,5 +1,6 @@
 // Scripts as programs.
 ghost use Rattle.std.specs.Prelude.{◌≡◌, ◌≤◌, ℕ, IfOk};
+ghost use Rattle.octets.specs.Limits.{max_script};
 ghost use Rattle.bytecode_verifier.specs.Acceptance.{IsAccepted};
 ghost use Rattle.mime_decode.specs.Mail.{Mail};
 ghost use Rattle.sieve_meaning.specs.Meaning.{meaning};
@@ -30,7 +31,7 @@ pub fn compile(alloc: Global, checked: &Checked) -> Result<Program, AllocError>
 
 // The program of a script's commands, of which there are no more than of a script within the limits.
 fn compile_commands(alloc: Global, commands: &[Command]) -> Result<Program, AllocError>
-    requires { commands_extent (commands_form commands.now) ≤ 65536 }
+    requires { commands_extent (commands_form commands.now) ≤ max_script }
     ensures code { IfOk result (λ p. p ≡ code_of (commands_form commands.now)) }
 {
     let numbers = Numbers::of_script(alloc, commands)?;

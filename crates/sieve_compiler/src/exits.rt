@@ -3,7 +3,7 @@ ghost use Rattle.std.specs.Prelude.{◌≡◌};
 
 use sieve_check::Test;
 
-/// Where a test jumps to, and for which of its values: else it goes on behind its code.
+/// Where a test jumps to, and for which of its values: else it goes on after its code.
 #[derive(Clone, Copy)]
 pub struct Exit {
     pub asked: bool,
@@ -17,8 +17,8 @@ pub struct ListExit {
     pub deciding: bool,
     /// Where the list jumps to.
     pub exit: Exit,
-    /// The place behind the list.
-    pub behind: u32,
+    /// The place after the list.
+    pub following: u32,
 }
 
 impl ListExit {
@@ -29,7 +29,7 @@ impl ListExit {
     /// Where a test jumps to that stands before these others.
     pub fn before(self, others: &[Test]) -> Exit
         ensures asked { result.asked ≡ asked_of self.deciding self.exit.asked (tests_of (map test_form others.now)) }
-        ensures target { result.target ≡ aim_of self.deciding self.exit.asked (tests_of (map test_form others.now)) self.behind self.exit.target }
+        ensures target { result.target ≡ aim_of self.deciding self.exit.asked (tests_of (map test_form others.now)) self.following self.exit.target }
     {
         match others {
             [] => self.exit,
@@ -38,7 +38,7 @@ impl ListExit {
                 target: if self.deciding == self.exit.asked {
                     self.exit.target
                 } else {
-                    self.behind
+                    self.following
                 },
             },
         }

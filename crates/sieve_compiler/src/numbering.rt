@@ -23,7 +23,7 @@ impl Numbers {
     }
 
     #[cycle(test_numbers)]
-    #[tactic(auto, using(crate::proofs::TableLemmas::numbers_behind))]
+    #[tactic(auto, using(crate::proofs::TableLemmas::numbers_after))]
     fn add_test(&mut self, test: &Test) -> Result<(), AllocError>
         ensures { OnOk result (self.new ≡ with_numbers self.old (test_numbers (test_form test.now))) }
     {
@@ -39,7 +39,7 @@ impl Numbers {
     }
 
     #[cycle(test_numbers)]
-    #[tactic(auto, using(crate::proofs::TableLemmas::numbers_behind))]
+    #[tactic(auto, using(crate::proofs::TableLemmas::numbers_after))]
     fn add_tests(&mut self, tests: &[Test]) -> Result<(), AllocError>
         ensures { OnOk result (self.new ≡ with_numbers self.old (tests_numbers (tests_of (map test_form tests.now)))) }
     {
@@ -50,7 +50,7 @@ impl Numbers {
     }
 
     #[cycle(command_numbers)]
-    #[tactic(auto, using(crate::proofs::TableLemmas::numbers_behind))]
+    #[tactic(auto, using(crate::proofs::TableLemmas::numbers_after))]
     fn add_command(&mut self, command: &Command) -> Result<(), AllocError>
         ensures { OnOk result (self.new ≡ with_numbers self.old (command_numbers (command_form command.now))) }
     {
@@ -67,7 +67,7 @@ impl Numbers {
     }
 
     #[cycle(command_numbers)]
-    #[tactic(auto, using(crate::proofs::TableLemmas::numbers_behind))]
+    #[tactic(auto, using(crate::proofs::TableLemmas::numbers_after))]
     fn add_commands(&mut self, commands: &[Command]) -> Result<(), AllocError>
         ensures { OnOk result (self.new ≡ with_numbers self.old (commands_numbers (commands_form commands.now))) }
     {

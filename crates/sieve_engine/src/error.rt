@@ -16,7 +16,7 @@ use thiserror::Error;
 /// a program that of an instruction. All count from 0.
 #[derive(Debug, Drop, Error)]
 pub enum EngineError {
-    /// A growth was refused.
+    /// An allocation was refused.
     #[error("refused 1 Memory")]
     Memory,
     /// The message has more than 67,108,864 octets.

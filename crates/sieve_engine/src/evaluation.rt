@@ -15,7 +15,7 @@ use std::alloc::Global;
 /// The script that the octets are, with its typed form.
 ///
 /// Else the first refusal of the script: of its length, then its tokens, its grammar and its rules.
-/// [`EngineError::Memory`] comes only where a growth was refused.
+/// [`EngineError::Memory`] comes only where an allocation was refused.
 pub fn check_script(alloc: Global, script: &[u8]) -> Result<Checked, EngineError>
     ensures checked { IfOk result (λ checked. IsScript script.now (commands_form checked.commands)) }
     ensures refused { IfErr result (λ e. IsScriptRefusal script.now e) }

@@ -24,7 +24,7 @@ pub struct Report {
 /// The program that the octets spell, if it is accepted.
 ///
 /// Else the first refusal: [`EngineError::Spelling`] exactly where they spell no program, then the
-/// verifier's. [`EngineError::Memory`] comes only where a growth was refused.
+/// verifier's. [`EngineError::Memory`] comes only where an allocation was refused.
 pub fn check_program(alloc: Global, program: &[u8]) -> Result<Verified, EngineError>
     ensures checked { IfOk result (λ verified. IsChecked program.now verified) }
     ensures refused { IfErr result (λ e. IsProgramRefusal program.now e) }

@@ -9,10 +9,10 @@ use Rattle.sieve_lexer.specs.Chain.{IsRun}
 use Rattle.sieve_lexer.specs.Values.{lines_of, onto_first, unstuffed}
 
 -- a list without its last element
-abbrev pub front : {A : Type 0} → List A → List A
-front xs = take (length xs - 1) xs
+abbrev pub prefix : {A : Type 0} → List A → List A
+prefix xs = take (length xs - 1) xs
 
--- the first line ends behind the first line break
+-- the first line ends after the first line break
 pub first_line_at : (text : List ℕ) (i : ℕ) → i < length text → ((k : ℕ) → k < i → get_or text k 0 ≢ 10) → get_or text i 0 ≡ 10
     → lines_of text ≡ take (suc i) text ∷ lines_of (drop (suc i) text)
 first_line_at [] i lt before here = absurd (omega arith)
@@ -39,14 +39,14 @@ lines_some (x ∷ xs) pos = elim (cases_Bool (x == 10)) [
   | inr e ↦ rw e (onto_first_some x (lines_of xs))
 ]
 
-front_cons : (line : List ℕ) (after : List (List ℕ)) → 0 < length after → front (line ∷ after) ≡ line ∷ front after
-front_cons line after pos = let e : suc (length after) - 1 ≡ suc (length after - 1) = omega arith in rw e refl
+prefix_cons : (line : List ℕ) (after : List (List ℕ)) → 0 < length after → prefix (line ∷ after) ≡ line ∷ prefix after
+prefix_cons line after pos = let e : suc (length after) - 1 ≡ suc (length after - 1) = omega arith in rw e refl
 
 -- one line more of all but the last
-pub front_more : (value kept line : List ℕ) (rest after : List (List ℕ)) → 0 < length after → rest ≡ line ∷ after → kept ≡ unstuffed line
-    → (value ++ kept) ++ flat_map unstuffed (front after) ≡ value ++ flat_map unstuffed (front rest)
-front_more value kept line rest after pos e k =
-    rw (e, k, front_cons line after pos) (append_assoc value (unstuffed line) (flat_map unstuffed (front after)))
+pub prefix_more : (value kept line : List ℕ) (rest after : List (List ℕ)) → 0 < length after → rest ≡ line ∷ after → kept ≡ unstuffed line
+    → (value ++ kept) ++ flat_map unstuffed (prefix after) ≡ value ++ flat_map unstuffed (prefix rest)
+prefix_more value kept line rest after pos e k =
+    rw (e, k, prefix_cons line after pos) (append_assoc value (unstuffed line) (flat_map unstuffed (prefix after)))
 
 line_feed_is : (o : ℕ) → is_not_line_feed o ≡ false → o ≡ 10
 line_feed_is o h = grind (arith, nat_tests)
@@ -54,7 +54,7 @@ line_feed_is o h = grind (arith, nat_tests)
 no_line_feed : (o : ℕ) → is_not_line_feed o ≡ true → o ≢ 10
 no_line_feed o h e = true≢false (sym h ∙ ap is_not_line_feed e)
 
--- a text cut behind its first line break, where the octets up to `end` are a line without its break
+-- a text cut after its first line break, where the octets up to `end` are a line without its break
 pub cut_line : (text : List ℕ) (end : ℕ) → IsRun is_not_line_feed text 0 end → end < length text
     → lines_of text ≡ take (end + 1) text ∷ lines_of (drop (end + 1) text)
 cut_line text end run lt =

@@ -4,7 +4,7 @@ use Rattle.octets.specs.Blank.{is_blank}
 use Rattle.sieve_lexer.specs.Chain.{Leads}
 use Rattle.sieve_lexer.specs.Separators.{IsHashComment}
 
--- from place a to place b stands a character of a quoted string: an octet that is no quote and no backslash, or a backslash with the octet behind it
+-- from place a to place b stands a character of a quoted string: an octet that is no quote and no backslash, or a backslash with the octet after it
 abbrev pub IsCharacter : List ℕ → ℕ → ℕ → Type 0
 IsCharacter script a b = ((b ≡ a + 1) × (a < length script) × (slice_index script a ≢ 34) × (slice_index script a ≢ 92))
     ⊎ ((b ≡ a + 2) × (a + 1 < length script) × (slice_index script a ≡ 92))
@@ -13,7 +13,7 @@ IsCharacter script a b = ((b ≡ a + 1) × (a < length script) × (slice_index s
 abbrev pub IsQuotedRest : List ℕ → ℕ → ℕ → Type 0
 IsQuotedRest script a b = (c : ℕ) × ((b ≡ c + 1) × Leads (IsCharacter script) a c × (slice_index script c ≡ 34))
 
--- from place a to place b stands a line's end behind the blanks of `text:`: a line break, or a `#` comment and its line break
+-- from place a to place b stands a line's end after the blanks of `text:`: a line break, or a `#` comment and its line break
 abbrev pub IsOpeningEnd : List ℕ → ℕ → ℕ → Type 0
 IsOpeningEnd script a b = ((b ≡ a + 1) × (slice_index script a ≡ 10))
     ⊎ (((b ≡ a + 2) × (slice_index script a ≡ 13) × (slice_index script (a + 1) ≡ 10))

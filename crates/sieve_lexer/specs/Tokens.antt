@@ -4,7 +4,7 @@ use Rattle.sieve_lexer.specs.Separators.{IsSeparator, IsGap}
 use Rattle.sieve_lexer.specs.Strings.{IsOpeningLine}
 use Rattle.sieve_lexer.specs.Texts.{IsTextOf}
 use Rattle.sieve_lexer.specs.Values.{number_value}
-use Rattle.sieve_lexer.specs.declared.TheConstants.{SCRIPT_LIMIT}
+use Rattle.octets.specs.Limits.{max_script}
 use Rattle.sieve_lexer.specs.declared.error.LexicalError.{LexicalError}
 use Rattle.sieve_lexer.specs.declared.error.LexicalError.TheVariants.{Memory, ScriptTooLong, Lexical}
 use Rattle.sieve_lexer.specs.declared.token.Token.{Token}
@@ -37,7 +37,7 @@ TokensUpTo script a (token ∷ tokens) b = IsGap script a token.start × IsToken
 abbrev pub AreTokens : List ℕ → List Token → Type 0
 AreTokens script tokens = (b : ℕ) × (TokensUpTo script 0 tokens b × IsGap script b (length script))
 
--- at the place, behind some tokens and what separates them, begins neither a token nor a separator
+-- at the place, after some tokens and what separates them, begins neither a token nor a separator
 pub record IsFault (script : List ℕ) (place : ℕ) : Type 0 where
   pub tokens : List Token
   pub end : ℕ
@@ -50,5 +50,5 @@ pub record IsFault (script : List ℕ) (place : ℕ) : Type 0 where
 -- what each refusal says of the script
 abbrev pub IsRefused : List ℕ → LexicalError → Type 0
 IsRefused script Memory = Unit {0}
-IsRefused script ScriptTooLong = SCRIPT_LIMIT < length script
-IsRefused script (Lexical place) = (length script ≤ SCRIPT_LIMIT) × IsFault script place
+IsRefused script ScriptTooLong = max_script < length script
+IsRefused script (Lexical place) = (length script ≤ max_script) × IsFault script place

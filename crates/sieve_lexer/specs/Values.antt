@@ -34,13 +34,13 @@ below_limit n = if nat_lt n (2 ^ 64) then Some n else None
 abbrev pub inner : {A : Type 0} → List A → List A
 inner xs = take (length xs - 2) (drop 1 xs)
 
--- the octets, where a backslash stands for the octet behind it
+-- the octets, where a backslash stands for the octet after it
 abbrev pub unescaped : List ℕ → List ℕ
 unescaped [] = []
 unescaped (c ∷ []) = c ∷ []
 unescaped (c ∷ d ∷ rest) = if c == 92 then d ∷ unescaped rest else c ∷ unescaped (d ∷ rest)
 
--- the lines of a text, each with its break, and what stands behind the last break where there is something
+-- the lines of a text, each with its break, and what stands after the last break where there is something
 abbrev pub onto_first : ℕ → List (List ℕ) → List (List ℕ)
 onto_first c [] = (c ∷ []) ∷ []
 onto_first c (line ∷ lines) = (c ∷ line) ∷ lines

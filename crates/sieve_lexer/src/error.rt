@@ -8,7 +8,7 @@ use thiserror::Error;
 /// Why a script has no list of tokens.
 #[derive(Debug, Drop, Error)]
 pub enum LexicalError {
-    /// A growth was refused.
+    /// An allocation was refused.
     #[error("refused 1 Memory")]
     Memory,
     /// The script has more octets than the limit.

@@ -22,4 +22,4 @@ pub use token::{Token, TokenKind};
 pub use value::{number_of, string_of};
 
 /// How many octets a script may have.
-pub const SCRIPT_LIMIT: usize = 65536;
+pub const MAX_SCRIPT: usize = 65536;

@@ -1,12 +1,13 @@
 // The reader of tokens.
 ghost use Rattle.std.specs.Prelude.{◌≡◌, ◌≤◌, ◌<◌, ◌⊎◌, length, slice_index, IfOk, IfErr, IsTrue, MatchOption, ℕ};
 ghost use Rattle.std.specs.Char.{is_ascii_digit};
+ghost use Rattle.octets.specs.Limits.{max_script};
 ghost use Rattle.sieve_lexer.specs.Classes.{begins_identifier};
 ghost use Rattle.sieve_lexer.specs.Texts.{IsSuffix, sign_octet};
 ghost use Rattle.sieve_lexer.specs.declared.token.TokenKind.{TokenKind};
 ghost use Rattle.sieve_lexer.specs.Tokens.{IsTokenAt, AreTokens, IsRefused};
 
-use crate::SCRIPT_LIMIT;
+use crate::MAX_SCRIPT;
 use crate::error::LexicalError;
 use crate::multi_line::{closing_line_end, opening_line_end};
 use crate::quoted::quoted_end;
@@ -56,7 +57,7 @@ fn tag_at(script: &[u8], place: usize) -> Option<Token>
     })
 }
 
-// Where a number ends whose digits end at this place: behind K, M or G, where one stands there.
+// Where a number ends whose digits end at this place: after K, M or G, where one stands there.
 fn suffix_end(script: &[u8], digits: usize) -> usize
     requires { digits ≤ length script.now }
     ensures suffix { IsSuffix script.now digits result }
@@ -143,15 +144,15 @@ fn token_at(script: &[u8], place: usize) -> Option<Token>
 
 /// The tokens of a script, each by longest match, in order (RFC 5228, sections 2.1 to 2.4 and 8.1).
 ///
-/// A script above [`SCRIPT_LIMIT`] octets is refused as [`LexicalError::ScriptTooLong`], before anything else.
+/// A script above [`MAX_SCRIPT`] octets is refused as [`LexicalError::ScriptTooLong`], before anything else.
 /// Otherwise [`LexicalError::Lexical`] names the first octet at which neither a token nor white space nor a
 /// comment begins: an octet of no token, a number above 2^64 - 1, a string or comment that isn't closed.
 /// [`LexicalError::Memory`] comes only where memory was refused.
 pub fn tokens(alloc: Global, script: &[u8]) -> Result<Vec<Token>, LexicalError>
-    ensures tokens { IfOk result (λ v. (length script.now ≤ SCRIPT_LIMIT) × AreTokens script.now v.items) }
+    ensures tokens { IfOk result (λ v. (length script.now ≤ max_script) × AreTokens script.now v.items) }
     ensures refused { IfErr result (λ e. IsRefused script.now e) }
 {
-    if script.len() > SCRIPT_LIMIT {
+    if script.len() > MAX_SCRIPT {
         return Err(LexicalError::ScriptTooLong);
     }
     let mut tokens = Vec::new(alloc);

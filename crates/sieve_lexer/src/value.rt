@@ -53,16 +53,16 @@ pub fn number_of(text: &[u8]) -> Option<u64>
     }
 }
 
-// Appends the octets, where a backslash stands for the octet behind it.
+// Appends the octets, where a backslash stands for the octet after it.
 fn push_unescaped(value: &mut Vec<u8>, text: &[u8]) -> Result<(), AllocError>
     ensures { OnOk result (value.new.items ≡ value.old.items ++ unescaped text.now) }
 {
     let mut rest = text;
     'characters: while let [octet, after @ ..] = rest {
         match after {
-            [escaped, behind @ ..] if *octet == b'\\' => {
+            [escaped, following @ ..] if *octet == b'\\' => {
                 value.push(*escaped)?;
-                rest = behind;
+                rest = following;
             }
             _ => {
                 value.push(*octet)?;
@@ -118,7 +118,7 @@ fn between_quotes(text: &[u8]) -> &[u8]
 }
 
 /// The value of a string's text (RFC 5228, sections 2.4.2 and 8.1): of a quoted string the octets between
-/// the quotes, each backslash taken away and the octet behind it kept; of a multi-line string the lines between
+/// the quotes, each backslash taken away and the octet after it kept; of a multi-line string the lines between
 /// the first and the last one, a leading dot taken away where another dot follows. Line breaks stay as they stand.
 ///
 /// An error comes only where memory was refused.

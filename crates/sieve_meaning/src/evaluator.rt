@@ -14,7 +14,7 @@ pub struct Evaluator {
     pub implicit_keep: bool,
 }
 
-/// Whether the script goes on behind a command.
+/// Whether the script goes on after a command.
 #[derive(Clone, Copy, Debug, PartialEq, Eq)]
 pub enum Flow {
     GoesOn,

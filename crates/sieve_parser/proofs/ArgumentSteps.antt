@@ -42,11 +42,11 @@ pub list_argument : (ls : List Lexeme) (at : ℕ) (a : ArgumentTree) (next : ℕ
     → ((d : ℕ) (stack : List Symbol) → d ≤ 32 → (b : List Placed) × ((argument_spelled d a ≡ at_depth d opening_bracket ∷ b) × Stands ls (at + 1) next b
     × (IsAt ls (at + 1) (strings d ∷ stack) → IsAt ls next stack))) → IsArgumentRead ls at a next
 list_argument ls at a next lt e list = λ d f stack small.
-    let behind = list d (arguments d f ∷ stack) small in
+    let following = list d (arguments d f ∷ stack) small in
     let open_bracket = stands_one ls at (at_depth d opening_bracket) lt e in (
-      omega (arith, behind.1.1.from),
-      rw behind.1.0 (stands_both ls at (at + 1) next (at_depth d opening_bracket ∷ []) behind.0 open_bracket behind.1.1),
-      λ p. behind.1.2 (walk ls at (arguments d f) stack d (strings d ∷ arguments d f ∷ []) p lt (ap (expand (arguments d f)) e) small),
+      omega (arith, following.1.1.from),
+      rw following.1.0 (stands_both ls at (at + 1) next (at_depth d opening_bracket ∷ []) following.0 open_bracket following.1.1),
+      λ p. following.1.2 (walk ls at (arguments d f) stack d (strings d ∷ arguments d f ∷ []) p lt (ap (expand (arguments d f)) e) small),
     )
 
 pub arguments_push : (d : ℕ) (xs : List ArgumentTree) (a : ArgumentTree) → arguments_spelled d (xs ++ a ∷ []) ≡ arguments_spelled d xs ++ argument_spelled d a

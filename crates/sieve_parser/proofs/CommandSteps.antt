@@ -28,7 +28,7 @@ commands_push d [] c = append-nil (command_spelled d c)
 commands_push d (x ∷ cs) c = ap (λ w. command_spelled d x ++ w) (commands_push d cs c) ∙ sym (append_assoc (command_spelled d x) (commands_spelled d (commands_of cs)) (command_spelled d c))
 
 module _ (ls : List Lexeme) where
-  -- a command behind its identifier up to a place
+  -- a command after its identifier up to a place
   abbrev pub IsCommandRead : List ℕ → ℕ → ℕ → CommandTree → ℕ → Type 0
   IsCommandRead name n d t p = (stack : List Symbol) → (b : List Placed) × ((command_spelled d t ≡ at_depth d (identifier n name) ∷ b) × Stands ls (n + 1) p b
       × (IsAt ls (n + 1) (arguments d (command_end d) ∷ stack) → IsAt ls p stack))
@@ -81,9 +81,9 @@ module _ (ls : List Lexeme) where
       let r = inner (body d ∷ stack) in
       let here = at_depth d (identifier p name) in
       let piece = stands_both ls p (p + 1) q (here ∷ []) r.0 (stands_one ls p here lt e) r.1.1 in
-      let front = commands_spelled d (commands_tree cs) in
-      let spelled : front ++ command_spelled d (command_tree c) ≡ commands_spelled d (commands_tree (cs ++ c ∷ [])) =
+      let prefix = commands_spelled d (commands_tree cs) in
+      let spelled : prefix ++ command_spelled d (command_tree c) ≡ commands_spelled d (commands_tree (cs ++ c ∷ [])) =
       sym (commands_push d (map command_tree cs) (command_tree c)) ∙ ap (λ w. commands_spelled d (commands_of w)) (sym (map_push command_tree cs c)) in (
-        subst (λ w. Stands ls at q w) spelled (stands_both ls at p q front (command_spelled d (command_tree c)) (so_far stack).0 (subst (λ w. Stands ls p q w) (sym r.1.0) piece)),
+        subst (λ w. Stands ls at q w) spelled (stands_both ls at p q prefix (command_spelled d (command_tree c)) (so_far stack).0 (subst (λ w. Stands ls p q w) (sym r.1.0) piece)),
         λ a. r.1.2 (command_begun at d p cs name so_far small lt e stack a),
       )

@@ -209,7 +209,7 @@ stack_not_wrong : (s : List Symbol) (p : Placed) (rest : List Placed) → IsGrou
 stack_not_wrong [] p rest g word bad = absurd (cc)
 stack_not_wrong (x ∷ stack) p rest g word bad = takes_not_wrong stack (expand x p.lexeme) _ (stack_takes x stack p rest g word) bad
 
--- behind what the machine has read, a lexeme that is wrong there begins no script
+-- after what the machine has read, a lexeme that is wrong there begins no script
 pub wrong_is_not_viable : (us : List Lexeme) (l : Lexeme) (s : List Symbol) → reading us ≡ Some s → step s l ≡ wrong → IsViable (us ++ l ∷ []) → ⊥
 wrong_is_not_viable us l s e bad (xs, (same, (cs, (rest, script)))) =
     let parts = split_placed xs us l same in
@@ -220,7 +220,7 @@ wrong_is_not_viable us l s e bad (xs, (same, (cs, (rest, script)))) =
     let r = reads_on parts.0 root s (p ∷ rest) root_grounded word read in
     stack_not_wrong s p rest r.0 r.1 (subst (λ w. step s w ≡ wrong) parts.1.1.2 bad)
 
--- behind what the machine has read, where something has to be read, the script isn't ended
+-- after what the machine has read, where something has to be read, the script isn't ended
 pub open_is_no_script : (us : List Lexeme) (s : List Symbol) → reading us ≡ Some s → (IsDone s → ⊥) → (cs : CommandsTree) → IsScript us cs → ⊥
 open_is_no_script us s e open_stack cs script =
     let spelled = commands_spelled 0 cs in

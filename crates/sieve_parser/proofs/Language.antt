@@ -44,7 +44,7 @@ single x zs (us, (vs, (e, word, none))) =
 pub to_single : (x : Symbol) (zs : List Placed) → InSymbol x zs → InStack (x ∷ []) zs
 to_single x zs word = (zs, ([], (sym (append-nil zs), word, refl)))
 
--- what a lexeme adds in front of a word of what is to be read then
+-- what a lexeme adds before a word of what is to be read then
 abbrev pub Adds : (List Placed → Type 0) → Lexeme → Option (ℕ × List Symbol) → Type 0
 Adds Words l answer = MatchOption answer (Unit {0}) (λ p. (vs : List Placed) → InStack p.1 vs → Words (at_depth p.0 l ∷ vs))
 
@@ -71,10 +71,10 @@ adds_command : (d n : ℕ) (name : List ℕ) (vs : List Placed) → InStack (arg
 adds_command d n name vs (us, (ws, (e, (args, (ts, (ys, (ea, end)))), more))) =
     let rest = single (body d) ws more in
     let c = command_from d n name args ts ys end in
-    let front = arguments_spelled d args ++ tests_spelled d ts in (
+    let prefix = arguments_spelled d args ++ tests_spelled d ts in (
       command c.0 rest.0,
-      ap (λ v. at_depth d (identifier n name) ∷ v) (e ∙ ap (λ u. u ++ ws) ea ∙ ap (λ w. (front ++ ys) ++ w) rest.1)
-          ∙ sym (append_assoc (at_depth d (identifier n name) ∷ (front ++ ys)) (commands_spelled d rest.0) (body_end d))
+      ap (λ v. at_depth d (identifier n name) ∷ v) (e ∙ ap (λ u. u ++ ws) ea ∙ ap (λ w. (prefix ++ ys) ++ w) rest.1)
+          ∙ sym (append_assoc (at_depth d (identifier n name) ∷ (prefix ++ ys)) (commands_spelled d rest.0) (body_end d))
           ∙ ap (λ w. (w ++ commands_spelled d rest.0) ++ body_end d) (sym c.1),
     )
 
@@ -171,33 +171,33 @@ follow_expands d f _ Q h = h
 
 takes_command : (d : ℕ) (c : CommandTree) (cs : CommandsTree) (zs : List Placed) → zs ≡ (command_spelled d c ++ commands_spelled d cs) ++ body_end d → Taken (expand (body d)) zs
 takes_command d (simple (invocation n name args ts)) cs zs e =
-    let front = arguments_spelled d args ++ tests_spelled d ts in
+    let prefix = arguments_spelled d args ++ tests_spelled d ts in
     let end = at_depth d semicolon ∷ [] in
     let rest = commands_spelled d cs ++ body_end d in (
       at_depth d (identifier n name),
       (
-        ((front ++ end) ++ commands_spelled d cs) ++ body_end d,
+        ((prefix ++ end) ++ commands_spelled d cs) ++ body_end d,
         (
           e,
           (
             refl,
-            (front ++ end, (rest, (append_assoc (front ++ end) (commands_spelled d cs) (body_end d), (args, (ts, (end, (refl, inl refl)))), to_single (body d) rest (cs, refl)))),
+            (prefix ++ end, (rest, (append_assoc (prefix ++ end) (commands_spelled d cs) (body_end d), (args, (ts, (end, (refl, inl refl)))), to_single (body d) rest (cs, refl)))),
           ),
         ),
       ),
     )
 takes_command d (block (invocation n name args ts) bs) cs zs e =
-    let front = arguments_spelled d args ++ tests_spelled d ts in
+    let prefix = arguments_spelled d args ++ tests_spelled d ts in
     let end = at_depth (suc d) opening_brace ∷ (commands_spelled (suc d) bs ++ at_depth (suc d) closing_brace ∷ []) in
     let rest = commands_spelled d cs ++ body_end d in (
       at_depth d (identifier n name),
       (
-        ((front ++ end) ++ commands_spelled d cs) ++ body_end d,
+        ((prefix ++ end) ++ commands_spelled d cs) ++ body_end d,
         (
           e,
           (
             refl,
-            (front ++ end, (rest, (append_assoc (front ++ end) (commands_spelled d cs) (body_end d), (args, (ts, (end, (refl, inr (bs, refl))))), to_single (body d) rest (cs, refl)))),
+            (prefix ++ end, (rest, (append_assoc (prefix ++ end) (commands_spelled d cs) (body_end d), (args, (ts, (end, (refl, inr (bs, refl))))), to_single (body d) rest (cs, refl)))),
           ),
         ),
       ),

@@ -5,7 +5,7 @@ use Rattle.std.proofs.lemmas.List.{take_all, drop_all, append-nil}
 use Rattle.sieve_lexer.specs.Tokens as lexer
 use Rattle.sieve_lexer.specs.declared.error.LexicalError.{LexicalError}
 use Rattle.sieve_lexer.specs.declared.error.LexicalError.TheVariants.{Memory, ScriptTooLong, Lexical}
-use Rattle.sieve_lexer.specs.declared.TheConstants.{SCRIPT_LIMIT}
+use Rattle.octets.specs.Limits.{max_script}
 use Rattle.sieve_lexer.specs.declared.token.Token.{Token}
 use Rattle.sieve_parser.specs.declared.error.ParseError.{ParseError}
 use Rattle.sieve_parser.specs.declared.error.ParseError.TheVariants as parser
@@ -40,12 +40,12 @@ module _ (ls : List Lexeme) where
   whole_within p cs at past script = read_script_within ls at.read cs (ap reading (sym (take_all p ls past)) ∙ at.reached) script
 
 -- commands that stand at the start of the lexemes and use them all up are the script's
-pub whole_parsed : (s : List ℕ) (ts : List Token) (p : ℕ) (cs : CommandsTree) → length s ≤ SCRIPT_LIMIT → lexer.AreTokens s ts → Stands (lexemes s ts) 0 p (commands_spelled 0 cs) → IsAt (lexemes s ts) p (body 0 ∷ []) → length (lexemes s ts) ≤ p → IsParsed s cs
+pub whole_parsed : (s : List ℕ) (ts : List Token) (p : ℕ) (cs : CommandsTree) → length s ≤ max_script → lexer.AreTokens s ts → Stands (lexemes s ts) 0 p (commands_spelled 0 cs) → IsAt (lexemes s ts) p (body 0 ∷ []) → length (lexemes s ts) ≤ p → IsParsed s cs
 whole_parsed s ts p cs short are stands at past =
     let script : IsScript (lexemes s ts) cs = whole_script (lexemes s ts) p cs stands past in
     (short, (ts, (are, script, whole_within (lexemes s ts) p cs at past script)))
 
-pub fault_refused : (script : List ℕ) (tokens : List Token) (e : ParseError) → length script ≤ SCRIPT_LIMIT → lexer.AreTokens script tokens → IsFaultOf (lexemes script tokens) e → IsRefused script e
+pub fault_refused : (script : List ℕ) (tokens : List Token) (e : ParseError) → length script ≤ max_script → lexer.AreTokens script tokens → IsFaultOf (lexemes script tokens) e → IsRefused script e
 fault_refused script tokens parser.Memory short are h = tt
 fault_refused script tokens parser.ScriptTooLong short are h = absurd h
 fault_refused script tokens (parser.Lexical place) short are h = absurd h

@@ -30,11 +30,11 @@ module _ (ls : List Lexeme) (at : ℕ) (s : List ℕ) where
       → next + 1 < length ls → lexeme_at ls (next + 1) ≡ string v → IsListSoFar (next + 2) (ss ++ v ∷ [])
   list_more next ss v so_far lt e lt' f = λ d stack small.
       let two : next + 1 + 1 ≡ next + 2 = omega arith in
-      let front = at_depth d (string s) ∷ more_strings_spelled d ss in
-      let first = stands_both ls at next (next + 1) front (at_depth d comma ∷ []) (so_far d stack small).0 (stands_one ls next (at_depth d comma) lt e) in
-      let both = stands_both ls at (next + 1) (next + 1 + 1) (front ++ at_depth d comma ∷ []) (at_depth d (string v) ∷ []) first (stands_one ls (next + 1) (at_depth d (string v)) lt' f) in
-      let spelled : (front ++ at_depth d comma ∷ []) ++ at_depth d (string v) ∷ [] ≡ at_depth d (string s) ∷ more_strings_spelled d (ss ++ v ∷ []) =
-      append_assoc front (at_depth d comma ∷ []) (at_depth d (string v) ∷ []) ∙ ap (λ w. at_depth d (string s) ∷ w) (sym (more_push d ss v)) in (
+      let prefix = at_depth d (string s) ∷ more_strings_spelled d ss in
+      let first = stands_both ls at next (next + 1) prefix (at_depth d comma ∷ []) (so_far d stack small).0 (stands_one ls next (at_depth d comma) lt e) in
+      let both = stands_both ls at (next + 1) (next + 1 + 1) (prefix ++ at_depth d comma ∷ []) (at_depth d (string v) ∷ []) first (stands_one ls (next + 1) (at_depth d (string v)) lt' f) in
+      let spelled : (prefix ++ at_depth d comma ∷ []) ++ at_depth d (string v) ∷ [] ≡ at_depth d (string s) ∷ more_strings_spelled d (ss ++ v ∷ []) =
+      append_assoc prefix (at_depth d comma ∷ []) (at_depth d (string v) ∷ []) ∙ ap (λ w. at_depth d (string s) ∷ w) (sym (more_push d ss v)) in (
         subst (λ w. Stands ls at w (at_depth d (string s) ∷ more_strings_spelled d (ss ++ v ∷ []))) two (subst (λ w. Stands ls at (next + 1 + 1) w) spelled both),
         λ a. subst (λ w. IsAt ls w (more_strings d ∷ stack)) two
             (walk ls (next + 1) (strings d) stack d (more_strings d ∷ []) (comma_read next ss so_far lt e d stack small a) lt' (ap (expand (strings d)) f) small),

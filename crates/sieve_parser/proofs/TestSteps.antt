@@ -45,12 +45,12 @@ module _ (ls : List Lexeme) where
     ends = λ e done. absurd (at.ends e done);
   }
 
-  -- the arguments behind an identifier up to a place
+  -- the arguments after an identifier up to a place
   abbrev pub AreArgumentsRead : ℕ → ℕ → List ArgumentTree → ℕ → Type 0
   AreArgumentsRead n d args p = (f : Follow) (stack : List Symbol) → Stands ls (n + 1) p (arguments_spelled d args) × NoArgumentAt ls p
       × (IsAt ls (n + 1) (arguments d f ∷ stack) → IsAt ls p (arguments d f ∷ stack))
 
-  -- an invocation behind its identifier up to a place
+  -- an invocation after its identifier up to a place
   abbrev pub IsInvocationRead : List ℕ → ℕ → ℕ → InvocationTree → ℕ → Type 0
   IsInvocationRead name n d t p = (f : Follow) (stack : List Symbol) → (b : List Placed) × ((invocation_spelled d t ≡ at_depth d (identifier n name) ∷ b) × Stands ls (n + 1) p b
       × (IsAt ls (n + 1) (arguments d f ∷ stack) → IsAt ls p (ending f ∷ stack)))
@@ -123,21 +123,21 @@ module _ (ls : List Lexeme) where
       → ((stack : List Symbol) → Stands ls (p + 1) q (invocation_spelled (suc d) (invocation_tree t)) × (IsAt ls (p + 1) (tests d ∷ stack) → IsAt ls q (ending (test_end d) ∷ stack)))
       → AreTestsSoFar at d first q (rest ++ t ∷ [])
   tests_more at d first p q rest t so_far small lt e inner = λ stack.
-      let front = invocation_spelled (suc d) first ++ more_tests_spelled d (more_tests_of (map invocation_tree rest)) in
+      let prefix = invocation_spelled (suc d) first ++ more_tests_spelled d (more_tests_of (map invocation_tree rest)) in
       let word = invocation_spelled (suc d) (invocation_tree t) in
       let test = inner stack in
       let piece = stands_both ls p (p + 1) q (at_depth d comma ∷ []) word (stands_one ls p (at_depth d comma) lt e) test.0 in
-      let spelled : front ++ (at_depth d comma ∷ word) ≡ invocation_spelled (suc d) first ++ more_tests_spelled d (more_tests_of (map invocation_tree (rest ++ t ∷ []))) =
+      let spelled : prefix ++ (at_depth d comma ∷ word) ≡ invocation_spelled (suc d) first ++ more_tests_spelled d (more_tests_of (map invocation_tree (rest ++ t ∷ []))) =
       append_assoc (invocation_spelled (suc d) first) (more_tests_spelled d (more_tests_of (map invocation_tree rest))) (at_depth d comma ∷ word)
       ∙ ap (λ w. invocation_spelled (suc d) first ++ w) (sym (more_tests_push d (map invocation_tree rest) (invocation_tree t)) ∙ ap (λ w. more_tests_spelled d (more_tests_of w)) (sym (map_push invocation_tree rest t))) in (
-        subst (λ w. Stands ls at q w) spelled (stands_both ls at p q front (at_depth d comma ∷ word) (so_far stack).0 piece),
+        subst (λ w. Stands ls at q w) spelled (stands_both ls at p q prefix (at_depth d comma ∷ word) (so_far stack).0 piece),
         λ a. test.1 (tests_comma at d first p rest so_far small lt e stack a),
       )
 
 pub from_suc : (d : ℕ) → suc d ≡ d + 1
 from_suc d = omega arith
 
--- a test, from its identifier and what stands behind it
+-- a test, from its identifier and what stands after it
 pub test_answer : (ls : List Lexeme) (at d : ℕ) (name : List ℕ) (answer : Result (Invocation × ℕ) ParseError) → at < length ls → lexeme_at ls at ≡ identifier at name → suc d ≤ 32
     → IsInvocationAt ls name at (suc d) answer → IsTestAt ls at d answer
 test_answer ls at d name (Ok r) lt e small h = λ stack.

@@ -1,11 +1,11 @@
--- Lexemes are the spelling of one script at most: read from the front, each lexeme settles which rule of the grammar wrote it.
+-- Lexemes are the spelling of one script at most: read from the prefix, each lexeme settles which rule of the grammar wrote it.
 use Rattle.std.proofs.Common.{◌≡◌, ℕ, suc, List, [], ◌∷◌, ◌++◌, refl, sym, ◌∙◌, ap, subst}
 use Rattle.std.proofs.lemmas.List.{append_assoc, append-nil}
 use Rattle.sieve_parser.specs.Lexemes.{Lexeme, identifier, tag, number, string, semicolon, comma, opening_brace, closing_brace, opening_parenthesis, closing_parenthesis, opening_bracket, closing_bracket}
 use Rattle.sieve_parser.specs.Tree.{ArgumentTree, text, text_list, amount, label, InvocationTree, invocation, TestsTree, no_test, one_test, test_list, MoreTests, last, next, CommandTree, simple, block, CommandsTree, no_command, command}
 use Rattle.sieve_parser.specs.Grammar.{Placed, at_depth, lexemes_placed, more_strings_spelled, argument_spelled, arguments_spelled, invocation_spelled, tests_spelled, more_tests_spelled, command_spelled, commands_spelled, IsScript}
 
--- each spelling, without depths, in front of what follows it
+-- each spelling, without depths, before what follows it
 abbrev strings_then : List (List ℕ) → List Lexeme → List Lexeme
 strings_then [] rest = rest
 strings_then (s ∷ ss) rest = comma ∷ string s ∷ strings_then ss rest

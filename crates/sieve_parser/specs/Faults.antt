@@ -1,4 +1,5 @@
 use Rattle.std.specs.Prelude.{◌≡◌, ℕ, ◌+◌, ◌<◌, ◌≤◌, List, [], ◌∷◌, ◌++◌, length, take}
+use Rattle.octets.specs.Limits.{max_nesting}
 use Rattle.sieve_parser.specs.Lexemes.{Lexeme}
 use Rattle.sieve_parser.specs.Tree.{CommandsTree}
 use Rattle.sieve_parser.specs.Grammar.{Placed, lexemes_placed, BeginsScript, IsViable, IsScript}
@@ -6,7 +7,7 @@ use Rattle.sieve_parser.specs.Grammar.{Placed, lexemes_placed, BeginsScript, IsV
 -- no lexeme is deeper than the limit
 abbrev pub AreWithinDepth : List Placed → Type 0
 AreWithinDepth [] = Unit {0}
-AreWithinDepth (x ∷ xs) = (x.depth ≤ 32) × AreWithinDepth xs
+AreWithinDepth (x ∷ xs) = (x.depth ≤ max_nesting) × AreWithinDepth xs
 
 -- the lexemes begin some script, in which none of them is deeper than the limit
 abbrev pub IsViableWithinDepth : List Lexeme → Type 0
@@ -27,4 +28,4 @@ pub record IsTooDeep (ls : List Lexeme) (place : ℕ) : Type 0 where
   pub same : take (place + 1) ls ≡ lexemes_placed (before ++ deepest ∷ [])
   pub begins : BeginsScript (before ++ deepest ∷ [])
   pub shallow : AreWithinDepth before
-  pub too_deep : 32 < deepest.depth
+  pub too_deep : max_nesting < deepest.depth

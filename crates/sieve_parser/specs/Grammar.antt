@@ -10,7 +10,7 @@ pub record Placed : Type 0 where
 abbrev pub at_depth : ℕ → Lexeme → Placed
 at_depth d lexeme = record { lexeme = lexeme; depth = d }
 
--- how the strings of a list are written behind its first: *("," string)
+-- how the strings of a list are written after its first: *("," string)
 abbrev pub more_strings_spelled : ℕ → List (List ℕ) → List Placed
 more_strings_spelled d [] = []
 more_strings_spelled d (s ∷ ss) = at_depth d comma ∷ at_depth d (string s) ∷ more_strings_spelled d ss
@@ -40,7 +40,7 @@ abbrev mutual
   tests_spelled d (test_list t ts) =
       at_depth d opening_parenthesis ∷ (invocation_spelled (suc d) t ++ (more_tests_spelled d ts ++ at_depth d closing_parenthesis ∷ []))
 
-  -- how the tests of a list are written behind its first: *("," test)
+  -- how the tests of a list are written after its first: *("," test)
   pub more_tests_spelled : ℕ → MoreTests → List Placed
   more_tests_spelled d last = []
   more_tests_spelled d (next t ts) = at_depth d comma ∷ (invocation_spelled (suc d) t ++ more_tests_spelled d ts)

@@ -1,4 +1,5 @@
 use Rattle.std.specs.Prelude.{ℕ, suc, nat_le, List, [], ◌∷◌, ◌++◌, Option, Some, None, fold, if◌then◌else◌}
+use Rattle.octets.specs.Limits.{max_nesting}
 use Rattle.sieve_parser.specs.Lexemes.{Lexeme, identifier, tag, number, string, semicolon, comma, opening_brace, closing_brace, opening_parenthesis, closing_parenthesis, opening_bracket, closing_bracket}
 
 -- what ends arguments: a command's end, or that of a test in a list
@@ -52,7 +53,7 @@ pub data Verdict : Type 0 where
 
 abbrev pub judged : Option (ℕ × List Symbol) → List Symbol → Verdict
 judged None stack = wrong
-judged (Some (d, symbols)) stack = if nat_le d 32 then goes (symbols ++ stack) else deep
+judged (Some (d, symbols)) stack = if nat_le d max_nesting then goes (symbols ++ stack) else deep
 
 abbrev pub step : List Symbol → Lexeme → Verdict
 step [] l = wrong
@@ -66,6 +67,6 @@ abbrev pub advance : Option (List Symbol) → Lexeme → Option (List Symbol)
 advance None l = None
 advance (Some stack) l = stack_then (step stack l)
 
--- what is to be read behind the lexemes, if they are read
+-- what is to be read after the lexemes, if they are read
 abbrev pub reading : List Lexeme → Option (List Symbol)
 reading ls = fold advance (Some (body 0 ∷ [])) ls

@@ -11,6 +11,7 @@ use Rattle.sieve_parser.specs.declared.tree.Invocation.{Invocation}
 use Rattle.sieve_parser.specs.declared.tree.Command.{Command}
 use Rattle.std.specs.declared.vec.Vec.{Vec}
 use Rattle.std.specs.declared.alloc.Global.{Global}
+use Rattle.octets.specs.Limits.{max_nesting}
 use Rattle.sieve_parser.specs.Faults.{IsSyntaxFault, IsTooDeep}
 use Rattle.sieve_parser.specs.declared.error.ParseError.{ParseError}
 use Rattle.sieve_parser.specs.declared.error.ParseError.TheVariants.{Memory, ScriptTooLong, Lexical, Syntax, TooDeep}
@@ -68,9 +69,9 @@ abbrev pub IsExpectedString : List Lexeme → ℕ → Result (List ℕ) ParseErr
 IsExpectedString ls at answer = MatchResult answer (λ s. (at < length ls) × (lexeme_at ls at ≡ string s))
     (λ e. (d : ℕ) (stack : List Symbol) → IsAt ls at (strings d ∷ stack) → IsFaultOf ls e)
 
--- a list of strings behind its opening bracket, or the refusal
-abbrev pub IsListBehind : List Lexeme → ℕ → Result (Argument × ℕ) ParseError → Type 0
-IsListBehind ls at answer = (d : ℕ) (stack : List Symbol) → d ≤ 32 → MatchResult answer
+-- a list of strings after its opening bracket, or the refusal
+abbrev pub IsListAfter : List Lexeme → ℕ → Result (Argument × ℕ) ParseError → Type 0
+IsListAfter ls at answer = (d : ℕ) (stack : List Symbol) → d ≤ max_nesting → MatchResult answer
     (λ r. (b : List Placed) × ((argument_spelled d (argument_tree r.0) ≡ at_depth d opening_bracket ∷ b) × Stands ls at r.1 b × (IsAt ls at (strings d ∷ stack) → IsAt ls r.1 stack)))
     (λ e. IsAt ls at (strings d ∷ stack) → IsFaultOf ls e)
 
@@ -86,49 +87,49 @@ IsNoArgument _ = Unit {0}
 abbrev pub NoArgumentAt : List Lexeme → ℕ → Type 0
 NoArgumentAt ls at = at < length ls → IsNoArgument (lexeme_at ls at)
 
--- the argument at the place with the place behind it, or nothing where none begins; or the refusal
+-- the argument at the place with the place after it, or nothing where none begins; or the refusal
 abbrev pub IsArgumentAt : List Lexeme → ℕ → Result (Option (Argument × ℕ)) ParseError → Type 0
-IsArgumentAt ls at answer = (d : ℕ) (f : Follow) (stack : List Symbol) → d ≤ 32 → MatchResult answer
+IsArgumentAt ls at answer = (d : ℕ) (f : Follow) (stack : List Symbol) → d ≤ max_nesting → MatchResult answer
     (λ o. MatchOption o (NoArgumentAt ls at) (λ r. (at < r.1) × Stands ls at r.1 (argument_spelled d (argument_tree r.0))
     × (IsAt ls at (arguments d f ∷ stack) → IsAt ls r.1 (arguments d f ∷ stack))))
     (λ e. IsAt ls at (arguments d f ∷ stack) → IsFaultOf ls e)
 
--- the arguments from the place on, with the place behind them, at which no argument begins; or the refusal
+-- the arguments from the place on, with the place after them, at which no argument begins; or the refusal
 abbrev pub AreArgumentsAt : List Lexeme → ℕ → Result (Vec Argument Global × ℕ) ParseError → Type 0
-AreArgumentsAt ls at answer = (d : ℕ) (f : Follow) (stack : List Symbol) → d ≤ 32 → MatchResult answer
+AreArgumentsAt ls at answer = (d : ℕ) (f : Follow) (stack : List Symbol) → d ≤ max_nesting → MatchResult answer
     (λ r. Stands ls at r.1 (arguments_spelled d (map argument_tree r.0.items)) × NoArgumentAt ls r.1
     × (IsAt ls at (arguments d f ∷ stack) → IsAt ls r.1 (arguments d f ∷ stack)))
     (λ e. IsAt ls at (arguments d f ∷ stack) → IsFaultOf ls e)
 
--- the invocation whose identifier has the number, with the place behind it; or the refusal
+-- the invocation whose identifier has the number, with the place after it; or the refusal
 abbrev pub IsInvocationAt : List Lexeme → List ℕ → ℕ → ℕ → Result (Invocation × ℕ) ParseError → Type 0
 IsInvocationAt ls name n d answer = (f : Follow) (stack : List Symbol) → MatchResult answer
     (λ r. (b : List Placed) × ((invocation_spelled d (invocation_tree r.0) ≡ at_depth d (identifier n name) ∷ b) × Stands ls (n + 1) r.1 b
     × (IsAt ls (n + 1) (arguments d f ∷ stack) → IsAt ls r.1 (ending f ∷ stack))))
     (λ e. IsAt ls (n + 1) (arguments d f ∷ stack) → IsFaultOf ls e)
 
--- the test that has to begin at the place, with the place behind it; or the refusal
+-- the test that has to begin at the place, with the place after it; or the refusal
 abbrev pub IsTestAt : List Lexeme → ℕ → ℕ → Result (Invocation × ℕ) ParseError → Type 0
 IsTestAt ls at d answer = (stack : List Symbol) → MatchResult answer
     (λ r. Stands ls at r.1 (invocation_spelled (suc d) (invocation_tree r.0)) × (IsAt ls at (tests d ∷ stack) → IsAt ls r.1 (ending (test_end d) ∷ stack)))
     (λ e. IsAt ls at (tests d ∷ stack) → IsFaultOf ls e)
 
--- the tests of a list behind its opening bracket, with the place behind the closing one; or the refusal
-abbrev pub AreTestsBehind : List Lexeme → ℕ → ℕ → Result ((Invocation × Vec Invocation Global) × ℕ) ParseError → Type 0
-AreTestsBehind ls at d answer = (stack : List Symbol) → MatchResult answer
+-- the tests of a list after its opening bracket, with the place after the closing one; or the refusal
+abbrev pub AreTestsAfter : List Lexeme → ℕ → ℕ → Result ((Invocation × Vec Invocation Global) × ℕ) ParseError → Type 0
+AreTestsAfter ls at d answer = (stack : List Symbol) → MatchResult answer
     (λ r. Stands ls at r.1 (invocation_spelled (suc d) (invocation_tree r.0.0)
     ++ (more_tests_spelled d (more_tests_of (map invocation_tree r.0.1.items)) ++ at_depth d closing_parenthesis ∷ []))
     × (IsAt ls at (tests d ∷ stack) → IsAt ls r.1 stack))
     (λ e. IsAt ls at (tests d ∷ stack) → IsFaultOf ls e)
 
--- the command whose identifier has the number, with the place behind it; or the refusal
+-- the command whose identifier has the number, with the place after it; or the refusal
 abbrev pub IsCommandAt : List Lexeme → List ℕ → ℕ → ℕ → Result (Command × ℕ) ParseError → Type 0
 IsCommandAt ls name n d answer = (stack : List Symbol) → MatchResult answer
     (λ r. (b : List Placed) × ((command_spelled d (command_tree r.0) ≡ at_depth d (identifier n name) ∷ b) × Stands ls (n + 1) r.1 b
     × (IsAt ls (n + 1) (arguments d (command_end d) ∷ stack) → IsAt ls r.1 stack)))
     (λ e. IsAt ls (n + 1) (arguments d (command_end d) ∷ stack) → IsFaultOf ls e)
 
--- the commands from the place on, with the place behind them, at which no identifier stands; or the refusal
+-- the commands from the place on, with the place after them, at which no identifier stands; or the refusal
 abbrev pub AreCommandsAt : List Lexeme → ℕ → ℕ → Result (Vec Command Global × ℕ) ParseError → Type 0
 AreCommandsAt ls at d answer = (stack : List Symbol) → MatchResult answer
     (λ r. Stands ls at r.1 (commands_spelled d (commands_tree r.0.items)) × IsIdentifierAt ls r.1 None

@@ -1,6 +1,6 @@
 use Rattle.std.specs.Prelude.{ℕ, ◌<◌, ◌≤◌, List, length}
 use Rattle.sieve_lexer.specs.Tokens.{AreTokens, IsFault}
-use Rattle.sieve_lexer.specs.declared.TheConstants.{SCRIPT_LIMIT}
+use Rattle.octets.specs.Limits.{max_script}
 use Rattle.sieve_lexer.specs.declared.token.Token.{Token}
 use Rattle.sieve_parser.specs.Tree.{CommandsTree}
 use Rattle.sieve_parser.specs.Grammar.{IsScript, commands_spelled}
@@ -11,7 +11,7 @@ use Rattle.sieve_parser.specs.declared.error.ParseError.TheVariants.{Memory, Scr
 
 -- the script's tokens write the commands, none of them deeper than the limit
 abbrev pub IsParsed : List ℕ → CommandsTree → Type 0
-IsParsed script cs = (length script ≤ SCRIPT_LIMIT) × ((tokens : List Token)
+IsParsed script cs = (length script ≤ max_script) × ((tokens : List Token)
     × (AreTokens script tokens × IsScript (lexemes script tokens) cs × AreWithinDepth (commands_spelled 0 cs)))
 
 -- the commands are those of some script
@@ -21,7 +21,7 @@ IsTree cs = (script : List ℕ) × IsParsed script cs
 -- what each refusal says of the script
 abbrev pub IsRefused : List ℕ → ParseError → Type 0
 IsRefused script Memory = Unit {0}
-IsRefused script ScriptTooLong = SCRIPT_LIMIT < length script
-IsRefused script (Lexical place) = (length script ≤ SCRIPT_LIMIT) × IsFault script place
-IsRefused script (Syntax place) = (length script ≤ SCRIPT_LIMIT) × ((tokens : List Token) × (AreTokens script tokens × IsSyntaxFault (lexemes script tokens) place))
-IsRefused script (TooDeep place) = (length script ≤ SCRIPT_LIMIT) × ((tokens : List Token) × (AreTokens script tokens × IsTooDeep (lexemes script tokens) place))
+IsRefused script ScriptTooLong = max_script < length script
+IsRefused script (Lexical place) = (length script ≤ max_script) × IsFault script place
+IsRefused script (Syntax place) = (length script ≤ max_script) × ((tokens : List Token) × (AreTokens script tokens × IsSyntaxFault (lexemes script tokens) place))
+IsRefused script (TooDeep place) = (length script ≤ max_script) × ((tokens : List Token) × (AreTokens script tokens × IsTooDeep (lexemes script tokens) place))

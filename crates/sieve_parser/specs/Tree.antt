@@ -18,7 +18,7 @@ mutual
     one_test : InvocationTree → TestsTree
     test_list : InvocationTree → MoreTests → TestsTree
 
-  -- the tests of a list behind its first
+  -- the tests of a list after its first
   pub data MoreTests : Type 0 where
     last : MoreTests
     next : InvocationTree → MoreTests → MoreTests

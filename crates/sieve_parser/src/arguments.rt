@@ -10,7 +10,7 @@ use crate::tree::Argument;
 use sieve_lexer::{Token, TokenKind, number_of, string_of};
 use std::alloc::Global;
 
-// The argument that begins at this number, and the number behind it; nothing where none begins.
+// The argument that begins at this number, and the number after it; nothing where none begins.
 fn argument_at(
     alloc: Global,
     script: &[u8],
@@ -50,7 +50,7 @@ fn argument_at(
     }
 }
 
-// The arguments from this number on, and the number behind them.
+// The arguments from this number on, and the number after them.
 pub fn arguments(
     alloc: Global,
     script: &[u8],

@@ -1,9 +1,10 @@
 // Commands and blocks.
 ghost use Rattle.std.specs.Prelude.{◌≤◌, ◌<◌, ◌^◌, length};
+ghost use Rattle.octets.specs.Limits.{max_nesting};
 ghost use Rattle.sieve_lexer.specs.Tokens.{AreTokens};
 ghost use Rattle.sieve_parser.specs.Reading.{AreCommandsAt, IsCommandAt, lexemes};
 
-use crate::DEPTH_LIMIT;
+use crate::MAX_NESTING;
 use crate::error::ParseError;
 use crate::invocation::invocation;
 use crate::token_at::{identifier_at, stands};
@@ -12,7 +13,7 @@ use octets::Octets;
 use sieve_lexer::{Token, TokenKind};
 use std::alloc::Global;
 
-// The command whose identifier, of this name and number, stands at this depth, and the number behind it.
+// The command whose identifier, of this name and number, stands at this depth, and the number after it.
 #[cycle(blocks)]
 fn command(
     alloc: Global,
@@ -25,7 +26,7 @@ fn command(
     requires tokens { AreTokens script.now tokens.now }
     requires within { token < length (lexemes script.now tokens.now) }
     requires short { length (lexemes script.now tokens.now) < 2 ^ 63 }
-    requires depth { depth ≤ 32 }
+    requires depth { depth ≤ max_nesting }
     ensures { IsCommandAt (lexemes script.now tokens.now) name token depth result }
 {
     let (invocation, next) = invocation(alloc, script, tokens, name, token, depth)?;
@@ -35,7 +36,7 @@ fn command(
     if !stands(tokens, next, TokenKind::OpeningBrace) {
         return Err(ParseError::Syntax { place: next });
     }
-    if depth == DEPTH_LIMIT {
+    if depth == MAX_NESTING {
         return Err(ParseError::TooDeep { place: next });
     }
     let (block, after) = commands(alloc, script, tokens, next + 1, depth + 1)?;
@@ -46,7 +47,7 @@ fn command(
     }
 }
 
-// The commands from this number on, at this depth, and the number behind them.
+// The commands from this number on, at this depth, and the number after them.
 #[cycle(blocks)]
 pub fn commands(
     alloc: Global,
@@ -58,7 +59,7 @@ pub fn commands(
     requires tokens { AreTokens script.now tokens.now }
     requires within { at ≤ length (lexemes script.now tokens.now) }
     requires short { length (lexemes script.now tokens.now) < 2 ^ 63 }
-    requires depth { depth ≤ 32 }
+    requires depth { depth ≤ max_nesting }
     ensures { AreCommandsAt (lexemes script.now tokens.now) at depth result }
 {
     let mut commands = Vec::new(alloc);

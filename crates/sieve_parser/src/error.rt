@@ -10,7 +10,7 @@ use thiserror::Error;
 /// Why a script isn't parsed.
 #[derive(Debug, Drop, Error)]
 pub enum ParseError {
-    /// A growth was refused.
+    /// An allocation was refused.
     #[error("refused 1 Memory")]
     Memory,
     /// The script has more octets than the limit.

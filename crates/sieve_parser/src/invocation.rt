@@ -1,9 +1,10 @@
 // Tests, and commands up to their ends.
 ghost use Rattle.std.specs.Prelude.{◌≤◌, ◌<◌, ◌^◌, length};
+ghost use Rattle.octets.specs.Limits.{max_nesting};
 ghost use Rattle.sieve_lexer.specs.Tokens.{AreTokens};
-ghost use Rattle.sieve_parser.specs.Reading.{AreTestsBehind, IsInvocationAt, IsTestAt, lexemes};
+ghost use Rattle.sieve_parser.specs.Reading.{AreTestsAfter, IsInvocationAt, IsTestAt, lexemes};
 
-use crate::DEPTH_LIMIT;
+use crate::MAX_NESTING;
 use crate::arguments::arguments;
 use crate::error::ParseError;
 use crate::token_at::{identifier_at, stands};
@@ -12,7 +13,7 @@ use octets::Octets;
 use sieve_lexer::{Token, TokenKind};
 use std::alloc::Global;
 
-// The invocation whose identifier, of this name and number, stands at this depth, and the number behind it.
+// The invocation whose identifier, of this name and number, stands at this depth, and the number after it.
 #[cycle(tests)]
 pub fn invocation(
     alloc: Global,
@@ -25,7 +26,7 @@ pub fn invocation(
     requires tokens { AreTokens script.now tokens.now }
     requires within { token < length (lexemes script.now tokens.now) }
     requires short { length (lexemes script.now tokens.now) < 2 ^ 63 }
-    requires depth { depth ≤ 32 }
+    requires depth { depth ≤ max_nesting }
     ensures { IsInvocationAt (lexemes script.now tokens.now) name token depth result }
 {
     let (arguments, next) = arguments(alloc, script, tokens, token + 1)?;
@@ -35,7 +36,7 @@ pub fn invocation(
         arguments,
     };
     if let Some(name) = identifier_at(alloc, script, tokens, next)? {
-        if depth == DEPTH_LIMIT {
+        if depth == MAX_NESTING {
             return Err(ParseError::TooDeep { place: next });
         }
         let (test, after) = invocation(alloc, script, tokens, name, next, depth + 1)?;
@@ -51,7 +52,7 @@ pub fn invocation(
     Ok((Invocation::Plain(head), next))
 }
 
-// The test whose identifier has to stand at this number, below this depth, and the number behind it.
+// The test whose identifier has to stand at this number, below this depth, and the number after it.
 #[cycle(tests)]
 fn test_at(
     alloc: Global,
@@ -63,19 +64,19 @@ fn test_at(
     requires tokens { AreTokens script.now tokens.now }
     requires within { at ≤ length (lexemes script.now tokens.now) }
     requires short { length (lexemes script.now tokens.now) < 2 ^ 63 }
-    requires depth { depth ≤ 32 }
+    requires depth { depth ≤ max_nesting }
     ensures { IsTestAt (lexemes script.now tokens.now) at depth result }
 {
     let Some(name) = identifier_at(alloc, script, tokens, at)? else {
         return Err(ParseError::Syntax { place: at });
     };
-    if depth == DEPTH_LIMIT {
+    if depth == MAX_NESTING {
         return Err(ParseError::TooDeep { place: at });
     }
     invocation(alloc, script, tokens, name, at, depth + 1)
 }
 
-// The tests of a list whose first test has to stand at this number, below this depth, and the number behind its bracket.
+// The tests of a list whose first test has to stand at this number, below this depth, and the number after its bracket.
 #[cycle(tests)]
 fn test_list(
     alloc: Global,
@@ -87,8 +88,8 @@ fn test_list(
     requires tokens { AreTokens script.now tokens.now }
     requires within { at ≤ length (lexemes script.now tokens.now) }
     requires short { length (lexemes script.now tokens.now) < 2 ^ 63 }
-    requires depth { depth ≤ 32 }
-    ensures { AreTestsBehind (lexemes script.now tokens.now) at depth result }
+    requires depth { depth ≤ max_nesting }
+    ensures { AreTestsAfter (lexemes script.now tokens.now) at depth result }
 {
     let (first, mut next) = test_at(alloc, script, tokens, at, depth)?;
     let mut rest = Vec::new(alloc);

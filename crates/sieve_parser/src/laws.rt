@@ -14,12 +14,12 @@ pub fn what_is_read_begins_a_script()
     ensures { (ls : List Lexeme) (stack : List Symbol) → reading ls ≡ Some stack → IsViableWithinDepth ls }
 {}
 
-/// Behind what the machine has read, a lexeme that is wrong there begins no script.
+/// After what the machine has read, a lexeme that is wrong there begins no script.
 pub fn what_is_wrong_begins_no_script()
     ensures { (ls : List Lexeme) (l : Lexeme) (stack : List Symbol) → reading ls ≡ Some stack → step stack l ≡ wrong → IsViable (ls ++ l ∷ []) → ⊥ }
 {}
 
-/// Behind what the machine has read, the script isn't ended where something still has to be read.
+/// After what the machine has read, the script isn't ended where something still has to be read.
 pub fn what_is_open_is_no_script()
     ensures { (ls : List Lexeme) (stack : List Symbol) (cs : CommandsTree) → reading ls ≡ Some stack → (IsDone stack → ⊥) → IsScript ls cs → ⊥ }
 {}

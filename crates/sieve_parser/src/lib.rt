@@ -20,4 +20,4 @@ pub use parser::parse;
 pub use tree::{Argument, Command, Head, Invocation, Script};
 
 /// How many braces and test names may enclose a token, its own included.
-pub const DEPTH_LIMIT: usize = 32;
+pub const MAX_NESTING: usize = 32;

@@ -12,7 +12,7 @@ use std::alloc::Global;
 ///
 /// The refusals of the tokens come first. Otherwise [`ParseError::Syntax`] names the first token with which the
 /// tokens begin no script, the end being one more token, and [`ParseError::TooDeep`] the brace or test name that
-/// more than [`crate::DEPTH_LIMIT`] braces and test names would enclose, its own included; whichever stands first.
+/// more than [`crate::MAX_NESTING`] braces and test names would enclose, its own included; whichever stands first.
 /// [`ParseError::Memory`] comes only where memory was refused.
 pub fn parse(alloc: Global, script: &[u8]) -> Result<Script, ParseError>
     ensures parsed { IfOk result (λ parsed. IsParsed script.now (commands_tree parsed)) }

@@ -1,7 +1,7 @@
 // Lists of strings.
 ghost use Rattle.std.specs.Prelude.{◌≤◌, ◌<◌, ◌^◌, length};
 ghost use Rattle.sieve_lexer.specs.Tokens.{AreTokens};
-ghost use Rattle.sieve_parser.specs.Reading.{IsExpectedString, IsListBehind, lexemes};
+ghost use Rattle.sieve_parser.specs.Reading.{IsExpectedString, IsListAfter, lexemes};
 
 use crate::error::ParseError;
 use crate::token_at::{stands, string_at};
@@ -28,7 +28,7 @@ fn expected_string(
     }
 }
 
-// The list of strings whose first string has to stand at this number, and the number behind its bracket.
+// The list of strings whose first string has to stand at this number, and the number after its bracket.
 pub fn string_list(
     alloc: Global,
     script: &[u8],
@@ -38,7 +38,7 @@ pub fn string_list(
     requires tokens { AreTokens script.now tokens.now }
     requires within { at ≤ length (lexemes script.now tokens.now) }
     requires short { length (lexemes script.now tokens.now) < 2 ^ 63 }
-    ensures { IsListBehind (lexemes script.now tokens.now) at result }
+    ensures { IsListAfter (lexemes script.now tokens.now) at result }
 {
     let first = expected_string(alloc, script, tokens, at)?;
     let mut rest = Vec::new(alloc);

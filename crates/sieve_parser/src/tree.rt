@@ -7,10 +7,10 @@ use std::marker::Model;
 pub enum Argument {
     /// A string that stands without brackets.
     Text(Octets),
-    /// The strings of a list in square brackets: the first, and those behind it.
+    /// The strings of a list in square brackets: the first, and those after it.
     TextList(Octets, Vec<Octets>),
     Number(u64),
-    /// The identifier behind the colon.
+    /// The identifier after the colon.
     Tag(Octets),
 }
 
@@ -30,7 +30,7 @@ pub enum Invocation {
     Plain(Head),
     /// One test follows.
     WithTest(Head, Box<Invocation>),
-    /// A list of tests in round brackets follows: the first, and those behind it.
+    /// A list of tests in round brackets follows: the first, and those after it.
     WithTests(Head, Box<Invocation>, Vec<Invocation>),
 }
 

@@ -1,5 +1,6 @@
 -- The machine: what each instruction does.
 use Rattle.std.specs.Prelude.{ℕ, suc, ◌+◌, Bool, true, false, ◌&&◌, not, ◌==◌, nat_lt, List, [], ◌∷◌, ◌++◌, Option, Some, None, length, slice_get, if◌then◌else◌}
+use Rattle.octets.specs.Limits.{max_stack}
 use Rattle.bytecode_format.specs.declared.action.Action.TheVariants as action
 use Rattle.bytecode_format.specs.declared.instruction.Instruction.{Instruction}
 use Rattle.bytecode_format.specs.declared.operation.Operation.{Operation}
@@ -18,7 +19,7 @@ next state = goes (record state { place = suc state.place })
 
 -- an entry on top of the stack, which takes 1,024
 abbrev pub push : Value → State → Turn
-push value state = if nat_lt (length state.stack) 1024 then goes (record state { place = suc state.place; stack = value ∷ state.stack }) else traps
+push value state = if nat_lt (length state.stack) max_stack then goes (record state { place = suc state.place; stack = value ∷ state.stack }) else traps
 
 -- a jump is forward, and keeps the open loops
 abbrev pub is_sound_jump : Code → State → Instruction → Bool

@@ -3,7 +3,7 @@ use Rattle.std.proofs.lemmas.List.{append_assoc}
 use Rattle.std.proofs.lemmas.List.Elements.{All-drop}
 use Rattle.std.proofs.lemmas.Result.{err_from_is_err_and}
 use Rattle.octet_lanes.specs.Encoding.{encoding_of, width}
-use Rattle.lanes_base32.proofs.Blocks.{block_before, in_front}
+use Rattle.lanes_base32.proofs.Blocks.{block_before, in_prefix}
 use Rattle.lanes_base32.proofs.decode.decode.Goals as goal
 
 pub returns-in_err-append_block-clause-refused : goal.returns-in_err-append_block-clause-refused
@@ -12,8 +12,8 @@ returns-in_err-append_block-clause-refused c =
     let p = err_from_is_err_and c.from_residual-in_err-append_block.result c.from_residual-in_err-append_block.ensures.1 in
     rw (p.1, p.2) (λ e octets are spells.
     let l = c.whole.invariant.left octets are spells in
-    let front = in_front c.args.alphabet c.whole.rest.now c.in-Some.block.now c.in-Some.after.now l.0 parts.0 parts.1 parts.3 l.2 in
-    c.in_err-append_block.ensures.refused e (take (4 * width c.args.alphabet) l.0) front.long front.first)
+    let prefix = in_prefix c.args.alphabet c.whole.rest.now c.in-Some.block.now c.in-Some.after.now l.0 parts.0 parts.1 parts.3 l.2 in
+    c.in_err-append_block.ensures.refused e (take (4 * width c.args.alphabet) l.0) prefix.long prefix.first)
 
 pub whole-preserved : goal.whole-preserved
 whole-preserved c =
@@ -31,6 +31,6 @@ whole-preserved c =
           ∙ ap (λ l. encoding_of a l) (sym (append_assoc out first octets) ∙ ap (λ l. l ++ octets) (sym read.1));
       left = λ octets are spells.
           let l = c.whole.invariant.left octets are spells in
-          let front = in_front a text block after l.0 parts.0 parts.1 parts.3 l.2 in
-          (drop (4 * width a) l.0, All-drop (λ octet. octet < 256) (4 * width a) l.0 l.1, front.second);
+          let prefix = in_prefix a text block after l.0 parts.0 parts.1 parts.3 l.2 in
+          (drop (4 * width a) l.0, All-drop (λ octet. octet < 256) (4 * width a) l.0 l.1, prefix.second);
     }

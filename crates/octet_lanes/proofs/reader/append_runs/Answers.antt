@@ -38,7 +38,7 @@ runs-preserved c =
     let cases = c.in-Some.ensures.cases in
     let long : length block ≡ 32 = ap length cases.0 ∙ length-take-le 32 text (omega (arith, cases.2)) in
     let after = rest_of_block text block read cases.0 (omega (arith, c.in_ok-read.ensures.within)) in
-    let now = c.append_front.new.out.items in
+    let now = c.append_prefix.new.out.items in
     record {
       octets = λ more.
           ap (λ l. now ++ decoding_of a (l ++ more)) (c.split_at.ensures.back ∙ sym after)
@@ -55,7 +55,7 @@ returns-then-read-eq0-clause-octets c = λ more.
     let text = c.runs.rest.now in
     let block = c.in-Some.block.now in
     let whole = block_and_rest text block more c.in-Some.ensures.cases.0 in
-    ap (λ l. c.append_front.new.out.items ++ decoding_of a l) (sym whole)
-    ∙ ap (λ n. c.append_front.new.out.items ++ decoding_of a (drop n block ++ (drop 32 text ++ more))) (sym c.if-read-eq0.true)
+    ap (λ l. c.append_prefix.new.out.items ++ decoding_of a l) (sym whole)
+    ∙ ap (λ n. c.append_prefix.new.out.items ++ decoding_of a (drop n block ++ (drop 32 text ++ more))) (sym c.if-read-eq0.true)
     ∙ c.in_ok-read.ensures.octets (drop 32 text ++ more)
     ∙ ap (λ l. c.runs.out.items ++ decoding_of a l) whole ∙ c.runs.invariant.octets more

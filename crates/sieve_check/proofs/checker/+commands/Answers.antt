@@ -107,4 +107,4 @@ pub commands-trees-preserved : goal.commands-trees-preserved
 commands-trees-preserved t c =
     let found = c.in_ok-part.ensures in
     part_more c.args.trees.now (first_context c.args.takes_require) c.trees.tree-index c.tree-item.result c.trees-test.true c.tree-item.is c.trees.context c.trees.sequence c.trees.invariant
-    c.in_ok-part.part c.behind-context.result c.push.new.self found.0 found.1 (c.behind-context.ensures (command_tree c.tree-item.result) found.1) c.in_ok-push.ensures
+    c.in_ok-part.part c.following-context.result c.push.new.self found.0 found.1 (c.following-context.ensures (command_tree c.tree-item.result) found.1) c.in_ok-push.ensures

@@ -10,7 +10,7 @@ use Rattle.sieve_check.specs.FormOf.{IsTestForm, AreTestForms}
 use Rattle.sieve_check.specs.Checking.{IsRefusal}
 use Rattle.sieve_check.specs.Rules.{first_fault, test_visits, more_visits}
 use Rattle.sieve_check.proofs.TestSteps.{others_of, head_refused, tests_refused, all_found, any_found, test_refused, test_more, tests_end}
-use Rattle.sieve_check.proofs.Visits.{refused_before, refused_behind}
+use Rattle.sieve_check.proofs.Visits.{refused_before, refused_after}
 use Rattle.sieve_check.proofs.test.+tests.Goals as goal
 
 pub test-returns-in_err-negation-in-WithTest : goal.test-returns-in_err-negation-in-WithTest
@@ -48,7 +48,7 @@ test-returns-in_err-others-in-WithTests t c =
     let p = err_from_is_err_and c.from_residual-in_err-others-in-WithTests.result c.from_residual-in_err-others-in-WithTests.ensures.1 in
     rw (p.1, p.2) (tests_refused (invocation_tree c.args.invocation.now) w.head (test_list u us) (ap invocation_tree w.is ∙ tree_tests w.head w.first w.others) _
     (c.in_ok-junction-in-WithTests.ensures u us).0
-    (refused_behind (test_visits u) (more_visits us) _
+    (refused_after (test_visits u) (more_visits us) _
     (ap (λ x. first_fault (test_visits (invocation_tree x))) (sym c.deref-in-WithTests.ensures) ∙ c.in_ok-first-in-WithTests.ensures.0)
     (subst (λ x. IsRefusal (first_fault (more_visits (others_of x))) c.in_err-others-in-WithTests.field-0.0) c.deref-in-WithTests-2.ensures.value c.in_err-others-in-WithTests.ensures)))
 

@@ -36,8 +36,8 @@ command-returns-then-not-stands t c = λ stack at.
     (not_here s ts next opening_brace lt (λ k. false≢true (c.if-not-stands.ensures.1 k)) (λ q. cc)))
     (λ done. done)
 
-pub command-returns-then-depth-eq-DEPTH_LIMIT : goal.command-returns-then-depth-eq-DEPTH_LIMIT
-command-returns-then-depth-eq-DEPTH_LIMIT t c = λ stack at.
+pub command-returns-then-depth-eq-MAX_NESTING : goal.command-returns-then-depth-eq-MAX_NESTING
+command-returns-then-depth-eq-MAX_NESTING t c = λ stack at.
     let ls = lexemes c.args.script.now c.args.tokens.now in
     let next = c.in_ok-invocation.next in
     let d = c.args.depth in

@@ -16,8 +16,8 @@ use Rattle.sieve_parser.proofs.Walk.{walk, sunk, stuck_here, stands_one, stands_
 use Rattle.sieve_parser.proofs.Wrong.{no_test, no_test_end}
 use Rattle.sieve_parser.proofs.invocation.+tests.Goals as goal
 
-pub invocation-returns-then-depth-eq-DEPTH_LIMIT : goal.invocation-returns-then-depth-eq-DEPTH_LIMIT
-invocation-returns-then-depth-eq-DEPTH_LIMIT t c = λ f stack at.
+pub invocation-returns-then-depth-eq-MAX_NESTING : goal.invocation-returns-then-depth-eq-MAX_NESTING
+invocation-returns-then-depth-eq-MAX_NESTING t c = λ f stack at.
     let ls = lexemes c.args.script.now c.args.tokens.now in
     let next = c.in_ok-arguments.next in
     let name = subst (λ o. IsIdentifierAt ls next o) c.in-Some.is c.in_ok-name.ensures in
@@ -100,8 +100,8 @@ test_at-returns-in_default t c = λ stack at.
     let none = subst (λ o. IsIdentifierAt ls c.args.at o) c.in_default.is c.in_ok-name.ensures in
     stuck_here ls c.args.at (tests c.args.depth) stack at c.requires.within (λ lt. no_test c.args.depth (lexeme_at ls c.args.at) (λ n name e. none n name lt e)) (λ done. done)
 
-pub test_at-returns-then-depth-eq-DEPTH_LIMIT : goal.test_at-returns-then-depth-eq-DEPTH_LIMIT
-test_at-returns-then-depth-eq-DEPTH_LIMIT t c = λ stack at.
+pub test_at-returns-then-depth-eq-MAX_NESTING : goal.test_at-returns-then-depth-eq-MAX_NESTING
+test_at-returns-then-depth-eq-MAX_NESTING t c = λ stack at.
     let ls = lexemes c.args.script.now c.args.tokens.now in
     let d = c.args.depth in
     let name = subst (λ o. IsIdentifierAt ls c.args.at o) c.in-Some.is c.in_ok-name.ensures in

@@ -4,7 +4,7 @@ use Rattle.std.proofs.lemmas.Option.{slice_get_past}
 use Rattle.bytecode_format.specs.Operations.{operation_of, operations}
 use Rattle.bytecode_format.proofs.operation.Operation.of.Goals as goal
 
--- no operation stands behind the last one
+-- no operation stands after the last one
 beyond : (n m : ℕ) → n ≡ suc m → 25 ≤ m → operation_of n ≡ None
 beyond n m e h = rw e (slice_get_past operations m h)
 

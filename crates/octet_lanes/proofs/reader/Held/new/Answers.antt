@@ -1,7 +1,7 @@
 use Rattle.std.proofs.Common.{◌^◌, ◌<◌, refl, arith}
 use Rattle.std.proofs.lemmas.List.Elements.{All-replicate}
 use Rattle.octet_lanes.specs.Encoding.{width}
-use Rattle.octet_lanes.proofs.Reading.{behind_none, some_characters, zero_small}
+use Rattle.octet_lanes.proofs.Reading.{after_none, some_characters, zero_small}
 use Rattle.octet_lanes.proofs.reader.Held.new.Goals as goal
 
 pub returns-clause-held : goal.returns-clause-held
@@ -12,4 +12,4 @@ returns-clause-held c = λ alphabet. record {
 }
 
 pub returns-clause-nothing : goal.returns-clause-nothing
-returns-clause-nothing c = λ alphabet text. behind_none alphabet text
+returns-clause-nothing c = λ alphabet text. after_none alphabet text

@@ -3,8 +3,8 @@ use Rattle.std.proofs.lemmas.List.{length-set, take_more_set}
 use Rattle.std.proofs.lemmas.List.Elements.{All-set}
 use Rattle.octet_lanes.specs.Encoding.{quantum, width}
 use Rattle.octet_lanes.specs.declared.reader.Held.{Held}
-use Rattle.octet_lanes.specs.Reading.{decoding_behind}
-use Rattle.octet_lanes.proofs.Reading.{behind_value, behind_stray, class_below, few_characters, goes_on}
+use Rattle.octet_lanes.specs.Reading.{decoding_after}
+use Rattle.octet_lanes.proofs.Reading.{after_value, after_stray, class_below, few_characters, goes_on}
 use Rattle.octet_lanes.proofs.reader.Held.next_quantum.Goals as goal
 
 pub octets-preserved-then-value : goal.octets-preserved-then-value
@@ -29,9 +29,9 @@ octets-preserved-then-value c =
       goes_on = c.octets.invariant.goes_on;
       same = λ more.
           goes_on a now (after ++ more) c.octets.invariant.goes_on
-          ∙ ap (λ l. decoding_behind a l (after ++ more)) (take_more_set values n value within ∙ ap (λ v. take n values ++ v ∷ []) is)
-          ∙ sym (behind_value a (take n values) octet (after ++ more) c.if-octet-eq-PADDING.false (λ e. c.if-value.true (is ∙ e)))
-          ∙ ap (λ l. decoding_behind a (take n values) (l ++ more)) (sym cases.0)
+          ∙ ap (λ l. decoding_after a l (after ++ more)) (take_more_set values n value within ∙ ap (λ v. take n values ++ v ∷ []) is)
+          ∙ sym (after_value a (take n values) octet (after ++ more) c.if-octet-eq-PADDING.false (λ e. c.if-value.true (is ∙ e)))
+          ∙ ap (λ l. decoding_after a (take n values) (l ++ more)) (sym cases.0)
           ∙ sym (goes_on a before (c.octets.rest.now ++ more) c.octets.invariant.goes_on)
           ∙ c.octets.invariant.same more;
       shorter = (omega (arith, cases.1, c.octets.invariant.shorter.0), λ _. omega (arith, cases.1, c.octets.invariant.shorter.0));
@@ -52,8 +52,8 @@ octets-preserved c =
       goes_on = c.octets.invariant.goes_on;
       same = λ more.
           goes_on a before (after ++ more) c.octets.invariant.goes_on
-          ∙ sym (behind_stray a held octet (after ++ more) c.if-octet-eq-PADDING.false (sym c.class-value.ensures ∙ c.if-value.false))
-          ∙ ap (λ l. decoding_behind a held (l ++ more)) (sym cases.0)
+          ∙ sym (after_stray a held octet (after ++ more) c.if-octet-eq-PADDING.false (sym c.class-value.ensures ∙ c.if-value.false))
+          ∙ ap (λ l. decoding_after a held (l ++ more)) (sym cases.0)
           ∙ sym (goes_on a before (c.octets.rest.now ++ more) c.octets.invariant.goes_on)
           ∙ c.octets.invariant.same more;
       shorter = (omega (arith, cases.1, c.octets.invariant.shorter.0), λ _. omega (arith, cases.1, c.octets.invariant.shorter.0));

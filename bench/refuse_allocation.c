@@ -1,4 +1,4 @@
-/* Preloaded into the program: refuses the growth of the number in REFUSE, counted from 1, and writes how many were asked for to
+/* Preloaded into the program: refuses the allocation of the number in REFUSE, counted from 1, and writes how many were asked for to
    descriptor 9 where COUNT is set. */
 #define _GNU_SOURCE
 #include <errno.h>

@@ -1,0 +1,36 @@
+-- The limits of messages, scripts and programs. Each number stands here alone; whatever refuses or cuts cites it by name.
+use Rattle.std.specs.Prelude.{ℕ, ◌^◌}
+
+-- octets of a message, and the number of its parts
+abbrev pub max_message : ℕ
+max_message = 2 ^ 26
+
+abbrev pub max_parts : ℕ
+max_parts = 4096
+
+-- octets of a script; braces and test names that enclose a token, its own included; octets of a string in it
+abbrev pub max_script : ℕ
+max_script = 65536
+
+abbrev pub max_nesting : ℕ
+max_nesting = 32
+
+abbrev pub max_string : ℕ
+max_string = 16384
+
+-- octets of a program, its instructions and its variables
+abbrev pub max_program : ℕ
+max_program = 4194304
+
+abbrev pub max_instructions : ℕ
+max_instructions = 65536
+
+abbrev pub max_variables : ℕ
+max_variables = 128
+
+-- entries on the machine's stack, and loops open at a place
+abbrev pub max_stack : ℕ
+max_stack = 1024
+
+abbrev pub max_loops : ℕ
+max_loops = 3
