@@ -1,32 +1,77 @@
 -- What filters know of a message.
-use Rattle.std.specs.Prelude.{ℕ, ◌<◌, ◌≤◌, ◌^◌, List, [], ◌∷◌, length}
+use Rattle.std.specs.Prelude.{◌≡◌, ℕ, ◌+◌, ◌<◌, ◌≤◌, List, [], ◌∷◌, length, slice_get, Some, codes}
+use Rattle.std.specs.List.{sum_by}
+use Rattle.octets.specs.Limits.{max_message, max_parts}
+use Rattle.header_fields.specs.Fields.{Field}
+use Rattle.mime_params.specs.MediaType.{MediaType}
+use Rattle.mime_params.specs.declared.encoding.TransferEncoding.{TransferEncoding}
+use Rattle.mime_params.specs.declared.encoding.TransferEncoding.TheVariants.{SevenBit}
 
--- a header field: its name and its value
-pub record Field : Type 0 where
-  pub name : List ℕ
-  pub value : List ℕ
-
--- a part: its depth, counted from 1, the number of parts below it, and its header's fields
+-- a part: its depth, counted from 1; the number of parts below it; its header's fields; its media type; how its body is encoded;
+-- its octets, those after its header, and what these stand for
 pub record Part : Type 0 where
   pub depth : ℕ
   pub below : ℕ
   pub fields : List Field
+  pub media : MediaType
+  pub encoding : TransferEncoding
+  pub raw : List ℕ
+  pub body : List ℕ
+  pub content : List ℕ
 
--- a message: its octets' number, and its parts in preorder
+-- a message: its octets, and its parts in preorder
 pub record Mail : Type 0 where
-  pub size : ℕ
+  pub octets : List ℕ
   pub parts : List Part
+
+-- how many octets it has
+abbrev pub size_of : Mail → ℕ
+size_of mail = length mail.octets
+
+-- how many octets fields take at least: each its value, a colon, and one more for its name
+abbrev pub fields_extent : List Field → ℕ
+fields_extent fields = sum_by (λ (f : Field). length f.value + 2) fields
+
+abbrev pub parts_extent : List Part → ℕ
+parts_extent parts = sum_by (λ (p : Part). fields_extent p.fields) parts
+
+-- the parts below a part come right after it, and below one of those are none but they
+pub record Nests (parts : List Part) (place : ℕ) (part : Part) : Type 0 where
+  pub within : place + part.below < length parts
+  pub inner : (other : ℕ) (inside : Part) → place < other → other ≤ place + part.below → slice_get parts other ≡ Some inside → other + inside.below ≤ place + part.below
+
+-- a part's content is no longer than its body, and that no longer than the message
+pub record IsWithin (mail : Mail) (part : Part) : Type 0 where
+  pub content : length part.content ≤ length part.body
+  pub body : length part.body ≤ size_of mail
 
 -- what holds of every message that was read
 pub record IsMail (mail : Mail) : Type 0 where
-  pub small : mail.size ≤ 2 ^ 26
+  pub small : size_of mail ≤ max_message
   pub has_root : 0 < length mail.parts
-  pub few_parts : length mail.parts ≤ 4096
+  pub few_parts : length mail.parts ≤ max_parts
+  pub nests : (place : ℕ) (part : Part) → slice_get mail.parts place ≡ Some part → Nests mail.parts place part
+  pub within : (place : ℕ) (part : Part) → slice_get mail.parts place ≡ Some part → IsWithin mail part
+  pub fields : parts_extent mail.parts ≤ size_of mail
 
 -- the one part of a message whose header isn't read
-abbrev pub lone_part : Part
-lone_part = record { depth = 1; below = 0; fields = [] }
+abbrev pub lone_part : List ℕ → Part
+lone_part octets =
+    record {
+      depth = 1;
+      below = 0;
+      fields = [];
+      media = record { main = codes "text"; sub = codes "plain"; params = [] };
+      encoding = SevenBit;
+      raw = octets;
+      body = octets;
+      content = octets;
+    }
 
 -- the mail that octets are
-abbrev pub mail_of : List ℕ → Mail
-mail_of octets = record { size = length octets; parts = lone_part ∷ [] }
+unfoldable pub mail_of : List ℕ → Mail
+mail_of octets = record { octets = octets; parts = lone_part octets ∷ [] }
+
+-- octets that can be read as a message
+abbrev pub IsReadable : List ℕ → Type 0
+IsReadable octets = length octets ≤ max_message

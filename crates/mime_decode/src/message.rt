@@ -1,6 +1,7 @@
 // A message that was read.
-ghost use Rattle.std.specs.Prelude.{◌≡◌, ◌<◌, ◌^◌, length, IfOk, IfErr, OnErr};
-ghost use Rattle.mime_decode.specs.Mail.{IsMail, mail_of};
+ghost use Rattle.std.specs.Prelude.{◌≡◌, length, IfOk, IfErr};
+ghost use Rattle.mime_decode.specs.Mail.{IsMail, IsReadable, mail_of, size_of};
+ghost use Rattle.mime_decode.specs.Refusals.{IsMessageRefusal};
 
 use crate::error::MessageError;
 use std::alloc::Global;
@@ -16,14 +17,13 @@ pub struct Message<'a> {
 }
 
 impl<'a> Model for Message<'a> {
-    ghost use Rattle.std.specs.Prelude.{length, ◌≤◌, ◌^◌};
-    ghost use Rattle.mime_decode.specs.Mail.{Mail, mail_of};
+    ghost use Rattle.mime_decode.specs.Mail.{Mail, IsReadable, mail_of};
 
     ghost Value = { Mail };
 
     ghost view = { λ m. mail_of m.octets.now };
 
-    ghost invariant = { λ m. length m.octets.now ≤ 2 ^ 26 };
+    ghost invariant = { λ m. IsReadable m.octets.now };
 }
 
 impl<'a> Message<'a> {
@@ -31,9 +31,11 @@ impl<'a> Message<'a> {
     ///
     /// `MessageTooLarge` comes exactly where they are more than [`MAX_MESSAGE`], and no other error
     /// comes but for want of memory.
+    #[tactic(auto, using(crate::proofs::MailLemmas::is_mail))]
     pub fn read(_alloc: Global, octets: &'a [u8]) -> Result<Message<'a>, MessageError>
-        ensures read { IfOk result (λ m. (m ≡ mail_of octets.now) × IsMail m) }
-        ensures too_large { IfErr result (λ e. (e ≡ MessageError.MessageTooLarge) × (2 ^ 26 < length octets.now)) }
+        ensures read { IfOk result (λ m. IsReadable octets.now × (m ≡ mail_of octets.now)) }
+        ensures mail { IfOk result (λ m. IsMail m) }
+        ensures refused { IfErr result (λ e. IsMessageRefusal octets.now e) }
     {
         if octets.len() > MAX_MESSAGE {
             return Err(MessageError::MessageTooLarge);
@@ -42,14 +44,16 @@ impl<'a> Message<'a> {
     }
 
     /// The number of its octets, at most [`MAX_MESSAGE`].
+    #[tactic(auto, using(crate::proofs::MailLemmas::is_mail, crate::proofs::MailLemmas::size_is))]
     pub fn size(&self) -> usize
-        ensures value { result ≡ self.now.size }
+        ensures value { result ≡ size_of self.now }
         ensures mail { IsMail self.now }
     {
         self.octets.len()
     }
 
     /// The number of its parts: 1 to 4,096.
+    #[tactic(auto, using(crate::proofs::MailLemmas::is_mail, crate::proofs::MailLemmas::one_part))]
     pub fn parts(&self) -> usize
         ensures value { result ≡ length self.now.parts }
         ensures mail { IsMail self.now }

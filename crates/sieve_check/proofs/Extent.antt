@@ -6,6 +6,7 @@ use Rattle.sieve_parser.specs.Grammar.{Placed, at_depth, invocation_spelled, mor
 use Rattle.sieve_parser.specs.Scripts.{IsTree}
 use Rattle.sieve_parser.proofs.Extent.{tree_fits}
 use Rattle.sieve_check.specs.Typed.{TestForm, constant, negation, all_of, any_of, size, TestForms, no_test as no_other, test, CommandForm, keep, discard, stop, choice, CommandForms, BranchForms, no_branch}
+use Rattle.sieve_check.specs.Bounded.{IsBounded}
 use Rattle.sieve_check.specs.Extent.{test_extent, tests_extent, command_extent, commands_extent, branches_extent}
 use Rattle.sieve_check.specs.FormOf.{IsTestForm, AreTestForms, IsAction, Begins, AreForms, IsFormOf}
 
@@ -76,5 +77,5 @@ mutual
         length-append (command_spelled d c) (commands_spelled d cs),
       )
 
-pub script_form_fits : (cs : CommandsTree) (forms : CommandForms) → IsTree cs → IsFormOf cs forms → commands_extent forms ≤ 65536
-script_form_fits cs forms (script, parsed) is = omega (arith, forms_fit cs 0 no_branch forms is, tree_fits script cs parsed, parsed.0)
+pub script_form_fits : (cs : CommandsTree) (forms : CommandForms) → IsTree cs → IsFormOf cs forms → IsBounded forms
+script_form_fits cs forms (script, parsed) is = record { octets = omega (arith, forms_fit cs 0 no_branch forms is, tree_fits script cs parsed, parsed.0) }

@@ -1,6 +1,7 @@
 pub mod Typed
 pub mod TypedView
 pub mod Extent
+pub mod Bounded
 pub mod Names
 pub mod FormOf
 pub mod Refusals

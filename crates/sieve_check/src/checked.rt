@@ -1,9 +1,8 @@
 // Scripts that were checked.
-ghost use Rattle.std.specs.Prelude.{◌≡◌, ◌≤◌, None};
-ghost use Rattle.octets.specs.Limits.{max_script};
+ghost use Rattle.std.specs.Prelude.{◌≡◌, None};
 ghost use Rattle.sieve_parser.specs.Scripts.{IsTree};
 ghost use Rattle.sieve_parser.specs.View.{commands_tree};
-ghost use Rattle.sieve_check.specs.Extent.{commands_extent};
+ghost use Rattle.sieve_check.specs.Bounded.{IsBounded};
 ghost use Rattle.sieve_check.specs.FormOf.{IsFormOf};
 ghost use Rattle.sieve_check.specs.Rules.{fault_of};
 ghost use Rattle.sieve_check.specs.TypedView.{commands_form};
@@ -61,7 +60,7 @@ impl Checked {
     pub fn commands(&self) -> &[Command]
         ensures value { result.now ≡ self.now.commands }
         ensures form { IsFormOf (commands_tree self.now.script) (commands_form self.now.commands) }
-        ensures extent { commands_extent (commands_form self.now.commands) ≤ max_script }
+        ensures bounded { IsBounded (commands_form self.now.commands) }
     {
         &self.commands
     }

@@ -12,6 +12,7 @@ use Rattle.bytecode_format.proofs.Lengths.{length-spelling}
 use Rattle.sieve_check.specs.declared.typed.Order.{Order}
 use Rattle.sieve_check.specs.declared.typed.Order.TheVariants.{Over, Under}
 use Rattle.sieve_check.specs.Typed.{TestForm, constant, negation, all_of, any_of, size, TestForms, no_test, test, CommandForm, keep, discard, stop, choice, CommandForms, no_command, command, BranchForms, no_branch, otherwise, branch}
+use Rattle.sieve_check.specs.Bounded.{IsBounded}
 use Rattle.sieve_check.specs.Extent.{test_extent, tests_extent, command_extent, commands_extent, branches_extent}
 use Rattle.sieve_compiler.specs.Lengths.{test_length, tests_length, leave_length, command_length, commands_length, branches_length}
 use Rattle.sieve_compiler.specs.Numbers.{test_numbers, tests_numbers, command_numbers, commands_numbers, branches_numbers, distinct, table_of, place_in}
@@ -190,22 +191,22 @@ pub length_code : (cs : CommandForms) → length (code_of cs).instructions ≡ c
 length_code cs = omega (arith, length-append (commands_code (table_of cs) 0 cs) (plain Halt ∷ []), commands_code_length (table_of cs) cs 0)
 
 -- the code is a program, where its numbers are those of 64 bits
-pub is_program : (cs : CommandForms) → commands_extent cs ≤ 65536 → All (λ n. n < 2 ^ 64) (table_of cs) → IsProgram (code_of cs)
+pub is_program : (cs : CommandForms) → IsBounded cs → All (λ n. n < 2 ^ 64) (table_of cs) → IsProgram (code_of cs)
 is_program cs short numbers =
     let commands : commands_length cs ≤ commands_extent cs - 1 = commands_within cs in
     let few : length (table_of cs) ≤ commands_length cs = table_within cs in
     record {
       version = refl;
       variables = omega arith;
-      numbers = omega (arith, commands, few, short);
+      numbers = omega (arith, commands, few, short.octets);
       each_number = numbers;
       strings = omega arith;
       each_string = All-nil _;
-      instructions = omega (arith, length_code cs, commands, short);
-      each_instruction = All-append Fits _ _ (fits_commands (table_of cs) 0 cs (omega (arith, commands, few, short)) (omega (arith, commands, short))) (fits_plain Halt (omega arith));
-      octets = omega (arith, length-spelling (code_of cs), length_code cs, commands, few, short);
+      instructions = omega (arith, length_code cs, commands, short.octets);
+      each_instruction = All-append Fits _ _ (fits_commands (table_of cs) 0 cs (omega (arith, commands, few, short.octets)) (omega (arith, commands, short.octets))) (fits_plain Halt (omega arith));
+      octets = omega (arith, length-spelling (code_of cs), length_code cs, commands, few, short.octets);
     }
 
 -- the same, by the numbers of the script
-pub code_is_program : (cs : CommandForms) → commands_extent cs ≤ 65536 → All (λ n. n < 2 ^ 64) (commands_numbers cs) → IsProgram (code_of cs)
+pub code_is_program : (cs : CommandForms) → IsBounded cs → All (λ n. n < 2 ^ 64) (commands_numbers cs) → IsProgram (code_of cs)
 code_is_program cs short numbers = is_program cs short (all_distinct (λ n. n < 2 ^ 64) (commands_numbers cs) numbers)

@@ -7,7 +7,7 @@ use Rattle.bytecode_format.specs.declared.operation.Operation.TheVariants.{Halt,
 use Rattle.bytecode_format.specs.declared.action.Action.TheVariants as action
 use Rattle.bytecode_format.specs.Actions.{final_actions}
 use Rattle.bytecode_format.specs.Code.{Code}
-use Rattle.mime_decode.specs.Mail.{Mail}
+use Rattle.mime_decode.specs.Mail.{Mail, size_of}
 use Rattle.sieve_check.specs.declared.typed.Order.{Order}
 use Rattle.sieve_check.specs.declared.typed.Order.TheVariants.{Over, Under}
 use Rattle.sieve_check.specs.Typed.{TestForm, constant, negation, all_of, any_of, size, TestForms, no_test, test, CommandForm, keep, discard, stop, choice, CommandForms, no_command, command, BranchForms, no_branch, otherwise, branch}
@@ -94,7 +94,7 @@ module _ (script : CommandForms) (mail : Mail) where
   bool_step p c true e here = step_at (at p e c) (push_bool true) _ here refl
   bool_step p c false e here = step_at (at p e c) (push_bool false) _ here refl
 
-  size_step : (p c : ℕ) (order : Order) (n : ℕ) (e : Effects) → Has table (n ∷ []) → slice_get all p ≡ Some (push_size order (place_in table n)) → Goes (at p e c) (holding (is_size order n mail.size) (suc p) e (c + 1))
+  size_step : (p c : ℕ) (order : Order) (n : ℕ) (e : Effects) → Has table (n ∷ []) → slice_get all p ≡ Some (push_size order (place_in table n)) → Goes (at p e c) (holding (is_size order n (size_of mail)) (suc p) e (c + 1))
   size_step p c Over n e known here = step_at (at p e c) (push_size Over (place_in table n)) _ here (rw (found table n (known n (has_itself n))) refl)
   size_step p c Under n e known here = step_at (at p e c) (push_size Under (place_in table n)) _ here (rw (found table n (known n (has_itself n))) refl)
 
@@ -131,7 +131,7 @@ module _ (script : CommandForms) (mail : Mail) where
     test_run (constant b) p asked target e h known = λ c.
         simple_run p c (push_bool b) b asked target e h (bool_step p c b e (stands_first all p (push_bool b) (jump_if asked target ∷ []) h))
     test_run (size order n) p asked target e h known = λ c.
-        simple_run p c (push_size order (place_in table n)) (is_size order n mail.size) asked target e h (size_step p c order n e known (stands_first all p (push_size order (place_in table n)) (jump_if asked target ∷ []) h))
+        simple_run p c (push_size order (place_in table n)) (is_size order n (size_of mail)) asked target e h (size_step p c order n e known (stands_first all p (push_size order (place_in table n)) (jump_if asked target ∷ []) h))
     test_run (negation t) p asked target e h known =
         subst (λ q. Comes p e q e) (turned (holds mail t) asked target (p + test_length t)) (test_run t p (not asked) target e h known)
     test_run (all_of t ts) p asked target e h known =

@@ -1,12 +1,11 @@
 // Scripts as programs.
-ghost use Rattle.std.specs.Prelude.{◌≡◌, ◌≤◌, ℕ, IfOk};
-ghost use Rattle.octets.specs.Limits.{max_script};
+ghost use Rattle.std.specs.Prelude.{◌≡◌, ℕ, IfOk};
 ghost use Rattle.bytecode_verifier.specs.Acceptance.{IsAccepted};
-ghost use Rattle.mime_decode.specs.Mail.{Mail};
+ghost use Rattle.mime_decode.specs.Mail.{Mail, IsMail};
 ghost use Rattle.sieve_meaning.specs.Meaning.{meaning};
 ghost use Rattle.sieve_vm.specs.Ending.{IsOutcome};
 ghost use Rattle.sieve_check.specs.TypedView.{commands_form};
-ghost use Rattle.sieve_check.specs.Extent.{commands_extent};
+ghost use Rattle.sieve_check.specs.Bounded.{IsBounded};
 ghost use Rattle.sieve_compiler.specs.Coding.{code_of};
 
 use crate::coder::Coder;
@@ -24,14 +23,14 @@ use std::alloc::{AllocError, Global};
 pub fn compile(alloc: Global, checked: &Checked) -> Result<Program, AllocError>
     ensures code { IfOk result (λ program. program ≡ code_of (commands_form checked.now.commands)) }
     ensures accepted { IfOk result (λ program. IsAccepted program) }
-    ensures means { IfOk result (λ program. (mail : Mail) → (charged : ℕ) × IsOutcome program mail (meaning mail (commands_form checked.now.commands)) charged) }
+    ensures means { IfOk result (λ program. (mail : Mail) → IsMail mail → (charged : ℕ) × IsOutcome program mail (meaning mail (commands_form checked.now.commands)) charged) }
 {
     compile_commands(alloc, checked.commands())
 }
 
 // The program of a script's commands, of which there are no more than of a script within the limits.
 fn compile_commands(alloc: Global, commands: &[Command]) -> Result<Program, AllocError>
-    requires { commands_extent (commands_form commands.now) ≤ max_script }
+    requires { IsBounded (commands_form commands.now) }
     ensures code { IfOk result (λ p. p ≡ code_of (commands_form commands.now)) }
 {
     let numbers = Numbers::of_script(alloc, commands)?;

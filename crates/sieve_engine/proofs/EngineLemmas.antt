@@ -5,7 +5,8 @@ use Rattle.bytecode_format.specs.Code.{Code}
 use Rattle.bytecode_verifier.specs.declared.error.Refusal.{Refusal}
 use Rattle.bytecode_verifier.specs.declared.error.Refusal.TheVariants.{Memory, Index, Form, End, Loop, Jump, NoPart, Stack}
 use Rattle.bytecode_verifier.specs.Acceptance.{refusal_of}
-use Rattle.mime_decode.specs.Mail.{Mail, IsMail, mail_of}
+use Rattle.mime_decode.specs.Mail.{Mail, IsReadable, mail_of}
+use Rattle.mime_decode.proofs.MailLemmas.{is_mail}
 use Rattle.sieve_vm.specs.Ending.{IsOutcome}
 use Rattle.sieve_vm.specs.Potential.{limit_of}
 use Rattle.sieve_vm.specs.State.{State, start}
@@ -30,12 +31,10 @@ refused_by_verifier octets code spells (NoPart p) h = (code, spells, h (λ e. ab
 refused_by_verifier octets code spells (Stack p) h = (code, spells, h (λ e. absurd cc))
 
 -- the report of a run, in terms of the octets
-pub reported : (message : List ℕ) (code : Code) (mail : Mail) (actions : List Action) (charged limit : ℕ) → IsAccepted code → mail ≡ mail_of message → IsMail mail → IsOutcome code mail actions charged → limit ≡ limit_of code mail → IsReport code message actions charged limit
-reported message code mail actions charged limit accepted is fits outcome value =
-    let small : mail.size ≤ 2 ^ 26 = fits.small in
-    let size : mail.size ≡ length message = ap (λ (m : Mail). m.size) is in
+pub reported : (message : List ℕ) (code : Code) (mail : Mail) (actions : List Action) (charged limit : ℕ) → IsAccepted code → IsReadable message → mail ≡ mail_of message → IsOutcome code mail actions charged → limit ≡ limit_of code mail → IsReport code message actions charged limit
+reported message code mail actions charged limit accepted readable is outcome value =
     record {
-      read = omega (arith, small, size);
+      read = readable;
       outcome = subst (λ (m : Mail). IsOutcome code m actions charged) is outcome;
       within = omega (arith, ends_within code mail accepted outcome.end outcome.over, outcome.charge_is, value);
       budget = value ∙ ap (limit_of code) is;
@@ -47,7 +46,7 @@ one_end code mail one other p q = one_end_from code mail p.steps q.steps (start 
 -- a script's report is that of its code, whose run has one end, with the final actions of the meaning
 pub evaluated : (script message : List ℕ) (code : Code) (actions : List Action) (charged limit : ℕ) → IsCompiled script code → IsReport code message actions charged limit → IsEvaluation script message actions charged limit
 evaluated script message code actions charged limit compiled report =
-    let meant = compiled.means (mail_of message) in
+    let meant = compiled.means (mail_of message) (is_mail message report.read) in
     let same = one_end code (mail_of message) report.outcome.end meant.1.end report.outcome.over meant.1.over in
     record {
       form = compiled.form;

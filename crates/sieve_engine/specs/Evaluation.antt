@@ -1,9 +1,11 @@
 -- What evaluating octets as a script on octets as a message comes to.
-use Rattle.std.specs.Prelude.{◌≡◌, ℕ, ◌<◌, ◌^◌, List, length, Some, None}
+use Rattle.std.specs.Prelude.{◌≡◌, ℕ, List, Some, None}
 use Rattle.bytecode_format.specs.declared.action.Action.{Action}
 use Rattle.bytecode_format.specs.Code.{Code}
 use Rattle.bytecode_verifier.specs.Acceptance.{IsAccepted}
-use Rattle.mime_decode.specs.Mail.{Mail, mail_of}
+use Rattle.mime_decode.specs.Mail.{Mail, IsMail, mail_of}
+use Rattle.mime_decode.specs.Refusals.{IsMessageRefusal}
+use Rattle.mime_decode.specs.declared.error.MessageError.TheVariants as mail
 use Rattle.sieve_parser.specs.declared.error.ParseError.TheVariants as parser
 use Rattle.sieve_parser.specs.Scripts.{IsParsed, IsRefused}
 use Rattle.sieve_parser.specs.Tree.{CommandsTree}
@@ -46,7 +48,7 @@ IsScriptRefusal octets _ = ⊥
 
 -- the first refusal of a script and a message, the script's first
 abbrev pub IsEvaluationRefusal : List ℕ → List ℕ → EngineError → Type 0
-IsEvaluationRefusal script message MessageTooLarge = (2 ^ 26 < length message) × ((form : CommandForms) × IsScript script form)
+IsEvaluationRefusal script message MessageTooLarge = IsMessageRefusal message mail.MessageTooLarge × ((form : CommandForms) × IsScript script form)
 IsEvaluationRefusal script message error = IsScriptRefusal script error
 
 -- the program is the script's code, is accepted, and on every message its run ends with the final actions of the script's meaning
@@ -55,7 +57,7 @@ pub record IsCompiled (script : List ℕ) (code : Code) : Type 0 where
   pub checked : IsScript script form
   pub is : code ≡ code_of form
   pub accepted : IsAccepted code
-  pub means : (mail : Mail) → (charged : ℕ) × IsOutcome code mail (meaning mail form) charged
+  pub means : (mail : Mail) → IsMail mail → (charged : ℕ) × IsOutcome code mail (meaning mail form) charged
 
 -- the actions are the final actions of the script's meaning on the message, and this is the report of the run of its code
 pub record IsEvaluation (script message : List ℕ) (actions : List Action) (charged limit : ℕ) : Type 0 where

@@ -1,5 +1,5 @@
 -- What executing octets as a program on octets as a message comes to.
-use Rattle.std.specs.Prelude.{◌≡◌, ℕ, ◌<◌, ◌≤◌, ◌^◌, List, length, Some}
+use Rattle.std.specs.Prelude.{◌≡◌, ℕ, ◌≤◌, List, length, Some}
 use Rattle.bytecode_format.specs.declared.action.Action.{Action}
 use Rattle.bytecode_format.specs.Code.{Code}
 use Rattle.bytecode_format.specs.Spelling.{IsProgram, spelling}
@@ -8,7 +8,9 @@ use Rattle.bytecode_verifier.specs.declared.error.Refusal.{Refusal}
 use Rattle.bytecode_verifier.specs.declared.error.Refusal.TheVariants as verifier
 use Rattle.bytecode_verifier.specs.Acceptance.{IsAccepted, refusal_of}
 use Rattle.bytecode_verifier.specs.Budget.{budget_of}
-use Rattle.mime_decode.specs.Mail.{mail_of}
+use Rattle.mime_decode.specs.Mail.{IsReadable, mail_of, size_of}
+use Rattle.mime_decode.specs.Refusals.{IsMessageRefusal}
+use Rattle.mime_decode.specs.declared.error.MessageError.TheVariants as mail
 use Rattle.sieve_vm.specs.Ending.{IsOutcome}
 use Rattle.sieve_engine.specs.declared.error.EngineError.{EngineError}
 use Rattle.sieve_engine.specs.declared.error.EngineError.TheVariants.{Memory, MessageTooLarge, Spelling, Index, Form, End, Loop, Jump, NoPart, Stack}
@@ -42,15 +44,15 @@ IsProgramRefusal octets _ = ⊥
 
 -- the first refusal of a program and a message, the program's first
 abbrev pub IsRefusal : List ℕ → List ℕ → EngineError → Type 0
-IsRefusal program message MessageTooLarge = (2 ^ 26 < length message) × ((code : Code) × IsChecked program code)
+IsRefusal program message MessageTooLarge = IsMessageRefusal message mail.MessageTooLarge × ((code : Code) × IsChecked program code)
 IsRefusal program message error = IsProgramRefusal program error
 
 -- the message is read, and the program's run on it comes to these actions and this charge, within this limit
 pub record IsReport (code : Code) (message : List ℕ) (actions : List Action) (charged limit : ℕ) : Type 0 where
-  pub read : length message ≤ 2 ^ 26
+  pub read : IsReadable message
   pub outcome : IsOutcome code (mail_of message) actions charged
   pub within : charged ≤ limit
-  pub budget : limit ≡ budget_at (budget_of code) (mail_of message).size (length (mail_of message).parts)
+  pub budget : limit ≡ budget_at (budget_of code) (size_of (mail_of message)) (length (mail_of message).parts)
 
 -- the octets spell an accepted program, and this is the report of its run on the message
 pub record IsExecution (program message : List ℕ) (actions : List Action) (charged limit : ℕ) : Type 0 where

@@ -1,6 +1,8 @@
 // Running bytecode that anyone may hand in.
 ghost use Rattle.std.specs.Prelude.{IfOk, IfErr};
-ghost use Rattle.std.specs.Prelude.{◌≡◌, ◌<◌, ◌^◌, ◌⊎◌, length};
+ghost use Rattle.std.specs.Prelude.{◌≡◌, ◌⊎◌};
+ghost use Rattle.mime_decode.specs.Refusals.{IsMessageRefusal};
+ghost use Rattle.mime_decode.specs.declared.error.MessageError.TheVariants as mail;
 ghost use Rattle.sieve_engine.specs.declared.error.EngineError.TheVariants.{Memory, MessageTooLarge};
 ghost use Rattle.bytecode_verifier.specs.Acceptance.{IsAccepted};
 ghost use Rattle.sieve_engine.specs.Execution.{IsChecked, IsProgramRefusal, IsExecution, IsRefusal, IsReport};
@@ -56,7 +58,7 @@ pub(crate) fn run_on(
 ) -> Result<Report, EngineError>
     requires { IsAccepted verified.now }
     ensures reported { IfOk result (λ report. IsReport verified.now message.now report.outcome.actions.items report.outcome.charged report.limit) }
-    ensures refused { IfErr result (λ e. (e ≡ Memory) ⊎ ((e ≡ MessageTooLarge) × (2 ^ 26 < length message.now))) }
+    ensures refused { IfErr result (λ e. (e ≡ Memory) ⊎ ((e ≡ MessageTooLarge) × IsMessageRefusal message.now mail.MessageTooLarge)) }
 {
     let message = Message::read(alloc, message)?;
     let outcome = run(alloc, verified, &message)?;

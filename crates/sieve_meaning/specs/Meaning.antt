@@ -3,7 +3,7 @@ use Rattle.std.specs.Prelude.{ℕ, Bool, true, false, ◌&&◌, ◌||◌, not, n
 use Rattle.bytecode_format.specs.declared.action.Action.{Action}
 use Rattle.bytecode_format.specs.declared.action.Action.TheVariants.{Keep}
 use Rattle.bytecode_format.specs.Actions.{final_actions}
-use Rattle.mime_decode.specs.Mail.{Mail}
+use Rattle.mime_decode.specs.Mail.{Mail, size_of}
 use Rattle.sieve_check.specs.declared.typed.Order.{Order}
 use Rattle.sieve_check.specs.declared.typed.Order.TheVariants.{Over, Under}
 use Rattle.sieve_check.specs.Typed.{TestForm, constant, negation, all_of, any_of, size, TestForms, no_test, test, CommandForm, keep, discard, stop, choice, CommandForms, no_command, command, BranchForms, no_branch, otherwise, branch}
@@ -44,7 +44,7 @@ abbrev mutual
   holds mail (negation t) = not (holds mail t)
   holds mail (all_of t ts) = holds mail t && all_hold mail ts
   holds mail (any_of t ts) = holds mail t || any_holds mail ts
-  holds mail (size order number) = is_size order number mail.size
+  holds mail (size order number) = is_size order number (size_of mail)
 
   pub all_hold : Mail → TestForms → Bool
   all_hold mail no_test = true

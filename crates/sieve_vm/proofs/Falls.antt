@@ -10,7 +10,7 @@ use Rattle.bytecode_verifier.specs.Budget.{Cap, cap_at, sum_inside}
 use Rattle.bytecode_verifier.specs.Acceptance.{IsAccepted}
 use Rattle.bytecode_verifier.proofs.Loopless.{no_loops}
 use Rattle.bytecode_verifier.proofs.Consequences.{shape_known}
-use Rattle.mime_decode.specs.Mail.{Mail}
+use Rattle.mime_decode.specs.Mail.{Mail, size_of}
 use Rattle.sieve_vm.specs.State.{State, start}
 use Rattle.sieve_vm.specs.Potential.{cap_value, weight_at, potential, limit_of}
 
@@ -89,7 +89,7 @@ module _ (code : Code) (mail : Mail) (is : IsAccepted code) where
       rw (slice_get-get_or code.instructions place (record { op = 0; a = 0; b = 0; c = 0 }) lt, shape.1) refl
 
   weight-one : (place : ℕ) → place < length code.instructions → weight_at code mail place ≡ 1
-  weight-one place lt = rw (cap-one place lt, no_open place) (once (1 + 0 * (mail.size + 1)) (length mail.parts) ∙ omega arith)
+  weight-one place lt = rw (cap-one place lt, no_open place) (once (1 + 0 * (size_of mail + 1)) (length mail.parts) ∙ omega arith)
 
   -- a step forward from a place lowers the potential by one at least
   pub potential-forward : (before after : State) → before.place < length code.instructions → before.place < after.place → potential code mail after + 1 ≤ potential code mail before
@@ -117,18 +117,18 @@ module _ (code : Code) (mail : Mail) (is : IsAccepted code) where
       let all : potential code mail (start code) ≡ sum_below (weight_at code mail) n = from-all (weight_at code mail) n in
       let caps : sum_below (weight_at code mail) n ≡ sum_below (λ place. cap_value mail (cap_at code place)) n =
       sum-equal (weight_at code mail) (λ place. cap_value mail (cap_at code place)) n (λ place lt. rw (no_open place) (once (cap_value mail (cap_at code place)) (length mail.parts))) in
-      let split : sum_below (λ place. cap_value mail (cap_at code place)) n ≡ sum_below (λ place. (cap_at code place).fixed) n + sum_below (λ place. (cap_at code place).scaled) n * (mail.size + 1) =
-      sum-linear (λ place. (cap_at code place).fixed) (λ place. (cap_at code place).scaled) (mail.size + 1) n in
+      let split : sum_below (λ place. cap_value mail (cap_at code place)) n ≡ sum_below (λ place. (cap_at code place).fixed) n + sum_below (λ place. (cap_at code place).scaled) n * (size_of mail + 1) =
+      sum-linear (λ place. (cap_at code place).fixed) (λ place. (cap_at code place).scaled) (size_of mail + 1) n in
       let f : ℕ → ℕ = sum_inside (λ cap. cap.fixed) code n in
       let g : ℕ → ℕ = sum_inside (λ cap. cap.scaled) code n in
       let parts : ℕ = length mail.parts in
-      let none : (k : ℕ) → f k ≡ 0 → g k ≡ 0 → (f k + g k * (mail.size + 1)) * parts ^ k ≡ 0 = λ k a b. rw (a, b) (never (mail.size + 1) (parts ^ k)) in
-      let level0 : (f 0 + g 0 * (mail.size + 1)) * parts ^ 0 ≡ f 0 + g 0 * (mail.size + 1) = once (f 0 + g 0 * (mail.size + 1)) parts in
+      let none : (k : ℕ) → f k ≡ 0 → g k ≡ 0 → (f k + g k * (size_of mail + 1)) * parts ^ k ≡ 0 = λ k a b. rw (a, b) (never (size_of mail + 1) (parts ^ k)) in
+      let level0 : (f 0 + g 0 * (size_of mail + 1)) * parts ^ 0 ≡ f 0 + g 0 * (size_of mail + 1) = once (f 0 + g 0 * (size_of mail + 1)) parts in
       let level1 = none 1 (outside (λ cap. cap.fixed) 1 refl) (outside (λ cap. cap.scaled) 1 refl) in
       let level2 = none 2 (outside (λ cap. cap.fixed) 2 refl) (outside (λ cap. cap.scaled) 2 refl) in
       let level3 = none 3 (outside (λ cap. cap.fixed) 3 refl) (outside (λ cap. cap.scaled) 3 refl) in
       let fixed : f 0 ≡ sum_below (λ place. (cap_at code place).fixed) n = inside (λ cap. cap.fixed) in
       let scaled : g 0 ≡ sum_below (λ place. (cap_at code place).scaled) n = inside (λ cap. cap.scaled) in
-      let whole : potential code mail (start code) ≡ f 0 + g 0 * (mail.size + 1) = all ∙ caps ∙ split ∙ rw (fixed, scaled) refl in
-      let limit : limit_of code mail ≡ f 0 + g 0 * (mail.size + 1) = levels _ _ _ _ _ level0 level1 level2 level3 in
+      let whole : potential code mail (start code) ≡ f 0 + g 0 * (size_of mail + 1) = all ∙ caps ∙ split ∙ rw (fixed, scaled) refl in
+      let limit : limit_of code mail ≡ f 0 + g 0 * (size_of mail + 1) = levels _ _ _ _ _ level0 level1 level2 level3 in
       whole ∙ sym limit

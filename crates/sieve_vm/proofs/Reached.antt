@@ -14,7 +14,7 @@ use Rattle.bytecode_verifier.specs.Shape.{Entries, is_empty, has_truth, with_ent
 use Rattle.bytecode_verifier.specs.Rules.{is_halt}
 use Rattle.bytecode_verifier.specs.Acceptance.{IsAccepted}
 use Rattle.bytecode_verifier.proofs.Consequences.{well_formed, number_known, not_last, jump_forward, jump_within, jump_same_loops, jump_target, shape_known, shape_next, target_empty}
-use Rattle.mime_decode.specs.Mail.{Mail}
+use Rattle.mime_decode.specs.Mail.{Mail, size_of}
 use Rattle.sieve_vm.specs.State.{Value, truth, text, State, Turn, goes, ends, traps, start}
 use Rattle.sieve_vm.specs.Runs.{Run}
 use Rattle.sieve_vm.specs.Machine.{push, branch, with_truth, with_number, is_sound_jump, compares, charged, effect, turn_of, turn_at, step}
@@ -156,7 +156,7 @@ module _ (code : Code) (mail : Mail) (is : IsAccepted code) where
         let a = after_of (Some Size) e in
         let number : slice_get code.numbers i.c ≡ Some (get_or code.numbers i.c 0) = slice_get-get_or code.numbers i.c 0 (number_known code is s.place i here e) in
         subst (λ (o : Option ℕ). IsSound code s (charged 1 (with_number i mail s o))) (sym number)
-        (pushes (truth (compares i (get_or code.numbers i.c 0) mail.size)) Truth a.0 (ap is_halt e) (ap (λ x. shape_after code x i entries) e ∙ a.1) a.1 d)
+        (pushes (truth (compares i (get_or code.numbers i.c 0) (size_of mail))) Truth a.0 (ap is_halt e) (ap (λ x. shape_after code x i entries) e ∙ a.1) a.1 d)
 
     sound_not : operation_of i.op ≡ Some Not → IsSound code s (charged 1 (effect code mail Not i s))
     sound_not e =

@@ -17,7 +17,7 @@ use Rattle.bytecode_verifier.specs.Form.{is_well_formed}
 use Rattle.bytecode_verifier.specs.Shape.{Entries, with_entry, is_jump, shape_after, without_truth}
 use Rattle.bytecode_verifier.specs.Acceptance.{IsAccepted}
 use Rattle.bytecode_verifier.proofs.Consequences.{well_formed, number_known}
-use Rattle.mime_decode.specs.Mail.{Mail}
+use Rattle.mime_decode.specs.Mail.{Mail, size_of}
 use Rattle.sieve_vm.specs.declared.machine.Machine.{Machine}
 use Rattle.sieve_vm.specs.State.{Value, truth, State, goes, ends, start}
 use Rattle.sieve_vm.specs.Machine.{push, branch, with_truth, with_number, is_sound_jump, compares, charged, effect, turn_of, turn_at, step}
@@ -161,7 +161,7 @@ module _ (code : Code) (mail : Mail) (is : IsAccepted code) (m : Machine) (runni
         continues (record s { place = suc s.place; stack = truth (i.a == 1) ∷ s.stack; charge = s.charge + 1 }) m'
         (stepped BoolOp e ∙ pushed (truth (i.a == 1)) (room BoolOp e refl)) (stands s running.stands)
 
-    pub after_size : o ≡ Some Size → (answer : Bool) (m' : Machine) → answer ≡ compares i (get_or code.numbers i.c 0) mail.size → ((t : State) → StandsFor t m → StandsFor (record t { place = suc t.place; stack = truth answer ∷ t.stack; charge = t.charge + 1 }) m') → StepsOn code mail m m'
+    pub after_size : o ≡ Some Size → (answer : Bool) (m' : Machine) → answer ≡ compares i (get_or code.numbers i.c 0) (size_of mail) → ((t : State) → StandsFor t m → StandsFor (record t { place = suc t.place; stack = truth answer ∷ t.stack; charge = t.charge + 1 }) m') → StepsOn code mail m m'
     after_size e answer m' right stands =
         let number : slice_get code.numbers i.c ≡ Some (get_or code.numbers i.c 0) = slice_get-get_or code.numbers i.c 0 (number_there e) in
         continues (record s { place = suc s.place; stack = truth answer ∷ s.stack; charge = s.charge + 1 }) m'

@@ -9,7 +9,7 @@ use Rattle.bytecode_format.specs.Operations.{operation_of}
 use Rattle.bytecode_format.specs.Code.{Code}
 use Rattle.bytecode_verifier.specs.Form.{is_well_formed}
 use Rattle.bytecode_verifier.specs.Loops.{same_loops}
-use Rattle.mime_decode.specs.Mail.{Mail}
+use Rattle.mime_decode.specs.Mail.{Mail, size_of}
 use Rattle.sieve_vm.specs.State.{Value, truth, State, Turn, goes, ends, traps}
 use Rattle.sieve_vm.specs.Charge.{charge_of}
 
@@ -40,7 +40,7 @@ compares i number size = if i.a == 0 then nat_lt number size else nat_lt size nu
 
 abbrev pub with_number : Instruction → Mail → State → Option ℕ → Turn
 with_number i mail state None = traps
-with_number i mail state (Some number) = push (truth (compares i number mail.size)) state
+with_number i mail state (Some number) = push (truth (compares i number (size_of mail))) state
 
 -- what an instruction does, but for its charge
 abbrev pub effect : Code → Mail → Operation → Instruction → State → Turn

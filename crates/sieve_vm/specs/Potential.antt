@@ -5,12 +5,12 @@ use Rattle.bytecode_verifier.specs.Places.{sum_below}
 use Rattle.bytecode_verifier.specs.Loops.{open_loops}
 use Rattle.bytecode_verifier.specs.Budget.{Cap, cap_at, budget_of}
 use Rattle.bytecode_cost.specs.Sums.{budget_at}
-use Rattle.mime_decode.specs.Mail.{Mail}
+use Rattle.mime_decode.specs.Mail.{Mail, size_of}
 use Rattle.sieve_vm.specs.State.{State}
 
 -- what an instruction may charge each time, at a message
 abbrev pub cap_value : Mail → Cap → ℕ
-cap_value mail cap = cap.fixed + cap.scaled * (mail.size + 1)
+cap_value mail cap = cap.fixed + cap.scaled * (size_of mail + 1)
 
 -- what the instruction at a place may charge in all: once for each turn of the loops that it stands in
 abbrev pub weight_at : Code → Mail → ℕ → ℕ
@@ -22,4 +22,4 @@ potential code mail state = sum_below (λ place. if nat_le state.place place the
 
 -- what the budget allows a program on a message
 abbrev pub limit_of : Code → Mail → ℕ
-limit_of code mail = budget_at (budget_of code) mail.size (length mail.parts)
+limit_of code mail = budget_at (budget_of code) (size_of mail) (length mail.parts)

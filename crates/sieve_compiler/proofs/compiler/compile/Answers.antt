@@ -2,7 +2,7 @@ use Rattle.std.proofs.Common.{◌∙◌, ℕ, subst, sym, ap}
 use Rattle.std.proofs.lemmas.Result.{IfOk-weaker}
 use Rattle.bytecode_format.specs.Code.{Code}
 use Rattle.bytecode_verifier.specs.Acceptance.{IsAccepted}
-use Rattle.mime_decode.specs.Mail.{Mail}
+use Rattle.mime_decode.specs.Mail.{Mail, IsMail}
 use Rattle.sieve_check.specs.TypedView.{commands_form}
 use Rattle.sieve_meaning.specs.Meaning.{meaning}
 use Rattle.sieve_vm.specs.Ending.{IsOutcome}
@@ -21,4 +21,4 @@ pub returns-clause-means : goal.returns-clause-means
 returns-clause-means c =
     let script = commands_form c.args.checked.now.commands in
     IfOk-weaker c.compile_commands.result _ _
-    (λ program is. subst (λ (p : Code). (mail : Mail) → (charged : ℕ) × IsOutcome p mail (meaning mail script) charged) (sym (is ∙ ap (λ cs. code_of (commands_form cs)) c.commands.ensures.value)) (λ mail. code_means script mail)) c.compile_commands.ensures.code
+    (λ program is. subst (λ (p : Code). (mail : Mail) → IsMail mail → (charged : ℕ) × IsOutcome p mail (meaning mail script) charged) (sym (is ∙ ap (λ cs. code_of (commands_form cs)) c.commands.ensures.value)) (λ mail is. code_means script mail)) c.compile_commands.ensures.code

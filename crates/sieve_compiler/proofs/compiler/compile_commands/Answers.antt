@@ -7,7 +7,7 @@ use Rattle.bytecode_format.specs.Code.{Code}
 use Rattle.bytecode_format.specs.Spelling.{IsProgram}
 use Rattle.sieve_check.specs.Typed.{CommandForms}
 use Rattle.sieve_check.specs.TypedView.{commands_form}
-use Rattle.sieve_check.specs.Extent.{commands_extent}
+use Rattle.sieve_check.specs.Bounded.{IsBounded}
 use Rattle.sieve_compiler.specs.declared.coder.Coder.{Coder}
 use Rattle.sieve_compiler.specs.Numbers.{table_of}
 use Rattle.sieve_compiler.specs.Coding.{instruction, commands_code, code_of}
@@ -15,8 +15,8 @@ use Rattle.sieve_compiler.specs.Putting.{Puts}
 use Rattle.sieve_compiler.proofs.Fits.{commands_within, table_within, is_program}
 use Rattle.sieve_compiler.proofs.compiler.compile_commands.Goals as goal
 
-few_numbers : (cs : CommandForms) (numbers : List ℕ) → commands_extent cs ≤ 65536 → numbers ≡ table_of cs → length numbers < 2 ^ 32
-few_numbers cs numbers short e = omega (arith, short, commands_within cs, table_within cs, ap length e)
+few_numbers : (cs : CommandForms) (numbers : List ℕ) → IsBounded cs → numbers ≡ table_of cs → length numbers < 2 ^ 32
+few_numbers cs numbers short e = omega (arith, short.octets, commands_within cs, table_within cs, ap length e)
 
 -- parts that make a program are not refused
 is_built : {T : Type 0} (result : Result T FormatError) (code made : Code) → IsProgram made → code ≡ made → IfErr result (λ e. (e ≡ Spelling) × ¬ IsProgram code) → IsOk result
@@ -36,7 +36,7 @@ pub new-coder-requires : goal.new-coder-requires
 new-coder-requires c = few_numbers (commands_form c.args.commands.now) c.in_ok-numbers.numbers c.requires c.in_ok-numbers.ensures
 
 pub put_commands-requires : goal.put_commands-requires
-put_commands-requires c = omega (arith, c.requires, commands_within (commands_form c.args.commands.now), ap length c.new-coder.ensures.instructions)
+put_commands-requires c = omega (arith, c.requires.octets, commands_within (commands_form c.args.commands.now), ap length c.new-coder.ensures.instructions)
 
 pub unwrap-requires : goal.unwrap-requires
 unwrap-requires c =
