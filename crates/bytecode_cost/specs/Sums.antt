@@ -22,9 +22,13 @@ abbrev pub with_cap : Sums → ℕ → ℕ → ℕ → Sums
 with_cap sums k fixed scaled =
     record sums { fixed = slice_set sums.fixed k (slice_index sums.fixed k + fixed); scaled = slice_set sums.scaled k (slice_index sums.scaled k + scaled) }
 
--- what the instructions inside k open loops may charge at a message of n octets and p parts: their caps, for p turns of each loop
+-- how often what stands inside k loops may run, over so many parts, in programs of a version
+abbrev pub turns : ℕ → ℕ → ℕ → ℕ
+turns version parts k = parts ^ k
+
+-- what the instructions inside k open loops may charge at a message of n octets and p parts: their caps, for each of their turns
 abbrev pub term_at : Sums → ℕ → ℕ → ℕ → ℕ
-term_at sums n p k = (slice_index sums.fixed k + slice_index sums.scaled k * (n + 1)) * p ^ k
+term_at sums n p k = (slice_index sums.fixed k + slice_index sums.scaled k * (n + 1)) * turns sums.version p k
 
 -- the budget at a message of n octets and p parts
 abbrev pub budget_at : Sums → ℕ → ℕ → ℕ

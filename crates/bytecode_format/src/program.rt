@@ -69,6 +69,14 @@ impl Program {
         }
     }
 
+    /// The version of the format that the program is in.
+    pub fn version(&self) -> u8
+        ensures value { result ≡ self.now.version }
+        ensures program { IsProgram self.now }
+    {
+        self.version
+    }
+
     /// How many variables the program has: 0 to 128.
     pub fn variables(&self) -> u16
         ensures value { result ≡ self.now.variables }

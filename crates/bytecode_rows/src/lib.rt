@@ -6,6 +6,8 @@ mod engine;
 #[cfg(test)]
 mod format;
 #[cfg(test)]
+mod large;
+#[cfg(test)]
 mod programs;
 #[cfg(test)]
 mod verifier;

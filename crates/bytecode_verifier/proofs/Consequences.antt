@@ -8,9 +8,11 @@ use Rattle.bytecode_format.specs.declared.operation.Operation.TheVariants.{Size}
 use Rattle.bytecode_format.specs.Operations.{operation_of}
 use Rattle.bytecode_format.specs.Code.{Code}
 use Rattle.bytecode_verifier.specs.Loops.{same_loops}
-use Rattle.bytecode_verifier.specs.Form.{is_well_formed}
-use Rattle.bytecode_verifier.specs.Shape.{Entries, is_empty, is_jump, is_target, shape_after, shape_following, shape_at}
-use Rattle.bytecode_verifier.specs.Rules.{misses_index, is_halt}
+use Rattle.std.specs.Option.{option_and_then}
+use Rattle.bytecode_format.specs.declared.operation.Operation.{Operation}
+use Rattle.bytecode_verifier.specs.Rows.{row_of, is_well_formed, is_jump}
+use Rattle.bytecode_verifier.specs.Shape.{Entries, is_empty, is_target, entries_after, shape_after, shape_at}
+use Rattle.bytecode_verifier.specs.Rules.{row_in, misses_index, is_halt}
 use Rattle.bytecode_verifier.specs.Acceptance.{IsAccepted}
 use Rattle.bytecode_verifier.proofs.Tests.{same_place}
 use Rattle.bytecode_verifier.proofs.Loopless.{form_at}
@@ -39,17 +41,21 @@ empty_from : (entries : Entries) → not (is_empty entries) ≡ false → entrie
 empty_from [] h = refl
 empty_from (entry ∷ entries) h = absurd (cc)
 
+-- the entries that an operation leaves, if there is one
+abbrev pub left_by : Code → Option Operation → Instruction → Entries → Option Entries
+left_by code operation i entries = option_and_then (λ o. entries_after code o i entries) operation
+
 module _ (code : Code) (is : IsAccepted code) where
   module _ (place : ℕ) (i : Instruction) (here : slice_get code.instructions place ≡ Some i) where
     -- the operation has come, and its fields are in their ranges
-    pub well_formed : is_well_formed (operation_of i.op) i ≡ true
+    pub well_formed : is_well_formed (row_in code i) i ≡ true
     well_formed = form_at code place i (is.form place) here
 
     -- the index is below the count of numbers
     pub number_known : operation_of i.op ≡ Some Size → i.c < length code.numbers
     number_known size =
-        let broken : misses_index code (operation_of i.op) i ≡ false = rw here at (is.index place) in
-        leb-false (length code.numbers) i.c (ap (λ o. misses_index code o i) (sym size) ∙ broken)
+        let broken : misses_index code (row_in code i) i ≡ false = rw here at (is.index place) in
+        leb-false (length code.numbers) i.c (ap (λ o. misses_index code (option_and_then (row_of code.version) o) i) (sym size) ∙ broken)
 
     -- an instruction that doesn't end the run isn't the last
     pub not_last : is_halt (operation_of i.op) ≡ false → place + 1 < length code.instructions
@@ -65,24 +71,24 @@ module _ (code : Code) (is : IsAccepted code) where
               absurd (let both : true ≡ false = sym missed ∙ broken in cc)
         ]
 
-    jump_parts : is_jump (operation_of i.op) ≡ true → ((nat_le i.c place || nat_le (length code.instructions) i.c) ≡ false) × (not (same_loops code place i.c) ≡ false)
+    jump_parts : is_jump (row_in code i) ≡ true → ((nat_le i.c place || nat_le (length code.instructions) i.c) ≡ false) × (not (same_loops code place i.c) ≡ false)
     jump_parts jump = or_parts _ _ (rw (here, jump) at (is.jump place))
 
     -- a jump leads forward
-    pub jump_forward : is_jump (operation_of i.op) ≡ true → place < i.c
+    pub jump_forward : is_jump (row_in code i) ≡ true → place < i.c
     jump_forward jump = leb-false i.c place (or_parts _ _ (jump_parts jump).0).0
 
     -- a jump leads to an instruction
-    pub jump_within : is_jump (operation_of i.op) ≡ true → i.c < length code.instructions
+    pub jump_within : is_jump (row_in code i) ≡ true → i.c < length code.instructions
     jump_within jump = leb-false (length code.instructions) i.c (or_parts _ _ (jump_parts jump).0).1
 
     -- a jump leads to a place with the same open loops
-    pub jump_same_loops : is_jump (operation_of i.op) ≡ true → same_loops code place i.c ≡ true
+    pub jump_same_loops : is_jump (row_in code i) ≡ true → same_loops code place i.c ≡ true
     jump_same_loops jump = not_false _ (jump_parts jump).1
 
     -- the place that a jump names is a target
-    pub jump_target : is_jump (operation_of i.op) ≡ true → is_target code.instructions i.c ≡ true
-    jump_target jump = any_passes_from_place (λ j. is_jump (operation_of j.op) && (j.c == i.c)) code.instructions place i here (rw jump (same_place i.c))
+    pub jump_target : is_jump (row_in code i) ≡ true → is_target code.version code.instructions i.c ≡ true
+    jump_target jump = any_passes_from_place (λ j. is_jump (row_in code j) && (j.c == i.c)) code.instructions place i here (rw jump (same_place i.c))
 
   -- the shape goes on at every place
   pub shape_goes_on : (place : ℕ) (entries : Entries) → shape_at code place ≡ Some entries → (next : Entries) × (shape_at code (suc place) ≡ Some next)
@@ -94,18 +100,18 @@ module _ (code : Code) (is : IsAccepted code) where
   shape_known (suc place) = let before = shape_known place in shape_goes_on place before.0 before.1
 
   module _ (place : ℕ) (i : Instruction) (entries : Entries) (here : slice_get code.instructions place ≡ Some i) (at : shape_at code place ≡ Some entries) where
-    following : (next : Entries) × (shape_at code (suc place) ≡ Some next) × (shape_following code (is_target code.instructions place) (operation_of i.op) i entries ≡ Some next)
+    following : (next : Entries) × (shape_at code (suc place) ≡ Some next) × (shape_after code (is_target code.version code.instructions place) (operation_of i.op) i entries ≡ Some next)
     following =
         let next = shape_goes_on place entries at in
         (next.0, next.1, rw (at, here) at next.1)
 
     -- the instruction takes the shape to that of the next place
-    pub shape_next : (next : Entries) × (shape_after code (operation_of i.op) i entries ≡ Some next) × (shape_at code (suc place) ≡ Some next)
+    pub shape_next : (next : Entries) × (left_by code (operation_of i.op) i entries ≡ Some next) × (shape_at code (suc place) ≡ Some next)
     shape_next = let b = following in (b.0, (guarded _ _ b.0 b.2).1, b.1)
 
     -- where a jump leads to there are no entries
-    pub target_empty : is_target code.instructions place ≡ true → entries ≡ []
+    pub target_empty : is_target code.version code.instructions place ≡ true → entries ≡ []
     target_empty target =
         let b = following in
-        let none : (is_target code.instructions place && not (is_empty entries)) ≡ false = (guarded _ _ b.0 b.2).0 in
+        let none : (is_target code.version code.instructions place && not (is_empty entries)) ≡ false = (guarded _ _ b.0 b.2).0 in
         empty_from entries (rw target at none)

@@ -12,7 +12,7 @@ use Rattle.bytecode_verifier.specs.declared.error.Refusal.TheVariants.{Index, Fo
 use Rattle.bytecode_verifier.specs.declared.pass.Pass.{Pass}
 use Rattle.bytecode_verifier.specs.Places.{holds_at, least_below, least_place}
 use Rattle.bytecode_verifier.specs.Loops.{loops}
-use Rattle.bytecode_verifier.specs.Shape.{Entries, shape_beyond, shape_at}
+use Rattle.bytecode_verifier.specs.Shape.{Entries, shape_at}
 use Rattle.bytecode_verifier.specs.Rules.{is_halt, breaks_index, breaks_form, breaks_end, breaks_loop, breaks_jump, breaks_no_part, breaks_stack}
 use Rattle.bytecode_verifier.specs.Acceptance.{refusal_of}
 use Rattle.bytecode_verifier.specs.Pass.{HasPassed}
@@ -24,7 +24,7 @@ use Rattle.bytecode_verifier.proofs.Loopless.{misses_no_loop, needs_no_part, for
 pub past_rule : (code : Code) (place : ℕ) (test : Instruction → Bool) → length code.instructions ≤ place → holds_at code place test ≡ false
 past_rule code place test h = rw (slice_get_past code.instructions place h) refl
 
-stays : (code : Code) (place : ℕ) (o : Option Entries) → (is_some o && is_none (option_and_then (shape_beyond code place None) o)) ≡ false
+stays : (code : Code) (place : ℕ) (o : Option Entries) → (is_some o && is_none (option_and_then (λ entries. Some entries) o)) ≡ false
 stays code place None = refl
 stays code place (Some entries) = refl
 
@@ -68,7 +68,7 @@ no_loop_broken : (code : Code) → ((place : ℕ) → breaks_form code place ≡
 no_loop_broken code form place = nowhere code place _ (λ i here. misses_no_loop code place (operation_of i.op) i (form_at code place i (form place) here))
 
 no_part_needed : (code : Code) → ((place : ℕ) → breaks_form code place ≡ false) → (place : ℕ) → breaks_no_part code place ≡ false
-no_part_needed code form place = nowhere code place _ (λ i here. rw (needs_no_part (operation_of i.op) i (form_at code place i (form place) here)) refl)
+no_part_needed code form place = nowhere code place _ (λ i here. rw (needs_no_part code.version (operation_of i.op)) refl)
 
 -- what the pass has found at the end
 module _ (code : Code) (pass : Pass) (passed : HasPassed code (length code.instructions) pass) (form : pass.form ≡ None) where

@@ -7,3 +7,4 @@ pub mod Marks
 pub mod Accepted
 pub mod Consequences
 pub mod Examples
+pub mod Budgets

@@ -4,22 +4,22 @@ use Rattle.std.proofs.lemmas.Bool.{cases_eq, ne_eqb}
 use Rattle.std.proofs.lemmas.Option.{slice_get-get_or, get_or_from_slice_get}
 use Rattle.std.proofs.lemmas.List.Folds.{list_any_more}
 use Rattle.bytecode_format.specs.declared.instruction.Instruction.{Instruction}
-use Rattle.bytecode_format.specs.declared.operation.Operation.{Operation}
-use Rattle.bytecode_format.specs.Operations.{operation_of}
-use Rattle.bytecode_verifier.specs.Shape.{is_jump, is_target}
+use Rattle.bytecode_verifier.specs.declared.row.Row.{Row}
+use Rattle.bytecode_verifier.specs.Rows.{row_named, is_jump}
+use Rattle.bytecode_verifier.specs.Shape.{is_target}
 use Rattle.bytecode_verifier.proofs.Tests.{same_place, or_false, or_true}
 
 -- one more instruction may jump to the place
-target_more : (xs : List Instruction) (n : ℕ) (d : Instruction) (place : ℕ) → n < length xs
-    → is_target (take (n + 1) xs) place ≡ (is_target (take n xs) place || (is_jump (operation_of (get_or xs n d).op) && ((get_or xs n d).c == place)))
-target_more xs n d place lt = list_any_more (λ i. is_jump (operation_of i.op) && (i.c == place)) xs n d lt
+target_more : (version : ℕ) (xs : List Instruction) (n : ℕ) (d : Instruction) (place : ℕ) → n < length xs
+    → is_target version (take (n + 1) xs) place ≡ (is_target version (take n xs) place || (is_jump (row_named version (get_or xs n d).op) && ((get_or xs n d).c == place)))
+target_more version xs n d place lt = list_any_more (λ i. is_jump (row_named version i.op) && (i.c == place)) xs n d lt
 
 -- no jump: the marks stay
-pub marks_stay : (xs : List Instruction) (n : ℕ) (d : Instruction) (o : Option Operation) (marks : List Bool) (place : ℕ) → n < length xs → o ≡ operation_of (get_or xs n d).op → is_jump o ≡ false
-    → slice_get marks place ≡ Some (is_target (take n xs) place) → slice_get marks place ≡ Some (is_target (take (n + 1) xs) place)
-marks_stay xs n d o marks place lt op jump before =
-    let none : is_jump (operation_of (get_or xs n d).op) ≡ false = ap is_jump (sym op) ∙ jump in
-    before ∙ ap Some (sym (target_more xs n d place lt ∙ rw none (or_false _)))
+pub marks_stay : (version : ℕ) (xs : List Instruction) (n : ℕ) (d : Instruction) (o : Option Row) (marks : List Bool) (place : ℕ) → n < length xs → o ≡ row_named version (get_or xs n d).op → is_jump o ≡ false
+    → slice_get marks place ≡ Some (is_target version (take n xs) place) → slice_get marks place ≡ Some (is_target version (take (n + 1) xs) place)
+marks_stay version xs n d o marks place lt op jump before =
+    let none : is_jump (row_named version (get_or xs n d).op) ≡ false = ap is_jump (sym op) ∙ jump in
+    before ∙ ap Some (sym (target_more version xs n d place lt ∙ rw none (or_false _)))
 
 -- a mark at one place
 marked : (marks : List Bool) (place at : ℕ) (before : Bool) → place < length marks → get_or marks place false ≡ before → get_or (set marks at true) place false ≡ (before || (at == place))
@@ -30,11 +30,11 @@ marked marks place at before within was =
     ]
 
 -- a jump: its target is marked
-pub marks_more : (xs : List Instruction) (n : ℕ) (d : Instruction) (o : Option Operation) (marks : List Bool) (place : ℕ) → n < length xs → o ≡ operation_of (get_or xs n d).op → is_jump o ≡ true
-    → place < length marks → slice_get marks place ≡ Some (is_target (take n xs) place) → slice_get (set marks (get_or xs n d).c true) place ≡ Some (is_target (take (n + 1) xs) place)
-marks_more xs n d o marks place lt op jump within before =
-    let some : is_jump (operation_of (get_or xs n d).op) ≡ true = ap is_jump (sym op) ∙ jump in
+pub marks_more : (version : ℕ) (xs : List Instruction) (n : ℕ) (d : Instruction) (o : Option Row) (marks : List Bool) (place : ℕ) → n < length xs → o ≡ row_named version (get_or xs n d).op → is_jump o ≡ true
+    → place < length marks → slice_get marks place ≡ Some (is_target version (take n xs) place) → slice_get (set marks (get_or xs n d).c true) place ≡ Some (is_target version (take (n + 1) xs) place)
+marks_more version xs n d o marks place lt op jump within before =
+    let some : is_jump (row_named version (get_or xs n d).op) ≡ true = ap is_jump (sym op) ∙ jump in
     let now : slice_get (set marks (get_or xs n d).c true) place ≡ Some (get_or (set marks (get_or xs n d).c true) place false) = slice_get-get_or _ place false (rw length-set within) in
-    let was : get_or marks place false ≡ is_target (take n xs) place = get_or_from_slice_get marks place _ false before in
-    let more : is_target (take (n + 1) xs) place ≡ (is_target (take n xs) place || ((get_or xs n d).c == place)) = target_more xs n d place lt ∙ rw some refl in
-    now ∙ ap Some (marked marks place (get_or xs n d).c (is_target (take n xs) place) within was ∙ sym more)
+    let was : get_or marks place false ≡ is_target version (take n xs) place = get_or_from_slice_get marks place _ false before in
+    let more : is_target version (take (n + 1) xs) place ≡ (is_target version (take n xs) place || ((get_or xs n d).c == place)) = target_more version xs n d place lt ∙ rw some refl in
+    now ∙ ap Some (marked marks place (get_or xs n d).c (is_target version (take n xs) place) within was ∙ sym more)

@@ -1,8 +1,8 @@
 -- The budget of a program: the sums of its instructions' caps, by the number of open loops.
-use Rattle.std.specs.Prelude.{ℕ, Option, List, [], ◌∷◌, if◌then◌else◌, length, ◌==◌, slice_get}
-use Rattle.std.specs.Option.{option_map_or}
+use Rattle.std.specs.Prelude.{ℕ, Option, Some, None, List, [], ◌∷◌, if◌then◌else◌, length, ◌==◌, slice_get}
 use Rattle.bytecode_format.specs.declared.instruction.Instruction.{Instruction}
 use Rattle.bytecode_format.specs.declared.operation.Operation.{Operation}
+use Rattle.bytecode_format.specs.declared.operation.Operation.TheVariants.{Halt, Literal, Variable, Capture, Join, Set, Bool as BoolOp, Not, Jump, JumpIfTrue, JumpIfFalse, Header, Exists, String, Size, PartSize, PartBody, PartDigest, Keep, Discard, File, Store, Each, Next, Break}
 use Rattle.bytecode_format.specs.Operations.{operation_of}
 use Rattle.bytecode_format.specs.Code.{Code}
 use Rattle.bytecode_cost.specs.Sums.{Sums}
@@ -18,27 +18,57 @@ pub record Cap : Type 0 where
 abbrev pub no_cap : Cap
 no_cap = record { fixed = 0; scaled = 0 }
 
+-- one charge, however long the message is
+abbrev pub one_charge : Cap
+one_charge = record { fixed = 1; scaled = 0 }
+
 -- the cap of an instruction that finds these entries
 abbrev pub cap_of : Option Operation → Instruction → Entries → Cap
-cap_of _ i entries = record { fixed = 1; scaled = 0 }
+cap_of None i entries = one_charge
+cap_of (Some Halt) i entries = one_charge
+cap_of (Some Literal) i entries = one_charge
+cap_of (Some Variable) i entries = one_charge
+cap_of (Some Capture) i entries = one_charge
+cap_of (Some Join) i entries = one_charge
+cap_of (Some Set) i entries = one_charge
+cap_of (Some BoolOp) i entries = one_charge
+cap_of (Some Not) i entries = one_charge
+cap_of (Some Jump) i entries = one_charge
+cap_of (Some JumpIfTrue) i entries = one_charge
+cap_of (Some JumpIfFalse) i entries = one_charge
+cap_of (Some Header) i entries = one_charge
+cap_of (Some Exists) i entries = one_charge
+cap_of (Some String) i entries = one_charge
+cap_of (Some Size) i entries = one_charge
+cap_of (Some PartSize) i entries = one_charge
+cap_of (Some PartBody) i entries = one_charge
+cap_of (Some PartDigest) i entries = one_charge
+cap_of (Some Keep) i entries = one_charge
+cap_of (Some Discard) i entries = one_charge
+cap_of (Some File) i entries = one_charge
+cap_of (Some Store) i entries = one_charge
+cap_of (Some Each) i entries = one_charge
+cap_of (Some Next) i entries = one_charge
+cap_of (Some Break) i entries = one_charge
 
--- the cap of the instruction at a place, where there is one and the shape goes up to it
+-- where there is an instruction, and the shape goes up to it
+abbrev pub cap_found : Option Instruction → Option Entries → Cap
+cap_found None entries = no_cap
+cap_found (Some i) None = no_cap
+cap_found (Some i) (Some entries) = cap_of (operation_of i.op) i entries
+
+-- the cap of the instruction at a place
 abbrev pub cap_at : Code → ℕ → Cap
-cap_at code place = option_map_or (λ i. option_map_or (cap_of (operation_of i.op) i) (shape_at code place) no_cap) (slice_get code.instructions place) no_cap
+cap_at code place = cap_found (slice_get code.instructions place) (shape_at code place)
 
--- the sum over the instructions below a place that stand inside k open loops
-abbrev pub sum_inside : (Cap → ℕ) → Code → ℕ → ℕ → ℕ
-sum_inside part code bound k = sum_below (λ place. if length (open_loops code place) == k then part (cap_at code place) else 0) bound
+-- the sum over the instructions that stand inside k open loops
+abbrev pub sum_inside : (Cap → ℕ) → Code → ℕ → ℕ
+sum_inside part code k = sum_below (λ place. if length (open_loops code place) == k then part (cap_at code place) else 0) (length code.instructions)
 
 -- the four sums
-abbrev pub sums_inside : (Cap → ℕ) → Code → ℕ → List ℕ
-sums_inside part code bound = sum_inside part code bound 0 ∷ sum_inside part code bound 1 ∷ sum_inside part code bound 2 ∷ sum_inside part code bound 3 ∷ []
-
--- the budget of the instructions below a place
-abbrev pub budget_below : Code → ℕ → Sums
-budget_below code bound =
-    record { version = code.version; fixed = sums_inside (λ cap. cap.fixed) code bound; scaled = sums_inside (λ cap. cap.scaled) code bound }
+abbrev pub sums_inside : (Cap → ℕ) → Code → List ℕ
+sums_inside part code = sum_inside part code 0 ∷ sum_inside part code 1 ∷ sum_inside part code 2 ∷ sum_inside part code 3 ∷ []
 
 -- the budget of the program
 abbrev pub budget_of : Code → Sums
-budget_of code = budget_below code (length code.instructions)
+budget_of code = record { version = code.version; fixed = sums_inside (λ cap. cap.fixed) code; scaled = sums_inside (λ cap. cap.scaled) code }

@@ -1,6 +1,6 @@
 pub mod Places
 pub mod Loops
-pub mod Form
+pub mod Rows
 pub mod Shape
 pub mod Rules
 pub mod Acceptance

@@ -1,16 +1,29 @@
 -- What the verifier knows when it has passed the instructions below a place.
-use Rattle.std.specs.Prelude.{◌≡◌, ℕ, ◌≤◌, [], Option, Some, None, if◌then◌else◌, is_none, slice_index}
+use Rattle.std.specs.Prelude.{◌≡◌, ℕ, ◌≤◌, ◌==◌, length, List, [], ◌∷◌, Option, Some, None, if◌then◌else◌, is_none, slice_index}
 use Rattle.bytecode_format.specs.Code.{Code}
 use Rattle.bytecode_verifier.specs.declared.pass.Pass.{Pass}
-use Rattle.bytecode_verifier.specs.Places.{least_below}
-use Rattle.bytecode_verifier.specs.Loops.{loops}
+use Rattle.bytecode_cost.specs.Sums.{Sums}
+use Rattle.bytecode_verifier.specs.Places.{least_below, sum_below}
+use Rattle.bytecode_verifier.specs.Loops.{loops, open_loops}
 use Rattle.bytecode_verifier.specs.Shape.{Entries, shape_at}
 use Rattle.bytecode_verifier.specs.Rules.{breaks_index, breaks_form, breaks_jump, breaks_stack}
-use Rattle.bytecode_verifier.specs.Budget.{budget_below}
+use Rattle.bytecode_verifier.specs.Budget.{Cap, cap_at}
 
 -- the shape, unless it has failed at a place before
 abbrev pub unless_failed : Option ℕ → Entries → Option Entries
 unless_failed failed entries = if is_none failed then Some entries else None
+
+-- the sum over the instructions below a place that stand inside k open loops
+abbrev pub sum_below_place : (Cap → ℕ) → Code → ℕ → ℕ → ℕ
+sum_below_place part code bound k = sum_below (λ place. if length (open_loops code place) == k then part (cap_at code place) else 0) bound
+
+abbrev pub sums_below : (Cap → ℕ) → Code → ℕ → List ℕ
+sums_below part code bound = sum_below_place part code bound 0 ∷ sum_below_place part code bound 1 ∷ sum_below_place part code bound 2 ∷ sum_below_place part code bound 3 ∷ []
+
+-- the budget of the instructions below a place
+abbrev pub budget_below : Code → ℕ → Sums
+budget_below code bound =
+    record { version = code.version; fixed = sums_below (λ cap. cap.fixed) code bound; scaled = sums_below (λ cap. cap.scaled) code bound }
 
 -- the pass has taken the instructions below the place
 pub record HasPassed (code : Code) (place : ℕ) (pass : Pass) : Type 0 where

@@ -1,13 +1,14 @@
 -- The shape: which entries stand on the stack before the instruction at a place.
 use Rattle.std.specs.Prelude.{ℕ, zero, suc, Bool, true, false, ◌&&◌, not, List, [], ◌∷◌, Option, Some, None, if◌then◌else◌, length, nat_lt, ◌==◌, slice_get}
 use Rattle.std.specs.List.{list_any}
-use Rattle.std.specs.Option.{option_and_then}
+use Rattle.std.specs.Option.{option_and_then, option_map_or}
 use Rattle.octets.specs.Limits.{max_stack}
 use Rattle.bytecode_format.specs.declared.instruction.Instruction.{Instruction}
 use Rattle.bytecode_format.specs.declared.operation.Operation.{Operation}
-use Rattle.bytecode_format.specs.declared.operation.Operation.TheVariants.{Halt, Bool as BoolOp, Not, Jump, JumpIfTrue, JumpIfFalse, Size, Keep, Discard}
+use Rattle.bytecode_format.specs.declared.operation.Operation.TheVariants.{Halt, Literal, Variable, Capture, Join, Set, Bool as BoolOp, Not, Jump, JumpIfTrue, JumpIfFalse, Header, Exists, String, Size, PartSize, PartBody, PartDigest, Keep, Discard, File, Store, Each, Next, Break}
 use Rattle.bytecode_format.specs.Operations.{operation_of}
 use Rattle.bytecode_format.specs.Code.{Code}
+use Rattle.bytecode_verifier.specs.Rows.{row_named, is_jump}
 use Rattle.bytecode_verifier.specs.declared.shape.Entry.{Entry}
 use Rattle.bytecode_verifier.specs.declared.shape.Entry.TheVariants.{Truth}
 
@@ -33,39 +34,46 @@ abbrev pub without_truth : Entries → Option Entries
 without_truth (Truth ∷ []) = Some []
 without_truth _ = None
 
--- the entries after an instruction, or None where an entry is missing or of the wrong kind, where there is no room, or where entries are left that must not be
-abbrev pub shape_after : Code → Option Operation → Instruction → Entries → Option Entries
-shape_after code (Some Halt) i entries = if is_empty entries then Some [] else None
-shape_after code (Some BoolOp) i entries = with_entry Truth entries
-shape_after code (Some Not) i entries = if has_truth entries then Some entries else None
-shape_after code (Some Jump) i entries = if is_empty entries then Some [] else None
-shape_after code (Some JumpIfTrue) i entries = without_truth entries
-shape_after code (Some JumpIfFalse) i entries = without_truth entries
-shape_after code (Some Size) i entries = with_entry Truth entries
-shape_after code (Some Keep) i entries = Some entries
-shape_after code (Some Discard) i entries = Some entries
-shape_after code _ i entries = None
-
-abbrev pub is_jump : Option Operation → Bool
-is_jump (Some Jump) = true
-is_jump (Some JumpIfTrue) = true
-is_jump (Some JumpIfFalse) = true
-is_jump _ = false
+-- the entries that an operation leaves of these, or None where an entry is missing or of the wrong kind, where there is no room,
+-- where entries are left that must not be, or where it hasn't come
+abbrev pub entries_after : Code → Operation → Instruction → Entries → Option Entries
+entries_after code Halt i entries = if is_empty entries then Some [] else None
+entries_after code Literal i entries = None
+entries_after code Variable i entries = None
+entries_after code Capture i entries = None
+entries_after code Join i entries = None
+entries_after code Set i entries = None
+entries_after code BoolOp i entries = with_entry Truth entries
+entries_after code Not i entries = if has_truth entries then Some entries else None
+entries_after code Jump i entries = if is_empty entries then Some [] else None
+entries_after code JumpIfTrue i entries = without_truth entries
+entries_after code JumpIfFalse i entries = without_truth entries
+entries_after code Header i entries = None
+entries_after code Exists i entries = None
+entries_after code String i entries = None
+entries_after code Size i entries = with_entry Truth entries
+entries_after code PartSize i entries = None
+entries_after code PartBody i entries = None
+entries_after code PartDigest i entries = None
+entries_after code Keep i entries = Some entries
+entries_after code Discard i entries = Some entries
+entries_after code File i entries = None
+entries_after code Store i entries = None
+entries_after code Each i entries = None
+entries_after code Next i entries = None
+entries_after code Break i entries = None
 
 -- an instruction of these jumps to the place
-abbrev pub is_target : List Instruction → ℕ → Bool
-is_target instructions place = list_any (λ i. is_jump (operation_of i.op) && (i.c == place)) instructions
+abbrev pub is_target : ℕ → List Instruction → ℕ → Bool
+is_target version instructions place = list_any (λ i. is_jump (row_named version i.op) && (i.c == place)) instructions
 
 -- the entries after an instruction: where a jump leads to it there must be none before it
-abbrev pub shape_following : Code → Bool → Option Operation → Instruction → Entries → Option Entries
-shape_following code targeted operation i entries = if targeted && not (is_empty entries) then None else shape_after code operation i entries
+abbrev pub shape_after : Code → Bool → Option Operation → Instruction → Entries → Option Entries
+shape_after code targeted operation i entries =
+    if targeted && not (is_empty entries) then None else option_and_then (λ o. entries_after code o i entries) operation
 
--- the entries after a place; there is nothing to fail after the last instruction
-abbrev pub shape_beyond : Code → ℕ → Option Instruction → Entries → Option Entries
-shape_beyond code place None entries = Some entries
-shape_beyond code place (Some i) entries = shape_following code (is_target code.instructions place) (operation_of i.op) i entries
-
--- the entries before the instruction at a place, or None where the shape has failed before it
+-- the entries before the instruction at a place, or None where the shape has failed before it; after the last one nothing fails
 abbrev pub shape_at : Code → ℕ → Option Entries
 shape_at code zero = Some []
-shape_at code (suc place) = option_and_then (shape_beyond code place (slice_get code.instructions place)) (shape_at code place)
+shape_at code (suc place) =
+    option_and_then (λ entries. option_map_or (λ i. shape_after code (is_target code.version code.instructions place) (operation_of i.op) i entries) (slice_get code.instructions place) (Some entries)) (shape_at code place)

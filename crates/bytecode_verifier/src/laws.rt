@@ -1,9 +1,18 @@
 // What holds of every program.
-ghost use Rattle.std.specs.Prelude.{◌≡◌, ◌↔◌, None};
+ghost use Rattle.std.specs.Prelude.{◌≡◌, ◌↔◌, ℕ, ◌<◌, ◌≤◌, ◌^◌, None};
+ghost use Rattle.octets.specs.Limits.{max_message, max_parts};
+ghost use Rattle.bytecode_cost.specs.Sums.{budget_at};
 ghost use Rattle.bytecode_format.specs.Code.{Code};
+ghost use Rattle.bytecode_format.specs.Spelling.{IsProgram};
+ghost use Rattle.bytecode_verifier.specs.Budget.{budget_of};
 ghost use Rattle.bytecode_verifier.specs.Acceptance.{IsAccepted, refusal_of};
 
 /// A program is accepted exactly where there is nothing to refuse it with.
 pub fn accepted_or_refused()
     ensures { (code : Code) → (refusal_of code ≡ None) ↔ IsAccepted code }
+{}
+
+/// The budget of an accepted program is below 2^128 at every message.
+pub fn budgets_fit_every_message()
+    ensures { (code : Code) → IsProgram code → IsAccepted code → (n p : ℕ) → n ≤ max_message → p ≤ max_parts → budget_at (budget_of code) n p < 2 ^ 128 }
 {}

@@ -8,6 +8,7 @@
 mod error;
 pub mod laws;
 mod pass;
+mod row;
 mod rules;
 mod shape;
 mod targets;

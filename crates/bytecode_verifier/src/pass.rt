@@ -4,17 +4,14 @@ ghost use Rattle.std.specs.Bool.{then_some};
 ghost use Rattle.std.specs.Option.{option_or, option_and_then};
 ghost use Rattle.bytecode_format.specs.Code.{Code};
 ghost use Rattle.bytecode_format.specs.declared.instruction.Instruction.{Instruction};
-ghost use Rattle.bytecode_verifier.specs.Shape.{shape_following, is_target};
+ghost use Rattle.bytecode_verifier.specs.Shape.{shape_after, is_target};
 ghost use Rattle.bytecode_verifier.specs.Pass.{HasPassed, unless_failed};
 
-use crate::rules::{is_well_formed, misses_index, misses_target};
+use crate::rules::{is_well_formed, misses_index, misses_target, row_named};
 use crate::shape::Shape;
 use bytecode_cost::Budget;
 use bytecode_format::{Instruction, Operation, Program};
 use std::alloc::{AllocError, Global};
-
-/// The version of every program.
-const VERSION: u8 = 1;
 
 /// What is known of the instructions so far: for each rule the first place where it is broken, the
 /// shape as far as it goes, and the budget.
@@ -33,15 +30,13 @@ impl Pass {
     pub fn new(alloc: Global, program: &Program) -> Pass
         ensures { HasPassed program.now 0 result }
     {
-        // That a program has this version is known where it is read.
-        let _instructions = program.instructions();
         Pass {
             index: None,
             form: None,
             jump: None,
             stack: None,
             shape: Shape::new(alloc),
-            budget: Budget::new(VERSION),
+            budget: Budget::new(program.version()),
         }
     }
 
@@ -55,22 +50,23 @@ impl Pass {
     ) -> Result<(), AllocError>
         requires small { place < 2 ^ 62 }
         requires here { slice_get program.now.instructions place ≡ Some instruction.now }
-        requires target { targeted ≡ is_target program.now.instructions place }
+        requires target { targeted ≡ is_target program.now.version program.now.instructions place }
         requires before { HasPassed program.now place self.old }
         ensures { OnOk result (HasPassed program.now (place + 1) self.new) }
     {
         let operation = Operation::of(instruction.op);
+        let row = row_named(program.version(), instruction.op);
         let count = program.instructions().len();
         self.stack = advance(self.stack, &mut self.shape, place, targeted, operation)?;
         self.index = first(
             self.index,
-            misses_index(program, operation, instruction),
+            misses_index(program, row, instruction),
             place,
         );
-        self.form = first(self.form, !is_well_formed(operation, instruction), place);
+        self.form = first(self.form, !is_well_formed(row, instruction), place);
         self.jump = first(
             self.jump,
-            misses_target(count, place, operation, instruction),
+            misses_target(count, place, row, instruction),
             place,
         );
         // Outside all loops, one charge, however long the message is.
@@ -96,7 +92,7 @@ fn advance(
 ) -> Result<Option<usize>, AllocError>
     ensures place { IfOk result (λ after. after ≡ option_or failed (then_some (is_none failed && is_some after) place)) }
     ensures shape { IfOk result (λ after. (code : Code) (i : Instruction) →
-        unless_failed after shape.new ≡ option_and_then (shape_following code targeted operation i) (unless_failed failed shape.old)) }
+        unless_failed after shape.new ≡ option_and_then (shape_after code targeted operation i) (unless_failed failed shape.old)) }
 {
     if failed.is_some() {
         return Ok(failed);

@@ -1,63 +1,53 @@
 // The rules that look at one instruction.
 ghost use Rattle.std.specs.Prelude.{◌≡◌, ◌&&◌, ◌||◌, nat_le};
-ghost use Rattle.bytecode_verifier.specs.Form;
-ghost use Rattle.bytecode_verifier.specs.Shape;
+ghost use Rattle.bytecode_verifier.specs.Rows;
 ghost use Rattle.bytecode_verifier.specs.Rules;
 
+use crate::row::{Row, Table, row_of};
 use bytecode_format::{Instruction, Operation, Program};
 
-/// Whether the instruction's index isn't below the count of what it is an index of.
-pub fn misses_index(
-    program: &Program,
-    operation: Option<Operation>,
-    instruction: &Instruction,
-) -> bool
-    ensures { result ≡ Rules.misses_index program.now operation instruction.now }
+/// The row of an octet, if it names an operation that has come.
+pub fn row_named(version: u8, octet: u8) -> Option<Row>
+    ensures { result ≡ Rows.row_named version octet }
 {
-    match operation {
-        Some(Operation::Size) => program.numbers().len() <= instruction.c as usize,
-        _ => false,
-    }
+    row_of(version, Operation::of(octet)?)
 }
 
 /// Whether the operation has come, its fields are in their ranges, and the others are 0.
-pub fn is_well_formed(operation: Option<Operation>, instruction: &Instruction) -> bool
-    ensures { result ≡ Form.is_well_formed operation instruction.now }
+pub fn is_well_formed(row: Option<Row>, instruction: &Instruction) -> bool
+    ensures { result ≡ Rows.is_well_formed row instruction.now }
 {
-    match operation {
-        Some(Operation::Halt | Operation::Not | Operation::Keep | Operation::Discard) =>
-            has_no_field(instruction),
-        Some(Operation::Bool) => instruction.a < 2 && instruction.b == 0 && instruction.c == 0,
-        Some(Operation::Jump | Operation::JumpIfTrue | Operation::JumpIfFalse) => has_c_alone(
-            instruction,
-        ),
-        Some(Operation::Size) => instruction.a < 2 && instruction.b == 0,
-        _ => false,
+    let Some(row) = row else { return false };
+    let Instruction { a, b, c, .. } = *instruction;
+    row.a.takes(a as u32) && row.b.takes(b as u32) && row.c.takes(c)
+}
+
+/// Whether the instruction's index isn't below the count of what it is an index of.
+pub fn misses_index(program: &Program, row: Option<Row>, instruction: &Instruction) -> bool
+    ensures { result ≡ Rules.misses_index program.now row instruction.now }
+{
+    let Some(row) = row else { return false };
+    match row.index {
+        Some(table) => count_of(program, table) <= instruction.c as usize,
+        None => false,
     }
 }
 
-// Whether all fields are 0.
-fn has_no_field(instruction: &Instruction) -> bool
-    ensures { result ≡ Form.has_no_field instruction.now }
+// How many entries a table of the program has.
+fn count_of(program: &Program, table: Table) -> usize
+    ensures { result ≡ Rules.count_of program.now table }
 {
-    instruction.a == 0 && instruction.b == 0 && instruction.c == 0
+    match table {
+        Table::Numbers => program.numbers().len(),
+    }
 }
 
-// Whether all fields but c are 0.
-fn has_c_alone(instruction: &Instruction) -> bool
-    ensures { result ≡ Form.has_c_alone instruction.now }
+/// Whether the operation jumps to c.
+pub fn is_jump(row: Option<Row>) -> bool
+    ensures { result ≡ Rows.is_jump row }
 {
-    instruction.a == 0 && instruction.b == 0
-}
-
-/// Whether the operation is a jump.
-pub fn is_jump(operation: Option<Operation>) -> bool
-    ensures { result ≡ Shape.is_jump operation }
-{
-    matches!(
-        operation,
-        Some(Operation::Jump | Operation::JumpIfTrue | Operation::JumpIfFalse)
-    )
+    let Some(row) = row else { return false };
+    row.jumps
 }
 
 /// Whether the operation ends the run.
@@ -72,11 +62,11 @@ pub fn is_halt(operation: Option<Operation>) -> bool
 pub fn misses_target(
     count: usize,
     place: usize,
-    operation: Option<Operation>,
+    row: Option<Row>,
     instruction: &Instruction,
 ) -> bool
-    ensures { result ≡ (Shape.is_jump operation && (nat_le instruction.now.c place || nat_le count instruction.now.c)) }
+    ensures { result ≡ (Rows.is_jump row && (nat_le instruction.now.c place || nat_le count instruction.now.c)) }
 {
     let target = instruction.c as usize;
-    is_jump(operation) && (target <= place || count <= target)
+    is_jump(row) && (target <= place || count <= target)
 }

@@ -2,7 +2,8 @@
 ghost use Rattle.std.specs.Prelude.{◌≡◌, [], ◌∷◌, Some, None, IfOk, MatchOption, if◌then◌else◌};
 ghost use Rattle.bytecode_format.specs.Code.{Code};
 ghost use Rattle.bytecode_format.specs.declared.instruction.Instruction.{Instruction};
-ghost use Rattle.bytecode_verifier.specs.Shape.{is_empty, has_truth, with_entry, without_truth, shape_after};
+ghost use Rattle.std.specs.Option.{option_and_then};
+ghost use Rattle.bytecode_verifier.specs.Shape.{is_empty, has_truth, with_entry, without_truth, entries_after};
 
 use bytecode_format::Operation;
 use std::alloc::{AllocError, Global};
@@ -79,7 +80,7 @@ impl Shape {
 
     /// Takes the entries over an instruction, or answers that they aren't what it needs.
     pub fn advance(&mut self, operation: Option<Operation>) -> Result<bool, AllocError>
-        ensures { IfOk result (λ fine. (code : Code) (i : Instruction) → (if fine then Some self.new else None) ≡ shape_after code operation i self.old) }
+        ensures { IfOk result (λ fine. (code : Code) (i : Instruction) → (if fine then Some self.new else None) ≡ option_and_then (λ o. entries_after code o i self.old) operation) }
     {
         Ok(match operation {
             Some(Operation::Halt | Operation::Jump) => self.is_empty(),

@@ -2,18 +2,22 @@
 ghost use Rattle.std.specs.Prelude.{◌≡◌, ℕ, ◌<◌, length, Some, IfOk, slice_get, slice_set, true};
 ghost use Rattle.bytecode_verifier.specs.Shape.{is_target};
 
-use crate::rules::is_jump;
-use bytecode_format::{Instruction, Operation};
+use crate::rules::{is_jump, row_named};
+use bytecode_format::Instruction;
 use std::alloc::{AllocError, Global};
 
 /// For each place of an instruction, whether a jump leads there.
-pub fn targets_of(alloc: Global, instructions: &[Instruction]) -> Result<Vec<bool>, AllocError>
+pub fn targets_of(
+    alloc: Global,
+    version: u8,
+    instructions: &[Instruction],
+) -> Result<Vec<bool>, AllocError>
     ensures number { IfOk result (λ targets. length targets.items ≡ length instructions.now) }
-    ensures each { IfOk result (λ targets. (place : ℕ) → place < length instructions.now → slice_get targets.items place ≡ Some (is_target instructions.now place)) }
+    ensures each { IfOk result (λ targets. (place : ℕ) → place < length instructions.now → slice_get targets.items place ≡ Some (is_target version instructions.now place)) }
 {
     let mut targets = vec![in alloc; false; instructions.len()]?;
     for instruction in instructions {
-        if is_jump(Operation::of(instruction.op)) {
+        if is_jump(row_named(version, instruction.op)) {
             mark(&mut targets, instruction.c as usize);
         }
     }

@@ -79,7 +79,7 @@ fn examine(alloc: Global, program: &Program) -> Result<Budget, Refusal>
     ensures refused { IfErr result (λ e. e ≢ Memory → refusal_of program.now ≡ Some e) }
 {
     let instructions = program.instructions();
-    let targets = targets_of(alloc, instructions)?;
+    let targets = targets_of(alloc, program.version(), instructions)?;
     let mut pass = Pass::new(alloc, program);
     for (place, instruction) in instructions.iter().enumerate() {
         pass.take(program, place, instruction, targets[place])?;

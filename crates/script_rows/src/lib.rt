@@ -6,6 +6,8 @@ mod checker;
 #[cfg(test)]
 mod compiler;
 #[cfg(test)]
+mod large;
+#[cfg(test)]
 mod lexer;
 #[cfg(test)]
 mod meaning;

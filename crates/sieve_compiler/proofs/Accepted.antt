@@ -1,12 +1,12 @@
 -- The code of a script is accepted.
-use Rattle.std.proofs.Common.{◌≡◌, ℕ, zero, suc, ◌+◌, ◌-◌, ◌<◌, ◌≤◌, Bool, true, false, not, ◌&&◌, ◌||◌, ◌==◌, nat_le, List, [], ◌∷◌, Option, Some, is_some, is_none, slice_get, get_or, length, refl, sym, ap, subst, ◌∙◌, inl, inr, arith}
+use Rattle.std.proofs.Common.{◌≡◌, ℕ, zero, suc, ◌+◌, ◌-◌, ◌<◌, ◌≤◌, Bool, true, false, not, ◌&&◌, ◌||◌, ◌==◌, nat_le, List, [], ◌∷◌, Option, Some, None, is_some, is_none, slice_get, get_or, length, refl, sym, ap, subst, ◌∙◌, inl, inr, arith}
 use Rattle.std.proofs.lemmas.Bool.{cases_Bool, cases_lt, cases_eq, ne_eqb, lt-leb}
 use Rattle.std.proofs.lemmas.List.{length-append, append-nil}
 use Rattle.std.proofs.Math.Bool.{and-false}
 use Rattle.std.proofs.lemmas.Option.{slice_get_within, slice_get-get_or}
 use Rattle.bytecode_format.specs.declared.instruction.Instruction.{Instruction}
 use Rattle.bytecode_format.specs.declared.operation.Operation.{Operation}
-use Rattle.bytecode_format.specs.declared.operation.Operation.TheVariants.{Halt, Bool as BoolOp, Jump, JumpIfTrue, JumpIfFalse, Size, Keep, Discard}
+use Rattle.bytecode_format.specs.declared.operation.Operation.TheVariants.{Halt, Literal, Variable, Capture, Join, Set, Bool as BoolOp, Not, Jump, JumpIfTrue, JumpIfFalse, Header, Exists, String, Size, PartSize, PartBody, PartDigest, Keep, Discard, File, Store, Each, Next, Break}
 use Rattle.bytecode_format.specs.Operations.{operation_of}
 use Rattle.bytecode_format.specs.Code.{Code}
 use Rattle.bytecode_verifier.specs.declared.shape.Entry.TheVariants.{Truth}
@@ -14,7 +14,9 @@ use Rattle.bytecode_verifier.specs.Acceptance.{IsAccepted}
 use Rattle.bytecode_verifier.specs.Loops.{loops, same_loops}
 use Rattle.bytecode_verifier.specs.Places.{holds_at}
 use Rattle.bytecode_verifier.specs.Rules.{misses_index, is_halt, breaks_form, breaks_end, breaks_stack}
-use Rattle.bytecode_verifier.specs.Shape.{Entries, is_jump, is_target, shape_following, shape_at}
+use Rattle.std.specs.Option.{option_and_then}
+use Rattle.bytecode_verifier.specs.Rows.{row_of, row_named, is_jump}
+use Rattle.bytecode_verifier.specs.Shape.{Entries, is_target, shape_after, shape_at}
 use Rattle.bytecode_verifier.proofs.Ends.{nowhere, past_stack}
 use Rattle.bytecode_verifier.proofs.Loopless.{needs_no_part, misses_no_loop, no_loops}
 use Rattle.sieve_check.specs.Typed.{CommandForms}
@@ -36,16 +38,40 @@ sound_at all table last place (j ∷ piece) (suc k) i h e =
     let here : suc place + k ≡ place + suc k = omega arith in
     subst (λ p. IsSound all table last p i) here (sound_at all table last (suc place) piece k i h.1 e)
 
-index_kept : (code : Code) (o : Option Operation) (i : Instruction) → (o ≡ Some Size → i.c < length code.numbers) → misses_index code o i ≡ false
+index_kept : (code : Code) (o : Option Operation) (i : Instruction) → (o ≡ Some Size → i.c < length code.numbers) → misses_index code (option_and_then (row_of code.version) o) i ≡ false
+index_kept code None i h = refl
+index_kept code (Some Halt) i h = refl
+index_kept code (Some Literal) i h = refl
+index_kept code (Some Variable) i h = refl
+index_kept code (Some Capture) i h = refl
+index_kept code (Some Join) i h = refl
+index_kept code (Some Set) i h = refl
+index_kept code (Some BoolOp) i h = refl
+index_kept code (Some Not) i h = refl
+index_kept code (Some Jump) i h = refl
+index_kept code (Some JumpIfTrue) i h = refl
+index_kept code (Some JumpIfFalse) i h = refl
+index_kept code (Some Header) i h = refl
+index_kept code (Some Exists) i h = refl
+index_kept code (Some String) i h = refl
 index_kept code (Some Size) i h = let lt = h refl in lt-leb (length code.numbers) i.c lt
-index_kept code _ i h = refl
+index_kept code (Some PartSize) i h = refl
+index_kept code (Some PartBody) i h = refl
+index_kept code (Some PartDigest) i h = refl
+index_kept code (Some Keep) i h = refl
+index_kept code (Some Discard) i h = refl
+index_kept code (Some File) i h = refl
+index_kept code (Some Store) i h = refl
+index_kept code (Some Each) i h = refl
+index_kept code (Some Next) i h = refl
+index_kept code (Some Break) i h = refl
 
 -- what stands on the stack where a truth value was left, or not
 abbrev left : Bool → Entries
 left true = Truth ∷ []
 left false = []
 
-shape_kept : (code : Code) (targeted : Bool) (o : Option Operation) (i : Instruction) → is_emitted o ≡ true → (targeted && takes o) ≡ false → shape_following code targeted o i (left (takes o)) ≡ Some (left (pushes o))
+shape_kept : (code : Code) (targeted : Bool) (o : Option Operation) (i : Instruction) → is_emitted o ≡ true → (targeted && takes o) ≡ false → shape_after code targeted o i (left (takes o)) ≡ Some (left (pushes o))
 shape_kept code true (Some Halt) i h e = refl
 shape_kept code false (Some Halt) i h e = refl
 shape_kept code true (Some BoolOp) i h e = refl
@@ -68,11 +94,11 @@ goes_on : (before after : Option Entries) (entries : Entries) → after ≡ Some
 goes_on before after entries e = rw e (and-false (is_some before))
 
 -- no jump leads to where a truth value is left
-no_target : (all : List Instruction) (table : List ℕ) (last from : ℕ) (piece : List Instruction) (place : ℕ) → AreSound all table last from piece → follows_push all place ≡ true → is_target piece place ≡ false
+no_target : (all : List Instruction) (table : List ℕ) (last from : ℕ) (piece : List Instruction) (place : ℕ) → AreSound all table last from piece → follows_push all place ≡ true → is_target 1 piece place ≡ false
 no_target all table last from [] place h left_there = refl
 no_target all table last from (i ∷ piece) place h left_there =
     let rest = no_target all table last (suc from) piece place h.1 left_there in
-    elim (cases_Bool (is_jump (operation_of i.op))) [
+    elim (cases_Bool (is_jump (row_named 1 i.op))) [
       | inl jump ↦
           let elsewhere : (i.c ≡ place → ⊥) = (λ (same : i.c ≡ place). let both : false ≡ true = sym (h.0.jump jump).between ∙ ap (follows_push all) same ∙ left_there in absurd (cc)) in
           rw (jump, ne_eqb i.c place elsewhere) rest
@@ -123,12 +149,12 @@ module _ (script : CommandForms) where
       let here = slice_get-get_or all place (plain Halt) (omega (arith, le)) in
       let i = get_or all place (plain Halt) in
       let s = sound place i here in
-      let free : (is_target all place && takes (operation_of i.op)) ≡ false =
+      let free : (is_target 1 all place && takes (operation_of i.op)) ≡ false =
       elim (cases_Bool (takes (operation_of i.op))) [
         | inl taken ↦ rw (no_target all code.numbers last 0 all place all_sound (s.stack ∙ taken)) refl
-        | inr none ↦ rw none (and-false (is_target all place))
+        | inr none ↦ rw none (and-false (is_target 1 all place))
       ] in
-      let kept = shape_kept code (is_target all place) (operation_of i.op) i s.emitted free in
+      let kept = shape_kept code (is_target 1 all place) (operation_of i.op) i s.emitted free in
       rw (before, here, s.stack) kept
 
   known_index : (place : ℕ) (i : Instruction) → slice_get all place ≡ Some i → operation_of i.op ≡ Some Size → i.c < length code.numbers
@@ -150,9 +176,9 @@ module _ (script : CommandForms) where
         | inr other ↦ rw (ne_eqb place (length all - 1) other) refl
       ]
 
-  aimed : (place : ℕ) (i : Instruction) → slice_get all place ≡ Some i → (is_jump (operation_of i.op) && (nat_le i.c place || nat_le (length all) i.c || not (same_loops code place i.c))) ≡ false
+  aimed : (place : ℕ) (i : Instruction) → slice_get all place ≡ Some i → (is_jump (row_named 1 i.op) && (nat_le i.c place || nat_le (length all) i.c || not (same_loops code place i.c))) ≡ false
   aimed place i e =
-      elim (cases_Bool (is_jump (operation_of i.op))) [
+      elim (cases_Bool (is_jump (row_named 1 i.op))) [
         | inl jump ↦
             let a = (sound place i e).jump jump in
             let inside : i.c < length all = omega (arith, a.within, code_length) in
@@ -174,6 +200,6 @@ module _ (script : CommandForms) where
     end = ended;
     loop = λ place. nowhere code place _ (λ i e. misses_no_loop code place (operation_of i.op) i (sound place i e).form);
     jump = λ place. nowhere code place _ (aimed place);
-    no_part = λ place. nowhere code place _ (λ i e. rw (needs_no_part (operation_of i.op) i (sound place i e).form) refl);
+    no_part = λ place. nowhere code place _ (λ i e. rw (needs_no_part 1 (operation_of i.op)) refl);
     stack = stacked;
   }

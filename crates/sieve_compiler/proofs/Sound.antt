@@ -4,8 +4,8 @@ use Rattle.bytecode_format.specs.declared.instruction.Instruction.{Instruction}
 use Rattle.bytecode_format.specs.declared.operation.Operation.{Operation}
 use Rattle.bytecode_format.specs.declared.operation.Operation.TheVariants.{Halt, Bool as BoolOp, Jump, JumpIfTrue, JumpIfFalse, Size, Keep, Discard}
 use Rattle.bytecode_format.specs.Operations.{operation_of}
-use Rattle.bytecode_verifier.specs.Form.{is_well_formed}
-use Rattle.bytecode_verifier.specs.Shape.{is_jump}
+use Rattle.std.specs.Option.{option_and_then}
+use Rattle.bytecode_verifier.specs.Rows.{row_of, row_named, is_well_formed, is_jump}
 use Rattle.sieve_check.specs.declared.typed.Order.{Order}
 use Rattle.sieve_check.specs.declared.typed.Order.TheVariants.{Over, Under}
 use Rattle.sieve_check.specs.Typed.{TestForm, constant, negation, all_of, any_of, size, TestForms, no_test, test, CommandForm, keep, discard, stop, choice, CommandForms, no_command, command, BranchForms, no_branch, otherwise, branch}
@@ -57,10 +57,10 @@ pub record IsAimed (all : List Instruction) (last place target : ℕ) : Type 0 w
 
 -- the instruction keeps the rules at the place
 pub record IsSound (all : List Instruction) (table : List ℕ) (last place : ℕ) (i : Instruction) : Type 0 where
-  pub form : is_well_formed (operation_of i.op) i ≡ true
+  pub form : is_well_formed (row_named 1 i.op) i ≡ true
   pub emitted : is_emitted (operation_of i.op) ≡ true
   pub index : operation_of i.op ≡ Some Size → (n : ℕ) × (slice_get table i.c ≡ Some n)
-  pub jump : is_jump (operation_of i.op) ≡ true → IsAimed all last place i.c
+  pub jump : is_jump (row_named 1 i.op) ≡ true → IsAimed all last place i.c
   pub stack : follows_push all place ≡ takes (operation_of i.op)
 
 -- where the parts of a branch's code stand
@@ -249,12 +249,12 @@ module _ (all : List Instruction) (table : List ℕ) (last : ℕ) where
         let same : place + test_length t + commands_length cs + leave_length bs + branches_length bs ≡ place + (test_length t + commands_length cs + leave_length bs + branches_length bs) = omega arith in
         at_same _ _ same (branches_end bs (place + test_length t + commands_length cs + leave_length bs) end p.rest left)
 
-  pub plain_sound : (place : ℕ) (o : Operation) → operation_of (plain o).op ≡ Some o → is_well_formed (Some o) (plain o) ≡ true → is_emitted (Some o) ≡ true → (Some o ≡ Some Size → ⊥) → is_jump (Some o) ≡ false → takes (Some o) ≡ false → follows_push all place ≡ false → IsSound all table last place (plain o)
+  pub plain_sound : (place : ℕ) (o : Operation) → operation_of (plain o).op ≡ Some o → is_well_formed (row_of 1 o) (plain o) ≡ true → is_emitted (Some o) ≡ true → (Some o ≡ Some Size → ⊥) → is_jump (row_of 1 o) ≡ false → takes (Some o) ≡ false → follows_push all place ≡ false → IsSound all table last place (plain o)
   plain_sound place o named form emitted no_size no_jump no_take start = record {
-    form = ap (λ n. is_well_formed n (plain o)) named ∙ form;
+    form = ap (λ n. is_well_formed (option_and_then (row_of 1) n) (plain o)) named ∙ form;
     emitted = ap is_emitted named ∙ emitted;
     index = λ e. absurd (no_size (sym named ∙ e));
-    jump = λ e. let both : false ≡ true = sym no_jump ∙ ap is_jump (sym named) ∙ e in absurd (cc);
+    jump = λ e. let both : false ≡ true = sym no_jump ∙ ap (λ n. is_jump (option_and_then (row_of 1) n)) (sym named) ∙ e in absurd (cc);
     stack = start ∙ sym no_take ∙ ap takes (sym named);
   }
 

@@ -28,13 +28,13 @@ module _ (code : Code) (mail : Mail) (is : IsAccepted code) where
   falls : (s after : State) → IsReached code s → step code mail s ≡ goes after → potential code mail after + after.charge ≤ potential code mail s + s.charge
   falls s after there e =
       let turn = sound s (goes after) there e in
-      omega (arith, potential-forward code mail is s after there.within turn.1, turn.2)
+      omega (arith, potential-forward code mail is s after there.outside turn.0.outside there.within turn.1, turn.2)
 
   pub falls_along : (n : ℕ) (s after : State) → Run code mail n (start code) s → step code mail s ≡ goes after → potential code mail after + after.charge ≤ potential code mail s + s.charge
   falls_along n s after run e = falls s after (reached n s run) e
 
   last_falls : (s end : State) → IsReached code s → step code mail s ≡ ends end → end.charge ≤ potential code mail s + s.charge
-  last_falls s end there e = omega (arith, potential-positive code mail is s there.within, sound s (ends end) there e)
+  last_falls s end there e = omega (arith, potential-positive code mail is s there.outside there.within, sound s (ends end) there e)
 
   pub falls_at_end : (n : ℕ) (s end : State) → Run code mail n (start code) s → step code mail s ≡ ends end → end.charge ≤ potential code mail s + s.charge
   falls_at_end n s end run e = last_falls s end (reached n s run) e
@@ -57,6 +57,13 @@ module _ (code : Code) (mail : Mail) (is : IsAccepted code) where
       let all = spends n (start code) s (start_is_reached code mail is) run in
       let free : (start code).charge ≡ 0 = refl in
       (omega (arith, all.kept, potential-start code mail is, free), omega (arith, all.cost, free), omega (arith, all.moved))
+
+  -- the step to the end counts as well
+  pub last_step : (n : ℕ) (s end : State) → Run code mail n (start code) s → step code mail s ≡ ends end → suc n ≤ limit_of code mail
+  last_step n s end run e =
+      let all = spent n s run in
+      let cost : end.charge ≡ s.charge + 1 = sound s (ends end) (reached n s run) e in
+      omega (arith, all.0, all.1, falls_at_end n s end run e, cost)
 
   abbrev Finishes : Type 0
   Finishes = (end : State) × RunEnds code mail end × (end.charge ≤ limit_of code mail)

@@ -1,5 +1,5 @@
 -- The potential: the caps of the instructions from a place on.
-use Rattle.std.proofs.Common.{◌≡◌, ℕ, zero, suc, ◌+◌, ◌*◌, ◌^◌, ◌<◌, ◌≤◌, Bool, true, false, nat_le, nat_eq, cond, [], length, refl, sym, ap, ◌∙◌, inl, inr, arith}
+use Rattle.std.proofs.Common.{◌≡◌, ℕ, zero, suc, ◌+◌, ◌*◌, ◌^◌, ◌<◌, ◌≤◌, Bool, true, false, nat_le, nat_eq, cond, [], length, get_or, refl, sym, ap, ◌∙◌, inl, inr, arith}
 use Rattle.std.proofs.lemmas.Bool.{cases_lt, le-leb, leb-true}
 use Rattle.std.proofs.lemmas.Option.{slice_get-get_or}
 use native.Mathlib.Numerals.{unary_clauses}
@@ -7,12 +7,15 @@ use Rattle.bytecode_format.specs.Code.{Code}
 use Rattle.bytecode_verifier.specs.Places.{sum_below}
 use Rattle.bytecode_verifier.specs.Loops.{open_loops}
 use Rattle.bytecode_verifier.specs.Budget.{Cap, cap_at, sum_inside}
+use Rattle.bytecode_cost.specs.Sums.{turns}
 use Rattle.bytecode_verifier.specs.Acceptance.{IsAccepted}
+use Rattle.bytecode_format.specs.Operations.{operation_of}
+use Rattle.bytecode_verifier.proofs.Budgets.{cap_one}
 use Rattle.bytecode_verifier.proofs.Loopless.{no_loops}
 use Rattle.bytecode_verifier.proofs.Consequences.{shape_known}
 use Rattle.mime_decode.specs.Mail.{Mail, size_of}
 use Rattle.sieve_vm.specs.State.{State, start}
-use Rattle.sieve_vm.specs.Potential.{cap_value, weight_at, potential, limit_of}
+use Rattle.sieve_vm.specs.Potential.{cap_value, weight_at, stretch, potential_from, potential, limit_of}
 
 -- ---- sums over places
 
@@ -86,27 +89,31 @@ module _ (code : Code) (mail : Mail) (is : IsAccepted code) where
   cap-one : (place : ℕ) → place < length code.instructions → cap_at code place ≡ (let one : Cap = record { fixed = 1; scaled = 0 } in one)
   cap-one place lt =
       let shape = shape_known code is place in
-      rw (slice_get-get_or code.instructions place (record { op = 0; a = 0; b = 0; c = 0 }) lt, shape.1) refl
+      rw (slice_get-get_or code.instructions place (record { op = 0; a = 0; b = 0; c = 0 }) lt, shape.1) (cap_one (operation_of (get_or code.instructions place (record { op = 0; a = 0; b = 0; c = 0 })).op) (get_or code.instructions place (record { op = 0; a = 0; b = 0; c = 0 })) shape.0)
 
-  weight-one : (place : ℕ) → place < length code.instructions → weight_at code mail place ≡ 1
+  weight-one : (place : ℕ) → place < length code.instructions → weight_at code mail 0 place ≡ 1
   weight-one place lt = rw (cap-one place lt, no_open place) (once (1 + 0 * (size_of mail + 1)) (length mail.parts) ∙ omega arith)
 
+  -- outside all loops what a run may still charge is the rest of the program
+  outside_is : (state : State) → state.frames ≡ [] → potential code mail state ≡ stretch code mail 0 state.place (length code.instructions)
+  outside_is state free = rw free refl
+
   -- a step forward from a place lowers the potential by one at least
-  pub potential-forward : (before after : State) → before.place < length code.instructions → before.place < after.place → potential code mail after + 1 ≤ potential code mail before
-  potential-forward before after within forward =
-      let weight : ℕ → ℕ = weight_at code mail in
-      omega (arith, from-first weight before.place (length code.instructions) within, weight-one before.place within, from-later weight (suc before.place) after.place (length code.instructions) forward)
+  pub potential-forward : (before after : State) → before.frames ≡ [] → after.frames ≡ [] → before.place < length code.instructions → before.place < after.place → potential code mail after + 1 ≤ potential code mail before
+  potential-forward before after free free_after within forward =
+      let weight : ℕ → ℕ = weight_at code mail 0 in
+      omega (arith, outside_is before free, outside_is after free_after, from-first weight before.place (length code.instructions) within, weight-one before.place within, from-later weight (suc before.place) after.place (length code.instructions) forward)
 
   -- an instruction that is there may still charge
-  pub potential-positive : (state : State) → state.place < length code.instructions → 1 ≤ potential code mail state
-  potential-positive state within =
-      omega (arith, from-first (weight_at code mail) state.place (length code.instructions) within, weight-one state.place within)
+  pub potential-positive : (state : State) → state.frames ≡ [] → state.place < length code.instructions → 1 ≤ potential code mail state
+  potential-positive state free within =
+      omega (arith, outside_is state free, from-first (weight_at code mail 0) state.place (length code.instructions) within, weight-one state.place within)
 
-  outside : (part : Cap → ℕ) (k : ℕ) → nat_eq 0 k ≡ false → sum_inside part code (length code.instructions) k ≡ 0
+  outside : (part : Cap → ℕ) (k : ℕ) → nat_eq 0 k ≡ false → sum_inside part code k ≡ 0
   outside part k other =
       sum-equal (λ place. cond (nat_eq (length (open_loops code place)) k) (part (cap_at code place)) 0) (λ place. 0) (length code.instructions) (λ place lt. rw (no_open place, other) refl) ∙ sum-zero (length code.instructions)
 
-  inside : (part : Cap → ℕ) → sum_inside part code (length code.instructions) 0 ≡ sum_below (λ place. part (cap_at code place)) (length code.instructions)
+  inside : (part : Cap → ℕ) → sum_inside part code 0 ≡ sum_below (λ place. part (cap_at code place)) (length code.instructions)
   inside part =
       sum-equal (λ place. cond (nat_eq (length (open_loops code place)) 0) (part (cap_at code place)) 0) (λ place. part (cap_at code place)) (length code.instructions) (λ place lt. rw (no_open place) refl)
 
@@ -114,13 +121,13 @@ module _ (code : Code) (mail : Mail) (is : IsAccepted code) where
   pub potential-start : potential code mail (start code) ≡ limit_of code mail
   potential-start =
       let n : ℕ = length code.instructions in
-      let all : potential code mail (start code) ≡ sum_below (weight_at code mail) n = from-all (weight_at code mail) n in
-      let caps : sum_below (weight_at code mail) n ≡ sum_below (λ place. cap_value mail (cap_at code place)) n =
-      sum-equal (weight_at code mail) (λ place. cap_value mail (cap_at code place)) n (λ place lt. rw (no_open place) (once (cap_value mail (cap_at code place)) (length mail.parts))) in
+      let all : potential code mail (start code) ≡ sum_below (weight_at code mail 0) n = from-all (weight_at code mail 0) n in
+      let caps : sum_below (weight_at code mail 0) n ≡ sum_below (λ place. cap_value mail (cap_at code place)) n =
+      sum-equal (weight_at code mail 0) (λ place. cap_value mail (cap_at code place)) n (λ place lt. rw (no_open place) (once (cap_value mail (cap_at code place)) (length mail.parts))) in
       let split : sum_below (λ place. cap_value mail (cap_at code place)) n ≡ sum_below (λ place. (cap_at code place).fixed) n + sum_below (λ place. (cap_at code place).scaled) n * (size_of mail + 1) =
       sum-linear (λ place. (cap_at code place).fixed) (λ place. (cap_at code place).scaled) (size_of mail + 1) n in
-      let f : ℕ → ℕ = sum_inside (λ cap. cap.fixed) code n in
-      let g : ℕ → ℕ = sum_inside (λ cap. cap.scaled) code n in
+      let f : ℕ → ℕ = sum_inside (λ cap. cap.fixed) code in
+      let g : ℕ → ℕ = sum_inside (λ cap. cap.scaled) code in
       let parts : ℕ = length mail.parts in
       let none : (k : ℕ) → f k ≡ 0 → g k ≡ 0 → (f k + g k * (size_of mail + 1)) * parts ^ k ≡ 0 = λ k a b. rw (a, b) (never (size_of mail + 1) (parts ^ k)) in
       let level0 : (f 0 + g 0 * (size_of mail + 1)) * parts ^ 0 ≡ f 0 + g 0 * (size_of mail + 1) = once (f 0 + g 0 * (size_of mail + 1)) parts in

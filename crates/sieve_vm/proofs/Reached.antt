@@ -9,15 +9,17 @@ use Rattle.bytecode_format.specs.Operations.{operation_of}
 use Rattle.bytecode_format.specs.Code.{Code}
 use Rattle.bytecode_verifier.specs.declared.shape.Entry.{Entry}
 use Rattle.bytecode_verifier.specs.declared.shape.Entry.TheVariants.{Truth, Text}
-use Rattle.bytecode_verifier.specs.Form.{is_well_formed}
-use Rattle.bytecode_verifier.specs.Shape.{Entries, is_empty, has_truth, with_entry, without_truth, is_jump, shape_after, shape_at}
-use Rattle.bytecode_verifier.specs.Rules.{is_halt}
+use Rattle.std.specs.Option.{option_and_then}
+use Rattle.bytecode_verifier.specs.Rows.{row_of, is_well_formed, is_jump}
+use Rattle.bytecode_verifier.specs.Shape.{Entries, is_empty, has_truth, with_entry, without_truth, shape_at}
+use Rattle.bytecode_verifier.specs.Rules.{row_in, is_halt}
 use Rattle.bytecode_verifier.specs.Acceptance.{IsAccepted}
-use Rattle.bytecode_verifier.proofs.Consequences.{well_formed, number_known, not_last, jump_forward, jump_within, jump_same_loops, jump_target, shape_known, shape_next, target_empty}
+use Rattle.bytecode_verifier.proofs.Consequences.{left_by, well_formed, number_known, not_last, jump_forward, jump_within, jump_same_loops, jump_target, shape_known, shape_next, target_empty}
 use Rattle.mime_decode.specs.Mail.{Mail, size_of}
 use Rattle.sieve_vm.specs.State.{Value, truth, text, State, Turn, goes, ends, traps, start}
 use Rattle.sieve_vm.specs.Runs.{Run}
-use Rattle.sieve_vm.specs.Machine.{push, branch, with_truth, with_number, is_sound_jump, compares, charged, effect, turn_of, turn_at, step}
+use Rattle.sieve_vm.specs.Charge.{charge_of}
+use Rattle.sieve_vm.specs.Machine.{Effect, on, jumps, halts, fails, push, branch, with_truth, with_number, is_sound_jump, compares, effect, turn, turn_of, turn_at, step}
 
 -- the entries of the shape describe the stack
 abbrev pub Describes : Entries → List Value → Type 0
@@ -32,6 +34,8 @@ pub record IsReached (code : Code) (state : State) : Type 0 where
   pub entries : Entries
   pub shape : shape_at code state.place ≡ Some entries
   pub describes : Describes entries state.stack
+  -- no operation opens a loop
+  pub outside : state.frames ≡ []
 
 -- a turn from a state: it doesn't trap, it costs one, and it goes forward to a state that a run may reach
 abbrev pub IsSound : Code → State → Turn → Type 0
@@ -96,10 +100,10 @@ instructions_there code is = go code.instructions refl
     go [] e = absurd (let broken : true ≡ false = rw e at (is.end 0) in cc)
 
 module _ (code : Code) (mail : Mail) (is : IsAccepted code) where
-  module _ (s : State) (i : Instruction) (entries : Entries) (here : slice_get code.instructions s.place ≡ Some i) (at : shape_at code s.place ≡ Some entries) (d : Describes entries s.stack) where
+  module _ (s : State) (i : Instruction) (entries : Entries) (here : slice_get code.instructions s.place ≡ Some i) (at : shape_at code s.place ≡ Some entries) (d : Describes entries s.stack) (free : s.frames ≡ []) where
     -- the next state in order
-    reached_next : (to : State) (after : Entries) → to.place ≡ suc s.place → is_halt (operation_of i.op) ≡ false → shape_after code (operation_of i.op) i entries ≡ Some after → Describes after to.stack → IsReached code to
-    reached_next to after place goes_on shape describes =
+    reached_next : (to : State) (after : Entries) → to.place ≡ suc s.place → is_halt (operation_of i.op) ≡ false → left_by code (operation_of i.op) i entries ≡ Some after → Describes after to.stack → to.frames ≡ [] → IsReached code to
+    reached_next to after place goes_on shape describes outside =
         let n = shape_next code is s.place i entries here at in
         let same : n.0 ≡ after = (let e : Some n.0 ≡ Some after = sym n.1 ∙ shape in cc) in
         record {
@@ -107,11 +111,12 @@ module _ (code : Code) (mail : Mail) (is : IsAccepted code) where
           entries = after;
           shape = rw place (n.2 ∙ ap (λ (x : Entries). Some x) same);
           describes = describes;
+          outside = outside;
         }
 
     -- the state that a jump leads to
-    reached_target : (to : State) → to.place ≡ i.c → is_jump (operation_of i.op) ≡ true → to.stack ≡ [] → IsReached code to
-    reached_target to place jump none =
+    reached_target : (to : State) → to.place ≡ i.c → is_jump (row_in code i) ≡ true → to.stack ≡ [] → to.frames ≡ [] → IsReached code to
+    reached_target to place jump none outside =
         let within = jump_within code is s.place i here jump in
         let there = shape_known code is i.c in
         let it : slice_get code.instructions i.c ≡ Some (get_or code.instructions i.c i) = slice_get-get_or code.instructions i.c i within in
@@ -121,97 +126,102 @@ module _ (code : Code) (mail : Mail) (is : IsAccepted code) where
           entries = [];
           shape = rw place (there.1 ∙ ap (λ (x : Entries). Some x) empty);
           describes = rw none tt;
+          outside = outside;
         }
 
-    pub sound_jump : is_jump (operation_of i.op) ≡ true → is_sound_jump code s i ≡ true
+    pub sound_jump : is_jump (row_in code i) ≡ true → is_sound_jump code s i ≡ true
     sound_jump jump = rw (lt-ltb _ _ (jump_forward code is s.place i here jump), jump_same_loops code is s.place i here jump) refl
 
-    pub after_of : (o : Option Operation) → operation_of i.op ≡ o → (after : Entries) × (shape_after code o i entries ≡ Some after)
-    after_of o e = let n = shape_next code is s.place i entries here at in (n.0, ap (λ x. shape_after code x i entries) (sym e) ∙ n.1)
+    pub after_of : (o : Option Operation) → operation_of i.op ≡ o → (after : Entries) × (left_by code o i entries ≡ Some after)
+    after_of o e = let n = shape_next code is s.place i entries here at in (n.0, ap (λ x. left_by code x i entries) (sym e) ∙ n.1)
 
     -- the turn of an instruction that has its form
-    formed : (o : Operation) → operation_of i.op ≡ Some o → IsSound code s (charged 1 (effect code mail o i s)) → IsSound code s (turn_of code mail (Some o) i s)
+    formed : (o : Operation) → operation_of i.op ≡ Some o → IsSound code s (turn (charge_of code mail o i s) (effect code mail o i s)) → IsSound code s (turn_of code mail (Some o) i s)
     formed o e sound =
-        let wf : is_well_formed (Some o) i ≡ true = ap (λ x. is_well_formed x i) (sym e) ∙ well_formed code is s.place i here in
-        subst (λ (b : Bool). IsSound code s (cond b (charged 1 (effect code mail o i s)) traps)) (sym wf) sound
+        subst (λ (b : Bool). IsSound code s (cond b (turn (charge_of code mail o i s) (effect code mail o i s)) traps)) (sym (well_formed code is s.place i here)) sound
 
-    not_formed : (o : Operation) → operation_of i.op ≡ Some o → is_well_formed (Some o) i ≡ false → IsSound code s (turn_of code mail (Some o) i s)
-    not_formed o e f = absurd (let g : false ≡ true = sym f ∙ ap (λ x. is_well_formed x i) (sym e) ∙ well_formed code is s.place i here in cc)
+    not_formed : (o : Operation) → operation_of i.op ≡ Some o → is_well_formed (row_of code.version o) i ≡ false → IsSound code s (turn_of code mail (Some o) i s)
+    not_formed o e f =
+        absurd (let g : false ≡ true = sym f ∙ ap (λ x. is_well_formed (option_and_then (row_of code.version) x) i) (sym e) ∙ well_formed code is s.place i here in cc)
 
     -- an entry pushed where the shape has room
-    pushes : (v : Value) (entry : Entry) (after : Entries) → is_halt (operation_of i.op) ≡ false → shape_after code (operation_of i.op) i entries ≡ Some after → with_entry entry entries ≡ Some after → Describes (entry ∷ entries) (v ∷ s.stack) → IsSound code s (charged 1 (push v s))
+    pushes : (v : Value) (entry : Entry) (after : Entries) → is_halt (operation_of i.op) ≡ false → left_by code (operation_of i.op) i entries ≡ Some after → with_entry entry entries ≡ Some after → Describes (entry ∷ entries) (v ∷ s.stack) → IsSound code s (turn 1 (push v s))
     pushes v entry after goes_on shape room describes =
         let w = with_entry-some entry entries after room in
         let fits : nat_lt (length s.stack) 1024 ≡ true = lt-ltb _ _ (omega (arith, w.0, length-described entries s.stack d)) in
-        subst (λ (b : Bool). IsSound code s (charged 1 (cond b (goes (record s { place = suc s.place; stack = v ∷ s.stack })) traps))) (sym fits)
-        (reached_next (record s { place = suc s.place; stack = v ∷ s.stack; charge = s.charge + 1 }) after refl goes_on shape (subst (λ (x : Entries). Describes x (v ∷ s.stack)) w.1 describes), omega arith, refl)
+        subst (λ (b : Bool). IsSound code s (turn 1 (cond b (on (record s { stack = v ∷ s.stack })) fails))) (sym fits)
+        (reached_next (record s { place = suc s.place; stack = v ∷ s.stack; charge = s.charge + 1 }) after refl goes_on shape (subst (λ (x : Entries). Describes x (v ∷ s.stack)) w.1 describes) free, omega arith, refl)
 
-    sound_bool : operation_of i.op ≡ Some BoolOp → IsSound code s (charged 1 (effect code mail BoolOp i s))
+    sound_bool : operation_of i.op ≡ Some BoolOp → IsSound code s (turn 1 (effect code mail BoolOp i s))
     sound_bool e =
         let a = after_of (Some BoolOp) e in
-        pushes (truth (i.a == 1)) Truth a.0 (ap is_halt e) (ap (λ x. shape_after code x i entries) e ∙ a.1) a.1 d
+        pushes (truth (i.a == 1)) Truth a.0 (ap is_halt e) (ap (λ x. left_by code x i entries) e ∙ a.1) a.1 d
 
-    sound_size : operation_of i.op ≡ Some Size → IsSound code s (charged 1 (effect code mail Size i s))
+    sound_size : operation_of i.op ≡ Some Size → IsSound code s (turn 1 (effect code mail Size i s))
     sound_size e =
         let a = after_of (Some Size) e in
         let number : slice_get code.numbers i.c ≡ Some (get_or code.numbers i.c 0) = slice_get-get_or code.numbers i.c 0 (number_known code is s.place i here e) in
-        subst (λ (o : Option ℕ). IsSound code s (charged 1 (with_number i mail s o))) (sym number)
-        (pushes (truth (compares i (get_or code.numbers i.c 0) (size_of mail))) Truth a.0 (ap is_halt e) (ap (λ x. shape_after code x i entries) e ∙ a.1) a.1 d)
+        subst (λ (o : Option ℕ). IsSound code s (turn 1 (with_number i mail s o))) (sym number)
+        (pushes (truth (compares i (get_or code.numbers i.c 0) (size_of mail))) Truth a.0 (ap is_halt e) (ap (λ x. left_by code x i entries) e ∙ a.1) a.1 d)
 
-    sound_not : operation_of i.op ≡ Some Not → IsSound code s (charged 1 (effect code mail Not i s))
+    sound_not : operation_of i.op ≡ Some Not → IsSound code s (turn 1 (effect code mail Not i s))
     sound_not e =
         let a = after_of (Some Not) e in
         let t = has_truth-some entries a.0 a.1 in
         let top = top_truth t.0 s.stack (subst (λ (x : Entries). Describes x s.stack) t.1 d) in
         let described : Describes a.0 (truth (not top.value) ∷ top.rest) = subst (λ (x : Entries). Describes x (truth (not top.value) ∷ top.rest)) (sym t.1 ∙ t.2) top.below in
-        subst (λ (v : List Value). IsSound code s (charged 1 (with_truth (λ b s'. goes (record s' { place = suc s'.place; stack = truth (not b) ∷ s'.stack })) s v))) (sym top.is)
-        (reached_next (record s { place = suc s.place; stack = truth (not top.value) ∷ top.rest; charge = s.charge + 1 }) a.0 refl (ap is_halt e) (ap (λ x. shape_after code x i entries) e ∙ a.1) described, omega arith, refl)
+        subst (λ (v : List Value). IsSound code s (turn 1 (with_truth (λ b s'. on (record s' { stack = truth (not b) ∷ s'.stack })) s v))) (sym top.is)
+        (reached_next (record s { place = suc s.place; stack = truth (not top.value) ∷ top.rest; charge = s.charge + 1 }) a.0 refl (ap is_halt e) (ap (λ x. left_by code x i entries) e ∙ a.1) described free, omega arith, refl)
 
     -- an instruction that leaves the stack alone
-    sound_still : (o : Operation) (to : State) → operation_of i.op ≡ Some o → is_halt (Some o) ≡ false → ((x : Entries) → shape_after code (Some o) i x ≡ Some x) → to.place ≡ suc s.place → to.stack ≡ s.stack → to.charge ≡ s.charge + 1 → IsReached code to × (s.place < to.place) × (to.charge ≡ s.charge + 1)
-    sound_still o to e goes_on stays place stack cost =
-        (reached_next to entries place (ap is_halt e ∙ goes_on) (ap (λ x. shape_after code x i entries) e ∙ stays entries) (rw stack d), omega (arith, place), cost)
+    sound_still : (o : Operation) (to : State) → operation_of i.op ≡ Some o → is_halt (Some o) ≡ false → ((x : Entries) → left_by code (Some o) i x ≡ Some x) → to.place ≡ suc s.place → to.stack ≡ s.stack → to.frames ≡ [] → to.charge ≡ s.charge + 1 → IsReached code to × (s.place < to.place) × (to.charge ≡ s.charge + 1)
+    sound_still o to e goes_on stays place stack outside cost =
+        (reached_next to entries place (ap is_halt e ∙ goes_on) (ap (λ x. left_by code x i entries) e ∙ stays entries) (rw stack d) outside, omega (arith, place), cost)
 
-    sound_halt : operation_of i.op ≡ Some Halt → IsSound code s (charged 1 (effect code mail Halt i s))
+    sound_halt : operation_of i.op ≡ Some Halt → IsSound code s (turn 1 (effect code mail Halt i s))
     sound_halt e = refl
 
     -- the jump's turn, taken or not, when no entry is left
-    branches : (b : Bool) → is_jump (operation_of i.op) ≡ true → is_halt (operation_of i.op) ≡ false → shape_after code (operation_of i.op) i entries ≡ Some [] → IsSound code s (charged 1 (branch i b (record s { stack = [] })))
-    branches true jump goes_on shape = (reached_target (record s { place = i.c; stack = []; charge = s.charge + 1 }) refl jump refl, jump_forward code is s.place i here jump, refl)
-    branches false jump goes_on shape = (reached_next (record s { place = suc s.place; stack = []; charge = s.charge + 1 }) [] refl goes_on shape tt, omega arith, refl)
+    branches : (wanted b : Bool) → is_jump (row_in code i) ≡ true → is_halt (operation_of i.op) ≡ false → left_by code (operation_of i.op) i entries ≡ Some [] → IsSound code s (turn 1 (branch i.c wanted b (record s { stack = [] })))
+    branches wanted b jump goes_on shape = way (cond wanted b (not b))
+      where
+        way : (taken : Bool) → IsSound code s (turn 1 (cond taken (jumps i.c (record s { stack = [] })) (on (record s { stack = [] }))))
+        way true = (reached_target (record s { place = i.c; stack = []; charge = s.charge + 1 }) refl jump refl free, jump_forward code is s.place i here jump, refl)
+        way false = (reached_next (record s { place = suc s.place; stack = []; charge = s.charge + 1 }) [] refl goes_on shape tt free, omega arith, refl)
 
-    sound_jump_op : operation_of i.op ≡ Some Jump → IsSound code s (charged 1 (effect code mail Jump i s))
+    sound_jump_op : operation_of i.op ≡ Some Jump → IsSound code s (turn 1 (effect code mail Jump i s))
     sound_jump_op e =
         let a = after_of (Some Jump) e in
-        let jump : is_jump (operation_of i.op) ≡ true = ap is_jump e in
+        let jump : is_jump (row_in code i) ≡ true = ap (λ o. is_jump (option_and_then (row_of code.version) o)) e in
         let none : s.stack ≡ [] = no_stack s.stack (subst (λ (x : Entries). Describes x s.stack) (empty-some entries a.0 a.1) d) in
-        subst (λ (b : Bool). IsSound code s (charged 1 (cond b (branch i true s) traps))) (sym (sound_jump jump))
-        (reached_target (record s { place = i.c; charge = s.charge + 1 }) refl jump none, jump_forward code is s.place i here jump, refl)
+        subst (λ (b : Bool). IsSound code s (turn 1 (cond b (jumps i.c s) fails))) (sym (sound_jump jump))
+        (reached_target (record s { place = i.c; charge = s.charge + 1 }) refl jump none free, jump_forward code is s.place i here jump, refl)
 
     -- a jump that takes a truth value
-    sound_branch : (o : Operation) (way : Bool → Bool) → operation_of i.op ≡ Some o → is_jump (Some o) ≡ true → is_halt (Some o) ≡ false → shape_after code (Some o) i entries ≡ without_truth entries → IsSound code s (charged 1 (cond (is_sound_jump code s i) (with_truth (λ b. branch i (way b)) s s.stack) traps))
-    sound_branch o way e jumps goes_on takes =
+    sound_branch : (o : Operation) (wanted : Bool) → operation_of i.op ≡ Some o → is_jump (row_of code.version o) ≡ true → is_halt (Some o) ≡ false → left_by code (Some o) i entries ≡ without_truth entries
+        → IsSound code s (turn 1 (cond (is_sound_jump code s i) (with_truth (branch i.c wanted) s s.stack) fails))
+    sound_branch o wanted e jump_op goes_on takes =
         let a = after_of (Some o) e in
         let w = without_truth-some entries a.0 (sym takes ∙ a.1) in
-        let jump : is_jump (operation_of i.op) ≡ true = ap is_jump e ∙ jumps in
+        let jump : is_jump (row_in code i) ≡ true = ap (λ x. is_jump (option_and_then (row_of code.version) x)) e ∙ jump_op in
         let top = top_truth [] s.stack (subst (λ (x : Entries). Describes x s.stack) w.0 d) in
         let alone : s.stack ≡ truth top.value ∷ [] = top.is ∙ ap (λ (r : List Value). truth top.value ∷ r) (no_stack top.rest top.below) in
-        let shape : shape_after code (operation_of i.op) i entries ≡ Some [] = ap (λ x. shape_after code x i entries) e ∙ a.1 ∙ ap (λ (x : Entries). Some x) w.1 in
-        subst (λ (b : Bool). IsSound code s (charged 1 (cond b (with_truth (λ b. branch i (way b)) s s.stack) traps))) (sym (sound_jump jump))
-        (subst (λ (v : List Value). IsSound code s (charged 1 (with_truth (λ b. branch i (way b)) s v))) (sym alone) (branches (way top.value) jump (ap is_halt e ∙ goes_on) shape))
+        let shape : left_by code (operation_of i.op) i entries ≡ Some [] = ap (λ x. left_by code x i entries) e ∙ a.1 ∙ ap (λ (x : Entries). Some x) w.1 in
+        subst (λ (b : Bool). IsSound code s (turn 1 (cond b (with_truth (branch i.c wanted) s s.stack) fails))) (sym (sound_jump jump))
+        (subst (λ (v : List Value). IsSound code s (turn 1 (with_truth (branch i.c wanted) s v))) (sym alone) (branches wanted top.value jump (ap is_halt e ∙ goes_on) shape))
 
     -- every instruction's turn
     sound : (o : Option Operation) → operation_of i.op ≡ o → IsSound code s (turn_of code mail o i s)
-    sound None e = absurd (let g : false ≡ true = ap (λ x. is_well_formed x i) (sym e) ∙ well_formed code is s.place i here in cc)
+    sound None e = absurd (let g : false ≡ true = ap (λ x. is_well_formed (option_and_then (row_of code.version) x) i) (sym e) ∙ well_formed code is s.place i here in cc)
     sound (Some Halt) e = formed Halt e (sound_halt e)
     sound (Some BoolOp) e = formed BoolOp e (sound_bool e)
     sound (Some Not) e = formed Not e (sound_not e)
     sound (Some Jump) e = formed Jump e (sound_jump_op e)
-    sound (Some JumpIfTrue) e = formed JumpIfTrue e (sound_branch JumpIfTrue (λ b. b) e refl refl refl)
-    sound (Some JumpIfFalse) e = formed JumpIfFalse e (sound_branch JumpIfFalse not e refl refl refl)
+    sound (Some JumpIfTrue) e = formed JumpIfTrue e (sound_branch JumpIfTrue true e refl refl refl)
+    sound (Some JumpIfFalse) e = formed JumpIfFalse e (sound_branch JumpIfFalse false e refl refl refl)
     sound (Some Size) e = formed Size e (sound_size e)
-    sound (Some Keep) e = formed Keep e (sound_still Keep _ e refl (λ x. refl) refl refl refl)
-    sound (Some Discard) e = formed Discard e (sound_still Discard _ e refl (λ x. refl) refl refl refl)
+    sound (Some Keep) e = formed Keep e (sound_still Keep _ e refl (λ x. refl) refl refl free refl)
+    sound (Some Discard) e = formed Discard e (sound_still Discard _ e refl (λ x. refl) refl refl free refl)
     sound (Some o) e = not_formed o e refl
 
   -- a step from a state that a run may reach
@@ -221,12 +231,12 @@ module _ (code : Code) (mail : Mail) (is : IsAccepted code) where
       let i : Instruction = get_or code.instructions s.place none in
       let here : slice_get code.instructions s.place ≡ Some i = slice_get-get_or code.instructions s.place none reached.within in
       subst (λ (o : Option Instruction). IsSound code s (turn_at code mail s o)) (sym here)
-      (sound s i reached.entries here reached.shape reached.describes (operation_of i.op) refl)
+      (sound s i reached.entries here reached.shape reached.describes reached.outside (operation_of i.op) refl)
 
   -- the start
   pub start_is_reached : IsReached code (start code)
   start_is_reached =
-      record { within = instructions_there code is; entries = []; shape = refl; describes = tt }
+      record { within = instructions_there code is; entries = []; shape = refl; describes = tt; outside = refl }
 
   -- every state of a run
   pub runs_are_reached : (n : ℕ) (from to : State) → IsReached code from → Run code mail n from to → IsReached code to

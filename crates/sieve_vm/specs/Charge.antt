@@ -2,10 +2,35 @@
 use Rattle.std.specs.Prelude.{ℕ}
 use Rattle.bytecode_format.specs.declared.instruction.Instruction.{Instruction}
 use Rattle.bytecode_format.specs.declared.operation.Operation.{Operation}
+use Rattle.bytecode_format.specs.declared.operation.Operation.TheVariants.{Halt, Literal, Variable, Capture, Join, Set, Bool as BoolOp, Not, Jump, JumpIfTrue, JumpIfFalse, Header, Exists, String, Size, PartSize, PartBody, PartDigest, Keep, Discard, File, Store, Each, Next, Break}
 use Rattle.bytecode_format.specs.Code.{Code}
 use Rattle.mime_decode.specs.Mail.{Mail}
 use Rattle.sieve_vm.specs.State.{State}
 
--- the charge of an instruction, from what it meets
+-- the charge of an instruction, from the state that it meets
 abbrev pub charge_of : Code → Mail → Operation → Instruction → State → ℕ
-charge_of code mail operation i state = 1
+charge_of code mail Halt i state = 1
+charge_of code mail Literal i state = 1
+charge_of code mail Variable i state = 1
+charge_of code mail Capture i state = 1
+charge_of code mail Join i state = 1
+charge_of code mail Set i state = 1
+charge_of code mail BoolOp i state = 1
+charge_of code mail Not i state = 1
+charge_of code mail Jump i state = 1
+charge_of code mail JumpIfTrue i state = 1
+charge_of code mail JumpIfFalse i state = 1
+charge_of code mail Header i state = 1
+charge_of code mail Exists i state = 1
+charge_of code mail String i state = 1
+charge_of code mail Size i state = 1
+charge_of code mail PartSize i state = 1
+charge_of code mail PartBody i state = 1
+charge_of code mail PartDigest i state = 1
+charge_of code mail Keep i state = 1
+charge_of code mail Discard i state = 1
+charge_of code mail File i state = 1
+charge_of code mail Store i state = 1
+charge_of code mail Each i state = 1
+charge_of code mail Next i state = 1
+charge_of code mail Break i state = 1

@@ -1,71 +1,92 @@
--- The machine: what each instruction does.
-use Rattle.std.specs.Prelude.{ℕ, suc, ◌+◌, Bool, true, false, ◌&&◌, not, ◌==◌, nat_lt, List, [], ◌∷◌, ◌++◌, Option, Some, None, length, slice_get, if◌then◌else◌}
+-- The machine: what each instruction does, and where the run goes then.
+use Rattle.std.specs.Prelude.{ℕ, suc, ◌+◌, Bool, true, false, ◌&&◌, cond, not, ◌==◌, nat_lt, List, [], ◌∷◌, ◌++◌, Option, Some, None, length, slice_get, if◌then◌else◌}
 use Rattle.octets.specs.Limits.{max_stack}
 use Rattle.bytecode_format.specs.declared.action.Action.TheVariants as action
 use Rattle.bytecode_format.specs.declared.instruction.Instruction.{Instruction}
 use Rattle.bytecode_format.specs.declared.operation.Operation.{Operation}
-use Rattle.bytecode_format.specs.declared.operation.Operation.TheVariants.{Halt, Bool as BoolOp, Not, Jump, JumpIfTrue, JumpIfFalse, Size, Keep, Discard}
+use Rattle.bytecode_format.specs.declared.operation.Operation.TheVariants.{Halt, Literal, Variable, Capture, Join, Set, Bool as BoolOp, Not, Jump, JumpIfTrue, JumpIfFalse, Header, Exists, String, Size, PartSize, PartBody, PartDigest, Keep, Discard, File, Store, Each, Next, Break}
 use Rattle.bytecode_format.specs.Operations.{operation_of}
 use Rattle.bytecode_format.specs.Code.{Code}
-use Rattle.bytecode_verifier.specs.Form.{is_well_formed}
+use Rattle.bytecode_verifier.specs.Rows.{is_well_formed}
+use Rattle.bytecode_verifier.specs.Rules.{row_in}
 use Rattle.bytecode_verifier.specs.Loops.{same_loops}
 use Rattle.mime_decode.specs.Mail.{Mail, size_of}
 use Rattle.sieve_vm.specs.State.{Value, truth, State, Turn, goes, ends, traps}
 use Rattle.sieve_vm.specs.Charge.{charge_of}
 
--- on to the next instruction
-abbrev pub next : State → Turn
-next state = goes (record state { place = suc state.place })
+-- what an operation does: the state that it leaves, still at its own place and without its charge, from which the run goes on
+-- with the next instruction, jumps to a place, or ends; or it fails
+pub data Effect : Type 0 where
+  on : State → Effect
+  jumps : ℕ → State → Effect
+  halts : State → Effect
+  fails : Effect
 
--- an entry on top of the stack, which takes 1,024
-abbrev pub push : Value → State → Turn
-push value state = if nat_lt (length state.stack) max_stack then goes (record state { place = suc state.place; stack = value ∷ state.stack }) else traps
+-- an entry on top of the stack, where there is room for it
+abbrev pub push : Value → State → Effect
+push value state = if nat_lt (length state.stack) max_stack then on (record state { stack = value ∷ state.stack }) else fails
+
+-- with the truth value on top of the stack, which is taken
+abbrev pub with_truth : (Bool → State → Effect) → State → List Value → Effect
+with_truth go state (truth b ∷ rest) = go b (record state { stack = rest })
+with_truth go state _ = fails
 
 -- a jump is forward, and keeps the open loops
 abbrev pub is_sound_jump : Code → State → Instruction → Bool
 is_sound_jump code state i = nat_lt state.place i.c && same_loops code state.place i.c
 
--- with the truth value on top of the stack, which is taken
-abbrev pub with_truth : (Bool → State → Turn) → State → List Value → Turn
-with_truth go state (truth b ∷ rest) = go b (record state { stack = rest })
-with_truth go state _ = traps
-
--- to the place that the instruction names, or on to the next
-abbrev pub branch : Instruction → Bool → State → Turn
-branch i jumps state = if jumps then goes (record state { place = i.c }) else next state
+-- to the target where the truth value is this one, else on
+abbrev pub branch : ℕ → Bool → Bool → State → Effect
+branch target wanted value state = if cond wanted value (not value) then jumps target state else on state
 
 -- whether the message is over the number, where a is 0, or under it
 abbrev pub compares : Instruction → ℕ → ℕ → Bool
 compares i number size = if i.a == 0 then nat_lt number size else nat_lt size number
 
-abbrev pub with_number : Instruction → Mail → State → Option ℕ → Turn
-with_number i mail state None = traps
+abbrev pub with_number : Instruction → Mail → State → Option ℕ → Effect
+with_number i mail state None = fails
 with_number i mail state (Some number) = push (truth (compares i number (size_of mail))) state
 
--- what an instruction does, but for its charge
-abbrev pub effect : Code → Mail → Operation → Instruction → State → Turn
-effect code mail Halt i state = ends state
+-- what each operation does; one that hasn't come fails
+abbrev pub effect : Code → Mail → Operation → Instruction → State → Effect
+effect code mail Halt i state = halts state
+effect code mail Literal i state = fails
+effect code mail Variable i state = fails
+effect code mail Capture i state = fails
+effect code mail Join i state = fails
+effect code mail Set i state = fails
 effect code mail BoolOp i state = push (truth (i.a == 1)) state
-effect code mail Not i state = with_truth (λ b s. goes (record s { place = suc s.place; stack = truth (not b) ∷ s.stack })) state state.stack
-effect code mail Jump i state = if is_sound_jump code state i then branch i true state else traps
-effect code mail JumpIfTrue i state = if is_sound_jump code state i then with_truth (λ b. branch i b) state state.stack else traps
-effect code mail JumpIfFalse i state = if is_sound_jump code state i then with_truth (λ b. branch i (not b)) state state.stack else traps
+effect code mail Not i state = with_truth (λ b s. on (record s { stack = truth (not b) ∷ s.stack })) state state.stack
+effect code mail Jump i state = if is_sound_jump code state i then jumps i.c state else fails
+effect code mail JumpIfTrue i state = if is_sound_jump code state i then with_truth (branch i.c true) state state.stack else fails
+effect code mail JumpIfFalse i state = if is_sound_jump code state i then with_truth (branch i.c false) state state.stack else fails
+effect code mail Header i state = fails
+effect code mail Exists i state = fails
+effect code mail String i state = fails
 effect code mail Size i state = with_number i mail state (slice_get code.numbers i.c)
-effect code mail Keep i state = next (record state { actions = state.actions ++ action.Keep ∷ []; implicit_keep = false })
-effect code mail Discard i state = next (record state { implicit_keep = false })
-effect code mail _ i state = traps
+effect code mail PartSize i state = fails
+effect code mail PartBody i state = fails
+effect code mail PartDigest i state = fails
+effect code mail Keep i state = on (record state { actions = state.actions ++ action.Keep ∷ []; implicit_keep = false })
+effect code mail Discard i state = on (record state { implicit_keep = false })
+effect code mail File i state = fails
+effect code mail Store i state = fails
+effect code mail Each i state = fails
+effect code mail Next i state = fails
+effect code mail Break i state = fails
 
--- a turn that costs so much
-abbrev pub charged : ℕ → Turn → Turn
-charged cost (goes state) = goes (record state { charge = state.charge + cost })
-charged cost (ends state) = ends (record state { charge = state.charge + cost })
-charged cost traps = traps
+-- the turn of an instruction at a place, from its charge and its effect
+abbrev pub turn : ℕ → Effect → Turn
+turn cost (on state) = goes (record state { place = suc state.place; charge = state.charge + cost })
+turn cost (jumps target state) = goes (record state { place = target; charge = state.charge + cost })
+turn cost (halts state) = ends (record state { charge = state.charge + cost })
+turn cost fails = traps
 
 -- an octet that names no operation traps, and so do fields out of their ranges
 abbrev pub turn_of : Code → Mail → Option Operation → Instruction → State → Turn
 turn_of code mail None i state = traps
 turn_of code mail (Some operation) i state =
-    if is_well_formed (Some operation) i then charged (charge_of code mail operation i state) (effect code mail operation i state) else traps
+    if is_well_formed (row_in code i) i then turn (charge_of code mail operation i state) (effect code mail operation i state) else traps
 
 -- a place past the end traps
 abbrev pub turn_at : Code → Mail → State → Option Instruction → Turn

@@ -1,24 +1,37 @@
 -- What a run may still charge.
-use Rattle.std.specs.Prelude.{ℕ, ◌+◌, ◌*◌, ◌^◌, length, nat_le, if◌then◌else◌}
+use Rattle.std.specs.Prelude.{ℕ, suc, ◌+◌, ◌-◌, ◌*◌, List, [], ◌∷◌, length, nat_le, if◌then◌else◌}
 use Rattle.bytecode_format.specs.Code.{Code}
 use Rattle.bytecode_verifier.specs.Places.{sum_below}
 use Rattle.bytecode_verifier.specs.Loops.{open_loops}
 use Rattle.bytecode_verifier.specs.Budget.{Cap, cap_at, budget_of}
-use Rattle.bytecode_cost.specs.Sums.{budget_at}
+use Rattle.bytecode_cost.specs.Sums.{turns, budget_at}
 use Rattle.mime_decode.specs.Mail.{Mail, size_of}
-use Rattle.sieve_vm.specs.State.{State}
+use Rattle.sieve_vm.specs.State.{Frame, State}
 
 -- what an instruction may charge each time, at a message
 abbrev pub cap_value : Mail → Cap → ℕ
 cap_value mail cap = cap.fixed + cap.scaled * (size_of mail + 1)
 
--- what the instruction at a place may charge in all: once for each turn of the loops that it stands in
-abbrev pub weight_at : Code → Mail → ℕ → ℕ
-weight_at code mail place = cap_value mail (cap_at code place) * length mail.parts ^ length (open_loops code place)
+-- what the instruction at a place may charge for one turn of a body inside so many loops: its cap, for each turn of the further loops that it stands in
+abbrev pub weight_at : Code → Mail → ℕ → ℕ → ℕ
+weight_at code mail depth place = cap_value mail (cap_at code place) * turns code.version (length mail.parts) (length (open_loops code place) - depth)
 
--- what the instructions from a place on may charge
+-- what the instructions from a place on and before another may charge for one turn of such a body
+abbrev pub stretch : Code → Mail → ℕ → ℕ → ℕ → ℕ
+stretch code mail depth from to = sum_below (λ place. if nat_le from place then weight_at code mail depth place else 0) to
+
+-- the rest of the innermost open loop's body, and the whole body again for each part that the loop has left; then the same for the
+-- loop around it, from after the inner Next; in the end the rest of the program
+abbrev pub potential_from : Code → Mail → ℕ → List Frame → ℕ
+potential_from code mail place [] = stretch code mail 0 place (length code.instructions)
+potential_from code mail place (frame ∷ frames) =
+    stretch code mail (suc (length frames)) place (suc frame.next)
+    + length frame.rest * stretch code mail (suc (length frames)) (suc frame.each) (suc frame.next)
+    + potential_from code mail (suc frame.next) frames
+
+-- what a run may still charge from a state
 abbrev pub potential : Code → Mail → State → ℕ
-potential code mail state = sum_below (λ place. if nat_le state.place place then weight_at code mail place else 0) (length code.instructions)
+potential code mail state = potential_from code mail state.place state.frames
 
 -- what the budget allows a program on a message
 abbrev pub limit_of : Code → Mail → ℕ

@@ -3,29 +3,49 @@ use Rattle.std.specs.Prelude.{◌≡◌, ◌<◌, ℕ, map, reverse}
 use Rattle.bytecode_format.specs.Actions.{first_occurrences}
 use Rattle.bytecode_format.specs.Code.{Code}
 use Rattle.mime_decode.specs.Mail.{Mail}
+use Rattle.sieve_vm.specs.declared.machine.Entry.{Entry}
+use Rattle.sieve_vm.specs.declared.machine.Entry.TheVariants.{Truth, Text}
+use Rattle.sieve_vm.specs.declared.machine.Flow.{Flow}
+use Rattle.sieve_vm.specs.declared.machine.Flow.TheVariants.{On, To, Ends}
 use Rattle.sieve_vm.specs.declared.machine.Machine.{Machine}
-use Rattle.sieve_vm.specs.State.{truth, State, start}
+use Rattle.sieve_vm.specs.State.{Value, truth, text, State, start}
+use Rattle.sieve_vm.specs.Machine.{Effect, on, jumps, halts, fails}
 use Rattle.sieve_vm.specs.Runs.{Run, RunEnds}
+
+-- an entry of the stack as the value that it is
+abbrev pub value_of : Entry → Value
+value_of (Truth b) = truth b
+value_of (Text octets) = text octets.now
 
 -- the machine stands for the state
 pub record StandsFor (state : State) (machine : Machine) : Type 0 where
   pub place : machine.place ≡ state.place
-  pub stack : map truth (reverse machine.stack.items) ≡ state.stack
+  pub stack : map value_of (reverse machine.stack.items) ≡ state.stack
   pub actions : machine.actions ≡ first_occurrences state.actions
   pub implicit_keep : machine.implicit_keep ≡ state.implicit_keep
   pub charge : machine.charged ≡ state.charge
 
--- the machine stands for a state of the program's run
-pub record IsRunning (code : Code) (mail : Mail) (machine : Machine) : Type 0 where
+-- the machine stands for this state of the program's run
+pub record IsIn (code : Code) (mail : Mail) (state : State) (machine : Machine) : Type 0 where
   pub steps : ℕ
-  pub state : State
   pub run : Run code mail steps (start code) state
   pub stands : StandsFor state machine
+
+-- the machine stands for a state of the program's run
+abbrev pub IsRunning : Code → Mail → Machine → Type 0
+IsRunning code mail machine = (state : State) × IsIn code mail state machine
+
+-- the machine has had the effect, but for its place and charge, and answers where the run goes
+abbrev pub HasHad : Effect → Flow → Machine → Type 0
+HasHad (on state) On machine = StandsFor state machine
+HasHad (jumps target state) (To place) machine = (place ≡ target) × StandsFor state machine
+HasHad (halts state) Ends machine = StandsFor state machine
+HasHad _ _ machine = ⊥
 
 -- the machine goes from one state of the run to a later one
 pub record StepsOn (code : Code) (mail : Mail) (before after : Machine) : Type 0 where
   pub running : IsRunning code mail after
-  pub forward : before.place < after.place
+  pub dearer : before.charged < after.charged
 
 -- the machine stands for the end of the program's run
 pub record IsOver (code : Code) (mail : Mail) (machine : Machine) : Type 0 where

@@ -1,5 +1,5 @@
 //! Laws of the machine, over its definitions alone.
-ghost use Rattle.std.specs.Prelude.{◌≡◌, ◌≢◌, ℕ, ◌+◌, ◌≤◌};
+ghost use Rattle.std.specs.Prelude.{◌≡◌, ◌≢◌, ℕ, suc, ◌+◌, ◌≤◌};
 ghost use Rattle.bytecode_format.specs.Code.{Code};
 ghost use Rattle.bytecode_verifier.specs.Acceptance.{IsAccepted};
 ghost use Rattle.mime_decode.specs.Mail.{Mail, IsMail};
@@ -20,10 +20,12 @@ pub fn potential_falls_by_each_charge()
     ensures end { (code : Code) (mail : Mail) → IsAccepted code → IsMail mail → (n : ℕ) (state end : State) → Run code mail n (start code) state → step code mail state ≡ ends end → end.charge ≤ potential code mail state + state.charge }
 {}
 
-/// Each prefix of a run charges at most the budget, and a run has at most as many steps.
+/// Each prefix of a run charges at most the budget, and a run has at most as many steps, that to its end
+/// included.
 pub fn runs_stay_within_the_budget()
     ensures charge { (code : Code) (mail : Mail) → IsAccepted code → IsMail mail → (n : ℕ) (state : State) → Run code mail n (start code) state → state.charge ≤ limit_of code mail }
     ensures steps { (code : Code) (mail : Mail) → IsAccepted code → IsMail mail → (n : ℕ) (state : State) → Run code mail n (start code) state → n ≤ limit_of code mail }
+    ensures ends { (code : Code) (mail : Mail) → IsAccepted code → IsMail mail → (n : ℕ) (state end : State) → Run code mail n (start code) state → step code mail state ≡ ends end → suc n ≤ limit_of code mail }
 {}
 
 /// The run of an accepted program reaches its end, within the budget.

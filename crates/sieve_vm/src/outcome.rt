@@ -25,6 +25,8 @@ pub fn run(alloc: Global, verified: &Verified, message: &Message<'_>) -> Result<
     ensures { IfOk result (λ outcome. IsOutcome verified.now message.now outcome.actions.items outcome.charged) }
 {
     let program = verified.program();
+    // What holds of every message is known where it is asked.
+    let _size = message.size();
     let mut machine = Machine::new(alloc);
     'steps: loop {
         match machine.advance(program, message)? {

@@ -13,14 +13,14 @@ loop-instruction-preserved c =
           record {
             number = rw (items, length-set) c.loop-instruction.invariant.number;
             each = λ place within. rw items
-                (marks_more c.args.instructions.now c.loop-instruction.instruction-index _ c.of.result c.loop-instruction.targets.items place c.loop-instruction-test.true c.of.ensures (sym c.is_jump.ensures ∙ w.if-is_jump.true)
+                (marks_more c.args.version c.args.instructions.now c.loop-instruction.instruction-index _ c.row_named.result c.loop-instruction.targets.items place c.loop-instruction-test.true c.row_named.ensures (sym c.is_jump.ensures ∙ w.if-is_jump.true)
                 (rw c.loop-instruction.invariant.number within) (c.loop-instruction.invariant.each place within));
           }
       | else-is_jump w ↦
           record {
             number = ap (λ v. length v.items) w.targets-is ∙ c.loop-instruction.invariant.number;
             each = λ place within. ap (λ v. slice_get v.items place) w.targets-is
-                ∙ marks_stay c.args.instructions.now c.loop-instruction.instruction-index _ c.of.result c.loop-instruction.targets.items place c.loop-instruction-test.true c.of.ensures (sym c.is_jump.ensures ∙ w.if-is_jump.false)
+                ∙ marks_stay c.args.version c.args.instructions.now c.loop-instruction.instruction-index _ c.row_named.result c.loop-instruction.targets.items place c.loop-instruction-test.true c.row_named.ensures (sym c.is_jump.ensures ∙ w.if-is_jump.false)
                 (c.loop-instruction.invariant.each place within);
           }
     ]

@@ -6,5 +6,5 @@ use Rattle.bytecode_verifier.proofs.targets.targets_of.Given as goal
 abbrev pub invariant-loop-instruction : goal.invariant-loop-instruction
 invariant-loop-instruction l = record {
   number : length l.targets.items ≡ length l.instructions;
-  each : (place : ℕ) → place < length l.instructions → slice_get l.targets.items place ≡ Some (is_target (take l.instruction-index l.instructions) place);
+  each : (place : ℕ) → place < length l.instructions → slice_get l.targets.items place ≡ Some (is_target l.version (take l.instruction-index l.instructions) place);
 }

@@ -1,12 +1,15 @@
-use Rattle.std.proofs.Common.{arith}
-use Rattle.sieve_vm.proofs.Steps.{place_within, outcome_of}
+use Rattle.std.proofs.Common.{sym, ap, subst, arith}
+use Rattle.bytecode_verifier.specs.Acceptance.{IsAccepted}
+use Rattle.sieve_vm.specs.Potential.{limit_of}
+use Rattle.sieve_vm.proofs.Steps.{running_within, outcome_of}
 use Rattle.sieve_vm.proofs.outcome.run.Goals as goal
 
 pub steps-smaller : goal.steps-smaller
 steps-smaller c =
+    let value = c.program-program.ensures.value in
     let on = c.in_ok-advance.ensures.goes_on c.in-GoesOn.is in
-    let within = place_within c.args.verified.now c.args.message.now c.program-program.ensures.accepted c.steps.machine c.steps.invariant in
-    omega (arith, on.forward, within)
+    let within = running_within c.program-program.result.now c.args.message.now (subst IsAccepted (sym value) c.program-program.ensures.accepted) c.advance.new.self on.running in
+    omega (arith, on.dearer, within, ap (λ code. limit_of code c.args.message.now) value)
 
 pub returns : goal.returns
 returns c =

@@ -1,0 +1,69 @@
+-- What the verifier knows of each operation before it looks at what the operation does: one row each.
+use Rattle.std.specs.Prelude.{ℕ, Bool, true, false, ◌&&◌, Option, Some, None, nat_lt, ◌==◌}
+use Rattle.std.specs.Option.{option_and_then, option_map_or}
+use Rattle.bytecode_format.specs.declared.instruction.Instruction.{Instruction}
+use Rattle.bytecode_format.specs.declared.operation.Operation.{Operation}
+use Rattle.bytecode_format.specs.declared.operation.Operation.TheVariants.{Halt, Literal, Variable, Capture, Join, Set, Bool as BoolOp, Not, Jump, JumpIfTrue, JumpIfFalse, Header, Exists, String, Size, PartSize, PartBody, PartDigest, Keep, Discard, File, Store, Each, Next, Break}
+use Rattle.bytecode_format.specs.Operations.{operation_of}
+use Rattle.bytecode_verifier.specs.declared.row.Range.{Range}
+use Rattle.bytecode_verifier.specs.declared.row.Range.TheVariants.{Unnamed, Below, Any}
+use Rattle.bytecode_verifier.specs.declared.row.Table.TheVariants.{Numbers}
+use Rattle.bytecode_verifier.specs.declared.row.Row.{Row}
+
+-- an operation that names no field
+abbrev pub plain : Row
+plain = record { a = Unnamed; b = Unnamed; c = Unnamed; index = None; jumps = false; needs_part = false }
+
+-- an operation that jumps to c
+abbrev pub jump : Row
+jump = record plain { c = Any; jumps = true }
+
+-- the row of an operation in programs of a version, or None where it hasn't come
+abbrev pub row_of : ℕ → Operation → Option Row
+row_of version Halt = Some plain
+row_of version Literal = None
+row_of version Variable = None
+row_of version Capture = None
+row_of version Join = None
+row_of version Set = None
+row_of version BoolOp = Some (record plain { a = Below 2 })
+row_of version Not = Some plain
+row_of version Jump = Some jump
+row_of version JumpIfTrue = Some jump
+row_of version JumpIfFalse = Some jump
+row_of version Header = None
+row_of version Exists = None
+row_of version String = None
+row_of version Size = Some (record plain { a = Below 2; c = Any; index = Some Numbers })
+row_of version PartSize = None
+row_of version PartBody = None
+row_of version PartDigest = None
+row_of version Keep = Some plain
+row_of version Discard = Some plain
+row_of version File = None
+row_of version Store = None
+row_of version Each = None
+row_of version Next = None
+row_of version Break = None
+
+-- the row of an octet, where it names an operation that has come
+abbrev pub row_named : ℕ → ℕ → Option Row
+row_named version octet = option_and_then (row_of version) (operation_of octet)
+
+-- whether a field takes the value; one that isn't named is 0
+abbrev pub takes : Range → ℕ → Bool
+takes Unnamed n = n == 0
+takes (Below bound) n = nat_lt n bound
+takes Any n = true
+
+-- the operation has come, its fields are in their ranges, and the fields that it doesn't name are 0
+abbrev pub is_well_formed : Option Row → Instruction → Bool
+is_well_formed row i = option_map_or (λ (r : Row). takes r.a i.a && takes r.b i.b && takes r.c i.c) row false
+
+-- the operation jumps to c
+abbrev pub is_jump : Option Row → Bool
+is_jump row = option_map_or (λ (r : Row). r.jumps) row false
+
+-- the operation is on the current part
+abbrev pub needs_part : Option Row → Bool
+needs_part row = option_map_or (λ (r : Row). r.needs_part) row false

@@ -1,0 +1,102 @@
+// What is known of each operation before what it does.
+ghost use Rattle.std.specs.Prelude.{◌≡◌, ◌&&◌};
+ghost use Rattle.bytecode_verifier.specs.Rows;
+
+use bytecode_format::{Instruction, Operation};
+
+/// Which values a field of an instruction takes.
+#[derive(Clone, Copy, Debug, PartialEq, Eq)]
+pub enum Range {
+    /// The operation doesn't name the field: 0 alone.
+    Unnamed,
+    /// The numbers below this one.
+    Below(u32),
+    /// Every number.
+    Any,
+}
+
+/// A table of a program that an instruction's c is an index of.
+#[derive(Clone, Copy, Debug, PartialEq, Eq)]
+pub enum Table {
+    Numbers,
+}
+
+/// The row of an operation in the table of the bytecode.
+#[derive(Clone, Copy, Debug, PartialEq, Eq)]
+pub struct Row {
+    pub a: Range,
+    pub b: Range,
+    pub c: Range,
+    /// What c is an index of.
+    pub index: Option<Table>,
+    /// Whether it jumps to c.
+    pub jumps: bool,
+    /// Whether it is on the current part.
+    pub needs_part: bool,
+}
+
+/// An operation that names no field.
+const PLAIN: Row = Row {
+    a: Range::Unnamed,
+    b: Range::Unnamed,
+    c: Range::Unnamed,
+    index: None,
+    jumps: false,
+    needs_part: false,
+};
+
+/// An operation that jumps to c.
+const JUMP: Row = Row {
+    c: Range::Any,
+    jumps: true,
+    ..PLAIN
+};
+
+/// The row of an operation in programs of a version, if it has come.
+pub fn row_of(_version: u8, operation: Operation) -> Option<Row>
+    ensures { result ≡ Rows.row_of _version operation }
+{
+    match operation {
+        Operation::Halt | Operation::Not | Operation::Keep | Operation::Discard => Some(PLAIN),
+        Operation::Bool => Some(Row {
+            a: Range::Below(2),
+            ..PLAIN
+        }),
+        Operation::Jump | Operation::JumpIfTrue | Operation::JumpIfFalse => Some(JUMP),
+        Operation::Size => Some(Row {
+            a: Range::Below(2),
+            c: Range::Any,
+            index: Some(Table::Numbers),
+            ..PLAIN
+        }),
+        Operation::Literal
+        | Operation::Variable
+        | Operation::Capture
+        | Operation::Join
+        | Operation::Set
+        | Operation::Header
+        | Operation::Exists
+        | Operation::String
+        | Operation::PartSize
+        | Operation::PartBody
+        | Operation::PartDigest
+        | Operation::File
+        | Operation::Store
+        | Operation::Each
+        | Operation::Next
+        | Operation::Break => None,
+    }
+}
+
+impl Range {
+    /// Whether the field takes the value.
+    pub fn takes(self, value: u32) -> bool
+        ensures { result ≡ Rows.takes self value }
+    {
+        match self {
+            Range::Unnamed => value == 0,
+            Range::Below(bound) => value < bound,
+            Range::Any => true,
+        }
+    }
+}
