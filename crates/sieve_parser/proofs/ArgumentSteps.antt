@@ -10,7 +10,7 @@ use Rattle.sieve_parser.specs.Lexemes.{Lexeme, lexeme_of, opening_bracket}
 use Rattle.sieve_parser.specs.Tree.{ArgumentTree}
 use Rattle.sieve_parser.specs.Grammar.{Placed, at_depth, argument_spelled, arguments_spelled}
 use Rattle.sieve_parser.specs.Machine.{Follow, Symbol, arguments, strings, expand}
-use Rattle.sieve_parser.specs.Reading.{IsAt, Stands, lexeme_at, IsNoArgument}
+use Rattle.sieve_parser.specs.Reading.{Beginning, IsAt, Stands, lexeme_at, IsNoArgument}
 use Rattle.sieve_parser.proofs.Walk.{walk, stands_one, stands_both}
 
 pub no_argument : (k : TokenKind) (n : ℕ) (octets : List ℕ) → k ≢ Tag → k ≢ Number → k ≢ QuotedString → k ≢ MultiLineString → k ≢ OpeningBracket → IsNoArgument (lexeme_of k n octets)
@@ -31,22 +31,22 @@ no_argument ClosingBracket n o t m q l b = tt
 -- an argument from a place up to another
 abbrev pub IsArgumentRead : List Lexeme → ℕ → ArgumentTree → ℕ → Type 0
 IsArgumentRead ls at a next = (d : ℕ) (f : Follow) (stack : List Symbol) → d ≤ 32 → (at < next) × Stands ls at next (argument_spelled d a)
-    × (IsAt ls at (arguments d f ∷ stack) → IsAt ls next (arguments d f ∷ stack))
+    × ((b : Beginning) → IsAt b ls at (arguments d f ∷ stack) → IsAt b ls next (arguments d f ∷ stack))
 
 pub one_argument : (ls : List Lexeme) (at : ℕ) (l : Lexeme) (a : ArgumentTree) → at < length ls → lexeme_at ls at ≡ l
     → ((d : ℕ) → argument_spelled d a ≡ at_depth d l ∷ []) → ((d : ℕ) (f : Follow) → expand (arguments d f) l ≡ Some (d, arguments d f ∷ [])) → IsArgumentRead ls at a (at + 1)
 one_argument ls at l a lt e spelled expands = λ d f stack small.
-    (omega arith, rw (spelled d) (stands_one ls at (at_depth d l) lt e), λ p. walk ls at (arguments d f) stack d (arguments d f ∷ []) p lt (ap (expand (arguments d f)) e ∙ expands d f) small)
+    (omega arith, rw (spelled d) (stands_one ls at (at_depth d l) lt e), λ b p. walk b ls at (arguments d f) stack d (arguments d f ∷ []) p lt (ap (expand (arguments d f)) e ∙ expands d f) small)
 
 pub list_argument : (ls : List Lexeme) (at : ℕ) (a : ArgumentTree) (next : ℕ) → at < length ls → lexeme_at ls at ≡ opening_bracket
     → ((d : ℕ) (stack : List Symbol) → d ≤ 32 → (b : List Placed) × ((argument_spelled d a ≡ at_depth d opening_bracket ∷ b) × Stands ls (at + 1) next b
-    × (IsAt ls (at + 1) (strings d ∷ stack) → IsAt ls next stack))) → IsArgumentRead ls at a next
+    × ((b : Beginning) → IsAt b ls (at + 1) (strings d ∷ stack) → IsAt b ls next stack))) → IsArgumentRead ls at a next
 list_argument ls at a next lt e list = λ d f stack small.
     let following = list d (arguments d f ∷ stack) small in
     let open_bracket = stands_one ls at (at_depth d opening_bracket) lt e in (
       omega (arith, following.1.1.from),
       rw following.1.0 (stands_both ls at (at + 1) next (at_depth d opening_bracket ∷ []) following.0 open_bracket following.1.1),
-      λ p. following.1.2 (walk ls at (arguments d f) stack d (strings d ∷ arguments d f ∷ []) p lt (ap (expand (arguments d f)) e) small),
+      λ b p. following.1.2 b (walk b ls at (arguments d f) stack d (strings d ∷ arguments d f ∷ []) p lt (ap (expand (arguments d f)) e) small),
     )
 
 pub arguments_push : (d : ℕ) (xs : List ArgumentTree) (a : ArgumentTree) → arguments_spelled d (xs ++ a ∷ []) ≡ arguments_spelled d xs ++ argument_spelled d a

@@ -5,7 +5,7 @@ use Rattle.sieve_parser.specs.Lexemes.{Lexeme, identifier, semicolon, opening_br
 use Rattle.sieve_parser.specs.Tree.{InvocationTree, CommandTree, simple, block, CommandsTree}
 use Rattle.sieve_parser.specs.Grammar.{Placed, at_depth, command_spelled, commands_spelled}
 use Rattle.sieve_parser.specs.Machine.{command_end, Symbol, arguments, ending, body, expand}
-use Rattle.sieve_parser.specs.Reading.{IsAt, Stands, lexeme_at}
+use Rattle.sieve_parser.specs.Reading.{Beginning, IsAt, Stands, lexeme_at}
 use Rattle.sieve_parser.specs.View.{invocation_tree, command_tree, command_step, commands_of, commands_tree}
 use Rattle.sieve_parser.specs.declared.tree.Invocation.{Invocation}
 use Rattle.sieve_parser.specs.declared.tree.Command.{Command}
@@ -31,7 +31,7 @@ module _ (ls : List Lexeme) where
   -- a command after its identifier up to a place
   abbrev pub IsCommandRead : List ℕ → ℕ → ℕ → CommandTree → ℕ → Type 0
   IsCommandRead name n d t p = (stack : List Symbol) → (b : List Placed) × ((command_spelled d t ≡ at_depth d (identifier n name) ∷ b) × Stands ls (n + 1) p b
-      × (IsAt ls (n + 1) (arguments d (command_end d) ∷ stack) → IsAt ls p stack))
+      × ((b : Beginning) → IsAt b ls (n + 1) (arguments d (command_end d) ∷ stack) → IsAt b ls p stack))
 
   pub simple_read : (name : List ℕ) (n d p : ℕ) (i : InvocationTree) → IsInvocationRead ls name n d i p → d ≤ 32 → p < length ls → lexeme_at ls p ≡ semicolon → IsCommandRead name n d (simple i) (p + 1)
   simple_read name n d p i read small lt e = λ stack.
@@ -41,12 +41,12 @@ module _ (ls : List Lexeme) where
         (
           ap (λ w. w ++ end) r.1.0,
           stands_both ls (n + 1) p (p + 1) r.0 end r.1.1 (stands_one ls p (at_depth d semicolon) lt e),
-          λ at. walk ls p (ending (command_end d)) stack d [] (r.1.2 at) lt (ap (expand (ending (command_end d))) e) small,
+          λ b at. walk b ls p (ending (command_end d)) stack d [] (r.1.2 b at) lt (ap (expand (ending (command_end d))) e) small,
         ),
       )
 
   pub block_read : (name : List ℕ) (n d p q : ℕ) (i : InvocationTree) (cs : CommandsTree) → IsInvocationRead ls name n d i p → suc d ≤ 32 → p < length ls → lexeme_at ls p ≡ opening_brace
-      → ((stack : List Symbol) → Stands ls (p + 1) q (commands_spelled (suc d) cs) × (IsAt ls (p + 1) (body (suc d) ∷ stack) → IsAt ls q (body (suc d) ∷ stack)))
+      → ((stack : List Symbol) → Stands ls (p + 1) q (commands_spelled (suc d) cs) × ((b : Beginning) → IsAt b ls (p + 1) (body (suc d) ∷ stack) → IsAt b ls q (body (suc d) ∷ stack)))
       → q < length ls → lexeme_at ls q ≡ closing_brace → IsCommandRead name n d (block i cs) (q + 1)
   block_read name n d p q i cs read small lt e inner lt' e' = λ stack.
       let r = read (command_end d) stack in
@@ -61,19 +61,19 @@ module _ (ls : List Lexeme) where
         (
           ap (λ w. w ++ end) r.1.0,
           stands_both ls (n + 1) p (q + 1) r.0 end r.1.1 whole,
-          λ at. walk ls q (body (suc d)) stack (suc d) [] (list.1
-              (walk ls p (ending (command_end d)) stack (suc d) (body (suc d) ∷ []) (r.1.2 at) lt (ap (expand (ending (command_end d))) e) small)) lt' (ap (expand (body (suc d))) e') small,
+          λ b at. walk b ls q (body (suc d)) stack (suc d) [] (list.1 b
+              (walk b ls p (ending (command_end d)) stack (suc d) (body (suc d) ∷ []) (r.1.2 b at) lt (ap (expand (ending (command_end d))) e) small)) lt' (ap (expand (body (suc d))) e') small,
         ),
       )
 
   -- commands from a place up to another
   abbrev pub AreCommandsSoFar : ℕ → ℕ → ℕ → List Command → Type 0
-  AreCommandsSoFar at d p cs = (stack : List Symbol) → Stands ls at p (commands_spelled d (commands_tree cs)) × (IsAt ls at (body d ∷ stack) → IsAt ls p (body d ∷ stack))
+  AreCommandsSoFar at d p cs = (stack : List Symbol) → Stands ls at p (commands_spelled d (commands_tree cs)) × ((b : Beginning) → IsAt b ls at (body d ∷ stack) → IsAt b ls p (body d ∷ stack))
 
   pub command_begun : (at d p : ℕ) (cs : List Command) (name : List ℕ) → AreCommandsSoFar at d p cs → d ≤ 32 → p < length ls → lexeme_at ls p ≡ identifier p name
-      → (stack : List Symbol) → IsAt ls at (body d ∷ stack) → IsAt ls (p + 1) (arguments d (command_end d) ∷ body d ∷ stack)
-  command_begun at d p cs name so_far small lt e stack a =
-      walk ls p (body d) stack d (arguments d (command_end d) ∷ body d ∷ []) ((so_far stack).1 a) lt (ap (expand (body d)) e) small
+      → (stack : List Symbol) (b : Beginning) → IsAt b ls at (body d ∷ stack) → IsAt b ls (p + 1) (arguments d (command_end d) ∷ body d ∷ stack)
+  command_begun at d p cs name so_far small lt e stack b a =
+      walk b ls p (body d) stack d (arguments d (command_end d) ∷ body d ∷ []) ((so_far stack).1 b a) lt (ap (expand (body d)) e) small
 
   pub commands_more : (at d p q : ℕ) (cs : List Command) (name : List ℕ) (c : Command) → AreCommandsSoFar at d p cs → d ≤ 32 → p < length ls → lexeme_at ls p ≡ identifier p name
       → IsCommandRead name p d (command_tree c) q → AreCommandsSoFar at d q (cs ++ c ∷ [])
@@ -85,5 +85,5 @@ module _ (ls : List Lexeme) where
       let spelled : prefix ++ command_spelled d (command_tree c) ≡ commands_spelled d (commands_tree (cs ++ c ∷ [])) =
       sym (commands_push d (map command_tree cs) (command_tree c)) ∙ ap (λ w. commands_spelled d (commands_of w)) (sym (map_push command_tree cs c)) in (
         subst (λ w. Stands ls at q w) spelled (stands_both ls at p q prefix (command_spelled d (command_tree c)) (so_far stack).0 (subst (λ w. Stands ls p q w) (sym r.1.0) piece)),
-        λ a. r.1.2 (command_begun at d p cs name so_far small lt e stack a),
+        λ b a. r.1.2 b (command_begun at d p cs name so_far small lt e stack b a),
       )

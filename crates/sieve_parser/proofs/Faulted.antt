@@ -6,10 +6,11 @@ use Rattle.std.proofs.lemmas.List.{append_assoc, append-nil}
 use Rattle.sieve_parser.specs.Lexemes.{Lexeme, identifier, tag, number, string, semicolon, comma, opening_brace, closing_brace, opening_parenthesis, closing_parenthesis, opening_bracket, closing_bracket}
 use Rattle.sieve_parser.specs.Tree.{invocation, no_test, last, CommandsTree, no_command}
 use Rattle.sieve_parser.specs.Grammar.{Placed, at_depth, lexemes_placed, commands_spelled, IsViable, IsScript}
-use Rattle.sieve_parser.specs.Machine.{Follow, command_end, test_end, Symbol, body, arguments, ending, tests, strings, more_strings, ended_by, expand, goes, wrong, deep, judged, step, stack_then, advance, reading}
+use Rattle.sieve_parser.specs.Machine.{Follow, command_end, test_end, Symbol, body, arguments, ending, tests, strings, more_strings, ended_by, expand, goes, wrong, deep, judged, step, stack_then, advance, IsGrounded, reading_from, reading}
 use Rattle.sieve_parser.specs.Faults.{AreWithinDepth, IsViableWithinDepth}
-use Rattle.sieve_parser.proofs.Language.{InFollow, InSymbol, InStack, Adds, adds, Expands, takes, body_end, single, to_single}
-use Rattle.sieve_parser.specs.Reading.{IsDone}
+use Rattle.sieve_parser.specs.Language.{InFollow, InSymbol, InStack, body_end}
+use Rattle.sieve_parser.proofs.Language.{Adds, adds, Expands, takes, single, to_single}
+use Rattle.sieve_parser.specs.Reading.{IsDone, BeginsText, IsCompletable}
 
 split_stack : (xs ys : List Symbol) (zs : List Placed) → InStack (xs ++ ys) zs → (us : List Placed) × ((vs : List Placed) × ((zs ≡ us ++ vs) × InStack xs us × InStack ys vs))
 split_stack [] ys zs p = ([], (zs, (refl, refl, p)))
@@ -74,11 +75,6 @@ reads_back [] t s ys e p = let same : t ≡ s = cc in ([], (refl, tt, subst (λ 
 reads_back (l ∷ us) [] s ys e p = absurd (fold_none us s e)
 reads_back (l ∷ us) (x ∷ stack) s ys e p = back_step x stack l us s ys (expand x l) (adds x l) (λ t f. reads_back us t s ys f p) e
 
--- the end of the script stands at the bottom of a stack alone
-abbrev pub IsGrounded : List Symbol → Type 0
-IsGrounded [] = Unit {0}
-IsGrounded (x ∷ stack) = (x ≡ body 0 → stack ≡ []) × IsGrounded stack
-
 grounded_follow : (f : Follow) (l : Lexeme) (stack : List Symbol) → IsGrounded stack → MatchOption (ended_by f l) (Unit {0}) (λ p. IsGrounded (p.1 ++ stack))
 grounded_follow (command_end d) semicolon stack g = g
 grounded_follow (command_end d) opening_brace stack g = (λ e. cc, g)
@@ -87,7 +83,7 @@ grounded_follow (test_end d) closing_parenthesis stack g = g
 grounded_follow (command_end d) _ stack g = tt
 grounded_follow (test_end d) _ stack g = tt
 
-grounded : (x : Symbol) (l : Lexeme) (stack : List Symbol) → IsGrounded (x ∷ stack) → MatchOption (expand x l) (Unit {0}) (λ p. IsGrounded (p.1 ++ stack))
+pub grounded : (x : Symbol) (l : Lexeme) (stack : List Symbol) → IsGrounded (x ∷ stack) → MatchOption (expand x l) (Unit {0}) (λ p. IsGrounded (p.1 ++ stack))
 grounded (body d) (identifier n name) stack g = (λ e. cc, g)
 grounded (body (suc d)) closing_brace stack g = g.1
 grounded (body zero) _ stack g = tt
@@ -159,13 +155,13 @@ reads_on (p ∷ xs) (x ∷ stack) s ys g word e =
 abbrev pub root : List Symbol
 root = body 0 ∷ []
 
-root_grounded : IsGrounded root
+pub root_grounded : IsGrounded root
 root_grounded = (λ e. refl, tt)
 
 pub script_of_word : (zs : List Placed) → InStack root zs → (cs : CommandsTree) × (commands_spelled 0 cs ≡ zs)
 script_of_word zs p = let q = single (body 0) zs p in (q.0, sym (append-nil (commands_spelled 0 q.0)) ∙ sym q.1)
 
-word_of_script : (cs : CommandsTree) (zs : List Placed) → commands_spelled 0 cs ≡ zs → InStack root zs
+pub word_of_script : (cs : CommandsTree) (zs : List Placed) → commands_spelled 0 cs ≡ zs → InStack root zs
 word_of_script cs zs e = to_single (body 0) zs (cs, sym e ∙ sym (append-nil (commands_spelled 0 cs)))
 
 -- where nothing more has to be read, nothing is a word
@@ -177,6 +173,13 @@ done_from_word (x ∷ s) (us, (vs, (e, word, rest))) = elim (takes x us word) [
       subst (λ w. IsDone (w ∷ s)) (sym none.1) (done_from_word s (subst (λ w. InStack s w) empty rest))
   | inr t ↦ let some : [] ≡ t.0 ∷ (t.1.0 ++ vs) = e ∙ ap (λ u. u ++ vs) t.1.1.0 in absurd (cc)
 ]
+
+-- what the machine has read can be completed, within the depth
+pub read_is_completable : (symbols : List Symbol) (us : List Lexeme) (s : List Symbol) → reading_from symbols us ≡ Some s → IsCompletable symbols us
+read_is_completable symbols us s e =
+    let word = complete_stack s in
+    let r = reads_back us symbols s word.0 e word.1 in
+    (r.0, (r.1.0, (word.0, r.1.2), r.1.1))
 
 -- what the machine has read begins a script within the depth
 pub read_is_viable : (us : List Lexeme) (s : List Symbol) → reading us ≡ Some s → IsViableWithinDepth us
@@ -208,6 +211,24 @@ takes_not_wrong stack (Some (d, symbols)) Q h e = elim (cases_Bool (nat_le d 32)
 stack_not_wrong : (s : List Symbol) (p : Placed) (rest : List Placed) → IsGrounded s → InStack s (p ∷ rest) → step s p.lexeme ≡ wrong → ⊥
 stack_not_wrong [] p rest g word bad = absurd (cc)
 stack_not_wrong (x ∷ stack) p rest g word bad = takes_not_wrong stack (expand x p.lexeme) _ (stack_takes x stack p rest g word) bad
+
+-- after what the machine has read, a lexeme that is wrong there begins no text
+pub wrong_begins_no_text : (symbols : List Symbol) (us : List Lexeme) (l : Lexeme) (s : List Symbol) → IsGrounded symbols → reading_from symbols us ≡ Some s → step s l ≡ wrong
+    → (xs : List Placed) → us ++ l ∷ [] ≡ lexemes_placed xs → BeginsText symbols xs → ⊥
+wrong_begins_no_text symbols us l s g e bad xs same (rest, text) =
+    let parts = split_placed xs us l same in
+    let p = parts.1.0 in
+    let word : InStack symbols (parts.0 ++ (p ∷ rest)) = subst (InStack symbols) (ap (λ w. w ++ rest) parts.1.1.0 ∙ append_assoc parts.0 (p ∷ []) rest) text in
+    let read : reading_from symbols (lexemes_placed parts.0) ≡ Some s = ap (reading_from symbols) (sym parts.1.1.1) ∙ e in
+    let r = reads_on parts.0 symbols s (p ∷ rest) g word read in
+    stack_not_wrong s p rest r.0 r.1 (subst (λ w. step s w ≡ wrong) parts.1.1.2 bad)
+
+-- after what the machine has read, where something has to be read, the text isn't ended
+pub open_is_no_text : (symbols : List Symbol) (us : List Lexeme) (s : List Symbol) → IsGrounded symbols → reading_from symbols us ≡ Some s → (IsDone s → ⊥)
+    → (xs : List Placed) → us ≡ lexemes_placed xs → InStack symbols xs → ⊥
+open_is_no_text symbols us s g e open_stack xs same text =
+    let r = reads_on xs symbols s [] g (subst (InStack symbols) (sym (append-nil xs)) text) (ap (reading_from symbols) (sym same) ∙ e) in
+    open_stack (done_from_word s r.1)
 
 -- after what the machine has read, a lexeme that is wrong there begins no script
 pub wrong_is_not_viable : (us : List Lexeme) (l : Lexeme) (s : List Symbol) → reading us ≡ Some s → step s l ≡ wrong → IsViable (us ++ l ∷ []) → ⊥

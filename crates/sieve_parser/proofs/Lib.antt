@@ -10,3 +10,5 @@ pub mod TestSteps
 pub mod CommandSteps
 pub mod Parsed
 pub mod Extent
+pub mod OneAnswer
+pub mod OneRefusal

@@ -7,7 +7,7 @@ use Rattle.sieve_parser.specs.Lexemes.{Lexeme, identifier, tag, number, string, 
 use Rattle.sieve_parser.specs.Tree.{ArgumentTree, InvocationTree, invocation, no_test, one_test, test_list, MoreTests}
 use Rattle.sieve_parser.specs.Grammar.{Placed, at_depth, arguments_spelled, invocation_spelled, more_tests_spelled}
 use Rattle.sieve_parser.specs.Machine.{Follow, test_end, Symbol, arguments, ending, tests, expand, ended_by, judged}
-use Rattle.sieve_parser.specs.Reading.{IsAt, Stands, lexeme_at, IsNoArgument, NoArgumentAt, IsInvocationAt, IsTestAt}
+use Rattle.sieve_parser.specs.Reading.{Beginning, IsAt, Stands, lexeme_at, IsNoArgument, NoArgumentAt, IsInvocationAt, IsTestAt}
 use Rattle.sieve_parser.specs.View.{head_tree, invocation_tree, invocation_step, more_tests_of}
 use Rattle.sieve_parser.specs.declared.tree.Head.{Head}
 use Rattle.sieve_parser.specs.declared.tree.Invocation.{Invocation}
@@ -36,9 +36,10 @@ more_tests_push d (u ∷ ts) t = ap (λ w. at_depth d comma ∷ (invocation_spel
 
 module _ (ls : List Lexeme) where
   -- arguments that have come to their end are their end
-  at_end : (p d : ℕ) (f : Follow) (stack : List Symbol) → IsAt ls p (arguments d f ∷ stack) → (p < length ls → expand (arguments d f) (lexeme_at ls p) ≡ ended_by f (lexeme_at ls p))
-      → IsAt ls p (ending f ∷ stack)
-  at_end p d f stack at same = record {
+  at_end : (p d : ℕ) (f : Follow) (stack : List Symbol) (b : Beginning) → IsAt b ls p (arguments d f ∷ stack) → (p < length ls → expand (arguments d f) (lexeme_at ls p) ≡ ended_by f (lexeme_at ls p))
+      → IsAt b ls p (ending f ∷ stack)
+  at_end p d f stack b at same = record {
+    from = at.from;
     read = at.read;
     reached = at.reached;
     goes_on = λ lt. at.goes_on lt ∙ ap (λ o. judged o stack) (same lt);
@@ -48,12 +49,12 @@ module _ (ls : List Lexeme) where
   -- the arguments after an identifier up to a place
   abbrev pub AreArgumentsRead : ℕ → ℕ → List ArgumentTree → ℕ → Type 0
   AreArgumentsRead n d args p = (f : Follow) (stack : List Symbol) → Stands ls (n + 1) p (arguments_spelled d args) × NoArgumentAt ls p
-      × (IsAt ls (n + 1) (arguments d f ∷ stack) → IsAt ls p (arguments d f ∷ stack))
+      × ((b : Beginning) → IsAt b ls (n + 1) (arguments d f ∷ stack) → IsAt b ls p (arguments d f ∷ stack))
 
   -- an invocation after its identifier up to a place
   abbrev pub IsInvocationRead : List ℕ → ℕ → ℕ → InvocationTree → ℕ → Type 0
   IsInvocationRead name n d t p = (f : Follow) (stack : List Symbol) → (b : List Placed) × ((invocation_spelled d t ≡ at_depth d (identifier n name) ∷ b) × Stands ls (n + 1) p b
-      × (IsAt ls (n + 1) (arguments d f ∷ stack) → IsAt ls p (ending f ∷ stack)))
+      × ((b : Beginning) → IsAt b ls (n + 1) (arguments d f ∷ stack) → IsAt b ls p (ending f ∷ stack)))
 
   no_first : (d : ℕ) (f : Follow) (l : Lexeme) → IsNoArgument l → ((m : ℕ) (name : List ℕ) → l ≡ identifier m name → ⊥) → l ≢ opening_parenthesis → expand (arguments d f) l ≡ ended_by f l
   no_first d f (identifier m name) a i p = absurd (i m name refl)
@@ -73,7 +74,7 @@ module _ (ls : List Lexeme) where
         (
           refl,
           subst (λ w. Stands ls (n + 1) p w) (sym (append-nil (arguments_spelled d args))) r.0,
-          λ at. at_end p d f stack (r.2 at) (λ lt. no_first d f (lexeme_at ls p) (r.1 lt) (λ m other e. no_name m other lt e) (no_list lt)),
+          λ b at. at_end p d f stack b (r.2 b at) (λ lt. no_first d f (lexeme_at ls p) (r.1 lt) (λ m other e. no_name m other lt e) (no_list lt)),
         ),
       )
 
@@ -88,14 +89,14 @@ module _ (ls : List Lexeme) where
         (
           refl,
           stands_both ls (n + 1) p q (arguments_spelled d args) (invocation_spelled (suc d) t) r.0 (subst (λ w. Stands ls p q w) (sym test.1.0) whole),
-          λ at. test.1.2 (walk ls p (arguments d f) stack (suc d) (arguments (suc d) f ∷ []) (r.2 at) lt (ap (expand (arguments d f)) e) small),
+          λ b at. test.1.2 b (walk b ls p (arguments d f) stack (suc d) (arguments (suc d) f ∷ []) (r.2 b at) lt (ap (expand (arguments d f)) e) small),
         ),
       )
 
   pub tests_read : (name : List ℕ) (n d p q : ℕ) (args : List ArgumentTree) (t : InvocationTree) (ts : MoreTests) → AreArgumentsRead n d args p → d ≤ 32
       → p < length ls → lexeme_at ls p ≡ opening_parenthesis
       → ((stack : List Symbol) → Stands ls (p + 1) q (invocation_spelled (suc d) t ++ (more_tests_spelled d ts ++ at_depth d closing_parenthesis ∷ []))
-      × (IsAt ls (p + 1) (tests d ∷ stack) → IsAt ls q stack))
+      × ((b : Beginning) → IsAt b ls (p + 1) (tests d ∷ stack) → IsAt b ls q stack))
       → IsInvocationRead name n d (invocation n name args (test_list t ts)) q
   tests_read name n d p q args t ts read small lt e inner = λ f stack.
       let r = read f stack in
@@ -106,21 +107,21 @@ module _ (ls : List Lexeme) where
         (
           refl,
           stands_both ls (n + 1) p q (arguments_spelled d args) (at_depth d opening_parenthesis ∷ word) r.0 whole,
-          λ at. list.1 (walk ls p (arguments d f) stack d (tests d ∷ ending f ∷ []) (r.2 at) lt (ap (expand (arguments d f)) e) small),
+          λ b at. list.1 b (walk b ls p (arguments d f) stack d (tests d ∷ ending f ∷ []) (r.2 b at) lt (ap (expand (arguments d f)) e) small),
         ),
       )
 
   -- the tests of a list from its first up to a place
   abbrev pub AreTestsSoFar : ℕ → ℕ → InvocationTree → ℕ → List Invocation → Type 0
   AreTestsSoFar at d first p rest = (stack : List Symbol) → Stands ls at p (invocation_spelled (suc d) first ++ more_tests_spelled d (more_tests_of (map invocation_tree rest)))
-      × (IsAt ls at (tests d ∷ stack) → IsAt ls p (ending (test_end d) ∷ stack))
+      × ((b : Beginning) → IsAt b ls at (tests d ∷ stack) → IsAt b ls p (ending (test_end d) ∷ stack))
 
   pub tests_comma : (at d : ℕ) (first : InvocationTree) (p : ℕ) (rest : List Invocation) → AreTestsSoFar at d first p rest → d ≤ 32 → p < length ls → lexeme_at ls p ≡ comma
-      → (stack : List Symbol) → IsAt ls at (tests d ∷ stack) → IsAt ls (p + 1) (tests d ∷ stack)
-  tests_comma at d first p rest so_far small lt e stack a = walk ls p (ending (test_end d)) stack d (tests d ∷ []) ((so_far stack).1 a) lt (ap (expand (ending (test_end d))) e) small
+      → (stack : List Symbol) (b : Beginning) → IsAt b ls at (tests d ∷ stack) → IsAt b ls (p + 1) (tests d ∷ stack)
+  tests_comma at d first p rest so_far small lt e stack b a = walk b ls p (ending (test_end d)) stack d (tests d ∷ []) ((so_far stack).1 b a) lt (ap (expand (ending (test_end d))) e) small
 
   pub tests_more : (at d : ℕ) (first : InvocationTree) (p q : ℕ) (rest : List Invocation) (t : Invocation) → AreTestsSoFar at d first p rest → d ≤ 32 → p < length ls → lexeme_at ls p ≡ comma
-      → ((stack : List Symbol) → Stands ls (p + 1) q (invocation_spelled (suc d) (invocation_tree t)) × (IsAt ls (p + 1) (tests d ∷ stack) → IsAt ls q (ending (test_end d) ∷ stack)))
+      → ((stack : List Symbol) → Stands ls (p + 1) q (invocation_spelled (suc d) (invocation_tree t)) × ((b : Beginning) → IsAt b ls (p + 1) (tests d ∷ stack) → IsAt b ls q (ending (test_end d) ∷ stack)))
       → AreTestsSoFar at d first q (rest ++ t ∷ [])
   tests_more at d first p q rest t so_far small lt e inner = λ stack.
       let prefix = invocation_spelled (suc d) first ++ more_tests_spelled d (more_tests_of (map invocation_tree rest)) in
@@ -131,7 +132,7 @@ module _ (ls : List Lexeme) where
       append_assoc (invocation_spelled (suc d) first) (more_tests_spelled d (more_tests_of (map invocation_tree rest))) (at_depth d comma ∷ word)
       ∙ ap (λ w. invocation_spelled (suc d) first ++ w) (sym (more_tests_push d (map invocation_tree rest) (invocation_tree t)) ∙ ap (λ w. more_tests_spelled d (more_tests_of w)) (sym (map_push invocation_tree rest t))) in (
         subst (λ w. Stands ls at q w) spelled (stands_both ls at p q prefix (at_depth d comma ∷ word) (so_far stack).0 piece),
-        λ a. test.1 (tests_comma at d first p rest so_far small lt e stack a),
+        λ b a. test.1 b (tests_comma at d first p rest so_far small lt e stack b a),
       )
 
 pub from_suc : (d : ℕ) → suc d ≡ d + 1
@@ -144,7 +145,7 @@ test_answer ls at d name (Ok r) lt e small h = λ stack.
     let inner = h (test_end d) stack in
     let here = stands_one ls at (at_depth (suc d) (identifier at name)) lt e in (
       subst (λ w. Stands ls at r.1 w) (sym inner.1.0) (stands_both ls at (at + 1) r.1 (at_depth (suc d) (identifier at name) ∷ []) inner.0 here inner.1.1),
-      λ a. inner.1.2 (walk ls at (tests d) stack (suc d) (arguments (suc d) (test_end d) ∷ []) a lt (ap (expand (tests d)) e) small),
+      λ b a. inner.1.2 b (walk b ls at (tests d) stack (suc d) (arguments (suc d) (test_end d) ∷ []) a lt (ap (expand (tests d)) e) small),
     )
-test_answer ls at d name (Err x) lt e small h = λ stack a.
-    h (test_end d) stack (walk ls at (tests d) stack (suc d) (arguments (suc d) (test_end d) ∷ []) a lt (ap (expand (tests d)) e) small)
+test_answer ls at d name (Err x) lt e small h = λ stack b a.
+    h (test_end d) stack b (walk b ls at (tests d) stack (suc d) (arguments (suc d) (test_end d) ∷ []) a lt (ap (expand (tests d)) e) small)

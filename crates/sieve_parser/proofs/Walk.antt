@@ -3,16 +3,16 @@ use Rattle.std.proofs.Common.{◌≡◌, ℕ, zero, suc, ◌+◌, ◌<◌, ◌�
 use Rattle.std.specs.Prelude.{Option, Some, None, nat_le}
 use Rattle.std.specs.List.{slice_get}
 use Rattle.std.proofs.lemmas.Bool.{cases_Bool, leb-false, le-leb, lt-leb, cases_lt}
-use Rattle.std.proofs.lemmas.List.{append_assoc, take_more, take_all, drop_more, map-append}
-use Rattle.std.proofs.lemmas.List.Sums.{fold_more}
+use Rattle.std.proofs.lemmas.List.{append_assoc, take_more, drop_more, drop-append-le, length-take-le, map-append}
+use Rattle.std.proofs.lemmas.List.Sums.{fold-append}
 use Rattle.sieve_lexer.specs.declared.token.Token.{Token}
 use Rattle.sieve_parser.specs.Lexemes.{Lexeme, semicolon, lexeme, lexemes_from}
-use Rattle.sieve_parser.specs.Grammar.{Placed, at_depth, lexemes_placed, IsViable}
-use Rattle.sieve_parser.specs.Machine.{Symbol, expand, goes, deep, judged, step, stack_then, advance, reading}
-use Rattle.sieve_parser.specs.Faults.{IsSyntaxFault, IsTooDeep}
-use Rattle.sieve_parser.specs.Reading.{IsAt, IsDone, lexeme_at, Stands}
-use Rattle.sieve_parser.proofs.Language.{InSymbol, InStack, Adds, adds}
-use Rattle.sieve_parser.proofs.Faulted.{root, complete_stack, reads_back, read_is_viable, wrong_is_not_viable, open_is_no_script, script_of_word}
+use Rattle.sieve_parser.specs.Grammar.{Placed, at_depth, lexemes_placed}
+use Rattle.sieve_parser.specs.Machine.{Symbol, expand, goes, deep, judged, step, stack_then, advance, IsGrounded, reading_from}
+use Rattle.sieve_parser.specs.Reading.{Beginning, IsAt, IsDone, IsSyntaxFaultIn, IsTooDeepIn, lexeme_at, read_by, Stands}
+use Rattle.sieve_parser.specs.Language.{InSymbol, InStack}
+use Rattle.sieve_parser.proofs.Language.{Adds, adds}
+use Rattle.sieve_parser.proofs.Faulted.{complete_stack, reads_back, read_is_completable, wrong_begins_no_text, open_is_no_text}
 
 -- the lexemes of tokens, one by one
 pub length-lexemes : (s : List ℕ) (n : ℕ) (ts : List Token) → length (lexemes_from s n ts) ≡ length ts
@@ -24,8 +24,13 @@ lexeme_get s [] n i t e = absurd (cc)
 lexeme_get s (u ∷ ts) n zero t e = let same : u ≡ t = cc in let z : n + 0 ≡ n = omega arith in rw (z, same) refl
 lexeme_get s (u ∷ ts) n (suc i) t e = let z : n + 1 + i ≡ n + suc i = omega arith in lexeme_get s ts (n + 1) i t e ∙ ap (λ m. lexeme s m t) z
 
-reading_more : (ls : List Lexeme) (p : ℕ) → p < length ls → reading (take (p + 1) ls) ≡ advance (reading (take p ls)) (lexeme_at ls p)
-reading_more ls p lt = fold_more advance (Some root) ls p semicolon lt
+-- what is read up to the next place
+pub read_more : (b : Beginning) (ls : List Lexeme) (p : ℕ) → b.place ≤ p → p < length ls → read_by b ls (p + 1) ≡ read_by b ls p ++ lexeme_at ls p ∷ []
+read_more b ls p from lt =
+    ap (drop b.place) (take_more ls p semicolon lt) ∙ drop-append-le b.place (take p ls) (lexeme_at ls p ∷ []) (omega (arith, length-take-le p ls (omega arith)))
+
+reading_more : (b : Beginning) (ls : List Lexeme) (p : ℕ) → b.place ≤ p → p < length ls → reading_from b.symbols (read_by b ls (p + 1)) ≡ advance (reading_from b.symbols (read_by b ls p)) (lexeme_at ls p)
+reading_more b ls p from lt = ap (reading_from b.symbols) (read_more b ls p from lt) ∙ fold-append advance (Some b.symbols) (read_by b ls p) (lexeme_at ls p ∷ [])
 
 judged_goes : (o : Option (ℕ × List Symbol)) (stack : List Symbol) (d : ℕ) (symbols : List Symbol) → o ≡ Some (d, symbols) → d ≤ 32 → judged o stack ≡ goes (symbols ++ stack)
 judged_goes o stack d symbols e small = rw (e, le-leb d 32 small) refl
@@ -33,36 +38,40 @@ judged_goes o stack d symbols e small = rw (e, le-leb d 32 small) refl
 judged_deep : (o : Option (ℕ × List Symbol)) (stack : List Symbol) (d : ℕ) (symbols : List Symbol) → o ≡ Some (d, symbols) → 32 < d → judged o stack ≡ deep
 judged_deep o stack d symbols e large = rw (e, lt-leb d 32 large) refl
 
+-- where a reading begins
+pub beginning : (p : ℕ) (symbols : List Symbol) → IsGrounded symbols → Beginning
+beginning p symbols g = record { place = p; symbols = symbols; grounded = g }
+
 -- a token that the symbol expands to is read
-pub walk : (ls : List Lexeme) (p : ℕ) (x : Symbol) (stack : List Symbol) (d : ℕ) (symbols : List Symbol) → IsAt ls p (x ∷ stack) → p < length ls
-    → expand x (lexeme_at ls p) ≡ Some (d, symbols) → d ≤ 32 → IsAt ls (p + 1) (symbols ++ stack)
-walk ls p x stack d symbols at lt e small = record {
+pub walk : (b : Beginning) (ls : List Lexeme) (p : ℕ) (x : Symbol) (stack : List Symbol) (d : ℕ) (symbols : List Symbol) → IsAt b ls p (x ∷ stack) → p < length ls
+    → expand x (lexeme_at ls p) ≡ Some (d, symbols) → d ≤ 32 → IsAt b ls (p + 1) (symbols ++ stack)
+walk b ls p x stack d symbols at lt e small = record {
+  from = omega (arith, at.from);
   read = symbols ++ stack;
-  reached = reading_more ls p lt ∙ ap (λ o. advance o (lexeme_at ls p)) at.reached
+  reached = reading_more b ls p at.from lt ∙ ap (λ o. advance o (lexeme_at ls p)) at.reached
       ∙ ap stack_then (at.goes_on lt ∙ judged_goes (expand x (lexeme_at ls p)) stack d symbols e small);
   goes_on = λ _. refl;
   ends = λ _ h. h;
 }
 
-take_next : (ls : List Lexeme) (p : ℕ) → p < length ls → take (p + 1) ls ≡ take p ls ++ lexeme_at ls p ∷ []
-take_next ls p lt = take_more ls p semicolon lt
-
 -- a token that the symbol doesn't expand to is the fault
-pub stuck : (ls : List Lexeme) (p : ℕ) (x : Symbol) (stack : List Symbol) → IsAt ls p (x ∷ stack) → p < length ls → expand x (lexeme_at ls p) ≡ None → IsSyntaxFault ls p
-stuck ls p x stack at lt e = record {
+pub stuck : (b : Beginning) (ls : List Lexeme) (p : ℕ) (x : Symbol) (stack : List Symbol) → IsAt b ls p (x ∷ stack) → p < length ls → expand x (lexeme_at ls p) ≡ None → IsSyntaxFaultIn b ls p
+stuck b ls p x stack at lt e = record {
+  from = at.from;
   within = omega arith;
-  before = read_is_viable (take p ls) at.read at.reached;
-  here = λ _ viable. wrong_is_not_viable (take p ls) (lexeme_at ls p) at.read at.reached (at.goes_on lt ∙ ap (λ o. judged o stack) e) (subst IsViable (take_next ls p lt) viable);
+  before = read_is_completable b.symbols (read_by b ls p) at.read at.reached;
+  here = λ _ xs same. wrong_begins_no_text b.symbols (read_by b ls p) (lexeme_at ls p) at.read b.grounded at.reached (at.goes_on lt ∙ ap (λ o. judged o stack) e) xs (sym (read_more b ls p at.from lt) ∙ same);
   ended = λ same. absurd (omega arith);
 }
 
 -- the end, where something has to be read, is the fault
-pub stuck_at_end : (ls : List Lexeme) (p : ℕ) (stack : List Symbol) → IsAt ls p stack → p ≡ length ls → (IsDone stack → ⊥) → IsSyntaxFault ls p
-stuck_at_end ls p stack at e open_stack = record {
+pub stuck_at_end : (b : Beginning) (ls : List Lexeme) (p : ℕ) (stack : List Symbol) → IsAt b ls p stack → p ≡ length ls → (IsDone stack → ⊥) → IsSyntaxFaultIn b ls p
+stuck_at_end b ls p stack at e open_stack = record {
+  from = at.from;
   within = omega arith;
-  before = read_is_viable (take p ls) at.read at.reached;
-  here = λ lt viable. omega arith;
-  ended = λ _. open_is_no_script ls at.read (ap reading (sym (take_all p ls (omega arith))) ∙ at.reached) (λ done. open_stack (at.ends e done));
+  before = read_is_completable b.symbols (read_by b ls p) at.read at.reached;
+  here = λ lt xs same. absurd (omega arith);
+  ended = λ _ xs same. open_is_no_text b.symbols (read_by b ls p) at.read b.grounded at.reached (λ done. open_stack (at.ends e done)) xs same;
 }
 
 deep_symbol : (x : Symbol) (stack : List Symbol) (l : Lexeme) (o : Option (ℕ × List Symbol)) → Adds (InSymbol x) l o → judged o stack ≡ deep
@@ -81,19 +90,19 @@ deep_word [] l e = absurd (cc)
 deep_word (x ∷ stack) l e = deep_symbol x stack l (expand x l) (adds x l) e
 
 -- a token that the symbol expands to below the limit is too deep
-pub sunk : (ls : List Lexeme) (p : ℕ) (x : Symbol) (stack : List Symbol) (d : ℕ) (symbols : List Symbol) → IsAt ls p (x ∷ stack) → p < length ls
-    → expand x (lexeme_at ls p) ≡ Some (d, symbols) → 32 < d → IsTooDeep ls p
-sunk ls p x stack d symbols at lt e large =
+pub sunk : (b : Beginning) (ls : List Lexeme) (p : ℕ) (x : Symbol) (stack : List Symbol) (d : ℕ) (symbols : List Symbol) → IsAt b ls p (x ∷ stack) → p < length ls
+    → expand x (lexeme_at ls p) ≡ Some (d, symbols) → 32 < d → IsTooDeepIn b ls p
+sunk b ls p x stack d symbols at lt e large =
     let word = deep_word at.read (lexeme_at ls p) (at.goes_on lt ∙ judged_deep (expand x (lexeme_at ls p)) stack d symbols e large) in
     let here = at_depth word.0 (lexeme_at ls p) in
-    let r = reads_back (take p ls) root at.read (here ∷ word.1.1.0) at.reached word.1.1.1 in
-    let script = script_of_word (r.0 ++ (here ∷ word.1.1.0)) r.1.2 in
+    let r = reads_back (read_by b ls p) b.symbols at.read (here ∷ word.1.1.0) at.reached word.1.1.1 in
     record {
+      from = at.from;
       within = lt;
       before = r.0;
       deepest = here;
-      same = take_next ls p lt ∙ ap (λ w. w ++ lexeme_at ls p ∷ []) r.1.0 ∙ sym (map-append (λ (w : Placed). w.lexeme) r.0 (here ∷ []));
-      begins = (script.0, (word.1.1.0, script.1 ∙ sym (append_assoc r.0 (here ∷ []) word.1.1.0)));
+      same = read_more b ls p at.from lt ∙ ap (λ w. w ++ lexeme_at ls p ∷ []) r.1.0 ∙ sym (map-append (λ (w : Placed). w.lexeme) r.0 (here ∷ []));
+      begins = (word.1.1.0, subst (InStack b.symbols) (sym (append_assoc r.0 (here ∷ []) word.1.1.0)) r.1.2);
       shallow = r.1.1;
       too_deep = word.1.0;
     }
@@ -119,10 +128,10 @@ stands_both ls a b c xs ys p q = record {
 }
 
 -- Either the place is the end, or what a symbol doesn't expand to stands there: then the place is the fault.
-pub stuck_here : (ls : List Lexeme) (p : ℕ) (x : Symbol) (stack : List Symbol) → IsAt ls p (x ∷ stack) → p ≤ length ls
-    → (p < length ls → expand x (lexeme_at ls p) ≡ None) → (IsDone (x ∷ stack) → ⊥) → IsSyntaxFault ls p
-stuck_here ls p x stack at within none open_stack =
+pub stuck_here : (b : Beginning) (ls : List Lexeme) (p : ℕ) (x : Symbol) (stack : List Symbol) → IsAt b ls p (x ∷ stack) → p ≤ length ls
+    → (p < length ls → expand x (lexeme_at ls p) ≡ None) → (IsDone (x ∷ stack) → ⊥) → IsSyntaxFaultIn b ls p
+stuck_here b ls p x stack at within none open_stack =
     elim (cases_lt p (length ls)) [
-      | inl lt ↦ stuck ls p x stack at lt (none lt)
-      | inr ge ↦ stuck_at_end ls p (x ∷ stack) at (omega arith) open_stack
+      | inl lt ↦ stuck b ls p x stack at lt (none lt)
+      | inr ge ↦ stuck_at_end b ls p (x ∷ stack) at (omega arith) open_stack
     ]

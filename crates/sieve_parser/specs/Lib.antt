@@ -2,6 +2,7 @@ pub mod Lexemes
 pub mod Tree
 pub mod Grammar
 pub mod Machine
+pub mod Language
 pub mod Faults
 pub mod View
 pub mod Reading

@@ -1,4 +1,4 @@
-use Rattle.std.specs.Prelude.{ℕ, suc, nat_le, List, [], ◌∷◌, ◌++◌, Option, Some, None, fold, if◌then◌else◌}
+use Rattle.std.specs.Prelude.{◌≡◌, ℕ, suc, nat_le, List, [], ◌∷◌, ◌++◌, Option, Some, None, fold, if◌then◌else◌}
 use Rattle.octets.specs.Limits.{max_nesting}
 use Rattle.sieve_parser.specs.Lexemes.{Lexeme, identifier, tag, number, string, semicolon, comma, opening_brace, closing_brace, opening_parenthesis, closing_parenthesis, opening_bracket, closing_bracket}
 
@@ -67,6 +67,15 @@ abbrev pub advance : Option (List Symbol) → Lexeme → Option (List Symbol)
 advance None l = None
 advance (Some stack) l = stack_then (step stack l)
 
--- what is to be read after the lexemes, if they are read
+-- what is to be read after the lexemes where these symbols were to be read, if they are read
+abbrev pub reading_from : List Symbol → List Lexeme → Option (List Symbol)
+reading_from symbols ls = fold advance (Some symbols) ls
+
+-- what is to be read after the lexemes of a script, if they are read
 abbrev pub reading : List Lexeme → Option (List Symbol)
-reading ls = fold advance (Some (body 0 ∷ [])) ls
+reading ls = reading_from (body 0 ∷ []) ls
+
+-- the end of a script stands last, if at all
+abbrev pub IsGrounded : List Symbol → Type 0
+IsGrounded [] = Unit {0}
+IsGrounded (x ∷ stack) = (x ≡ body 0 → stack ≡ []) × IsGrounded stack

@@ -1,13 +1,15 @@
-// The laws of the grammar: what the reading machine reads, and where it stops; that a script has one tree, and no
-// more lexemes than octets.
-ghost use Rattle.std.specs.Prelude.{◌≡◌, ◌≤◌, ◌++◌, ◌∷◌, [], ℕ, List, length};
+// The laws of the grammar: what the reading machine reads, and where it stops; that a script has one tree or one
+// refusal, and no more lexemes than octets.
+ghost use Rattle.std.specs.Prelude.{◌≡◌, ◌≢◌, ◌≤◌, ◌++◌, ◌∷◌, [], ℕ, List, length};
 ghost use Rattle.sieve_parser.specs.Faults.{IsViableWithinDepth};
 ghost use Rattle.sieve_parser.specs.Grammar.{IsViable, IsScript, commands_spelled};
 ghost use Rattle.sieve_parser.specs.Lexemes.{Lexeme};
 ghost use Rattle.sieve_parser.specs.Machine.{Symbol, wrong, reading, step};
 ghost use Rattle.sieve_parser.specs.Reading.{IsDone};
-ghost use Rattle.sieve_parser.specs.Scripts.{IsParsed};
+ghost use Rattle.sieve_parser.specs.Scripts.{IsParsed, IsRefused};
 ghost use Rattle.sieve_parser.specs.Tree.{CommandsTree};
+ghost use Rattle.sieve_parser.specs.declared.error.ParseError.{ParseError};
+ghost use Rattle.sieve_parser.specs.declared.error.ParseError.TheVariants.{Memory};
 
 /// What the machine has read can be completed to a script.
 pub fn what_is_read_begins_a_script()
@@ -40,3 +42,20 @@ pub fn parsed_trees_are_unique()
 pub fn scripts_are_as_long_as_their_trees()
     ensures { (script : List ℕ) (cs : CommandsTree) → IsParsed script cs → length (commands_spelled 0 cs) ≤ length script }
 {}
+
+/// A script has one refusal at most, but for want of memory: one kind of fault, at one place.
+pub fn refusals_are_unique()
+    ensures { (script : List ℕ) (e f : ParseError) → IsRefused script e → IsRefused script f → e ≢ Memory → f ≢ Memory → e ≡ f }
+{
+    sieve_lexer::laws::tokens_are_unique();
+    sieve_lexer::laws::fault_is_unique();
+    sieve_lexer::laws::tokens_have_no_fault();
+}
+
+/// A script that has a tree is refused for want of memory alone.
+pub fn parsed_scripts_have_no_fault()
+    ensures { (script : List ℕ) (cs : CommandsTree) (e : ParseError) → IsParsed script cs → IsRefused script e → e ≡ Memory }
+{
+    sieve_lexer::laws::tokens_are_unique();
+    sieve_lexer::laws::tokens_have_no_fault();
+}

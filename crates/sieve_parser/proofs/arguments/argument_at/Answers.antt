@@ -43,8 +43,8 @@ returns-in_err-list-in-OpeningBracket c = λ d f stack small.
     let ls = lexemes c.args.script.now c.args.tokens.now in
     let h = here c.args.script.now c.args.tokens.now c.args.at c.in-Some.token (sym c.in-Some.ensures) in
     let p = err_from_is_err_and c.from_residual-in_err-list-in-OpeningBracket.result c.from_residual-in_err-list-in-OpeningBracket.ensures.1 in
-    rw (p.1, p.2) (λ a. c.in_err-list-in-OpeningBracket.ensures d (arguments d f ∷ stack) small
-    (walk ls c.args.at (arguments d f) stack d (strings d ∷ arguments d f ∷ []) a h.0
+    rw (p.1, p.2) (λ b a. c.in_err-list-in-OpeningBracket.ensures d (arguments d f ∷ stack) small b
+    (walk b ls c.args.at (arguments d f) stack d (strings d ∷ arguments d f ∷ []) a h.0
     (ap (expand (arguments d f)) (h.1 ∙ ap (λ m. lexeme_of m c.args.at (slice_range c.args.script.now c.in-Some.token.start c.in-Some.token.end)) c.in-OpeningBracket.is)) small))
 
 pub returns-in_ok-name-in-Tag : goal.returns-in_ok-name-in-Tag

@@ -6,7 +6,7 @@ use Rattle.sieve_lexer.specs.declared.token.TokenKind.TheVariants.{Comma, Openin
 use Rattle.sieve_parser.specs.Grammar.{at_depth, invocation_spelled, more_tests_spelled}
 use Rattle.sieve_parser.specs.Lexemes.{comma, opening_parenthesis, closing_parenthesis}
 use Rattle.sieve_parser.specs.Machine.{arguments, ending, test_end, tests, expand}
-use Rattle.sieve_parser.specs.Reading.{IsAt, IsIdentifierAt, IsInvocationAt, Stands, lexemes, lexeme_at}
+use Rattle.sieve_parser.specs.Reading.{Beginning, IsAt, IsIdentifierAt, IsInvocationAt, Stands, lexemes, lexeme_at}
 use Rattle.sieve_parser.specs.Tree.{one_test, test_list}
 use Rattle.sieve_parser.specs.View.{argument_tree, head_tree, invocation_tree, more_tests_of}
 use Rattle.sieve_parser.specs.declared.tree.Head.{Head}
@@ -17,11 +17,11 @@ use Rattle.sieve_parser.proofs.Wrong.{no_test, no_test_end}
 use Rattle.sieve_parser.proofs.invocation.+tests.Goals as goal
 
 pub invocation-returns-then-depth-eq-MAX_NESTING : goal.invocation-returns-then-depth-eq-MAX_NESTING
-invocation-returns-then-depth-eq-MAX_NESTING t c = λ f stack at.
+invocation-returns-then-depth-eq-MAX_NESTING t c = λ f stack b at.
     let ls = lexemes c.args.script.now c.args.tokens.now in
     let next = c.in_ok-arguments.next in
     let name = subst (λ o. IsIdentifierAt ls next o) c.in-Some.is c.in_ok-name.ensures in
-    sunk ls next (arguments c.args.depth f) stack (suc c.args.depth) (arguments (suc c.args.depth) f ∷ []) ((c.in_ok-arguments.ensures c.args.depth f stack c.requires.depth).2 at) name.0
+    sunk b ls next (arguments c.args.depth f) stack (suc c.args.depth) (arguments (suc c.args.depth) f ∷ []) ((c.in_ok-arguments.ensures c.args.depth f stack c.requires.depth).2 b at) name.0
     (ap (expand (arguments c.args.depth f)) name.1) (omega arith)
 
 pub invocation-returns-in_err-test : goal.invocation-returns-in_err-test
@@ -30,8 +30,8 @@ invocation-returns-in_err-test t c = λ f stack.
     let next = c.in_ok-arguments.next in
     let name = subst (λ o. IsIdentifierAt ls next o) c.in-Some.is c.in_ok-name.ensures in
     let p = err_from_is_err_and c.from_residual-in_err-test.result c.from_residual-in_err-test.ensures.1 in
-    rw (p.1, p.2) (λ at. c.in_err-test.ensures f stack (subst (λ k. IsAt ls (next + 1) (arguments k f ∷ stack)) (from_suc c.args.depth)
-    (walk ls next (arguments c.args.depth f) stack (suc c.args.depth) (arguments (suc c.args.depth) f ∷ []) ((c.in_ok-arguments.ensures c.args.depth f stack c.requires.depth).2 at) name.0
+    rw (p.1, p.2) (λ b at. c.in_err-test.ensures f stack b (subst (λ k. IsAt b ls (next + 1) (arguments k f ∷ stack)) (from_suc c.args.depth)
+    (walk b ls next (arguments c.args.depth f) stack (suc c.args.depth) (arguments (suc c.args.depth) f ∷ []) ((c.in_ok-arguments.ensures c.args.depth f stack c.requires.depth).2 b at) name.0
     (ap (expand (arguments c.args.depth f)) name.1) (omega arith))))
 
 pub invocation-returns-in-Some : goal.invocation-returns-in-Some
@@ -63,8 +63,8 @@ invocation-returns-in_err-first t c = λ f stack.
     let next = c.in_ok-arguments.next in
     let here = kind_here c.args.script.now c.args.tokens.now next OpeningParenthesis (c.if-stands.ensures.0 refl) in
     let p = err_from_is_err_and c.from_residual-in_err-first.result c.from_residual-in_err-first.ensures.1 in
-    rw (p.1, p.2) (λ at. c.in_err-first.ensures (ending f ∷ stack)
-    (walk ls next (arguments c.args.depth f) stack c.args.depth (tests c.args.depth ∷ ending f ∷ []) ((c.in_ok-arguments.ensures c.args.depth f stack c.requires.depth).2 at) here.0
+    rw (p.1, p.2) (λ b at. c.in_err-first.ensures (ending f ∷ stack) b
+    (walk b ls next (arguments c.args.depth f) stack c.args.depth (tests c.args.depth ∷ ending f ∷ []) ((c.in_ok-arguments.ensures c.args.depth f stack c.requires.depth).2 b at) here.0
     (ap (expand (arguments c.args.depth f)) here.1.1) c.requires.depth))
 
 pub invocation-returns-then-stands : goal.invocation-returns-then-stands
@@ -95,17 +95,17 @@ invocation-returns t c =
     (λ m other lt e. none m other lt e) (λ lt. not_here s ts next opening_parenthesis lt (λ k. false≢true (c.if-stands.ensures.1 k)) (λ q. cc)))
 
 pub test_at-returns-in_default : goal.test_at-returns-in_default
-test_at-returns-in_default t c = λ stack at.
+test_at-returns-in_default t c = λ stack b at.
     let ls = lexemes c.args.script.now c.args.tokens.now in
     let none = subst (λ o. IsIdentifierAt ls c.args.at o) c.in_default.is c.in_ok-name.ensures in
-    stuck_here ls c.args.at (tests c.args.depth) stack at c.requires.within (λ lt. no_test c.args.depth (lexeme_at ls c.args.at) (λ n name e. none n name lt e)) (λ done. done)
+    stuck_here b ls c.args.at (tests c.args.depth) stack at c.requires.within (λ lt. no_test c.args.depth (lexeme_at ls c.args.at) (λ n name e. none n name lt e)) (λ done. done)
 
 pub test_at-returns-then-depth-eq-MAX_NESTING : goal.test_at-returns-then-depth-eq-MAX_NESTING
-test_at-returns-then-depth-eq-MAX_NESTING t c = λ stack at.
+test_at-returns-then-depth-eq-MAX_NESTING t c = λ stack b at.
     let ls = lexemes c.args.script.now c.args.tokens.now in
     let d = c.args.depth in
     let name = subst (λ o. IsIdentifierAt ls c.args.at o) c.in-Some.is c.in_ok-name.ensures in
-    sunk ls c.args.at (tests d) stack (suc d) (arguments (suc d) (test_end d) ∷ []) at name.0 (ap (expand (tests d)) name.1) (omega arith)
+    sunk b ls c.args.at (tests d) stack (suc d) (arguments (suc d) (test_end d) ∷ []) at name.0 (ap (expand (tests d)) name.1) (omega arith)
 
 pub test_at-returns : goal.test_at-returns
 test_at-returns t c =
@@ -134,8 +134,8 @@ test_list-returns-in_err-test t c = λ stack.
     let ls = lexemes c.args.script.now c.args.tokens.now in
     let here = kind_here c.args.script.now c.args.tokens.now c.tests.next Comma (c.tests-test.ensures.0 refl) in
     let p = err_from_is_err_and c.from_residual-in_err-test.result c.from_residual-in_err-test.ensures.1 in
-    rw (p.1, p.2) (λ at. c.in_err-test.ensures stack
-    (tests_comma ls c.args.at c.args.depth (invocation_tree c.tests.first-1) c.tests.next c.tests.rest.items c.tests.invariant.1 c.requires.depth here.0 here.1.1 stack at))
+    rw (p.1, p.2) (λ b at. c.in_err-test.ensures stack b
+    (tests_comma ls c.args.at c.args.depth (invocation_tree c.tests.first-1) c.tests.next c.tests.rest.items c.tests.invariant.1 c.requires.depth here.0 here.1.1 stack b at))
 
 pub test_list-tests-smaller : goal.test_list-tests-smaller
 test_list-tests-smaller t c =
@@ -164,18 +164,28 @@ test_list-returns-then-stands t c = λ stack.
     let close = at_depth d closing_parenthesis in (
       subst (λ w. Stands ls c.args.at (c.tests.next + 1) w) (append_assoc first more (close ∷ []))
           (stands_both ls c.args.at c.tests.next (c.tests.next + 1) (first ++ more) (close ∷ []) so_far.0 (stands_one ls c.tests.next close here.0 here.1.1)),
-      λ at. walk ls c.tests.next (ending (test_end d)) stack d [] (so_far.1 at) here.0 (ap (expand (ending (test_end d))) here.1.1) c.requires.depth,
+      λ b at. walk b ls c.tests.next (ending (test_end d)) stack d [] (so_far.1 b at) here.0 (ap (expand (ending (test_end d))) here.1.1) c.requires.depth,
     )
 
 pub test_list-returns-else-stands : goal.test_list-returns-else-stands
-test_list-returns-else-stands t c = λ stack at.
+test_list-returns-else-stands t c = λ stack b at.
     let s = c.args.script.now in
     let ts = c.args.tokens.now in
     let ls = lexemes s ts in
     let next = c.tests.next in
     let d = c.args.depth in
-    stuck_here ls next (ending (test_end d)) stack ((c.tests.invariant.1 stack).1 at) c.tests.invariant.0
+    stuck_here b ls next (ending (test_end d)) stack ((c.tests.invariant.1 stack).1 b at) c.tests.invariant.0
     (λ lt. no_test_end d (lexeme_at ls next)
     (not_here s ts next comma lt (λ k. false≢true (c.tests-test.ensures.1 k)) (λ q. cc))
     (not_here s ts next closing_parenthesis lt (λ k. false≢true (c.if-stands.ensures.1 k)) (λ q. cc)))
     (λ done. done)
+
+pub invocation-returns-in_err-arguments : goal.invocation-returns-in_err-arguments
+invocation-returns-in_err-arguments t c = λ f stack.
+    let p = err_from_is_err_and c.from_residual.result c.from_residual.ensures.1 in
+    rw (p.1, p.2) (λ b a. c.in_err-arguments.ensures c.args.depth f stack c.requires.depth b a)
+
+pub test_list-returns-in_err-first : goal.test_list-returns-in_err-first
+test_list-returns-in_err-first t c = λ stack.
+    let p = err_from_is_err_and c.from_residual.result c.from_residual.ensures.1 in
+    rw (p.1, p.2) (λ b a. c.in_err-first.ensures stack b a)

@@ -4,7 +4,7 @@ use Rattle.sieve_lexer.specs.Tokens.{AreTokens}
 use Rattle.sieve_parser.specs.Reading.{lexemes}
 use Rattle.sieve_parser.specs.Scripts.{IsParsed}
 use Rattle.sieve_parser.specs.View.{commands_tree}
-use Rattle.sieve_parser.proofs.Parsed.{at_start, not_ended, whole_parsed, fault_refused}
+use Rattle.sieve_parser.proofs.Parsed.{whole, at_start, not_ended, whole_parsed, fault_refused}
 use Rattle.sieve_parser.proofs.Walk.{length-lexemes}
 use Rattle.sieve_parser.proofs.parser.parse.Goals as goal
 
@@ -18,7 +18,7 @@ returns-in_err-commands-clause-refused c =
     let given = c.in_ok-tokens.ensures.tokens in
     let tokens = subst (λ w. AreTokens s w) (sym c.deref.ensures.value) given.1 in
     let p = err_from_is_err_and c.from_residual-in_err-commands.result c.from_residual-in_err-commands.ensures.1 in
-    rw (p.1, p.2) (fault_refused s ts c.in_err-commands.field-0.0 given.0 tokens (c.in_err-commands.ensures [] (at_start (lexemes s ts))))
+    rw (p.1, p.2) (fault_refused s ts c.in_err-commands.field-0.0 given.0 tokens (c.in_err-commands.ensures [] whole (at_start (lexemes s ts))))
 
 pub returns-then-next-len-clause-refused : goal.returns-then-next-len-clause-refused
 returns-then-next-len-clause-refused c =
@@ -33,7 +33,7 @@ returns-then-next-len-clause-refused c =
         ts,
         (
           tokens,
-          not_ended ls c.in_ok-commands.next (read.2 (at_start ls)) read.1
+          not_ended ls c.in_ok-commands.next (read.2 whole (at_start ls)) read.1
               (omega (arith, length-lexemes s 0 ts, c.deref.ensures.len)),
         ),
       ),
@@ -47,7 +47,7 @@ of-requires c =
     let tokens = subst (λ w. AreTokens s w) (sym c.deref.ensures.value) given.1 in
     let read = c.in_ok-commands.ensures [] in (
       s,
-      whole_parsed s ts c.in_ok-commands.next (commands_tree c.in_ok-commands.commands.items) given.0 tokens read.0 (read.2 (at_start (lexemes s ts)))
+      whole_parsed s ts c.in_ok-commands.next (commands_tree c.in_ok-commands.commands.items) given.0 tokens read.0 (read.2 whole (at_start (lexemes s ts)))
           (omega (arith, length-lexemes s 0 ts, c.deref.ensures.len)),
     )
 
@@ -58,6 +58,6 @@ returns-clause-parsed c =
     let given = c.in_ok-tokens.ensures.tokens in
     let tokens = subst (λ w. AreTokens s w) (sym c.deref.ensures.value) given.1 in
     let read = c.in_ok-commands.ensures [] in
-    let parsed = whole_parsed s ts c.in_ok-commands.next (commands_tree c.in_ok-commands.commands.items) given.0 tokens read.0 (read.2 (at_start (lexemes s ts)))
+    let parsed = whole_parsed s ts c.in_ok-commands.next (commands_tree c.in_ok-commands.commands.items) given.0 tokens read.0 (read.2 whole (at_start (lexemes s ts)))
     (omega (arith, length-lexemes s 0 ts, c.deref.ensures.len)) in
     subst (λ cs. IsParsed s (commands_tree cs)) (sym c.of.ensures) parsed

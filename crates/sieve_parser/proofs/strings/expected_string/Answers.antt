@@ -6,7 +6,7 @@ use Rattle.sieve_parser.proofs.Wrong.{no_string_first}
 use Rattle.sieve_parser.proofs.strings.expected_string.Goals as goal
 
 pub returns-in-None : goal.returns-in-None
-returns-in-None c = λ d stack at.
+returns-in-None c = λ d stack b at.
     let ls = lexemes c.args.script.now c.args.tokens.now in
     let none = subst (λ o. IsStringAt ls c.args.at o) c.in-None.is c.in_ok-value.ensures in
-    stuck_here ls c.args.at (strings d) stack at c.requires.within (λ lt. no_string_first d (lexeme_at ls c.args.at) (λ s is. none s lt is)) (λ done. done)
+    stuck_here b ls c.args.at (strings d) stack at c.requires.within (λ lt. no_string_first d (lexeme_at ls c.args.at) (λ s is. none s lt is)) (λ done. done)

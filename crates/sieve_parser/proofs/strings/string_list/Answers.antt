@@ -28,8 +28,8 @@ returns-in_err-value c = λ d stack small.
     let ls = lexemes c.args.script.now c.args.tokens.now in
     let here = kind_here c.args.script.now c.args.tokens.now c.strings.next Comma (c.strings-test.ensures.0 refl) in
     let p = err_from_is_err_and c.from_residual-in_err-value.result c.from_residual-in_err-value.ensures.1 in
-    rw (p.1, p.2) (λ a. c.in_err-value.ensures d stack
-    (comma_read ls c.args.at c.first.inside.items.items c.strings.next c.strings.rest.items c.strings.invariant.1 here.0 here.1.1 d stack small a))
+    rw (p.1, p.2) (λ b a. c.in_err-value.ensures d stack b
+    (comma_read ls c.args.at c.first.inside.items.items c.strings.next c.strings.rest.items c.strings.invariant.1 here.0 here.1.1 d stack small b a))
 
 pub strings-smaller : goal.strings-smaller
 strings-smaller c =
@@ -55,13 +55,18 @@ returns-then-stands c = λ d stack small.
     (at_depth d (string c.in_ok-first.first) ∷ (more_strings_spelled d c.strings.rest.items ++ at_depth d closing_bracket ∷ []), (refl, whole.0, whole.1))
 
 pub returns-else-stands : goal.returns-else-stands
-returns-else-stands c = λ d stack small a.
+returns-else-stands c = λ d stack small b a.
     let s = c.args.script.now in
     let ts = c.args.tokens.now in
     let ls = lexemes s ts in
     let next = c.strings.next in
-    stuck_here ls next (more_strings d) stack ((c.strings.invariant.1 d stack small).1 a) c.strings.invariant.0
+    stuck_here b ls next (more_strings d) stack ((c.strings.invariant.1 d stack small).1 b a) c.strings.invariant.0
     (λ lt. no_more_string d (lexeme_at ls next)
     (not_here s ts next comma lt (λ k. false≢true (c.strings-test.ensures.1 k)) (λ q. cc))
     (not_here s ts next closing_bracket lt (λ k. false≢true (c.if-stands.ensures.1 k)) (λ q. cc)))
     (λ done. done)
+
+pub returns-in_err-first : goal.returns-in_err-first
+returns-in_err-first c = λ d stack small.
+    let p = err_from_is_err_and c.from_residual.result c.from_residual.ensures.1 in
+    rw (p.1, p.2) (λ b a. c.in_err-first.ensures d stack b a)
