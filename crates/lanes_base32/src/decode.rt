@@ -50,8 +50,10 @@ fn decode(alloc: Global, text: &[u8], alphabet: Alphabet) -> Result<Vec<u8>, Ref
     Ok(out)
 }
 
-// The number of the octets that a text spells, if it spells any.
-fn octets_len(text: &[u8], alphabet: Alphabet) -> usize {
+// The number of the octets that a text spells, if it spells any, and never more than its own.
+fn octets_len(text: &[u8], alphabet: Alphabet) -> usize
+    ensures { result ≤ length text.now }
+{
     let symbols = match text.iter().rposition(|octet| *octet != PADDING) {
         Some(last) => last + 1,
         None => 0,

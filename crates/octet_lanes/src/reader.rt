@@ -1,5 +1,5 @@
 // Texts that any octets may interrupt.
-ghost use Rattle.std.specs.Prelude.{◌≡◌, ◌≢◌, ◌==◌, false, true, ℕ, ◌-◌, ◌*◌, ◌++◌, ◌<◌, ◌≤◌, ◌^◌, ◌⊎◌, List, [], IfOk, OnOk, drop, length, map, slice_index, take};
+ghost use Rattle.std.specs.Prelude.{◌≡◌, ◌≢◌, ◌==◌, false, true, ℕ, ◌+◌, ◌-◌, ◌*◌, ◌++◌, ◌<◌, ◌≤◌, ◌^◌, ◌⊎◌, List, [], IfOk, OnOk, drop, length, map, slice_index, take};
 ghost use Rattle.std.specs.List.{All, list_any, position};
 ghost use Rattle.octet_lanes.specs.Encoding.{all_bits, before_padding, class_of, decoding_of, octets_of, padding, quantum, stray, values_among, values_of, whole, width};
 ghost use Rattle.octet_lanes.specs.Reading.{IsHeld, decoding_held};
@@ -22,11 +22,21 @@ use std::simd::prelude::*;
 pub fn decode(alloc: Global, text: &[u8], alphabet: Alphabet) -> Result<Vec<u8>, AllocError>
     ensures { IfOk result (λ octets. octets.items ≡ decoding_of alphabet text.now) }
 {
-    let mut out = Vec::with_capacity(alloc, (text.len() / 8 + 1).saturating_mul(alphabet.width()))?;
+    let mut out = Vec::with_capacity(alloc, octets_room(text, alphabet))?;
     let mut held = Held::new();
     held.take_in(text, alphabet, &mut out)?;
     held.end(alphabet, &mut out)?;
     Ok(out)
+}
+
+// Room for the octets of a text, which are no more than its own.
+fn octets_room(text: &[u8], alphabet: Alphabet) -> usize
+    ensures { result ≤ length text.now + 6 }
+{
+    match alphabet {
+        Alphabet::Base64 => (text.len() / 8 + 1) * 6,
+        Alphabet::Base32 | Alphabet::Base32Hex => (text.len() / 8 + 1) * 5,
+    }
 }
 
 // What is kept of a text between its pieces: the values of an open quantum, in the prefix of a block, as `join` takes

@@ -2,6 +2,8 @@
 ghost use Rattle.std.specs.Prelude.{IfOk, IfErr};
 ghost use Rattle.sieve_engine.specs.Evaluation.{IsCompiled, IsEvaluation, IsEvaluationRefusal, IsScript, IsScriptRefusal};
 ghost use Rattle.sieve_check.specs.TypedView.{commands_form};
+ghost use Rattle.sieve_parser.specs.Scripts.{IsParsed};
+ghost use Rattle.sieve_parser.specs.View.{commands_tree};
 
 use crate::error::EngineError;
 use crate::execution::{Report, run_on};
@@ -18,6 +20,7 @@ use std::alloc::Global;
 /// [`EngineError::Memory`] comes only where an allocation was refused.
 pub fn check_script(alloc: Global, script: &[u8]) -> Result<Checked, EngineError>
     ensures checked { IfOk result (λ checked. IsScript script.now (commands_form checked.commands)) }
+    ensures script { IfOk result (λ checked. IsParsed script.now (commands_tree checked.script)) }
     ensures refused { IfErr result (λ e. IsScriptRefusal script.now e) }
 {
     let script = parse(alloc, script)?;
