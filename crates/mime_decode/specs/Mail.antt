@@ -3,7 +3,7 @@ use Rattle.std.specs.Prelude.{◌≡◌, ℕ, ◌+◌, ◌<◌, ◌≤◌, List,
 use Rattle.std.specs.List.{sum_by}
 use Rattle.octets.specs.Limits.{max_message, max_parts}
 use Rattle.header_fields.specs.Fields.{Field}
-use Rattle.mime_params.specs.MediaType.{MediaType}
+use Rattle.mime_params.specs.declared.media.MediaType.{MediaType}
 use Rattle.mime_params.specs.declared.encoding.TransferEncoding.{TransferEncoding}
 use Rattle.mime_params.specs.declared.encoding.TransferEncoding.TheVariants.{SevenBit}
 

@@ -1,8 +1,18 @@
 //! The values of the MIME header fields (RFC 2045, sections 5 and 6; RFC 2183).
 //!
-//! What a media type is to whoever reads one stands in `specs/MediaType`.
+//! [`read_type`] and [`read_disposition`] read a value as `specs/MediaValue` says it, or find that it has no reading;
+//! reading stops at the first parameter that is malformed, and keeps those before it. [`parameters_of`] gives the parameters
+//! of any field's value, [`param`] the value of one. Comments may be nested to any depth.
 #![tactic(auto)]
 
 mod encoding;
+mod error;
+mod gap;
+mod media;
+mod params;
+mod words;
 
 pub use encoding::TransferEncoding;
+pub use error::ValueError;
+pub use media::{Disposition, MediaType, read_disposition, read_type};
+pub use params::{Parameter, Params, param, parameters_of};

@@ -1,0 +1,56 @@
+// White space and comments.
+ghost use Rattle.std.specs.Prelude.{◌≡◌, ◌∷◌, [], MatchOption, None, Some};
+ghost use Rattle.mime_params.specs.Gaps.{after_comment, after_gap};
+
+/// The first octet and what follows it.
+pub fn first(text: &[u8]) -> Option<(u8, &[u8])>
+    ensures { MatchOption result (text.now ≡ []) (λ parts. text.now ≡ parts.0 ∷ parts.1.now) }
+{
+    match text {
+        [octet, rest @ ..] => Some((*octet, rest)),
+        [] => None,
+    }
+}
+
+/// What follows the run of SP, TAB and comments that the text begins with.
+pub fn after_gap(text: &[u8]) -> &[u8]
+    ensures { result.now ≡ after_gap text.now }
+{
+    let mut rest = text;
+    'gap: while let Some((octet, more)) = first(rest) {
+        match octet {
+            b' ' | b'\t' => rest = more,
+            b'(' => match after_comment(more) {
+                Some(after) => rest = after,
+                None => return rest,
+            },
+            _ => return rest,
+        }
+    }
+    rest
+}
+
+// What follows a comment, after its opening bracket; nothing where it isn't closed.
+fn after_comment(text: &[u8]) -> Option<&[u8]>
+    ensures { MatchOption result (after_comment 0 text.now ≡ None) (λ after. after_comment 0 text.now ≡ Some after.now) }
+{
+    let mut depth: usize = 0;
+    let mut rest = text;
+    'comment: while let Some((octet, more)) = first(rest) {
+        if octet == b'\\' {
+            let (_escaped, after) = first(more)?;
+            rest = after;
+        } else {
+            if octet == b')' {
+                if depth == 0 {
+                    return Some(more);
+                }
+                depth -= 1;
+            } else if octet == b'(' {
+                depth += 1;
+            }
+            rest = more;
+        }
+    }
+    None
+}

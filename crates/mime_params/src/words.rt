@@ -1,0 +1,108 @@
+// The words of a value.
+ghost use Rattle.std.specs.Prelude.{◌≡◌, length, IfOk, MatchOption, None, Some};
+ghost use Rattle.std.specs.List.{take_while};
+ghost use Rattle.mime_params.specs.Reading.{GivesWord};
+ghost use Rattle.mime_params.specs.Words.{is_special, is_token_octet, is_value_octet, quoted, value, word};
+ghost use Rattle.mime_params.specs.MediaValue.{token};
+
+use crate::gap::first;
+use octets::Octets;
+use std::alloc::{AllocError, Global};
+
+// Whether the octet is one of ()<>@,;:\"/[]?=
+fn is_special(octet: u8) -> bool
+    ensures { result ≡ is_special octet }
+{
+    b"()<>@,;:\\\"/[]?=".contains(&octet)
+}
+
+// Whether the octet may stand in a token.
+fn is_token_octet(octet: u8) -> bool
+    ensures { result ≡ is_token_octet octet }
+{
+    octet.is_ascii_graphic() && !is_special(octet)
+}
+
+// Whether the octet may stand in a value without quotes.
+fn is_value_octet(octet: u8) -> bool
+    ensures { result ≡ is_value_octet octet }
+{
+    !matches!(octet, b' ' | b'\t' | b';' | b'"' | b'(')
+}
+
+// How many octets of a token the text begins with.
+fn token_len(text: &[u8]) -> usize
+    ensures { result ≡ length (take_while is_token_octet text.now) }
+{
+    text.iter()
+        .take_while(|octet| is_token_octet(**octet))
+        .count()
+}
+
+// How many octets of a value without quotes the text begins with.
+fn plain_len(text: &[u8]) -> usize
+    ensures { result ≡ length (take_while is_value_octet text.now) }
+{
+    text.iter()
+        .take_while(|octet| is_value_octet(**octet))
+        .count()
+}
+
+/// The token that the text begins with, and what follows it.
+pub fn token(text: &[u8]) -> Option<(&[u8], &[u8])>
+    ensures { MatchOption result (token text.now ≡ None) (λ read. token text.now ≡ Some (record { octets = read.0.now; rest = read.1.now })) }
+{
+    let (octets, rest) = text.split_at(token_len(text));
+    if octets.is_empty() {
+        return None;
+    }
+    Some((octets, rest))
+}
+
+// The value without quotes that the text begins with, and what follows it.
+fn plain(text: &[u8]) -> Option<(&[u8], &[u8])>
+    ensures { MatchOption result (word is_value_octet text.now ≡ None) (λ read. word is_value_octet text.now ≡ Some (record { octets = read.0.now; rest = read.1.now })) }
+{
+    let (octets, rest) = text.split_at(plain_len(text));
+    if octets.is_empty() {
+        return None;
+    }
+    Some((octets, rest))
+}
+
+// What a quoted string stands for, after its opening quote, and what follows it; nothing where it isn't closed.
+fn quoted(alloc: Global, text: &[u8]) -> Result<Option<(Octets, &[u8])>, AllocError>
+    ensures { IfOk result (λ read. GivesWord (quoted text.now) read) }
+{
+    let mut octets = Vec::new(alloc);
+    let mut rest = text;
+    'quoted: while let Some((octet, more)) = first(rest) {
+        if octet == b'"' {
+            return Ok(Some((Octets::from_vec(octets), more)));
+        }
+        if octet == b'\\' {
+            let Some((escaped, after)) = first(more) else {
+                return Ok(None);
+            };
+            octets.push(escaped)?;
+            rest = after;
+        } else {
+            octets.push(octet)?;
+            rest = more;
+        }
+    }
+    Ok(None)
+}
+
+/// The value that the text begins with, and what follows it.
+pub fn value(alloc: Global, text: &[u8]) -> Result<Option<(Octets, &[u8])>, AllocError>
+    ensures { IfOk result (λ read. GivesWord (value text.now) read) }
+{
+    if let Some((b'"', rest)) = first(text) {
+        return quoted(alloc, rest);
+    }
+    let Some((octets, rest)) = plain(text) else {
+        return Ok(None);
+    };
+    Ok(Some((Octets::from_vec(octets.to_vec(alloc)?), rest)))
+}
