@@ -9,7 +9,7 @@ use Rattle.std.proofs.lemmas.List.Concat.{flat_map-cons}
 use Rattle.std.proofs.lemmas.Nat.{be_bytes_2, be_bytes_4, be_bytes_8, from_be_bytes-to_be_bytes_2, from_be_bytes-to_be_bytes_4, from_be_bytes-to_be_bytes_8}
 use Rattle.bytecode_format.specs.declared.instruction.Instruction.{Instruction}
 use Rattle.bytecode_format.specs.Spelling.{string, instruction, octet, two_octets, four_octets, eight_octets, Fits}
-use Rattle.bytecode_format.specs.Reading.{◌>>=◌, octet_at, number_at, string_at, instruction_at, many_at}
+use Rattle.bytecode_format.specs.Readers.{◌>>=◌, octet_at, number_at, string_at, instruction_at, many_at}
 
 -- each member of a text is an octet
 abbrev pub AreOctets : List ℕ → Type 0

@@ -13,7 +13,7 @@ use Rattle.bytecode_format.specs.declared.error.FormatError.{FormatError}
 use Rattle.bytecode_format.specs.declared.error.FormatError.TheVariants.{Memory, Spelling}
 use Rattle.bytecode_format.specs.Code.{Code}
 use Rattle.bytecode_format.specs.Spelling.{two_octets, four_octets, eight_octets, string, instruction, spelling, Fits, IsProgram}
-use Rattle.bytecode_format.specs.Reading.{◌>>=◌, Fails, after, opening, number_at, string_at, instruction_at, many_at, Counts, counts_at, program_at}
+use Rattle.bytecode_format.specs.Readers.{◌>>=◌, Fails, after, opening, number_at, string_at, instruction_at, many_at, Counts, counts_at, program_at}
 use Rattle.bytecode_format.proofs.Fields.{AreOctets, AreOctets-drop, bind_some, guard_some, some_is, neither, Takes, Takes-then, reads_two, reads_four, reads_eight, reads_string, reads_instruction, many_takes, many_again}
 
 -- what holds of each place holds along the list

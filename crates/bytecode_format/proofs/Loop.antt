@@ -3,7 +3,7 @@ use Rattle.std.proofs.Common.{◌≡◌, ℕ, suc, ◌-◌, ◌+◌, ◌≤◌, 
 use Rattle.std.proofs.lemmas.List.{append-nil}
 use Rattle.bytecode_format.specs.declared.error.FormatError.{FormatError}
 use Rattle.bytecode_format.specs.declared.error.FormatError.TheVariants.{Memory, Spelling}
-use Rattle.bytecode_format.specs.Reading.{◌>>=◌, Fails, many_at}
+use Rattle.bytecode_format.specs.Readers.{◌>>=◌, Fails, many_at}
 
 -- what was read before, and what is still read
 abbrev pub with_prefix : {A : Type 0} → List A → Option (List A × List ℕ) → Option (List A × List ℕ)

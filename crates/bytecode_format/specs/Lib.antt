@@ -1,6 +1,7 @@
 pub mod Operations
 pub mod Code
 pub mod Spelling
-pub mod Reading
+-- how the readers go; nothing public rests on it
+pub mod Readers
 pub mod Action
 pub mod Actions

@@ -3,7 +3,7 @@ ghost use Rattle.std.specs.Prelude.{◌≡◌, ◌≢◌, IfOk, IfErr};
 ghost use Rattle.std.specs.Int.{w16, w32, w64};
 ghost use Rattle.bytecode_format.specs.Code.{Code};
 ghost use Rattle.bytecode_format.specs.Spelling.{IsProgram, spelling};
-ghost use Rattle.bytecode_format.specs.Reading.{Gives, after, octet_at, number_at, string_at, instruction_at, many_at, counts_at, program_at, opening};
+ghost use Rattle.bytecode_format.specs.Readers.{Gives, after, octet_at, number_at, string_at, instruction_at, many_at, counts_at, program_at, opening};
 
 use crate::error::FormatError;
 use crate::instruction::Instruction;
@@ -63,7 +63,7 @@ fn u64_of(octets: &[u8]) -> Result<(u64, &[u8]), FormatError>
     Ok((number, rest))
 }
 
-#[tactic(auto, unfolding(crate::specs::Reading::string_at))]
+#[tactic(auto, unfolding(crate::specs::Readers::string_at))]
 fn string_of(alloc: Global, octets: &[u8]) -> Result<(Octets, &[u8]), FormatError>
     ensures { Gives (λ x. (x.0, x.1.now)) result (string_at octets.now) }
 {
@@ -76,7 +76,7 @@ fn string_of(alloc: Global, octets: &[u8]) -> Result<(Octets, &[u8]), FormatErro
     Ok((Octets::from_vec(Vec::from_slice(alloc, text)?), rest))
 }
 
-#[tactic(auto, unfolding(crate::specs::Reading::instruction_at))]
+#[tactic(auto, unfolding(crate::specs::Readers::instruction_at))]
 fn instruction_of(octets: &[u8]) -> Result<(Instruction, &[u8]), FormatError>
     ensures { Gives (λ x. (x.0, x.1.now)) result (instruction_at octets.now) }
 {
@@ -87,7 +87,7 @@ fn instruction_of(octets: &[u8]) -> Result<(Instruction, &[u8]), FormatError>
     Ok((Instruction { op, a, b, c }, rest))
 }
 
-#[tactic(auto, unfolding(crate::specs::Reading::counts_at))]
+#[tactic(auto, unfolding(crate::specs::Readers::counts_at))]
 fn counts_of(octets: &[u8]) -> Result<(Counts, &[u8]), FormatError>
     ensures { Gives (λ x. (record { variables = x.0.variables; numbers = x.0.numbers; strings = x.0.strings; instructions = x.0.instructions }, x.1.now)) result (counts_at octets.now) }
 {
@@ -159,7 +159,7 @@ struct Parts {
     instructions: Vec<Instruction>,
 }
 
-#[tactic(auto, unfolding(crate::specs::Reading::program_at, crate::specs::Reading::after))]
+#[tactic(auto, unfolding(crate::specs::Readers::program_at, crate::specs::Readers::after))]
 fn parts_of(alloc: Global, octets: &[u8]) -> Result<Parts, FormatError>
     ensures { Gives (λ p. record { version = 1; variables = p.variables; numbers = p.numbers.items; strings = p.strings.items; instructions = p.instructions.items }) result (program_at octets.now) }
 {

@@ -2,12 +2,13 @@
 use Rattle.std.proofs.Common.{◌≡◌, ℕ, List, [], ◌∷◌, Some, None, refl, true, false}
 use Rattle.bytecode_format.specs.declared.instruction.Instruction.{Instruction}
 use Rattle.bytecode_format.specs.declared.operation.Operation.{Operation}
-use Rattle.bytecode_format.specs.declared.operation.Operation.TheVariants.{Halt, Literal, Bool, Not, Jump as Goto, JumpIfTrue, JumpIfFalse, Size, Keep, Discard, Each, Next}
+use Rattle.bytecode_format.specs.declared.operation.Operation.TheVariants.{Halt, Literal, Bool, Not, Jump as Goto, JumpIfTrue, JumpIfFalse, Size, Keep, Discard, Each, Next, Break}
 use Rattle.bytecode_format.specs.Operations.{octet_of}
 use Rattle.bytecode_format.specs.Code.{Code}
 use Rattle.bytecode_verifier.specs.declared.error.Refusal.TheVariants.{Index, Form, End, Jump, Stack}
 use Rattle.bytecode_verifier.specs.Acceptance.{refusal_of}
 use Rattle.bytecode_verifier.specs.Loops.{loops, open_loops, same_loops}
+use Rattle.bytecode_verifier.specs.Rules.{breaks_loop, breaks_jump}
 use Rattle.bytecode_verifier.specs.Budget.{budget_of}
 
 abbrev at : Operation → ℕ → ℕ → Instruction
@@ -69,3 +70,56 @@ into_other_loop = refl
 
 within_one_loop : same_loops brackets 2 5 ≡ true
 within_one_loop = refl
+
+-- ---- rules of operations that haven't come: such a program is refused for its form, so these can't be seen yet
+
+-- four loops in one another
+abbrev nested : Code
+nested = program [] (at Each 0 7 ∷ at Each 0 6 ∷ at Each 0 5 ∷ at Each 0 4 ∷ at Next 0 3 ∷ at Next 0 2 ∷ at Next 0 1 ∷ at Next 0 0 ∷ plain Halt ∷ [])
+
+third_loop : breaks_loop nested 2 ≡ false
+third_loop = refl
+
+fourth_loop : breaks_loop nested 3 ≡ true
+fourth_loop = refl
+
+-- a loop whose Each and Next name each other, with a Break in it
+abbrev one_loop : ℕ → ℕ → ℕ → Code
+one_loop next each broken = program [] (at Each 0 next ∷ at Break broken 0 ∷ at Next 0 each ∷ plain Halt ∷ [])
+
+a_loop : breaks_loop (one_loop 2 0 1) 0 ≡ false
+a_loop = refl
+
+its_end : breaks_loop (one_loop 2 0 1) 2 ≡ false
+its_end = refl
+
+each_names_another_place : breaks_loop (one_loop 3 0 1) 0 ≡ true
+each_names_another_place = refl
+
+next_names_another_place : breaks_loop (one_loop 2 1 1) 2 ≡ true
+next_names_another_place = refl
+
+break_of_one_loop : breaks_loop (one_loop 2 0 1) 1 ≡ false
+break_of_one_loop = refl
+
+break_of_two_loops : breaks_loop (one_loop 2 0 2) 1 ≡ true
+break_of_two_loops = refl
+
+break_outside : breaks_loop (program [] (at Break 1 0 ∷ plain Halt ∷ [])) 0 ≡ true
+break_outside = refl
+
+next_alone : breaks_loop (program [] (plain Next ∷ plain Halt ∷ [])) 0 ≡ true
+next_alone = refl
+
+each_alone : breaks_loop (program [] (plain Each ∷ plain Halt ∷ [])) 0 ≡ true
+each_alone = refl
+
+-- into a loop, out of it, and within it
+jump_into_loop : breaks_jump (program [] (at Goto 0 2 ∷ at Each 0 3 ∷ plain Keep ∷ at Next 0 1 ∷ plain Halt ∷ [])) 0 ≡ true
+jump_into_loop = refl
+
+jump_out_of_loop : breaks_jump (program [] (at Each 0 2 ∷ at Goto 0 3 ∷ at Next 0 0 ∷ plain Halt ∷ [])) 1 ≡ true
+jump_out_of_loop = refl
+
+jump_to_the_end_of_the_loop : breaks_jump (program [] (at Each 0 3 ∷ at Goto 0 3 ∷ plain Keep ∷ at Next 0 0 ∷ plain Halt ∷ [])) 1 ≡ false
+jump_to_the_end_of_the_loop = refl

@@ -5,4 +5,5 @@ pub mod Shape
 pub mod Rules
 pub mod Acceptance
 pub mod Budget
+-- how the verifier goes; nothing public rests on it
 pub mod Pass

@@ -18,7 +18,7 @@ use Rattle.octet_lanes.specs.declared.alphabet.Alphabet.{Alphabet}
 use Rattle.octet_lanes.specs.declared.alphabet.Alphabet.TheVariants.{Base64, Base32, Base32Hex}
 use Rattle.octet_lanes.specs.Encoding.{width, quantum, table, class_of, stray, padding, bits_of, all_bits, groups_of, values_among, values_of, before_padding, whole, octets_of, decoding_of}
 use Rattle.octet_lanes.specs.declared.reader.Held.{Held}
-use Rattle.octet_lanes.specs.Reading.{decoding_after, decoding_held}
+use Rattle.octet_lanes.specs.Held.{decoding_after, decoding_held}
 use Rattle.octet_lanes.proofs.Bits.{length-all_bits, take-all_bits, AreBits, AreBits-all_bits}
 use Rattle.octet_lanes.proofs.Lanes.{all_values}
 use Rattle.octet_lanes.proofs.Pieces.{groups_of-all_bits, groups_of_bits, in_groups}

@@ -1,3 +1,4 @@
 pub mod Encoding
 pub mod Lanes
-pub mod Reading
+-- what the reader keeps between pieces; nothing public rests on it
+pub mod Held

@@ -2,7 +2,7 @@
 ghost use Rattle.std.specs.Prelude.{◌≡◌, ◌≢◌, ◌==◌, false, true, ℕ, ◌+◌, ◌-◌, ◌*◌, ◌++◌, ◌<◌, ◌≤◌, ◌^◌, ◌⊎◌, List, [], IfOk, OnOk, drop, length, map, slice_index, take};
 ghost use Rattle.std.specs.List.{All, list_any, position};
 ghost use Rattle.octet_lanes.specs.Encoding.{all_bits, before_padding, class_of, decoding_of, octets_of, padding, quantum, stray, values_among, values_of, whole, width};
-ghost use Rattle.octet_lanes.specs.Reading.{IsHeld, decoding_held};
+ghost use Rattle.octet_lanes.specs.Held.{IsHeld, decoding_held};
 ghost use Rattle.octet_lanes.specs.declared.alphabet.Alphabet.{Alphabet};
 
 use crate::alphabet::{Alphabet, PADDING, STRAY};

@@ -23,6 +23,6 @@ pub record IsChecked (checked : CheckedScript) : Type 0 where
   pub faultless : fault_of (commands_tree checked.script) ≡ None
 
 -- what each refusal says of the script
-abbrev pub IsRefused : CommandsTree → CheckError → Type 0
-IsRefused script Memory = Unit {0}
-IsRefused script e = fault_of script ≡ Some e
+abbrev pub IsCheckRefusal : CommandsTree → CheckError → Type 0
+IsCheckRefusal script Memory = Unit {0}
+IsCheckRefusal script e = fault_of script ≡ Some e

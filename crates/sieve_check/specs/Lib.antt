@@ -7,6 +7,7 @@ pub mod FormOf
 pub mod Refusals
 pub mod Rules
 pub mod CheckedScript
+-- how the checker goes; nothing public rests on these
 pub mod Checking
 pub mod Sequences
 pub mod Parts

@@ -2,7 +2,7 @@
 ghost use Rattle.std.specs.Prelude.{◌≡◌, IfErr, IfOk, OnOk, None};
 ghost use Rattle.sieve_parser.specs.Tree.{no_test, simple};
 ghost use Rattle.sieve_parser.specs.View.{command_tree, commands_tree, head_tree, invocation_tree};
-ghost use Rattle.sieve_check.specs.CheckedScript.{IsRefused};
+ghost use Rattle.sieve_check.specs.CheckedScript.{IsCheckRefusal};
 ghost use Rattle.sieve_check.specs.Checking.{Answers, command_visit, first_context};
 ghost use Rattle.sieve_check.specs.FormOf.{IsFormOf};
 ghost use Rattle.sieve_check.specs.Parts.{IsPart};
@@ -112,7 +112,7 @@ pub fn check(alloc: Global, script: Script) -> Result<Checked, CheckError>
     ensures script { IfOk result (λ checked. checked.script ≡ script) }
     ensures form { IfOk result (λ checked. IsFormOf (commands_tree script) (commands_form checked.commands)) }
     ensures faultless { OnOk result (fault_of (commands_tree script) ≡ None) }
-    ensures refused { IfErr result (λ e. IsRefused (commands_tree script) e) }
+    ensures refused { IfErr result (λ e. IsCheckRefusal (commands_tree script) e) }
 {
     let commands = commands(alloc, script.commands(), true)?;
     Ok(Checked::of(script, commands))

@@ -1,5 +1,6 @@
 pub mod Lengths
 pub mod Numbers
 pub mod Coding
+-- how the compiler goes; nothing public rests on these
 pub mod Table
 pub mod Putting

@@ -7,7 +7,7 @@ use Rattle.mime_decode.specs.Mail.{Mail, IsMail, mail_of}
 use Rattle.mime_decode.specs.Refusals.{IsMessageRefusal}
 use Rattle.mime_decode.specs.declared.error.MessageError.TheVariants as mail
 use Rattle.sieve_parser.specs.declared.error.ParseError.TheVariants as parser
-use Rattle.sieve_parser.specs.Scripts.{IsParsed, IsRefused}
+use Rattle.sieve_parser.specs.Scripts.{IsParsed, IsParseRefusal}
 use Rattle.sieve_parser.specs.Tree.{CommandsTree}
 use Rattle.sieve_check.specs.declared.error.CheckError.{CheckError}
 use Rattle.sieve_check.specs.declared.error.CheckError.TheVariants as checker
@@ -35,10 +35,10 @@ IsFaulty octets fault = (tree : CommandsTree) × IsParsed octets tree × (fault_
 -- the first refusal of octets as a script; Memory has no cause in them
 abbrev pub IsScriptRefusal : List ℕ → EngineError → Type 0
 IsScriptRefusal octets Memory = Unit {0}
-IsScriptRefusal octets (Lexical place) = IsRefused octets (parser.Lexical place)
-IsScriptRefusal octets ScriptTooLong = IsRefused octets parser.ScriptTooLong
-IsScriptRefusal octets (Syntax place) = IsRefused octets (parser.Syntax place)
-IsScriptRefusal octets (TooDeep place) = IsRefused octets (parser.TooDeep place)
+IsScriptRefusal octets (Lexical place) = IsParseRefusal octets (parser.Lexical place)
+IsScriptRefusal octets ScriptTooLong = IsParseRefusal octets parser.ScriptTooLong
+IsScriptRefusal octets (Syntax place) = IsParseRefusal octets (parser.Syntax place)
+IsScriptRefusal octets (TooDeep place) = IsParseRefusal octets (parser.TooDeep place)
 IsScriptRefusal octets (UnknownCommand place) = IsFaulty octets (checker.UnknownCommand place)
 IsScriptRefusal octets (MissingCapability place) = IsFaulty octets (checker.MissingCapability place)
 IsScriptRefusal octets (UnknownCapability place) = IsFaulty octets (checker.UnknownCapability place)

@@ -48,7 +48,7 @@ pub record IsFault (script : List ℕ) (place : ℕ) : Type 0 where
   pub no_token : NoToken script place
 
 -- what each refusal says of the script
-abbrev pub IsRefused : List ℕ → LexicalError → Type 0
-IsRefused script Memory = Unit {0}
-IsRefused script ScriptTooLong = max_script < length script
-IsRefused script (Lexical place) = (length script ≤ max_script) × IsFault script place
+abbrev pub IsLexicalRefusal : List ℕ → LexicalError → Type 0
+IsLexicalRefusal script Memory = Unit {0}
+IsLexicalRefusal script ScriptTooLong = max_script < length script
+IsLexicalRefusal script (Lexical place) = (length script ≤ max_script) × IsFault script place

@@ -5,7 +5,7 @@ ghost use Rattle.octets.specs.Limits.{max_script};
 ghost use Rattle.sieve_lexer.specs.Classes.{begins_identifier};
 ghost use Rattle.sieve_lexer.specs.Texts.{IsSuffix, sign_octet};
 ghost use Rattle.sieve_lexer.specs.declared.token.TokenKind.{TokenKind};
-ghost use Rattle.sieve_lexer.specs.Tokens.{IsTokenAt, AreTokens, IsRefused};
+ghost use Rattle.sieve_lexer.specs.Tokens.{IsTokenAt, AreTokens, IsLexicalRefusal};
 
 use crate::MAX_SCRIPT;
 use crate::error::LexicalError;
@@ -150,7 +150,7 @@ fn token_at(script: &[u8], place: usize) -> Option<Token>
 /// [`LexicalError::Memory`] comes only where memory was refused.
 pub fn tokens(alloc: Global, script: &[u8]) -> Result<Vec<Token>, LexicalError>
     ensures tokens { IfOk result (λ v. (length script.now ≤ max_script) × AreTokens script.now v.items) }
-    ensures refused { IfErr result (λ e. IsRefused script.now e) }
+    ensures refused { IfErr result (λ e. IsLexicalRefusal script.now e) }
 {
     if script.len() > MAX_SCRIPT {
         return Err(LexicalError::ScriptTooLong);

@@ -9,8 +9,8 @@ use Rattle.sieve_lexer.specs.declared.token.TokenKind.TheVariants.{Identifier, T
 use Rattle.sieve_parser.specs.Lexemes.{Lexeme, lexeme_of, opening_bracket}
 use Rattle.sieve_parser.specs.Tree.{ArgumentTree}
 use Rattle.sieve_parser.specs.Grammar.{Placed, at_depth, argument_spelled, arguments_spelled}
-use Rattle.sieve_parser.specs.Machine.{Follow, Symbol, arguments, strings, expand}
-use Rattle.sieve_parser.specs.Reading.{Beginning, IsAt, Stands, lexeme_at, IsNoArgument}
+use Rattle.sieve_parser.specs.TokenMachine.{Follow, Symbol, arguments, strings, expand}
+use Rattle.sieve_parser.specs.Parsing.{Beginning, IsAt, Stands, lexeme_at, IsNoArgument}
 use Rattle.sieve_parser.proofs.Walk.{walk, stands_one, stands_both}
 
 pub no_argument : (k : TokenKind) (n : ℕ) (octets : List ℕ) → k ≢ Tag → k ≢ Number → k ≢ QuotedString → k ≢ MultiLineString → k ≢ OpeningBracket → IsNoArgument (lexeme_of k n octets)

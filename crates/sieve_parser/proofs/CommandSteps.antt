@@ -4,8 +4,8 @@ use Rattle.std.proofs.lemmas.List.{append_assoc, append-nil, map_push}
 use Rattle.sieve_parser.specs.Lexemes.{Lexeme, identifier, semicolon, opening_brace, closing_brace}
 use Rattle.sieve_parser.specs.Tree.{InvocationTree, CommandTree, simple, block, CommandsTree}
 use Rattle.sieve_parser.specs.Grammar.{Placed, at_depth, command_spelled, commands_spelled}
-use Rattle.sieve_parser.specs.Machine.{command_end, Symbol, arguments, ending, body, expand}
-use Rattle.sieve_parser.specs.Reading.{Beginning, IsAt, Stands, lexeme_at}
+use Rattle.sieve_parser.specs.TokenMachine.{command_end, Symbol, arguments, ending, body, expand}
+use Rattle.sieve_parser.specs.Parsing.{Beginning, IsAt, Stands, lexeme_at}
 use Rattle.sieve_parser.specs.View.{invocation_tree, command_tree, command_step, commands_of, commands_tree}
 use Rattle.sieve_parser.specs.declared.tree.Invocation.{Invocation}
 use Rattle.sieve_parser.specs.declared.tree.Command.{Command}

@@ -5,7 +5,7 @@ use Rattle.sieve_lexer.specs.Separators.{IsSeparator, IsGap}
 use Rattle.sieve_lexer.specs.Tokens.{TokensUpTo, AreTokens}
 use Rattle.sieve_lexer.specs.declared.token.Token.{Token}
 use Rattle.sieve_parser.specs.Grammar.{Placed, commands_spelled, lexemes_placed}
-use Rattle.sieve_parser.specs.Reading.{lexemes}
+use Rattle.sieve_parser.specs.Parsing.{lexemes}
 use Rattle.sieve_parser.specs.Scripts.{IsParsed}
 use Rattle.sieve_parser.specs.Tree.{CommandsTree}
 use Rattle.sieve_parser.proofs.Walk.{length-lexemes}

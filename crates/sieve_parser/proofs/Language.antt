@@ -6,7 +6,7 @@ use Rattle.sieve_parser.specs.Lexemes.{Lexeme, identifier, tag, number, string, 
 use Rattle.sieve_parser.specs.Tree.{ArgumentTree, text, text_list, amount, label, InvocationTree, invocation, TestsTree, no_test, one_test, test_list, MoreTests, last, next, CommandTree, simple, block, CommandsTree, no_command, command}
 use Rattle.sieve_parser.specs.Grammar.{Placed, at_depth, more_strings_spelled, argument_spelled, arguments_spelled, invocation_spelled, tests_spelled, more_tests_spelled, command_spelled, commands_spelled}
 use Rattle.sieve_parser.specs.Language.{body_end, InFollow, InSymbol, InStack}
-use Rattle.sieve_parser.specs.Machine.{Follow, command_end, test_end, Symbol, body, arguments, ending, tests, strings, more_strings, ended_by, expand}
+use Rattle.sieve_parser.specs.TokenMachine.{Follow, command_end, test_end, Symbol, body, arguments, ending, tests, strings, more_strings, ended_by, expand}
 
 regroup : (a b c d : List Placed) → a ++ ((b ++ c) ++ d) ≡ ((a ++ b) ++ c) ++ d
 regroup a b c d = simp append_assoc

@@ -6,8 +6,8 @@ use Rattle.sieve_parser.specs.Lexemes.{Lexeme}
 use Rattle.sieve_parser.specs.Tree.{CommandsTree}
 use Rattle.sieve_parser.specs.Grammar.{IsScript, commands_spelled}
 use Rattle.sieve_parser.specs.Faults.{AreWithinDepth, IsSyntaxFault, IsTooDeep}
-use Rattle.sieve_parser.specs.Reading.{lexemes}
-use Rattle.sieve_parser.specs.Scripts.{IsParsed, IsRefused}
+use Rattle.sieve_parser.specs.Parsing.{lexemes}
+use Rattle.sieve_parser.specs.Scripts.{IsParsed, IsParseRefusal}
 use Rattle.sieve_parser.specs.declared.error.ParseError.{ParseError}
 use Rattle.sieve_parser.specs.declared.error.ParseError.TheVariants.{Memory, ScriptTooLong, Lexical, Syntax, TooDeep}
 use Rattle.sieve_parser.proofs.OneAnswer.{no_syntax_fault, no_depth_fault, one_syntax_fault, one_depth_fault, one_kind_of_fault}
@@ -18,7 +18,7 @@ module _ (tokens : (script : List ℕ) (ts us : List Token) → AreTokens script
   moved : (P : List Lexeme → Type 0) (script : List ℕ) (ts us : List Token) → AreTokens script ts → AreTokens script us → P (lexemes script ts) → P (lexemes script us)
   moved P script ts us a b h = subst (λ w. P (lexemes script w)) (tokens script ts us a b) h
 
-  pub parsed_alone : (script : List ℕ) (cs : CommandsTree) (e : ParseError) → IsParsed script cs → IsRefused script e → e ≡ Memory
+  pub parsed_alone : (script : List ℕ) (cs : CommandsTree) (e : ParseError) → IsParsed script cs → IsParseRefusal script e → e ≡ Memory
   parsed_alone script cs Memory p q = refl
   parsed_alone script cs ScriptTooLong p q = absurd (omega (arith, p.0, q))
   parsed_alone script cs (Lexical place) p q = absurd (no_fault script p.1.0 place p.1.1.0 q.1)
@@ -33,7 +33,7 @@ module _ (tokens : (script : List ℕ) (ts us : List Token) → AreTokens script
   also : (P : List Lexeme → Type 0) (script : List ℕ) (ts us : List Token) → AreTokens script ts → AreTokens script us → P (lexemes script ts) → P (lexemes script us)
   also P script ts us a b h = subst (λ w. P (lexemes script w)) (tokens script ts us a b) h
 
-  pub one_refusal : (script : List ℕ) (e f : ParseError) → IsRefused script e → IsRefused script f → e ≢ Memory → f ≢ Memory → e ≡ f
+  pub one_refusal : (script : List ℕ) (e f : ParseError) → IsParseRefusal script e → IsParseRefusal script f → e ≢ Memory → f ≢ Memory → e ≡ f
   one_refusal script Memory f p q m n = absurd (m refl)
   one_refusal script ScriptTooLong Memory p q m n = absurd (n refl)
   one_refusal script (Lexical place) Memory p q m n = absurd (n refl)

@@ -12,16 +12,16 @@ use Rattle.sieve_parser.specs.declared.error.ParseError.TheVariants as parser
 use Rattle.sieve_parser.specs.Lexemes.{Lexeme}
 use Rattle.sieve_parser.specs.Tree.{CommandsTree}
 use Rattle.sieve_parser.specs.Grammar.{IsScript, commands_spelled, lexemes_placed}
-use Rattle.sieve_parser.specs.Machine.{body, reading}
+use Rattle.sieve_parser.specs.TokenMachine.{body, reading}
 use Rattle.sieve_parser.specs.Faults.{AreWithinDepth, IsSyntaxFault, IsTooDeep}
-use Rattle.sieve_parser.specs.Reading.{Beginning, IsAt, IsFaultOf, IsSyntaxFaultIn, IsTooDeepIn, IsIdentifierAt, Stands, lexeme_at, lexemes}
+use Rattle.sieve_parser.specs.Parsing.{Beginning, IsAt, IsFaultOf, IsSyntaxFaultIn, IsTooDeepIn, IsIdentifierAt, Stands, lexeme_at, lexemes}
 use Rattle.sieve_parser.specs.Refusals.{parse_error}
-use Rattle.sieve_parser.specs.Scripts.{IsParsed, IsRefused}
+use Rattle.sieve_parser.specs.Scripts.{IsParsed, IsParseRefusal}
 use Rattle.sieve_parser.proofs.Faulted.{root, root_grounded, script_of_word, word_of_script, read_script_within}
 use Rattle.sieve_parser.proofs.Walk.{stuck}
 use Rattle.sieve_parser.proofs.Wrong.{no_command_first}
 
-pub lexical_refusal : (script : List ℕ) (e : LexicalError) → lexer.IsRefused script e → IsRefused script (parse_error e)
+pub lexical_refusal : (script : List ℕ) (e : LexicalError) → lexer.IsLexicalRefusal script e → IsParseRefusal script (parse_error e)
 lexical_refusal script Memory h = h
 lexical_refusal script ScriptTooLong h = h
 lexical_refusal script (Lexical place) h = h
@@ -74,7 +74,7 @@ whole_parsed s ts p cs short are stands at past =
     let script : IsScript (lexemes s ts) cs = whole_script (lexemes s ts) p cs stands past in
     (short, (ts, (are, script, whole_within (lexemes s ts) p cs at past script)))
 
-pub fault_refused : (script : List ℕ) (tokens : List Token) (e : ParseError) → length script ≤ max_script → lexer.AreTokens script tokens → IsFaultOf whole (lexemes script tokens) e → IsRefused script e
+pub fault_refused : (script : List ℕ) (tokens : List Token) (e : ParseError) → length script ≤ max_script → lexer.AreTokens script tokens → IsFaultOf whole (lexemes script tokens) e → IsParseRefusal script e
 fault_refused script tokens parser.Memory short are h = tt
 fault_refused script tokens parser.ScriptTooLong short are h = absurd h
 fault_refused script tokens (parser.Lexical place) short are h = absurd h

@@ -3,8 +3,8 @@ use Rattle.std.proofs.Common.{◌≡◌, ℕ, ◌+◌, ◌<◌, ◌≤◌, List,
 use Rattle.std.proofs.lemmas.List.{append_assoc}
 use Rattle.sieve_parser.specs.Lexemes.{Lexeme, string, comma, closing_bracket}
 use Rattle.sieve_parser.specs.Grammar.{at_depth, more_strings_spelled}
-use Rattle.sieve_parser.specs.Machine.{Symbol, strings, more_strings, expand}
-use Rattle.sieve_parser.specs.Reading.{Beginning, IsAt, Stands, lexeme_at}
+use Rattle.sieve_parser.specs.TokenMachine.{Symbol, strings, more_strings, expand}
+use Rattle.sieve_parser.specs.Parsing.{Beginning, IsAt, Stands, lexeme_at}
 use Rattle.sieve_parser.proofs.Walk.{walk, stands_one, stands_both}
 
 more_push : (d : ℕ) (ss : List (List ℕ)) (v : List ℕ) → more_strings_spelled d (ss ++ v ∷ []) ≡ more_strings_spelled d ss ++ (at_depth d comma ∷ at_depth d (string v) ∷ [])

@@ -6,8 +6,8 @@ use Rattle.std.proofs.lemmas.List.{append_assoc, append-nil, map_push}
 use Rattle.sieve_parser.specs.Lexemes.{Lexeme, identifier, tag, number, string, comma, opening_parenthesis, closing_parenthesis, opening_bracket}
 use Rattle.sieve_parser.specs.Tree.{ArgumentTree, InvocationTree, invocation, no_test, one_test, test_list, MoreTests}
 use Rattle.sieve_parser.specs.Grammar.{Placed, at_depth, arguments_spelled, invocation_spelled, more_tests_spelled}
-use Rattle.sieve_parser.specs.Machine.{Follow, test_end, Symbol, arguments, ending, tests, expand, ended_by, judged}
-use Rattle.sieve_parser.specs.Reading.{Beginning, IsAt, Stands, lexeme_at, IsNoArgument, NoArgumentAt, IsInvocationAt, IsTestAt}
+use Rattle.sieve_parser.specs.TokenMachine.{Follow, test_end, Symbol, arguments, ending, tests, expand, ended_by, judged}
+use Rattle.sieve_parser.specs.Parsing.{Beginning, IsAt, Stands, lexeme_at, IsNoArgument, NoArgumentAt, IsInvocationAt, IsTestAt}
 use Rattle.sieve_parser.specs.View.{head_tree, invocation_tree, invocation_step, more_tests_of}
 use Rattle.sieve_parser.specs.declared.tree.Head.{Head}
 use Rattle.sieve_parser.specs.declared.tree.Invocation.{Invocation}

@@ -2,7 +2,7 @@
 use Rattle.std.proofs.Common.{◌≡◌, ◌≢◌, ℕ, suc, List, refl}
 use Rattle.std.specs.Prelude.{None}
 use Rattle.sieve_parser.specs.Lexemes.{Lexeme, identifier, tag, number, string, semicolon, comma, opening_brace, closing_brace, opening_parenthesis, closing_parenthesis, opening_bracket, closing_bracket}
-use Rattle.sieve_parser.specs.Machine.{Follow, command_end, test_end, body, arguments, tests, strings, more_strings, ended_by, expand}
+use Rattle.sieve_parser.specs.TokenMachine.{Follow, command_end, test_end, body, arguments, tests, strings, more_strings, ended_by, expand}
 
 pub no_string_first : (d : ℕ) (l : Lexeme) → ((s : List ℕ) → l ≡ string s → ⊥) → expand (strings d) l ≡ None
 no_string_first d (string s) ne = absurd (ne s refl)

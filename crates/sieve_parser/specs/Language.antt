@@ -3,7 +3,7 @@ use Rattle.std.specs.Prelude.{◌≡◌, ◌⊎◌, ℕ, zero, suc, List, [], �
 use Rattle.sieve_parser.specs.Lexemes.{string, semicolon, opening_brace, closing_brace, closing_parenthesis, closing_bracket}
 use Rattle.sieve_parser.specs.Tree.{ArgumentTree, InvocationTree, TestsTree, MoreTests, CommandsTree}
 use Rattle.sieve_parser.specs.Grammar.{Placed, at_depth, more_strings_spelled, arguments_spelled, invocation_spelled, tests_spelled, more_tests_spelled, commands_spelled}
-use Rattle.sieve_parser.specs.Machine.{Follow, command_end, test_end, Symbol, body, arguments, ending, tests, strings, more_strings}
+use Rattle.sieve_parser.specs.TokenMachine.{Follow, command_end, test_end, Symbol, body, arguments, ending, tests, strings, more_strings}
 
 -- what ends a body: the closing brace, and at depth 0 nothing
 abbrev pub body_end : ℕ → List Placed

@@ -5,7 +5,7 @@ use Rattle.sieve_lexer.specs.declared.token.Token.{Token}
 use Rattle.sieve_parser.specs.Tree.{CommandsTree}
 use Rattle.sieve_parser.specs.Grammar.{IsScript, commands_spelled}
 use Rattle.sieve_parser.specs.Faults.{AreWithinDepth, IsSyntaxFault, IsTooDeep}
-use Rattle.sieve_parser.specs.Reading.{lexemes}
+use Rattle.sieve_parser.specs.Parsing.{lexemes}
 use Rattle.sieve_parser.specs.declared.error.ParseError.{ParseError}
 use Rattle.sieve_parser.specs.declared.error.ParseError.TheVariants.{Memory, ScriptTooLong, Lexical, Syntax, TooDeep}
 
@@ -19,9 +19,9 @@ abbrev pub IsTree : CommandsTree → Type 0
 IsTree cs = (script : List ℕ) × IsParsed script cs
 
 -- what each refusal says of the script
-abbrev pub IsRefused : List ℕ → ParseError → Type 0
-IsRefused script Memory = Unit {0}
-IsRefused script ScriptTooLong = max_script < length script
-IsRefused script (Lexical place) = (length script ≤ max_script) × IsFault script place
-IsRefused script (Syntax place) = (length script ≤ max_script) × ((tokens : List Token) × (AreTokens script tokens × IsSyntaxFault (lexemes script tokens) place))
-IsRefused script (TooDeep place) = (length script ≤ max_script) × ((tokens : List Token) × (AreTokens script tokens × IsTooDeep (lexemes script tokens) place))
+abbrev pub IsParseRefusal : List ℕ → ParseError → Type 0
+IsParseRefusal script Memory = Unit {0}
+IsParseRefusal script ScriptTooLong = max_script < length script
+IsParseRefusal script (Lexical place) = (length script ≤ max_script) × IsFault script place
+IsParseRefusal script (Syntax place) = (length script ≤ max_script) × ((tokens : List Token) × (AreTokens script tokens × IsSyntaxFault (lexemes script tokens) place))
+IsParseRefusal script (TooDeep place) = (length script ≤ max_script) × ((tokens : List Token) × (AreTokens script tokens × IsTooDeep (lexemes script tokens) place))

@@ -2,7 +2,7 @@
 ghost use Rattle.std.specs.Prelude.{◌≤◌, ◌<◌, ◌^◌, length};
 ghost use Rattle.octets.specs.Limits.{max_nesting};
 ghost use Rattle.sieve_lexer.specs.Tokens.{AreTokens};
-ghost use Rattle.sieve_parser.specs.Reading.{AreTestsAfter, IsInvocationAt, IsTestAt, lexemes};
+ghost use Rattle.sieve_parser.specs.Parsing.{AreTestsAfter, IsInvocationAt, IsTestAt, lexemes};
 
 use crate::MAX_NESTING;
 use crate::arguments::arguments;

@@ -4,9 +4,9 @@ ghost use Rattle.std.specs.Prelude.{◌≡◌, ◌≢◌, ◌≤◌, ◌++◌, �
 ghost use Rattle.sieve_parser.specs.Faults.{IsViableWithinDepth};
 ghost use Rattle.sieve_parser.specs.Grammar.{IsViable, IsScript, commands_spelled};
 ghost use Rattle.sieve_parser.specs.Lexemes.{Lexeme};
-ghost use Rattle.sieve_parser.specs.Machine.{Symbol, wrong, reading, step};
-ghost use Rattle.sieve_parser.specs.Reading.{IsDone};
-ghost use Rattle.sieve_parser.specs.Scripts.{IsParsed, IsRefused};
+ghost use Rattle.sieve_parser.specs.TokenMachine.{Symbol, wrong, reading, step};
+ghost use Rattle.sieve_parser.specs.Parsing.{IsDone};
+ghost use Rattle.sieve_parser.specs.Scripts.{IsParsed, IsParseRefusal};
 ghost use Rattle.sieve_parser.specs.Tree.{CommandsTree};
 ghost use Rattle.sieve_parser.specs.declared.error.ParseError.{ParseError};
 ghost use Rattle.sieve_parser.specs.declared.error.ParseError.TheVariants.{Memory};
@@ -45,7 +45,7 @@ pub fn scripts_are_as_long_as_their_trees()
 
 /// A script has one refusal at most, but for want of memory: one kind of fault, at one place.
 pub fn refusals_are_unique()
-    ensures { (script : List ℕ) (e f : ParseError) → IsRefused script e → IsRefused script f → e ≢ Memory → f ≢ Memory → e ≡ f }
+    ensures { (script : List ℕ) (e f : ParseError) → IsParseRefusal script e → IsParseRefusal script f → e ≢ Memory → f ≢ Memory → e ≡ f }
 {
     sieve_lexer::laws::tokens_are_unique();
     sieve_lexer::laws::fault_is_unique();
@@ -54,7 +54,7 @@ pub fn refusals_are_unique()
 
 /// A script that has a tree is refused for want of memory alone.
 pub fn parsed_scripts_have_no_fault()
-    ensures { (script : List ℕ) (cs : CommandsTree) (e : ParseError) → IsParsed script cs → IsRefused script e → e ≡ Memory }
+    ensures { (script : List ℕ) (cs : CommandsTree) (e : ParseError) → IsParsed script cs → IsParseRefusal script e → e ≡ Memory }
 {
     sieve_lexer::laws::tokens_are_unique();
     sieve_lexer::laws::tokens_have_no_fault();

@@ -1,6 +1,6 @@
 // The parser.
 ghost use Rattle.std.specs.Prelude.{IfErr, IfOk};
-ghost use Rattle.sieve_parser.specs.Scripts.{IsParsed, IsRefused};
+ghost use Rattle.sieve_parser.specs.Scripts.{IsParsed, IsParseRefusal};
 ghost use Rattle.sieve_parser.specs.View.{commands_tree};
 
 use crate::command::commands;
@@ -16,7 +16,7 @@ use std::alloc::Global;
 /// [`ParseError::Memory`] comes only where memory was refused.
 pub fn parse(alloc: Global, script: &[u8]) -> Result<Script, ParseError>
     ensures parsed { IfOk result (λ parsed. IsParsed script.now (commands_tree parsed)) }
-    ensures refused { IfErr result (λ e. IsRefused script.now e) }
+    ensures refused { IfErr result (λ e. IsParseRefusal script.now e) }
 {
     let tokens = sieve_lexer::tokens(alloc, script)?;
     let (commands, next) = commands(alloc, script, &tokens, 0, 0)?;

@@ -2,7 +2,7 @@
 ghost use Rattle.std.specs.Prelude.{◌≡◌, ◌↔◌, IsTrue, IfOk};
 ghost use Rattle.std.specs.List.{slice_get};
 ghost use Rattle.sieve_lexer.specs.Tokens.{AreTokens};
-ghost use Rattle.sieve_parser.specs.Reading.{IsIdentifierAt, IsStringAt, kind_at, lexemes};
+ghost use Rattle.sieve_parser.specs.Parsing.{IsIdentifierAt, IsStringAt, kind_at, lexemes};
 
 use octets::Octets;
 use sieve_lexer::{Token, TokenKind, string_of};

@@ -1,5 +1,5 @@
 use Rattle.std.proofs.lemmas.Result.{err_from_is_err_and}
-use Rattle.bytecode_format.specs.Reading.{instruction_at}
+use Rattle.bytecode_format.specs.Readers.{instruction_at}
 use Rattle.bytecode_format.proofs.Loop.{goes_on, ends, is_done}
 use Rattle.bytecode_format.proofs.reading.instructions_of.Goals as goal
 

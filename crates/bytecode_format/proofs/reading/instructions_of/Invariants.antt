@@ -1,5 +1,5 @@
 use Rattle.std.proofs.Common.{◌≡◌, ◌-◌}
-use Rattle.bytecode_format.specs.Reading.{instruction_at, many_at}
+use Rattle.bytecode_format.specs.Readers.{instruction_at, many_at}
 use Rattle.bytecode_format.proofs.Loop.{with_prefix}
 use Rattle.bytecode_format.proofs.reading.instructions_of.Given as goal
 

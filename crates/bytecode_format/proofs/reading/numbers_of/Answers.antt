@@ -1,6 +1,6 @@
 use Rattle.std.specs.Int.{w64}
 use Rattle.std.proofs.lemmas.Result.{err_from_is_err_and}
-use Rattle.bytecode_format.specs.Reading.{number_at}
+use Rattle.bytecode_format.specs.Readers.{number_at}
 use Rattle.bytecode_format.proofs.Loop.{goes_on, ends, is_done}
 use Rattle.bytecode_format.proofs.reading.numbers_of.Goals as goal
 

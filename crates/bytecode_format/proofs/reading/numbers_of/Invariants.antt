@@ -1,6 +1,6 @@
 use Rattle.std.proofs.Common.{◌≡◌, ◌-◌}
 use Rattle.std.specs.Int.{w64}
-use Rattle.bytecode_format.specs.Reading.{number_at, many_at}
+use Rattle.bytecode_format.specs.Readers.{number_at, many_at}
 use Rattle.bytecode_format.proofs.Loop.{with_prefix}
 use Rattle.bytecode_format.proofs.reading.numbers_of.Given as goal
 

@@ -4,8 +4,8 @@ use Rattle.std.proofs.lemmas.Result.{err_from_is_err_and}
 use Rattle.sieve_lexer.specs.declared.token.TokenKind.TheVariants.{Semicolon, OpeningBrace, ClosingBrace}
 use Rattle.sieve_parser.specs.Lexemes.{semicolon, opening_brace, closing_brace}
 use Rattle.sieve_parser.specs.Grammar.{commands_spelled}
-use Rattle.sieve_parser.specs.Machine.{command_end, ending, body, expand}
-use Rattle.sieve_parser.specs.Reading.{Beginning, IsAt, IsIdentifierAt, Stands, lexemes, lexeme_at}
+use Rattle.sieve_parser.specs.TokenMachine.{command_end, ending, body, expand}
+use Rattle.sieve_parser.specs.Parsing.{Beginning, IsAt, IsIdentifierAt, Stands, lexemes, lexeme_at}
 use Rattle.sieve_parser.specs.View.{invocation_tree, commands_tree}
 use Rattle.sieve_parser.proofs.Here.{kind_here, not_here}
 use Rattle.sieve_parser.proofs.TestSteps.{from_suc}

@@ -1,7 +1,7 @@
 use Rattle.std.proofs.Common.{[], sym, subst, arith}
 use Rattle.std.proofs.lemmas.Result.{err_from_is_err_and}
 use Rattle.sieve_lexer.specs.Tokens.{AreTokens}
-use Rattle.sieve_parser.specs.Reading.{lexemes}
+use Rattle.sieve_parser.specs.Parsing.{lexemes}
 use Rattle.sieve_parser.specs.Scripts.{IsParsed}
 use Rattle.sieve_parser.specs.View.{commands_tree}
 use Rattle.sieve_parser.proofs.Parsed.{whole, at_start, not_ended, whole_parsed, fault_refused}

@@ -1,6 +1,6 @@
 use Rattle.std.proofs.Common.{subst}
-use Rattle.sieve_parser.specs.Machine.{strings}
-use Rattle.sieve_parser.specs.Reading.{IsStringAt, lexemes, lexeme_at}
+use Rattle.sieve_parser.specs.TokenMachine.{strings}
+use Rattle.sieve_parser.specs.Parsing.{IsStringAt, lexemes, lexeme_at}
 use Rattle.sieve_parser.proofs.Walk.{stuck_here}
 use Rattle.sieve_parser.proofs.Wrong.{no_string_first}
 use Rattle.sieve_parser.proofs.strings.expected_string.Goals as goal

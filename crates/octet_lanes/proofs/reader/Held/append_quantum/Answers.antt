@@ -1,7 +1,7 @@
 use Rattle.std.proofs.Common.{◌≡◌, ◌++◌, false, take, ap, ◌∙◌, refl}
 use Rattle.octet_lanes.specs.declared.reader.Held.{Held}
 use Rattle.octet_lanes.specs.Encoding.{all_bits, decoding_of, octets_of, quantum, width}
-use Rattle.octet_lanes.specs.Reading.{decoding_held}
+use Rattle.octet_lanes.specs.Held.{decoding_held}
 use Rattle.octet_lanes.proofs.Reading.{given, goes_on, held_none, quantum_octets}
 use Rattle.octet_lanes.proofs.reader.Held.append_quantum.Goals as goal
 use Rattle.octet_lanes.proofs.reader.Held.append_quantum.Goals.{then-self-quantum_characters+in_ok-append_values, else-self-quantum_characters}

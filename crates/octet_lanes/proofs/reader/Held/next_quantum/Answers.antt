@@ -3,7 +3,7 @@ use Rattle.std.proofs.lemmas.List.{length-set, take_more_set}
 use Rattle.std.proofs.lemmas.List.Elements.{All-set}
 use Rattle.octet_lanes.specs.Encoding.{quantum, width}
 use Rattle.octet_lanes.specs.declared.reader.Held.{Held}
-use Rattle.octet_lanes.specs.Reading.{decoding_after}
+use Rattle.octet_lanes.specs.Held.{decoding_after}
 use Rattle.octet_lanes.proofs.Reading.{after_value, after_stray, class_below, few_characters, goes_on}
 use Rattle.octet_lanes.proofs.reader.Held.next_quantum.Goals as goal
 

@@ -1,7 +1,7 @@
 use Rattle.std.proofs.Common.{◌≡◌, ◌<◌, ◌≤◌, ◌^◌, ◌++◌, ℕ, List, false, length}
 use Rattle.std.specs.List.{All}
 use Rattle.octet_lanes.specs.Encoding.{quantum, width}
-use Rattle.octet_lanes.specs.Reading.{decoding_held}
+use Rattle.octet_lanes.specs.Held.{decoding_held}
 use Rattle.octet_lanes.proofs.reader.Held.next_quantum.Given as goal
 
 abbrev pub invariant-octets : goal.invariant-octets

@@ -1,5 +1,5 @@
 use Rattle.std.proofs.Common.{◌++◌, sym, ap, ◌∙◌}
-use Rattle.octet_lanes.specs.Reading.{decoding_held}
+use Rattle.octet_lanes.specs.Held.{decoding_held}
 use Rattle.octet_lanes.proofs.Reading.{held_none}
 use Rattle.octet_lanes.proofs.reader.Held.take_in.Goals as goal
 use Rattle.octet_lanes.proofs.reader.Held.take_in.Goals.{then-self-eq0+in_ok-rest, else-self-eq0}

@@ -1,5 +1,5 @@
 use Rattle.std.proofs.Common.{◌≡◌, ◌++◌, ℕ, List, length}
-use Rattle.octet_lanes.specs.Reading.{IsHeld, decoding_held}
+use Rattle.octet_lanes.specs.Held.{IsHeld, decoding_held}
 use Rattle.octet_lanes.proofs.reader.Held.take_in.Given as goal
 
 abbrev pub invariant-quanta : goal.invariant-quanta

@@ -5,7 +5,7 @@ use Rattle.sieve_lexer.specs.declared.token.TokenKind.{TokenKind}
 use Rattle.sieve_parser.specs.Lexemes.{Lexeme, semicolon, identifier, tag, number, string, opening_bracket, closing_parenthesis, lexemes_from}
 use Rattle.sieve_parser.specs.Grammar.{Placed, at_depth, lexemes_placed, argument_spelled, arguments_spelled, invocation_spelled, more_tests_spelled, command_spelled, commands_spelled}
 use Rattle.sieve_parser.specs.Language.{InStack}
-use Rattle.sieve_parser.specs.Machine.{IsGrounded, reading_from, Follow, command_end, test_end, Symbol, body, arguments, ending, tests, strings, step}
+use Rattle.sieve_parser.specs.TokenMachine.{IsGrounded, reading_from, Follow, command_end, test_end, Symbol, body, arguments, ending, tests, strings, step}
 use Rattle.sieve_parser.specs.View.{argument_tree, invocation_tree, more_tests_of, command_tree, commands_tree}
 use Rattle.sieve_parser.specs.declared.tree.Argument.{Argument}
 use Rattle.sieve_parser.specs.declared.tree.Invocation.{Invocation}
