@@ -6,6 +6,10 @@ mod headers;
 #[cfg(test)]
 mod large_headers;
 #[cfg(test)]
+mod large_media;
+#[cfg(test)]
 mod lines;
+#[cfg(test)]
+mod media;
 #[cfg(test)]
 mod repeated;
