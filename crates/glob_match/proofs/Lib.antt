@@ -1,0 +1,5 @@
+mod Captured
+mod Examples
+mod Least
+mod Places
+mod Texts

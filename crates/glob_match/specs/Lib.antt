@@ -1,0 +1,4 @@
+pub mod Comparison
+pub mod Tokens
+pub mod Matching
+pub mod Containment

@@ -1,0 +1,12 @@
+//! Matching of a text with a key under a comparator (RFC 5228, sections 2.7.1 and 2.7.3; RFC 5229, section 3.2).
+//!
+//! [`is`] and [`contains`] answer whether the text is the key or has a stretch that is, [`matches`] whether it fits a key
+//! with wildcards, and which stretches of it the wildcards stand for. What fits, and which of several lists of stretches
+//! is taken, stands in `specs/Matching`. No call takes memory, and all succeed outright.
+#![tactic(auto)]
+
+mod comparator;
+pub mod laws;
+mod token;
+
+pub use comparator::Comparator;
