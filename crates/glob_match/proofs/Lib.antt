@@ -1,5 +1,10 @@
+mod Added
 mod Captured
+mod Cases
 mod Examples
 mod Least
+mod Lowered
+mod Occurs
 mod Places
+mod Segmented
 mod Texts

@@ -1,4 +1,7 @@
+pub mod Captures
 pub mod Comparison
-pub mod Tokens
-pub mod Matching
 pub mod Containment
+pub mod Matching
+-- private: how the search goes
+pub mod Segments
+pub mod Tokens

@@ -1,8 +1,24 @@
-/// How octets are compared (RFC 4790, section 9).
+ghost use Rattle.std.specs.Prelude.{◌≡◌};
+ghost use Rattle.glob_match.specs.Comparison.{same_octet};
+
+/// How octets are compared (RFC 4790, sections 9.2 and 9.3).
 #[derive(Clone, Copy, Debug, PartialEq, Eq, Drop)]
 pub enum Comparator {
     /// `i;octet`: as they are.
     Octet,
     /// `i;ascii-casemap`: with `a` to `z` as `A` to `Z`.
     Casemap,
+}
+
+impl Comparator {
+    /// Whether the octets are equal.
+    #[inline(always)]
+    pub(crate) fn same(self, a: u8, b: u8) -> bool
+        ensures { result ≡ same_octet self a b }
+    {
+        match self {
+            Comparator::Octet => a == b,
+            Comparator::Casemap => a.to_ascii_uppercase() == b.to_ascii_uppercase(),
+        }
+    }
 }

@@ -5,8 +5,21 @@
 //! is taken, stands in `specs/Matching`. No call takes memory, and all succeed outright.
 #![tactic(auto)]
 
+mod captures;
 mod comparator;
+mod containment;
+mod equality;
+mod fold;
 pub mod laws;
+mod matching;
+mod placement;
+mod search;
+mod segment;
+
 mod token;
 
+pub use captures::{Captures, MAX_CAPTURE, MAX_CAPTURES, Stretch};
 pub use comparator::Comparator;
+pub use matching::matches;
+pub use containment::contains;
+pub use equality::is;

@@ -1,0 +1,16 @@
+use Rattle.std.proofs.Common.{◌∙◌, sym, ap, map}
+use Rattle.glob_match.specs.Containment.{begins_with, first_place}
+use Rattle.glob_match.specs.declared.comparator.Comparator.TheVariants.{Octet, Casemap}
+use Rattle.glob_match.specs.declared.token.Token.TheVariants.{Literal}
+use Rattle.glob_match.proofs.Occurs.{found, found_octets}
+use Rattle.glob_match.proofs.search.find.Goals as goal
+
+pub returns-in-Octet : goal.returns-in-Octet
+returns-in-Octet c =
+    found_octets c.args.value.now c.args.text.now c.find.result c.find.ensures
+    ∙ ap (λ comparator. first_place (begins_with comparator (map Literal c.args.text.now)) c.args.value.now) (sym c.in-Octet.is)
+
+pub returns-in-Casemap : goal.returns-in-Casemap
+returns-in-Casemap c =
+    found Casemap c.args.value.now c.args.text.now c.find_casemap.result c.find_casemap.ensures
+    ∙ ap (λ comparator. first_place (begins_with comparator (map Literal c.args.text.now)) c.args.value.now) (sym c.in-Casemap.is)

@@ -1,0 +1,108 @@
+// The first place of a literal text in a value.
+ghost use Rattle.std.specs.Prelude.{◌≡◌, ◌+◌, ◌≤◌, ◌<◌, ◌^◌, length, map};
+ghost use Rattle.std.specs.Char.{is_ascii_alphabetic};
+ghost use Rattle.std.specs.List.{list_any};
+ghost use Rattle.memchr.specs.Find.{FindsNeedle};
+ghost use Rattle.glob_match.specs.Comparison.{compared};
+ghost use Rattle.glob_match.specs.Containment.{begins_with, first_place};
+ghost use Rattle.glob_match.specs.declared.comparator.Comparator.TheVariants.{Casemap};
+ghost use Rattle.glob_match.specs.declared.token.Token.TheVariants.{Literal};
+
+use crate::comparator::Comparator;
+use crate::fold::fold;
+use memchr::memmem::{self, Finder};
+use octets::equal_ignoring_case;
+
+/// Up to this length a value is searched as one window.
+pub(crate) const SHORT: usize = 256;
+
+/// Up to this length a text needs no large arrays.
+const MEDIUM: usize = 1024;
+
+/// Up to this length a text is searched in time linear in value and text.
+pub(crate) const LONG: usize = 16_384;
+
+/// The first place of the value at which the text stands under the comparator.
+pub(crate) fn find(value: &[u8], text: &[u8], comparator: Comparator) -> Option<usize>
+    ensures { result ≡ first_place (begins_with comparator (map Literal text.now)) value.now }
+{
+    match comparator {
+        Comparator::Octet => memmem::find(value, text),
+        Comparator::Casemap => find_casemap(value, text),
+    }
+}
+
+fn find_casemap(value: &[u8], text: &[u8]) -> Option<usize>
+    ensures { FindsNeedle (compared Casemap value.now) (compared Casemap text.now) 0 result }
+{
+    if text.len() > value.len() {
+        return None;
+    }
+    if !has_letter(text) {
+        return memmem::find(value, text);
+    }
+    if value.len() <= SHORT {
+        find_folded::<SHORT, SHORT>(value, text)
+    } else if text.len() <= MEDIUM {
+        find_folded::<MEDIUM, 8192>(value, text)
+    } else if text.len() <= LONG {
+        find_folded::<LONG, 49152>(value, text)
+    } else {
+        find_by_octets(value, text)
+    }
+}
+
+fn has_letter(text: &[u8]) -> bool
+    ensures { result ≡ list_any is_ascii_alphabetic text.now }
+{
+    text.iter().any(|octet| octet.is_ascii_alphabetic())
+}
+
+// The same by windows, with the text and each window in upper case.
+fn find_folded<const TEXT: usize, const WINDOW: usize>(value: &[u8], text: &[u8]) -> Option<usize>
+    requires text { length text.now ≤ TEXT }
+    requires window { TEXT ≤ WINDOW }
+    requires small { WINDOW < 2 ^ 63 }
+    requires some { 0 < length text.now }
+    ensures { FindsNeedle (compared Casemap value.now) (compared Casemap text.now) 0 result }
+{
+    let mut folded = [0; TEXT];
+    fold(text, &mut folded[..text.len()]);
+    let finder = Finder::new(&folded[..text.len()]);
+    let mut window = [0; WINDOW];
+    find_in_windows(&finder, text.len(), value, &mut window)
+}
+
+// Windows overlap by one octet less than the text has.
+fn find_in_windows(finder: &Finder, len: usize, value: &[u8], window: &mut [u8]) -> Option<usize>
+    requires text { length finder.now ≡ len }
+    requires window { len ≤ length window.old }
+    requires some { 0 < len }
+    ensures { FindsNeedle (compared Casemap value.now) finder.now 0 result }
+{
+    let mut start = 0;
+    'windows: loop {
+        let octets = (value.len() - start).min(window.len());
+        fold(&value[start..start + octets], &mut window[..octets]);
+        if let Some(place) = finder.find(&window[..octets]) {
+            return Some(start + place);
+        }
+        if start + octets == value.len() {
+            return None;
+        }
+        start += octets + 1 - len;
+    }
+}
+
+// The same for a text of any length, in time of the product.
+fn find_by_octets(value: &[u8], text: &[u8]) -> Option<usize>
+    requires { length text.now ≤ length value.now }
+    ensures { FindsNeedle (compared Casemap value.now) (compared Casemap text.now) 0 result }
+{
+    for place in 0..=value.len() - text.len() {
+        if equal_ignoring_case(&value[place..place + text.len()], text) {
+            return Some(place);
+        }
+    }
+    None
+}
