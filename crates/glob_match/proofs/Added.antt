@@ -16,12 +16,12 @@ pub cut_text : (value : List ℕ) (start end kept : ℕ) → kept ≡ min (end -
 cut_text value start end kept is =
     elim (cases_lt max_capture (end - start)) [
       | inl more ↦
-        let e : (start + kept) - start ≡ max_capture = omega arith in
-        ap (λ n. take n (drop start value)) e ∙ sym (take-take max_capture (end - start) (drop start value) (omega arith))
+          let e : (start + kept) - start ≡ max_capture = omega arith in
+          ap (λ n. take n (drop start value)) e ∙ sym (take-take max_capture (end - start) (drop start value) (omega arith))
       | inr short ↦
-        let e : (start + kept) - start ≡ end - start = omega arith in
-        ap (λ n. take n (drop start value)) e
-        ∙ sym (take_all max_capture (slice_range value start end) (omega (arith, length-take (end - start) (drop start value))))
+          let e : (start + kept) - start ≡ end - start = omega arith in
+          ap (λ n. take n (drop start value)) e
+          ∙ sym (take_all max_capture (slice_range value start end) (omega (arith, length-take (end - start) (drop start value))))
     ]
 
 pub pushed : (value : List ℕ) (stretches : List Stretch) (start end : ℕ) (text : List ℕ) → length stretches < max_captures
@@ -31,7 +31,7 @@ pushed value stretches start end text room e =
     map_push (λ (s : Stretch). slice_range value s.start s.end) stretches (record { start = start; end = end })
     ∙ ap (λ t. texts value stretches ++ t ∷ []) e
     ∙ sym (take_all max_captures (texts value stretches ++ take max_capture text ∷ [])
-      (omega (arith, length-append (texts value stretches) (take max_capture text ∷ []), length-map stretches (λ (s : Stretch). slice_range value s.start s.end))))
+    (omega (arith, length-append (texts value stretches) (take max_capture text ∷ []), length-map stretches (λ (s : Stretch). slice_range value s.start s.end))))
 
 pub full : (captures texts' : List (List ℕ)) → length captures ≡ max_captures → captures ≡ with_stretches captures texts'
 full captures texts' e = sym (take_at captures (map (take max_capture) texts') max_captures e)
@@ -48,7 +48,7 @@ pub with_stretches-append : (captures first second : List (List ℕ))
 with_stretches-append captures first second =
     take-taken max_captures (captures ++ map (take max_capture) first) (map (take max_capture) second)
     ∙ ap (take max_captures) (append_assoc captures (map (take max_capture) first) (map (take max_capture) second)
-      ∙ ap (λ xs. captures ++ xs) (sym (map-append (take max_capture) first second)))
+    ∙ ap (λ xs. captures ++ xs) (sym (map-append (take max_capture) first second)))
 
 pub with_none : (captures : List (List ℕ)) → length captures ≤ max_captures → with_stretches captures [] ≡ captures
 with_none captures few = ap (take max_captures) (append-nil captures) ∙ take_all max_captures captures few
@@ -61,9 +61,9 @@ module _ (value : List ℕ) (place : ℕ) (within : place < length value) (key r
       let at = drop_more value place 0 within in
       let one : (place + 1) - place ≡ 1 = omega arith in
       let text : slice_range value place (place + 1) ≡ get_or value place 0 ∷ [] =
-        ap (λ n. take n (drop place value)) one ∙ ap (take 1) at in
+      ap (λ n. take n (drop place value)) one ∙ ap (take 1) at in
       let more : any_octets key (drop place value) ≡ slice_range value place (place + 1) ∷ any_octets rest (drop (place + 1) value) =
-        ap (λ ts. any_octets ts (drop place value)) is ∙ ap (any_octets (AnyOctet ∷ rest)) at ∙ ap (λ t. t ∷ any_octets rest (drop (place + 1) value)) (sym text) in
+      ap (λ ts. any_octets ts (drop place value)) is ∙ ap (any_octets (AnyOctet ∷ rest)) at ∙ ap (λ t. t ∷ any_octets rest (drop (place + 1) value)) (sym text) in
       ap (λ cs. with_stretches cs (any_octets rest (drop (place + 1) value))) e
       ∙ with_stretches-append captures (slice_range value place (place + 1) ∷ []) (any_octets rest (drop (place + 1) value))
       ∙ ap (with_stretches captures) (sym more)

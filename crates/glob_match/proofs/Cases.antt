@@ -51,7 +51,7 @@ module _ (text folded : List ℕ) (place : ℕ) (long : length folded ≡ length
   fold_more new lanes within at e =
       let uppers : new ≡ map to_ascii_uppercase (take 32 (drop place text)) = e ∙ upper_lanes lanes ∙ ap (map to_ascii_uppercase) at in
       let size : length new ≡ 32 =
-        ap length uppers ∙ length-map (take 32 (drop place text)) to_ascii_uppercase ∙ length-take-le 32 (drop place text) (omega (arith, length-drop place text)) in
+      ap length uppers ∙ length-map (take 32 (drop place text)) to_ascii_uppercase ∙ length-take-le 32 (drop place text) (omega (arith, length-drop place text)) in
       take-put_mid place ((place + 32) - place) folded new (place + 32) (omega arith) (omega arith)
       ∙ ap (λ xs. xs ++ new) so_far ∙ ap (λ xs. map to_ascii_uppercase (take place text) ++ xs) uppers
       ∙ sym (map-append to_ascii_uppercase (take place text) (take 32 (drop place text)))
@@ -61,7 +61,7 @@ module _ (text folded : List ℕ) (place : ℕ) (long : length folded ≡ length
       → put_mid place (length folded - place) folded new ≡ map to_ascii_uppercase text
   fold_rest new within e =
       let none : post_of place (length folded - place) folded ≡ [] =
-        drop_all (length folded - place) (drop place folded) (omega (arith, length-drop place folded)) in
+      drop_all (length folded - place) (drop place folded) (omega (arith, length-drop place folded)) in
       ap (λ xs. take place folded ++ (new ++ xs)) none ∙ ap (λ xs. take place folded ++ xs) (append-nil new)
       ∙ ap (λ xs. xs ++ new) so_far ∙ ap (λ xs. map to_ascii_uppercase (take place text) ++ xs) e
       ∙ sym (map-append to_ascii_uppercase (take place text) (drop place text))
@@ -83,8 +83,8 @@ module _ (value text : List ℕ) (none : list_any is_ascii_alphabetic text ≡ f
   occurs_folded k occurs = record {
     fits = omega (arith, occurs.fits, length-map value to_ascii_uppercase, length-map text to_ascii_uppercase);
     reads = λ j h.
-      let within : j < length text = omega (arith, length-map text to_ascii_uppercase) in
-      upper_at value (k + j) (omega (arith, occurs.fits)) ∙ ap to_ascii_uppercase (occurs.reads j within) ∙ sym (upper_at text j within);
+        let within : j < length text = omega (arith, length-map text to_ascii_uppercase) in
+        upper_at value (k + j) (omega (arith, occurs.fits)) ∙ ap to_ascii_uppercase (occurs.reads j within) ∙ sym (upper_at text j within);
   }
 
   occurs_unfolded : (k : ℕ) → OccursAt (map to_ascii_uppercase value) (map to_ascii_uppercase text) k → OccursAt value text k
@@ -93,17 +93,19 @@ module _ (value text : List ℕ) (none : list_any is_ascii_alphabetic text ≡ f
       record {
         fits = fits;
         reads = λ j h.
-          same_plain (get_or value (k + j) 0) (get_or text j 0) (plain_at text none j h)
-          (sym (upper_at value (k + j) (omega arith)) ∙ occurs.reads j (omega (arith, length-map text to_ascii_uppercase)) ∙ upper_at text j h);
+            same_plain (get_or value (k + j) 0) (get_or text j 0) (plain_at text none j h)
+            (sym (upper_at value (k + j) (omega arith)) ∙ occurs.reads j (omega (arith, length-map text to_ascii_uppercase)) ∙ upper_at text j h);
       }
 
   -- a text without letters is searched as it is
   pub finds_folded : (r : Option ℕ) → FindsNeedle value text 0 r → FindsNeedle (map to_ascii_uppercase value) (map to_ascii_uppercase text) 0 r
   finds_folded None nowhere = λ j low less occurs. nowhere j low (omega (arith, length-map value to_ascii_uppercase)) (occurs_unfolded j occurs)
   finds_folded (Some k) (first, occurs) =
-      let high = first.high in
-      (record {
-        low = omega arith;
-        high = omega (arith, length-map value to_ascii_uppercase);
-        before = λ j low less there. first.before j low less (occurs_unfolded j there);
-      }, occurs_folded k occurs)
+      let high = first.high in (
+        record {
+          low = omega arith;
+          high = omega (arith, length-map value to_ascii_uppercase);
+          before = λ j low less there. first.before j low less (occurs_unfolded j there);
+        },
+        occurs_folded k occurs,
+      )

@@ -46,27 +46,33 @@ module _ (fit : Fit) (R : Fitting) (answered : (value : List ℕ) → Answers R 
   literal_answered comparator octet (x ∷ xs) =
       cond_both (same_octet comparator x octet) (fit xs) None (λ o. Answers (LiteralFits comparator octet R) (x ∷ xs) o)
       (λ same. answers_same R (LiteralFits comparator octet R) xs (x ∷ xs)
-        (λ ss r. (x, xs, refl, same, r))
-        (λ ss (y, rest, e, is, r). let f : rest ≡ xs = cc in moved ss rest xs f r)
-        (fit xs) (answered xs))
+      (λ ss r. (x, xs, refl, same, r))
+      (λ ss (y, rest, e, is, r). let f : rest ≡ xs = cc in moved ss rest xs f r)
+      (fit xs) (answered xs))
       (λ other. λ ss (y, rest, e, is, r).
-        let f : y ≡ x = cc in absurd (true≢false (sym is ∙ ap (λ z. same_octet comparator z octet) f ∙ other)))
+      let f : y ≡ x = cc in absurd (true≢false (sym is ∙ ap (λ z. same_octet comparator z octet) f ∙ other)))
 
   any_answered : (value : List ℕ) → Answers (AnyFits R) value (any_fit fit value)
   any_answered [] = λ ss (x, rest, others, e, f, r). cc
   any_answered (x ∷ xs) =
       elim (fit xs) as (λ o. Answers R xs o → Answers (AnyFits R) (x ∷ xs) (option_map (λ others. (x ∷ []) ∷ others) o)) [
         | None ↦ λ none. λ ss (y, rest, others, e, f, r). none others (let g : rest ≡ xs = cc in moved others rest xs g r)
-        | Some ss ↦ λ (fits, least). ((x, xs, ss, refl, refl, fits), λ all (y, rest, others, e, f, r).
-          let g : rest ≡ xs = cc in
-          let h : (x ∷ []) ∷ others ≡ all = cc in
-          subst (λ us. IsAtMost (map length ((x ∷ []) ∷ ss)) (map length us)) h (inr (refl, least others (moved others rest xs g r))))
+        | Some ss ↦ λ (fits, least). (
+          (x, xs, ss, refl, refl, fits),
+          λ all (y, rest, others, e, f, r).
+              let g : rest ≡ xs = cc in
+              let h : (x ∷ []) ∷ others ≡ all = cc in
+              subst (λ us. IsAtMost (map length ((x ∷ []) ∷ ss)) (map length us)) h (inr (refl, least others (moved others rest xs g r))),
+        )
       ] (answered xs)
 
   -- where what follows fits at once, the empty stretch is the least
   empty_stretch : (value : List ℕ) (ss : List (List ℕ)) → Answers R value (Some ss) → Answers (StarFits R) value (Some ([] ∷ ss))
-  empty_stretch value ss (fits, least) = (([], value, ss, refl, refl, fits), λ all (stretch, rest, others, e, f, r).
-      subst (λ us. IsAtMost (map length ([] ∷ ss)) (map length us)) (sym f) (at_most stretch rest others e r))
+  empty_stretch value ss (fits, least) = (
+    ([], value, ss, refl, refl, fits),
+    λ all (stretch, rest, others, e, f, r).
+        subst (λ us. IsAtMost (map length ([] ∷ ss)) (map length us)) (sym f) (at_most stretch rest others e r),
+  )
     where
       at_most : (stretch rest : List ℕ) (others : List (List ℕ)) → value ≡ stretch ++ rest → R others rest
           → IsAtMost (map length ([] ∷ ss)) (map length (stretch ∷ others))
@@ -90,11 +96,13 @@ module _ (fit : Fit) (R : Fitting) (answered : (value : List ℕ) → Answers R 
         let (shorter, g, h) = shortened stretch rest others e r in
         nowhere (shorter ∷ others) (shorter, rest, others, h, refl, r)
     longer_stretch (Some []) ((stretch, rest, others, e, f, r), least) = cc
-    longer_stretch (Some (s ∷ ss)) ((stretch, rest, others, e, f, r), least) = ((x ∷ stretch, rest, others, ap (λ v. x ∷ v) e, cc, r),
-        λ all (stretch', rest', others', e', f', r').
+    longer_stretch (Some (s ∷ ss)) ((stretch, rest, others, e, f, r), least) = (
+      (x ∷ stretch, rest, others, ap (λ v. x ∷ v) e, cc, r),
+      λ all (stretch', rest', others', e', f', r').
           let (shorter, g, h) = shortened stretch' rest' others' e' r' in
           subst (λ us. IsAtMost (map length ((x ∷ s) ∷ ss)) (map length us)) (sym (f' ∙ ap (λ v. v ∷ others') g))
-          (both_longer (length s) (length shorter) (map length ss) (map length others') (least (shorter ∷ others') (shorter, rest', others', h, refl, r'))))
+          (both_longer (length s) (length shorter) (map length ss) (map length others') (least (shorter ∷ others') (shorter, rest', others', h, refl, r'))),
+    )
 
   -- a star is as short as it can be
   star_answered : (value : List ℕ) → Answers (StarFits R) value (star_fit fit value)
@@ -109,7 +117,7 @@ module _ (fit : Fit) (R : Fitting) (answered : (value : List ℕ) → Answers R 
       empty_rest (y ∷ ys) rest e = cc
   star_answered (x ∷ xs) =
       elim (fit (x ∷ xs)) as (λ o. Answers R (x ∷ xs) o
-          → Answers (StarFits R) (x ∷ xs) (option_or (option_map (λ others. [] ∷ others) o) (option_map (lengthened x) (star_fit fit xs)))) [
+      → Answers (StarFits R) (x ∷ xs) (option_or (option_map (λ others. [] ∷ others) o) (option_map (lengthened x) (star_fit fit xs)))) [
         | None ↦ λ none. longer_stretch x xs none (star_fit fit xs) (star_answered xs)
         | Some ss ↦ empty_stretch (x ∷ xs) ss
       ] (answered (x ∷ xs))

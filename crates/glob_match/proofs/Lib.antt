@@ -1,10 +1,14 @@
 mod Added
 mod Captured
 mod Cases
+mod Earliest
 mod Examples
 mod Least
 mod Lowered
 mod Occurs
 mod Places
+mod Plain
+mod Searched
 mod Segmented
+mod Steps
 mod Texts

@@ -25,7 +25,7 @@ module _ (comparator : Comparator) (value text : List ℕ) where
   occurs_begins k occurs =
       let n = length (compared comparator text) in
       let same : compared comparator (take n (drop k value)) ≡ compared comparator text =
-        sym (part n k) ∙ OccursAt-part (compared comparator value) (compared comparator text) k occurs in
+      sym (part n k) ∙ OccursAt-part (compared comparator value) (compared comparator text) k occurs in
       subst (λ v. begins_with comparator (map Literal text) v ≡ true) (take-append-drop n (drop k value))
       (begins_since comparator text (take n (drop k value)) (drop n (drop k value)) same)
 
@@ -37,7 +37,7 @@ module _ (comparator : Comparator) (value text : List ℕ) where
       let length_text : n ≡ length text = length-map text (compared_octet comparator) in
       let lengths : length stretch ≡ n = sym (length-map stretch (compared_octet comparator)) ∙ ap length same in
       let fits : k + n ≤ length (compared comparator value) =
-        omega (arith, length-map value (compared_octet comparator), length-drop k value, ap length e, length-append stretch after) in
+      omega (arith, length-map value (compared_octet comparator), length-drop k value, ap length e, length-append stretch after) in
       OccursAt-from_part (compared comparator value) (compared comparator text) k fits
       (part n k ∙ ap (λ v. compared comparator (take n v)) e ∙ ap (compared comparator) (take_at stretch after n lengths) ∙ same)
 
@@ -81,8 +81,8 @@ module _ (value text : List ℕ) (start n : ℕ) (within : start + n ≤ length 
   window_from k occurs = record {
     fits = omega (arith, window_length, occurs.fits);
     reads = λ j h.
-      let sum : (start + k) + j ≡ start + (k + j) = omega arith in
-      ap (λ i. get_or value i 0) sum ∙ sym (read (k + j) (omega (arith, window_length, occurs.fits))) ∙ occurs.reads j h;
+        let sum : (start + k) + j ≡ start + (k + j) = omega arith in
+        ap (λ i. get_or value i 0) sum ∙ sym (read (k + j) (omega (arith, window_length, occurs.fits))) ∙ occurs.reads j h;
   }
 
   -- what stands in the value within the window stands in the window
@@ -90,8 +90,8 @@ module _ (value text : List ℕ) (start n : ℕ) (within : start + n ≤ length 
   window_since k fits occurs = record {
     fits = omega (arith, window_length);
     reads = λ j h.
-      let sum : (start + k) + j ≡ start + (k + j) = omega arith in
-      read (k + j) (omega arith) ∙ ap (λ i. get_or value i 0) (sym sum) ∙ occurs.reads j h;
+        let sum : (start + k) + j ≡ start + (k + j) = omega arith in
+        read (k + j) (omega arith) ∙ ap (λ i. get_or value i 0) (sym sum) ∙ occurs.reads j h;
   }
 
   -- what isn't in the window is nowhere before the next one
@@ -101,8 +101,8 @@ module _ (value text : List ℕ) (start n : ℕ) (within : start + n ≤ length 
       elim (cases_lt j start) [
         | inl less ↦ before j (omega arith) less occurs
         | inr from ↦
-          let e : start + (j - start) ≡ j = omega arith in
-          none (j - start) (omega arith) (omega (arith, window_length)) (window_since (j - start) (omega arith) (subst (OccursAt value text) (sym e) occurs))
+            let e : start + (j - start) ≡ j = omega arith in
+            none (j - start) (omega arith) (omega (arith, window_length)) (window_since (j - start) (omega arith) (subst (OccursAt value text) (sym e) occurs))
       ]
 
   pub window_some : (k : ℕ) → FindsNeedle (take n (drop start value)) text 0 (Some k) → Nowhere (OccursAt value text) 0 start
@@ -110,19 +110,21 @@ module _ (value text : List ℕ) (start n : ℕ) (within : start + n ≤ length 
   window_some k (first, occurs) before =
       let there = window_from k occurs in
       let fits = occurs.fits in
-      let high = first.high in
-      (record {
-        low = omega arith;
-        high = omega (arith, there.fits);
-        before = λ j low less at.
-          elim (cases_lt j start) [
-            | inl early ↦ before j (omega arith) early at
-            | inr from ↦
-              let e : start + (j - start) ≡ j = omega arith in
-              first.before (j - start) (omega arith) (omega arith)
-              (window_since (j - start) (omega (arith, window_length)) (subst (OccursAt value text) (sym e) at))
-          ];
-      }, there)
+      let high = first.high in (
+        record {
+          low = omega arith;
+          high = omega (arith, there.fits);
+          before = λ j low less at.
+              elim (cases_lt j start) [
+                | inl early ↦ before j (omega arith) early at
+                | inr from ↦
+                    let e : start + (j - start) ≡ j = omega arith in
+                    first.before (j - start) (omega arith) (omega arith)
+                    (window_since (j - start) (omega (arith, window_length)) (subst (OccursAt value text) (sym e) at))
+              ];
+        },
+        there,
+      )
 
 -- a window that was folded is that window of what is compared
 pub folded_window : (value window new : List ℕ) (start n : ℕ) → start + n ≤ length value
@@ -132,7 +134,7 @@ folded_window value window new start n within e =
     let size : (start + n) - start ≡ n = omega arith in
     let folded : new ≡ map to_ascii_uppercase (take n (drop start value)) = e ∙ ap (λ k. map to_ascii_uppercase (take k (drop start value))) size in
     let long : length new ≡ n =
-      ap length folded ∙ length-map (take n (drop start value)) to_ascii_uppercase ∙ length-take-le n (drop start value) (omega (arith, length-drop start value)) in
+    ap length folded ∙ length-map (take n (drop start value)) to_ascii_uppercase ∙ length-take-le n (drop start value) (omega (arith, length-drop start value)) in
     take_at new (drop n window) n long ∙ folded ∙ sym (part Casemap value value n start)
 
 -- ---- octet by octet
@@ -153,4 +155,4 @@ module _ (value text : List ℕ) (k : ℕ) (within : k + length text ≤ length 
   lower_from_occurs occurs =
       uppers_lowers stretch text
       (ap (λ n. compared Casemap (take n (drop k value))) size ∙ sym (part Casemap value text (length (compared Casemap text)) k)
-        ∙ OccursAt-part (compared Casemap value) (compared Casemap text) k occurs)
+      ∙ OccursAt-part (compared Casemap value) (compared Casemap text) k occurs)

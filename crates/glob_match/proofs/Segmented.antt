@@ -25,7 +25,7 @@ pub record IsSplit (tokens : List ℕ → List Token) (key : List ℕ) (place : 
 backslash_tokens : (x : ℕ) (xs : List ℕ) → (x == backslash) ≡ true → tokens_of (x ∷ xs) ≡ tokens_escaped xs
 backslash_tokens x xs is = cond-true (x == backslash) (tokens_escaped xs) (token_of x ∷ tokens_of xs) is
 
-other_tokens : (x : ℕ) (xs : List ℕ) → (x == backslash) ≡ false → tokens_of (x ∷ xs) ≡ token_of x ∷ tokens_of xs
+pub other_tokens : (x : ℕ) (xs : List ℕ) → (x == backslash) ≡ false → tokens_of (x ∷ xs) ≡ token_of x ∷ tokens_of xs
 other_tokens x xs other = cond-false (x == backslash) (tokens_escaped xs) (token_of x ∷ tokens_of xs) other
 
 star_token : (x : ℕ) → (x == star) ≡ true → token_of x ≡ Star
@@ -41,8 +41,8 @@ at_backslash : (x : ℕ) (xs : List ℕ) (n : ℕ) → (x == backslash) ≡ true
 at_backslash x xs n is split = record {
   no_star = subst NoStar (sym (backslash_tokens x (take n xs) is)) split.no_star;
   parts = λ h.
-    backslash_tokens x xs is ∙ split.parts (omega arith)
-    ∙ ap (λ ts. ts ++ Star ∷ tokens_of (drop (suc n) xs)) (sym (backslash_tokens x (take n xs) is));
+      backslash_tokens x xs is ∙ split.parts (omega arith)
+      ∙ ap (λ ts. ts ++ Star ∷ tokens_of (drop (suc n) xs)) (sym (backslash_tokens x (take n xs) is));
 }
 
 at_star : (x : ℕ) (xs : List ℕ) → (x == backslash) ≡ false → (x == star) ≡ true → IsSplit tokens_of (x ∷ xs) 0
@@ -55,8 +55,8 @@ at_other : (x : ℕ) (xs : List ℕ) (n : ℕ) → (x == backslash) ≡ false �
 at_other x xs n other plain split = record {
   no_star = subst NoStar (sym (other_tokens x (take n xs) other)) (no_star_more x (tokens_of (take n xs)) plain split.no_star);
   parts = λ h.
-    other_tokens x xs other ∙ ap (λ ts. token_of x ∷ ts) (split.parts (omega arith))
-    ∙ ap (λ ts. ts ++ Star ∷ tokens_of (drop (suc n) xs)) (sym (other_tokens x (take n xs) other));
+      other_tokens x xs other ∙ ap (λ ts. token_of x ∷ ts) (split.parts (omega arith))
+      ∙ ap (λ ts. ts ++ Star ∷ tokens_of (drop (suc n) xs)) (sym (other_tokens x (take n xs) other));
 }
 
 mutual
@@ -66,8 +66,8 @@ mutual
       cond_both (x == backslash) (suc (place_escaped xs)) (cond (x == star) 0 (suc (star_place xs))) (λ n. IsSplit tokens_of (x ∷ xs) n)
       (λ is. at_backslash x xs (place_escaped xs) is (split_escaped xs))
       (λ other. cond_both (x == star) 0 (suc (star_place xs)) (λ n. IsSplit tokens_of (x ∷ xs) n)
-        (λ is. at_star x xs other is)
-        (λ plain. at_other x xs (star_place xs) other plain (split_at xs)))
+      (λ is. at_star x xs other is)
+      (λ plain. at_other x xs (star_place xs) other plain (split_at xs)))
 
   split_escaped : (key : List ℕ) → IsSplit tokens_escaped key (place_escaped key)
   split_escaped [] = record { no_star = tt; parts = λ h. absurd (omega arith) }
@@ -84,7 +84,7 @@ place_after (x ∷ xs) = refl
 pub step_escaped : (key : List ℕ) (i : ℕ) → i < length key → get_or key i 0 ≡ backslash → star_place (drop i key) ≡ 2 + star_place (drop (i + 2) key)
 step_escaped key i h is =
     let e : star_place (drop i key) ≡ star_place (backslash ∷ drop (i + 1) key) =
-      at_drop_more star_place key i 0 h ∙ ap (λ x. star_place (x ∷ drop (i + 1) key)) is in
+    at_drop_more star_place key i 0 h ∙ ap (λ x. star_place (x ∷ drop (i + 1) key)) is in
     let f : star_place (backslash ∷ drop (i + 1) key) ≡ suc (place_escaped (drop (i + 1) key)) = refl in
     let n : (i + 1) + 1 ≡ i + 2 = omega arith in
     let g : star_place (drop 1 (drop (i + 1) key)) ≡ star_place (drop (i + 2) key) = ap star_place (drop-drop 1 (i + 1) key ∙ ap (λ k. drop k key) n) in

@@ -59,16 +59,16 @@ module _ (comparator : Comparator) where
       elim (first_place (begins_key key) value) as (λ r. IsPlace (begins_key key) value r → is_some r ≡ true → HasStretch comparator value key) [
         | None ↦ λ none is. absurd (false≢true is)
         | Some k ↦ λ (within, passes, before) is.
-          let (stretch, after, e, f) = begins_from key (drop k value) passes in
-          (take k value, stretch, after, sym (take-append-drop k value) ∙ ap (λ v. take k value ++ v) e, f)
+            let (stretch, after, e, f) = begins_from key (drop k value) passes in
+            (take k value, stretch, after, sym (take-append-drop k value) ∙ ap (λ v. take k value ++ v) e, f)
       ] (place_of (begins_key key) value) h
 
   pub contains_since : (value key : List ℕ) → HasStretch comparator value key → contains_match comparator value key ≡ true
   contains_since value key (before, stretch, after, e, f) =
       elim (first_place (begins_key key) value) as (λ r. IsPlace (begins_key key) value r → is_some r ≡ true) [
         | None ↦ λ none.
-          let within : length before ≤ length value = omega (arith, length-append before (stretch ++ after), ap length e) in
-          let at : drop (length before) value ≡ stretch ++ after = ap (drop (length before)) e ∙ drop_at before (stretch ++ after) (length before) refl in
-          absurd (true≢false (sym (begins_since key stretch after f) ∙ ap (begins_key key) (sym at) ∙ none (length before) within))
+            let within : length before ≤ length value = omega (arith, length-append before (stretch ++ after), ap length e) in
+            let at : drop (length before) value ≡ stretch ++ after = ap (drop (length before)) e ∙ drop_at before (stretch ++ after) (length before) refl in
+            absurd (true≢false (sym (begins_since key stretch after f) ∙ ap (begins_key key) (sym at) ∙ none (length before) within))
         | Some k ↦ λ found. refl
       ] (place_of (begins_key key) value)

@@ -12,5 +12,6 @@ pub fn contains(value: &[u8], key: &[u8], comparator: Comparator) -> (bool, u64)
     ensures most { result.1 ≤ (length value.now + 1) * (length key.now + 1) }
     ensures least { IsTrue result.0 → length key.now ≤ result.1 }
 {
-    (find(value, key, comparator).is_some(), (value.len() + key.len()) as u64)
+    let (place, gone_over) = find(value, key, comparator);
+    (place.is_some(), gone_over)
 }

@@ -15,11 +15,10 @@ mod matching;
 mod placement;
 mod search;
 mod segment;
-
 mod token;
 
 pub use captures::{Captures, MAX_CAPTURE, MAX_CAPTURES, Stretch};
 pub use comparator::Comparator;
-pub use matching::matches;
 pub use containment::contains;
 pub use equality::is;
+pub use matching::matches;

@@ -1,75 +1,106 @@
 // Where a segment of a key stands first in a value.
-ghost use Rattle.std.specs.Prelude.{◌≡◌, ◌≤◌, ◌<◌, length, map};
+ghost use Rattle.std.specs.Prelude.{◌≡◌, ◌+◌, ◌*◌, ◌≤◌, ◌<◌, ◌^◌, ◌==◌, ◌||◌, IfSome, length, map, take};
+ghost use Rattle.std.specs.List.{list_any};
 ghost use Rattle.glob_match.specs.Containment.{begins_with, first_place};
-ghost use Rattle.glob_match.specs.Tokens.{tokens_of};
+ghost use Rattle.glob_match.specs.Segments.{NoStar};
+ghost use Rattle.glob_match.specs.Tokens.{backslash, question_mark, tokens_of};
 ghost use Rattle.glob_match.specs.declared.token.Token.TheVariants.{Literal};
 
 use crate::comparator::Comparator;
-use crate::search::{LONG, SHORT, find};
+use crate::search::{LONG, SHORT, find, product_of, sum_of};
 use crate::segment::{begins_with, width};
 use crate::token::{Token, first_token};
 
-/// The first place of the value from which on it begins with the segment, and a bound on the octets gone over.
-pub(crate) fn find_segment(value: &[u8], segment: &[u8], comparator: Comparator) -> (Option<usize>, u64)
+/// The first place from which on the value begins with the segment, and a bound on the octets gone over.
+pub(crate) fn find_segment(
+    value: &[u8],
+    segment: &[u8],
+    comparator: Comparator,
+) -> (Option<usize>, u64)
+    requires no_star { NoStar (tokens_of segment.now) }
+    requires room { (length value.now + 1) * (length segment.now + 1) < 2 ^ 64 }
+    ensures place { result.0 ≡ first_place (begins_with comparator (tokens_of segment.now)) value.now }
+    ensures most { result.1 ≤ (length value.now + 1) * (length segment.now + 1) }
+    ensures least { length segment.now ≤ result.1 }
 {
-    if is_plain(segment) {
-        return linear(find(value, segment, comparator), value, segment);
+    if !has_special(segment) {
+        return find(value, segment, comparator);
     }
     let width = width(segment);
     if width > value.len() {
-        return (None, 0);
-    }
-    if has_any_octet(segment) || width > LONG {
-        return find_by_tokens(value, segment, comparator);
-    }
-    let place = if width <= SHORT {
+        (None, sum_of(value, segment))
+    } else if width <= SHORT {
         find_unescaped::<SHORT>(value, segment, comparator)
-    } else {
+    } else if width <= LONG {
         find_unescaped::<LONG>(value, segment, comparator)
-    };
-    linear(place, value, segment)
-}
-
-fn linear(place: Option<usize>, value: &[u8], segment: &[u8]) -> (Option<usize>, u64) {
-    let gone_over = match place { Some(place) => place, None => value.len() };
-    (place, (gone_over + segment.len()) as u64)
-}
-
-// Whether each octet of the segment stands for itself.
-fn is_plain(segment: &[u8]) -> bool {
-    !segment.iter().any(|octet| matches!(octet, b'?' | b'\\'))
-}
-
-fn has_any_octet(segment: &[u8]) -> bool {
-    let mut tokens = segment;
-    'tokens: while let Some((token, rest)) = first_token(tokens) {
-        if let Token::AnyOctet = token {
-            return true;
-        }
-        tokens = rest;
+    } else {
+        find_by_tokens(value, segment, comparator)
     }
-    false
 }
 
-fn find_unescaped<const TEXT: usize>(value: &[u8], segment: &[u8], comparator: Comparator) -> Option<usize> {
+// Whether an octet of the segment doesn't stand for itself.
+fn has_special(segment: &[u8]) -> bool
+    ensures { result ≡ list_any (λ octet. (octet == question_mark) || (octet == backslash)) segment.now }
+{
+    segment
+        .iter()
+        .any(|octet| *octet == b'?' || *octet == b'\\')
+}
+
+// The same by a search for the text that the segment spells, where it has no wildcard.
+fn find_unescaped<const TEXT: usize>(
+    value: &[u8],
+    segment: &[u8],
+    comparator: Comparator,
+) -> (Option<usize>, u64)
+    requires text { length (tokens_of segment.now) ≤ TEXT }
+    requires small { TEXT < 2 ^ 63 }
+    requires room { (length value.now + 1) * (length segment.now + 1) < 2 ^ 64 }
+    ensures place { result.0 ≡ first_place (begins_with comparator (tokens_of segment.now)) value.now }
+    ensures most { result.1 ≤ (length value.now + 1) * (length segment.now + 1) }
+    ensures least { length segment.now ≤ result.1 }
+{
     let mut text = [0; TEXT];
-    let mut n = 0;
-    let mut tokens = segment;
-    'tokens: while let Some((token, rest)) = first_token(tokens) {
-        if let Token::Literal(octet) = token {
-            text[n] = octet;
-            n += 1;
-        }
-        tokens = rest;
+    match unescape(segment, &mut text) {
+        Some(len) => (
+            find(value, &text[..len], comparator).0,
+            sum_of(value, segment),
+        ),
+        None => find_by_tokens(value, segment, comparator),
     }
-    find(value, &text[..n], comparator)
 }
 
-fn find_by_tokens(value: &[u8], segment: &[u8], comparator: Comparator) -> (Option<usize>, u64) {
-    for place in 0..value.len() {
+// Writes the text that the segment spells, and gives its length, unless there is a wildcard.
+fn unescape(segment: &[u8], text: &mut [u8]) -> Option<usize>
+    requires { length (tokens_of segment.now) ≤ length text.old }
+    ensures text { IfSome result (λ len. map Literal (take len text.new) ≡ tokens_of segment.now) }
+    ensures within { IfSome result (λ len. len ≤ length text.new) }
+{
+    let mut len = 0;
+    let mut tokens = segment;
+    'tokens: while let Some((token, rest)) = first_token(tokens) {
+        let Token::Literal(octet) = token else {
+            return None;
+        };
+        text[len] = octet;
+        len += 1;
+        tokens = rest;
+    }
+    Some(len)
+}
+
+// The same by trying each place.
+fn find_by_tokens(value: &[u8], segment: &[u8], comparator: Comparator) -> (Option<usize>, u64)
+    requires { (length value.now + 1) * (length segment.now + 1) < 2 ^ 64 }
+    ensures place { result.0 ≡ first_place (begins_with comparator (tokens_of segment.now)) value.now }
+    ensures most { result.1 ≤ (length value.now + 1) * (length segment.now + 1) }
+    ensures least { length segment.now ≤ result.1 }
+{
+    let gone_over = product_of(value, segment);
+    for place in 0..=value.len() {
         if begins_with(&value[place..], segment, comparator) {
-            return (Some(place), (place as u64 + 1) * segment.len() as u64);
+            return (Some(place), gone_over);
         }
     }
-    (None, (value.len() as u64 + 1) * segment.len() as u64)
+    (None, gone_over)
 }

@@ -1,5 +1,5 @@
 // The first place of a literal text in a value.
-ghost use Rattle.std.specs.Prelude.{◌≡◌, ◌+◌, ◌≤◌, ◌<◌, ◌^◌, length, map};
+ghost use Rattle.std.specs.Prelude.{◌≡◌, ◌+◌, ◌*◌, ◌≤◌, ◌<◌, ◌^◌, length, map};
 ghost use Rattle.std.specs.Char.{is_ascii_alphabetic};
 ghost use Rattle.std.specs.List.{list_any};
 ghost use Rattle.memchr.specs.Find.{FindsNeedle};
@@ -19,36 +19,63 @@ pub(crate) const SHORT: usize = 256;
 /// Up to this length a text needs no large arrays.
 const MEDIUM: usize = 1024;
 
-/// Up to this length a text is searched in time linear in value and text.
+const MEDIUM_WINDOW: usize = 8 * MEDIUM;
+
+/// Up to this length, which that of a script's strings doesn't exceed, a text is searched in time linear in value and text.
 pub(crate) const LONG: usize = 16_384;
 
-/// The first place of the value at which the text stands under the comparator.
-pub(crate) fn find(value: &[u8], text: &[u8], comparator: Comparator) -> Option<usize>
-    ensures { result ≡ first_place (begins_with comparator (map Literal text.now)) value.now }
+const LONG_WINDOW: usize = 3 * LONG;
+
+/// The first place of the value at which the text stands under the comparator, and a bound on the octets gone over.
+pub(crate) fn find(value: &[u8], text: &[u8], comparator: Comparator) -> (Option<usize>, u64)
+    requires { (length value.now + 1) * (length text.now + 1) < 2 ^ 64 }
+    ensures place { result.0 ≡ first_place (begins_with comparator (map Literal text.now)) value.now }
+    ensures most { result.1 ≤ (length value.now + 1) * (length text.now + 1) }
+    ensures least { length text.now ≤ result.1 }
 {
     match comparator {
-        Comparator::Octet => memmem::find(value, text),
+        Comparator::Octet => (memmem::find(value, text), sum_of(value, text)),
         Comparator::Casemap => find_casemap(value, text),
     }
 }
 
-fn find_casemap(value: &[u8], text: &[u8]) -> Option<usize>
-    ensures { FindsNeedle (compared Casemap value.now) (compared Casemap text.now) 0 result }
+/// The octets gone over by a search in time linear in value and key.
+pub(crate) fn sum_of(value: &[u8], key: &[u8]) -> u64
+    requires { (length value.now + 1) * (length key.now + 1) < 2 ^ 64 }
+    ensures most { result ≤ (length value.now + 1) * (length key.now + 1) }
+    ensures least { length key.now ≤ result }
 {
+    (value.len() + key.len()) as u64
+}
+
+/// The octets gone over by a search that tries each place.
+pub(crate) fn product_of(value: &[u8], key: &[u8]) -> u64
+    requires { (length value.now + 1) * (length key.now + 1) < 2 ^ 64 }
+    ensures most { result ≤ (length value.now + 1) * (length key.now + 1) }
+    ensures least { length key.now ≤ result }
+{
+    (value.len() as u64 + 1) * key.len() as u64
+}
+
+fn find_casemap(value: &[u8], text: &[u8]) -> (Option<usize>, u64)
+    requires { (length value.now + 1) * (length text.now + 1) < 2 ^ 64 }
+    ensures place { FindsNeedle (compared Casemap value.now) (compared Casemap text.now) 0 result.0 }
+    ensures most { result.1 ≤ (length value.now + 1) * (length text.now + 1) }
+    ensures least { length text.now ≤ result.1 }
+{
+    let gone_over = sum_of(value, text);
     if text.len() > value.len() {
-        return None;
-    }
-    if !has_letter(text) {
-        return memmem::find(value, text);
-    }
-    if value.len() <= SHORT {
-        find_folded::<SHORT, SHORT>(value, text)
+        (None, gone_over)
+    } else if !has_letter(text) {
+        (memmem::find(value, text), gone_over)
+    } else if value.len() <= SHORT {
+        (find_folded::<SHORT, SHORT>(value, text), gone_over)
     } else if text.len() <= MEDIUM {
-        find_folded::<MEDIUM, 8192>(value, text)
+        (find_folded::<MEDIUM, MEDIUM_WINDOW>(value, text), gone_over)
     } else if text.len() <= LONG {
-        find_folded::<LONG, 49152>(value, text)
+        (find_folded::<LONG, LONG_WINDOW>(value, text), gone_over)
     } else {
-        find_by_octets(value, text)
+        (find_by_octets(value, text), product_of(value, text))
     }
 }
 

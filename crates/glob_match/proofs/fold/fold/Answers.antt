@@ -11,9 +11,11 @@ lanes-preserved c =
     let chunk = c.in-Some.ensures.cases in
     let rest = take_rest text place in
     let enough : 32 ≤ length (drop place text) = omega (arith, chunk.enough, ap length rest) in
-    let within : place + 32 ≤ length text = omega (arith, length-drop place text, c.lanes.invariant.0) in
-    (within, fold_more text c.lanes.folded place (omega (arith, c.lanes.auto.folded, c.requires)) c.lanes.invariant.1 c.copy_from_slice.new.self c.in-Some.lanes.now
-      within (chunk.same ∙ ap (take 32) rest) (c.copy_from_slice.ensures.after ∙ c.ascii_upper_lanes.ensures))
+    let within : place + 32 ≤ length text = omega (arith, length-drop place text, c.lanes.invariant.0) in (
+      within,
+      fold_more text c.lanes.folded place (omega (arith, c.lanes.auto.folded, c.requires)) c.lanes.invariant.1 c.copy_from_slice.new.self c.in-Some.lanes.now
+          within (chunk.same ∙ ap (take 32) rest) (c.copy_from_slice.ensures.after ∙ c.ascii_upper_lanes.ensures),
+    )
 
 pub returns : goal.returns
 returns c =

@@ -5,12 +5,12 @@ use Rattle.glob_match.specs.declared.token.Token.TheVariants.{Literal}
 use Rattle.glob_match.proofs.Occurs.{found, found_octets}
 use Rattle.glob_match.proofs.search.find.Goals as goal
 
-pub returns-in-Octet : goal.returns-in-Octet
-returns-in-Octet c =
+pub returns-in-Octet-clause-place : goal.returns-in-Octet-clause-place
+returns-in-Octet-clause-place c =
     found_octets c.args.value.now c.args.text.now c.find.result c.find.ensures
     ∙ ap (λ comparator. first_place (begins_with comparator (map Literal c.args.text.now)) c.args.value.now) (sym c.in-Octet.is)
 
-pub returns-in-Casemap : goal.returns-in-Casemap
-returns-in-Casemap c =
-    found Casemap c.args.value.now c.args.text.now c.find_casemap.result c.find_casemap.ensures
+pub returns-in-Casemap-clause-place : goal.returns-in-Casemap-clause-place
+returns-in-Casemap-clause-place c =
+    found Casemap c.args.value.now c.args.text.now c.find_casemap.result.0 c.find_casemap.ensures.place
     ∙ ap (λ comparator. first_place (begins_with comparator (map Literal c.args.text.now)) c.args.value.now) (sym c.in-Casemap.is)

@@ -12,12 +12,14 @@ pub returns-then-equal_ignoring_case : goal.returns-then-equal_ignoring_case
 returns-then-equal_ignoring_case c =
     let value = c.args.value.now in
     let text = c.args.text.now in
-    let within : c.loop-place.place + length text ≤ length value = omega (arith, c.requires) in
-    (record {
-      low = omega arith;
-      high = omega (arith, length-map value to_ascii_uppercase);
-      before = λ k low less. c.loop-place.invariant k low less;
-    }, occurs_from_lower value text c.loop-place.place within (c.equal_ignoring_case.ensures.0 c.if-equal_ignoring_case.true))
+    let within : c.loop-place.place + length text ≤ length value = omega (arith, c.requires) in (
+      record {
+        low = omega arith;
+        high = omega (arith, length-map value to_ascii_uppercase);
+        before = λ k low less. c.loop-place.invariant k low less;
+      },
+      occurs_from_lower value text c.loop-place.place within (c.equal_ignoring_case.ensures.0 c.if-equal_ignoring_case.true),
+    )
 
 pub loop-place-preserved : goal.loop-place-preserved
 loop-place-preserved c = λ k low less occurs.
@@ -27,7 +29,7 @@ loop-place-preserved c = λ k low less occurs.
     let within : place + length text ≤ length value = omega (arith, c.requires) in
     elim (cases_eq k place) [
       | inl here ↦ true≢false (sym (c.equal_ignoring_case.ensures.1 (lower_from_occurs value text place within (subst (λ n. OccursAt (compared Casemap value) (compared Casemap text) n) here occurs)))
-        ∙ c.if-equal_ignoring_case.false)
+          ∙ c.if-equal_ignoring_case.false)
       | inr other ↦ c.loop-place.invariant k low (omega arith) occurs
     ]
 
@@ -39,6 +41,6 @@ returns-else-equal_ignoring_case c = λ k low less occurs.
     let within : place + length text ≤ length value = omega (arith, c.requires) in
     elim (cases_eq k place) [
       | inl here ↦ true≢false (sym (c.equal_ignoring_case.ensures.1 (lower_from_occurs value text place within (subst (λ n. OccursAt (compared Casemap value) (compared Casemap text) n) here occurs)))
-        ∙ c.if-equal_ignoring_case.false)
+          ∙ c.if-equal_ignoring_case.false)
       | inr other ↦ c.loop-place.invariant k low (omega (arith, occurs.fits, length-map value to_ascii_uppercase, length-map text to_ascii_uppercase)) occurs
     ]

@@ -37,8 +37,10 @@ windows-preserved c =
     let n = c.min-octets.result in
     let within : start + n ≤ length value = omega (arith, c.min-octets.ensures, c.windows.invariant.0) in
     let window = folded_window value c.windows.window c.fold.new.folded start n within c.fold.ensures in
-    let within_compared : start + n ≤ length (compared Casemap value) = omega (arith, length-map value to_ascii_uppercase) in
-    (omega (arith, c.requires.some), λ k low high occurs.
-      window_none (compared Casemap value) c.args.finder.now start n within_compared
-      (subst (λ v. FindsNeedle v c.args.finder.now 0 None) window c.in_default.ensures) c.windows.invariant.1
-      k (omega (arith, occurs.fits, c.requires.text)) occurs)
+    let within_compared : start + n ≤ length (compared Casemap value) = omega (arith, length-map value to_ascii_uppercase) in (
+      omega (arith, c.requires.some),
+      λ k low high occurs.
+          window_none (compared Casemap value) c.args.finder.now start n within_compared
+          (subst (λ v. FindsNeedle v c.args.finder.now 0 None) window c.in_default.ensures) c.windows.invariant.1
+          k (omega (arith, occurs.fits, c.requires.text)) occurs,
+    )

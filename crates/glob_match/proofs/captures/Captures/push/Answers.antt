@@ -13,7 +13,7 @@ returns-then-not-is_full-clause-texts c = λ value.
     let room : length c.self.inside.stretches.items ≢ max_captures = eqb-false _ _ (sym c.if-not-is_full.ensures.value) in
     ap (texts value) c.push.ensures.items
     ∙ pushed value c.self.inside.stretches.items c.args.start _ (slice_range value c.args.start c.args.end) (omega arith)
-      (cut_text value c.args.start c.args.end c.min-kept.result c.min-kept.ensures)
+    (cut_text value c.args.start c.args.end c.min-kept.result c.min-kept.ensures)
     ∙ ap (λ items. with_stretches (texts value items) (slice_range value c.args.start c.args.end ∷ [])) c.self.view_is
 
 pub returns-else-not-is_full-clause-texts : goal.returns-else-not-is_full-clause-texts
