@@ -5,6 +5,7 @@ mod Earliest
 mod Examples
 mod Least
 mod Lowered
+mod Marks
 mod Occurs
 mod Places
 mod Plain

@@ -1,5 +1,5 @@
 ghost use Rattle.std.specs.Prelude.{◌≡◌};
-ghost use Rattle.glob_match.specs.Comparison.{same_octet};
+ghost use Rattle.glob_match.specs.Comparison.{compared_octet, same_octet};
 
 /// How octets are compared (RFC 4790, sections 9.2 and 9.3).
 #[derive(Clone, Copy, Debug, PartialEq, Eq, Drop)]
@@ -11,14 +11,22 @@ pub enum Comparator {
 }
 
 impl Comparator {
+    /// The octet that is compared in place of an octet.
+    #[inline(always)]
+    pub(crate) fn compared(self, octet: u8) -> u8
+        ensures { result ≡ compared_octet self octet }
+    {
+        match self {
+            Comparator::Octet => octet,
+            Comparator::Casemap => octet.to_ascii_uppercase(),
+        }
+    }
+
     /// Whether the octets are equal.
     #[inline(always)]
     pub(crate) fn same(self, a: u8, b: u8) -> bool
         ensures { result ≡ same_octet self a b }
     {
-        match self {
-            Comparator::Octet => a == b,
-            Comparator::Casemap => a.to_ascii_uppercase() == b.to_ascii_uppercase(),
-        }
+        self.compared(a) == self.compared(b)
     }
 }

@@ -10,6 +10,7 @@ mod comparator;
 mod containment;
 mod equality;
 mod fold;
+mod lanes;
 pub mod laws;
 mod matching;
 mod placement;
