@@ -1,6 +1,7 @@
 -- The first place from which on a list passes a test.
-use Rattle.std.proofs.Common.{◌≡◌, ℕ, zero, suc, ◌+◌, ◌<◌, ◌≤◌, Bool, true, false, cond, List, [], ◌∷◌, length, drop, Option, Some, None, inl, inr, refl, sym, ap, subst, ◌∙◌, add-one, arith}
-use Rattle.std.proofs.lemmas.Bool.{true≢false, false≢true, cond_both, cases_order}
+use Rattle.std.proofs.Common.{◌≡◌, ℕ, zero, suc, ◌+◌, ◌-◌, ◌<◌, ◌≤◌, Bool, true, false, cond, List, [], ◌∷◌, length, drop, Option, Some, None, inl, inr, refl, sym, ap, subst, ◌∙◌, add-one, arith}
+use Rattle.std.proofs.lemmas.Bool.{true≢false, cond_both, cases_lt, cases_order}
+use Rattle.std.proofs.lemmas.List.{drop-drop}
 use Rattle.std.specs.Option.{option_map}
 use Rattle.glob_match.specs.Containment.{first_place}
 
@@ -46,4 +47,15 @@ module _ (test : List ℕ → Bool) where
         | inl e ↦ ap Some e
         | inr (inl less) ↦ absurd (true≢false (sym passes ∙ before' k less))
         | inr (inr more) ↦ absurd (true≢false (sym passes' ∙ before n more))
+      ]
+
+  -- places that are ruled out, and then further ones
+  pub ruled_out : (value : List ℕ) (place n : ℕ) → ((j : ℕ) → j < place → test (drop j value) ≡ false)
+      → ((j : ℕ) → j < n → test (drop j (drop place value)) ≡ false) → (j : ℕ) → j < place + n → test (drop j value) ≡ false
+  ruled_out value place n before after j less =
+      elim (cases_lt j place) [
+        | inl early ↦ before j early
+        | inr from ↦
+          let at : place + (j - place) ≡ j = omega arith in
+          ap test (ap (λ m. drop m value) (sym at) ∙ sym (drop-drop (j - place) place value)) ∙ after (j - place) (omega arith)
       ]

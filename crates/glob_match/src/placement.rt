@@ -1,5 +1,5 @@
 // Where a segment of a key stands first in a value.
-ghost use Rattle.std.specs.Prelude.{◌≡◌, ◌+◌, ◌*◌, ◌≤◌, ◌<◌, ◌^◌, ◌==◌, ◌||◌, IfSome, length, map, take};
+ghost use Rattle.std.specs.Prelude.{◌≡◌, ◌+◌, ◌*◌, ◌≤◌, ◌<◌, ◌^◌, ◌==◌, ◌||◌, IfSome, ℕ, true, false, drop, length, map, take};
 ghost use Rattle.std.specs.List.{list_any};
 ghost use Rattle.glob_match.specs.Containment.{begins_with, first_place};
 ghost use Rattle.glob_match.specs.Segments.{NoStar};
@@ -7,6 +7,7 @@ ghost use Rattle.glob_match.specs.Tokens.{backslash, question_mark, tokens_of};
 ghost use Rattle.glob_match.specs.declared.token.Token.TheVariants.{Literal};
 
 use crate::comparator::Comparator;
+use crate::lanes::places_before;
 use crate::search::{LONG, SHORT, find, product_of, sum_of};
 use crate::segment::{begins_with, width};
 use crate::token::{Token, first_token};
@@ -53,6 +54,7 @@ fn find_unescaped<const TEXT: usize>(
     segment: &[u8],
     comparator: Comparator,
 ) -> (Option<usize>, u64)
+    requires no_star { NoStar (tokens_of segment.now) }
     requires text { length (tokens_of segment.now) ≤ TEXT }
     requires small { TEXT < 2 ^ 63 }
     requires room { (length value.now + 1) * (length segment.now + 1) < 2 ^ 64 }
@@ -90,17 +92,56 @@ fn unescape(segment: &[u8], text: &mut [u8]) -> Option<usize>
 }
 
 // The same by trying each place.
-fn find_by_tokens(value: &[u8], segment: &[u8], comparator: Comparator) -> (Option<usize>, u64)
-    requires { (length value.now + 1) * (length segment.now + 1) < 2 ^ 64 }
+fn find_by_tokens(
+    value: &[u8],
+    segment: &[u8],
+    comparator: Comparator,
+) -> (Option<usize>, u64)
+    requires no_star { NoStar (tokens_of segment.now) }
+    requires room { (length value.now + 1) * (length segment.now + 1) < 2 ^ 64 }
     ensures place { result.0 ≡ first_place (begins_with comparator (tokens_of segment.now)) value.now }
     ensures most { result.1 ≤ (length value.now + 1) * (length segment.now + 1) }
     ensures least { length segment.now ≤ result.1 }
 {
     let gone_over = product_of(value, segment);
-    for place in 0..=value.len() {
-        if begins_with(&value[place..], segment, comparator) {
-            return (Some(place), gone_over);
+    let width = width(segment);
+    if width > value.len() {
+        return (None, gone_over);
+    }
+    let last = value.len() - width;
+    let mut place = 0;
+    'places: while place <= last {
+        let (before, tried) = places_tried(&value[place..], segment, width, comparator);
+        if before < tried {
+            return (Some(place + before), gone_over);
         }
+        place += tried;
     }
     (None, gone_over)
+}
+
+// How many of the first places come before the first from which on the value begins with the segment, and how many
+// places that is true of.
+fn places_tried(
+    value: &[u8],
+    segment: &[u8],
+    width: usize,
+    comparator: Comparator,
+) -> (usize, usize)
+    requires no_star { NoStar (tokens_of segment.now) }
+    requires width { width ≡ length (tokens_of segment.now) }
+    requires room { width ≤ length value.now }
+    ensures some { 0 < result.1 }
+    ensures within { result.1 + width ≤ length value.now + 1 }
+    ensures few { result.0 ≤ result.1 }
+    ensures before { (j : ℕ) → j < result.0 → begins_with comparator (tokens_of segment.now) (drop j value.now) ≡ false }
+    ensures there { result.0 < result.1 → begins_with comparator (tokens_of segment.now) (drop result.0 value.now) ≡ true }
+{
+    if value.len() - width >= 31 {
+        (places_before(value, segment, comparator), 32)
+    } else if begins_with(value, segment, comparator) {
+        (0, 1)
+    } else {
+        (1, 1)
+    }
 }
