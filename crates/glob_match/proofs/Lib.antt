@@ -1,4 +1,5 @@
 mod Added
+mod Blocks
 mod Captured
 mod Cases
 mod Earliest

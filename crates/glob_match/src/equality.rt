@@ -3,7 +3,7 @@ ghost use Rattle.std.specs.Prelude.{◌≡◌, ◌≤◌, ◌<◌, ◌+◌, ◌*
 ghost use Rattle.glob_match.specs.Comparison.{is_match};
 
 use crate::comparator::Comparator;
-use octets::equal_ignoring_case;
+use crate::fold::equal_folded;
 
 /// Whether the value is the key, and a bound on the octets compared (RFC 5228, section 2.7.1).
 pub fn is(value: &[u8], key: &[u8], comparator: Comparator) -> (bool, u64)
@@ -17,7 +17,7 @@ pub fn is(value: &[u8], key: &[u8], comparator: Comparator) -> (bool, u64)
     }
     let equal = match comparator {
         Comparator::Octet => value == key,
-        Comparator::Casemap => equal_ignoring_case(value, key),
+        Comparator::Casemap => equal_folded(value, key),
     };
     (equal, key.len() as u64)
 }

@@ -1,6 +1,7 @@
 use Rattle.std.proofs.Common.{◌≡◌, ◌+◌, ◌-◌, ◌≤◌, ◌∙◌, ap, sym, length, map, take, drop, arith}
 use Rattle.std.proofs.lemmas.List.{length-drop, take_rest}
 use Rattle.std.specs.Char.{to_ascii_uppercase}
+use Rattle.glob_match.proofs.Blocks.{front_of_padded}
 use Rattle.glob_match.proofs.Cases.{fold_more, fold_rest}
 use Rattle.glob_match.proofs.fold.fold.Goals as goal
 
@@ -23,4 +24,4 @@ returns c =
     let place = c.lanes.place in
     let rest = take_rest text place in
     fold_rest text c.lanes.folded place (omega (arith, c.lanes.auto.folded, c.requires)) c.lanes.invariant.1 c.copy_from_slice-2.new.self
-    c.lanes.invariant.0 (c.copy_from_slice-2.ensures.after ∙ c.fold_block.ensures ∙ ap (map to_ascii_uppercase) rest)
+    c.lanes.invariant.0 (c.copy_from_slice-2.ensures.after ∙ ap (take (length (take (length text - place) (drop place text)))) c.fold_block.ensures ∙ front_of_padded (take (length text - place) (drop place text)) _ ∙ ap (map to_ascii_uppercase) rest)
