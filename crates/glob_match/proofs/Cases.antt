@@ -1,4 +1,4 @@
--- The case of letters: what is equal in upper case is equal in lower case, and what isn't a letter is equal as it is.
+-- Letters in upper case: by lanes, and where there are none.
 use Rattle.std.proofs.Common.{◌≡◌, ℕ, ◌+◌, ◌-◌, ◌≤◌, List, [], ◌∷◌, ◌++◌, map, length, take, drop, get_or, Bool, true, false, Option, Some, None, ◌<◌, refl, sym, ap, ◌∙◌, arith}
 use Rattle.std.proofs.Math.Seq.{take-add}
 use Rattle.std.proofs.lemmas.Bool.{true≢false, false_from_ne_true}
@@ -6,7 +6,7 @@ use Rattle.std.proofs.lemmas.Bool.Decides.{nat_tests}
 use Rattle.std.proofs.lemmas.List.{append-nil, drop_all, get_or-map, length-drop, length-map, length-take-le, map-append, take-append-drop}
 use Rattle.std.proofs.lemmas.Slice.{take-put_mid}
 use borrow.Rule.Slice.PartMut.{put_mid, post_of}
-use Rattle.std.specs.Char.{to_ascii_uppercase, to_ascii_lowercase, is_ascii_alphabetic}
+use Rattle.std.specs.Char.{to_ascii_uppercase, is_ascii_alphabetic}
 use Rattle.std.specs.List.{list_any}
 use Rattle.std.proofs.lemmas.List.Folds.{list_any_at}
 use Rattle.memchr.specs.Find.{FindsNeedle, OccursAt}
@@ -18,30 +18,6 @@ upper_lane x = grind (arith, nat_tests)
 pub upper_lanes : (xs : List ℕ) → map upper_of xs ≡ map to_ascii_uppercase xs
 upper_lanes [] = refl
 upper_lanes (x ∷ xs) = ap (λ y. y ∷ map upper_of xs) (upper_lane x) ∙ ap (λ ys. to_ascii_uppercase x ∷ ys) (upper_lanes xs)
-
-lower_upper : (x y : ℕ) → to_ascii_lowercase x ≡ to_ascii_lowercase y → to_ascii_uppercase x ≡ to_ascii_uppercase y
-lower_upper x y e = grind (arith, nat_tests)
-
-upper_lower : (x y : ℕ) → to_ascii_uppercase x ≡ to_ascii_uppercase y → to_ascii_lowercase x ≡ to_ascii_lowercase y
-upper_lower x y e = grind (arith, nat_tests)
-
-pub lowers_uppers : (xs ys : List ℕ) → map to_ascii_lowercase xs ≡ map to_ascii_lowercase ys → map to_ascii_uppercase xs ≡ map to_ascii_uppercase ys
-lowers_uppers [] [] e = refl
-lowers_uppers [] (y ∷ ys) e = cc
-lowers_uppers (x ∷ xs) [] e = cc
-lowers_uppers (x ∷ xs) (y ∷ ys) e =
-    let first = lower_upper x y cc in
-    let rest = lowers_uppers xs ys cc in
-    cc
-
-pub uppers_lowers : (xs ys : List ℕ) → map to_ascii_uppercase xs ≡ map to_ascii_uppercase ys → map to_ascii_lowercase xs ≡ map to_ascii_lowercase ys
-uppers_lowers [] [] e = refl
-uppers_lowers [] (y ∷ ys) e = cc
-uppers_lowers (x ∷ xs) [] e = cc
-uppers_lowers (x ∷ xs) (y ∷ ys) e =
-    let first = upper_lower x y cc in
-    let rest = uppers_lowers xs ys cc in
-    cc
 
 -- ---- a text folded by lanes
 

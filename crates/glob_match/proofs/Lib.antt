@@ -5,7 +5,6 @@ mod Cases
 mod Earliest
 mod Examples
 mod Least
-mod Lowered
 mod Marks
 mod Occurs
 mod Places

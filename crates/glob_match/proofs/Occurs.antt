@@ -2,17 +2,16 @@
 use Rattle.std.proofs.Common.{◌≡◌, ℕ, ◌+◌, ◌-◌, ◌<◌, ◌≤◌, Bool, true, false, List, ◌++◌, map, length, take, drop, get_or, Option, Some, None, inl, inr, refl, sym, ap, subst, ◌∙◌, arith}
 use Rattle.std.proofs.lemmas.Bool.{false_from_ne_true, true≢false, cases_lt}
 use Rattle.std.proofs.lemmas.List.{drop-map, get_or-drop, get_or-take, length-append, length-drop, length-map, length-take-le, map-id, take-append-drop, take-map, take_at}
-use Rattle.std.specs.Char.{to_ascii_uppercase, to_ascii_lowercase}
+use Rattle.std.specs.Char.{to_ascii_uppercase}
 use Rattle.memchr.specs.Find.{FindsNeedle, NoneBefore, Nowhere, OccursAt}
 use Rattle.memchr.proofs.lemmas.MatchLemmas.{OccursAt-part, OccursAt-from_part}
 use Rattle.glob_match.specs.declared.comparator.Comparator.{Comparator}
 use Rattle.glob_match.specs.declared.comparator.Comparator.TheVariants.{Octet, Casemap}
 use Rattle.glob_match.specs.declared.token.Token.TheVariants.{Literal}
-use Rattle.glob_match.specs.Comparison.{compared, compared_octet}
+use Rattle.glob_match.specs.Comparison.{compared, compared_octet, is_match}
 use Rattle.glob_match.specs.Containment.{begins_with, first_place}
-use Rattle.glob_match.proofs.Cases.{lowers_uppers, uppers_lowers}
 use Rattle.glob_match.proofs.Places.{IsPlace, place_of, place_once}
-use Rattle.glob_match.proofs.Texts.{begins_from, begins_since}
+use Rattle.glob_match.proofs.Texts.{begins_from, begins_since, equal_from, equal_since}
 
 module _ (comparator : Comparator) (value text : List ℕ) where
   -- a part of what is compared is what is compared of the part
@@ -146,13 +145,13 @@ module _ (value text : List ℕ) (k : ℕ) (within : k + length text ≤ length 
   size : (k + length text) - k ≡ length (compared Casemap text)
   size = omega (arith, length-map text to_ascii_uppercase)
 
-  pub occurs_from_lower : map to_ascii_lowercase stretch ≡ map to_ascii_lowercase text → OccursAt (compared Casemap value) (compared Casemap text) k
-  occurs_from_lower e =
+  pub occurs_from_equal : is_match Casemap stretch text ≡ true → OccursAt (compared Casemap value) (compared Casemap text) k
+  occurs_from_equal equal =
       OccursAt-from_part (compared Casemap value) (compared Casemap text) k (omega (arith, length-map text to_ascii_uppercase, length-map value to_ascii_uppercase))
-      (part Casemap value text (length (compared Casemap text)) k ∙ ap (λ n. compared Casemap (take n (drop k value))) (sym size) ∙ lowers_uppers stretch text e)
+      (part Casemap value text (length (compared Casemap text)) k ∙ ap (λ n. compared Casemap (take n (drop k value))) (sym size) ∙ equal_from Casemap stretch text equal)
 
-  pub lower_from_occurs : OccursAt (compared Casemap value) (compared Casemap text) k → map to_ascii_lowercase stretch ≡ map to_ascii_lowercase text
-  lower_from_occurs occurs =
-      uppers_lowers stretch text
+  pub equal_from_occurs : OccursAt (compared Casemap value) (compared Casemap text) k → is_match Casemap stretch text ≡ true
+  equal_from_occurs occurs =
+      equal_since Casemap stretch text
       (ap (λ n. compared Casemap (take n (drop k value))) size ∙ sym (part Casemap value text (length (compared Casemap text)) k)
-      ∙ OccursAt-part (compared Casemap value) (compared Casemap text) k occurs)
+        ∙ OccursAt-part (compared Casemap value) (compared Casemap text) k occurs)

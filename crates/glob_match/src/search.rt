@@ -9,9 +9,8 @@ ghost use Rattle.glob_match.specs.declared.comparator.Comparator.TheVariants.{Ca
 ghost use Rattle.glob_match.specs.declared.token.Token.TheVariants.{Literal};
 
 use crate::comparator::Comparator;
-use crate::fold::fold;
+use crate::fold::{equal_folded, fold};
 use memchr::memmem::{self, Finder};
-use octets::equal_ignoring_case;
 
 /// Up to this length a value is searched as one window.
 pub(crate) const SHORT: usize = 256;
@@ -127,7 +126,7 @@ fn find_by_octets(value: &[u8], text: &[u8]) -> Option<usize>
     ensures { FindsNeedle (compared Casemap value.now) (compared Casemap text.now) 0 result }
 {
     for place in 0..=value.len() - text.len() {
-        if equal_ignoring_case(&value[place..place + text.len()], text) {
+        if equal_folded(&value[place..place + text.len()], text) {
             return Some(place);
         }
     }

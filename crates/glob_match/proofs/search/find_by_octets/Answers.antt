@@ -5,11 +5,11 @@ use Rattle.std.specs.Char.{to_ascii_uppercase}
 use Rattle.memchr.specs.Find.{OccursAt}
 use Rattle.glob_match.specs.declared.comparator.Comparator.TheVariants.{Casemap}
 use Rattle.glob_match.specs.Comparison.{compared}
-use Rattle.glob_match.proofs.Occurs.{occurs_from_lower, lower_from_occurs}
+use Rattle.glob_match.proofs.Occurs.{occurs_from_equal, equal_from_occurs}
 use Rattle.glob_match.proofs.search.find_by_octets.Goals as goal
 
-pub returns-then-equal_ignoring_case : goal.returns-then-equal_ignoring_case
-returns-then-equal_ignoring_case c =
+pub returns-then-equal_folded : goal.returns-then-equal_folded
+returns-then-equal_folded c =
     let value = c.args.value.now in
     let text = c.args.text.now in
     let within : c.loop-place.place + length text ≤ length value = omega (arith, c.requires) in (
@@ -18,7 +18,7 @@ returns-then-equal_ignoring_case c =
         high = omega (arith, length-map value to_ascii_uppercase);
         before = λ k low less. c.loop-place.invariant k low less;
       },
-      occurs_from_lower value text c.loop-place.place within (c.equal_ignoring_case.ensures.0 c.if-equal_ignoring_case.true),
+      occurs_from_equal value text c.loop-place.place within (sym c.equal_folded.ensures ∙ c.if-equal_folded.true),
     )
 
 pub loop-place-preserved : goal.loop-place-preserved
@@ -28,19 +28,19 @@ loop-place-preserved c = λ k low less occurs.
     let place = c.loop-place.place in
     let within : place + length text ≤ length value = omega (arith, c.requires) in
     elim (cases_eq k place) [
-      | inl here ↦ true≢false (sym (c.equal_ignoring_case.ensures.1 (lower_from_occurs value text place within (subst (λ n. OccursAt (compared Casemap value) (compared Casemap text) n) here occurs)))
-          ∙ c.if-equal_ignoring_case.false)
+      | inl here ↦ true≢false (sym (c.equal_folded.ensures ∙ equal_from_occurs value text place within (subst (λ n. OccursAt (compared Casemap value) (compared Casemap text) n) here occurs))
+          ∙ c.if-equal_folded.false)
       | inr other ↦ c.loop-place.invariant k low (omega arith) occurs
     ]
 
-pub returns-else-equal_ignoring_case : goal.returns-else-equal_ignoring_case
-returns-else-equal_ignoring_case c = λ k low less occurs.
+pub returns-else-equal_folded : goal.returns-else-equal_folded
+returns-else-equal_folded c = λ k low less occurs.
     let value = c.args.value.now in
     let text = c.args.text.now in
     let place = c.loop-place.place in
     let within : place + length text ≤ length value = omega (arith, c.requires) in
     elim (cases_eq k place) [
-      | inl here ↦ true≢false (sym (c.equal_ignoring_case.ensures.1 (lower_from_occurs value text place within (subst (λ n. OccursAt (compared Casemap value) (compared Casemap text) n) here occurs)))
-          ∙ c.if-equal_ignoring_case.false)
+      | inl here ↦ true≢false (sym (c.equal_folded.ensures ∙ equal_from_occurs value text place within (subst (λ n. OccursAt (compared Casemap value) (compared Casemap text) n) here occurs))
+          ∙ c.if-equal_folded.false)
       | inr other ↦ c.loop-place.invariant k low (omega (arith, occurs.fits, length-map value to_ascii_uppercase, length-map text to_ascii_uppercase)) occurs
     ]
