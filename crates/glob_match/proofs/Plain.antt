@@ -1,7 +1,7 @@
 -- Segments without wildcards and backslashes, and how many octets a segment needs.
 use Rattle.std.proofs.Common.{◌≡◌, ℕ, ◌<◌, ◌≤◌, ◌==◌, ◌||◌, Bool, true, false, cond, List, [], ◌∷◌, map, length, drop, Option, Some, None, refl, sym, ap, subst, ◌∙◌, arith}
 use Rattle.std.proofs.lemmas.Bool.{true≢false, false≢true, or_parts, and_parts, false_from_ne_true, cond-false, cond_both}
-use Rattle.std.proofs.lemmas.List.{length-drop}
+use Rattle.std.proofs.lemmas.List.{length-drop, length-map}
 use Rattle.std.specs.List.{list_any}
 use Rattle.glob_match.specs.declared.comparator.Comparator.{Comparator}
 use Rattle.glob_match.specs.declared.token.Token.{Token}
@@ -45,3 +45,6 @@ module _ (comparator : Comparator) where
       (λ j within. false_from_ne_true (begins_with comparator key (drop j value))
       (λ begins. absurd (omega (arith, begins_length key (drop j value) begins, length-drop j value))))
       (place_of (begins_with comparator key) value)
+
+  pub text_too_short : (text value : List ℕ) → length value < length text → None ≡ first_place (begins_with comparator (map Literal text)) value
+  text_too_short text value less = too_short (map Literal text) value (omega (arith, length-map text Literal))

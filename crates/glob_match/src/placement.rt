@@ -8,7 +8,7 @@ ghost use Rattle.glob_match.specs.declared.token.Token.TheVariants.{Literal};
 
 use crate::comparator::Comparator;
 use crate::lanes::places_before;
-use crate::search::{LONG, SHORT, find, product_of, sum_of};
+use crate::search::{LONG, SHORT, find, product_bound, linear_bound};
 use crate::segment::{begins_with, width};
 use crate::token::{Token, first_token};
 
@@ -29,7 +29,7 @@ pub(crate) fn find_segment(
     }
     let width = width(segment);
     if width > value.len() {
-        (None, sum_of(value, segment))
+        (None, linear_bound(value, segment))
     } else if width <= SHORT {
         find_unescaped::<SHORT>(value, segment, comparator)
     } else if width <= LONG {
@@ -49,6 +49,7 @@ fn has_special(segment: &[u8]) -> bool
 }
 
 // The same by a search for the text that the segment spells, where it has no wildcard.
+#[inline(never)]
 fn find_unescaped<const TEXT: usize>(
     value: &[u8],
     segment: &[u8],
@@ -66,7 +67,7 @@ fn find_unescaped<const TEXT: usize>(
     match unescape(segment, &mut text) {
         Some(len) => (
             find(value, &text[..len], comparator).0,
-            sum_of(value, segment),
+            linear_bound(value, segment),
         ),
         None => find_by_tokens(value, segment, comparator),
     }
@@ -103,7 +104,7 @@ fn find_by_tokens(
     ensures most { result.1 ≤ (length value.now + 1) * (length segment.now + 1) }
     ensures least { length segment.now ≤ result.1 }
 {
-    let gone_over = product_of(value, segment);
+    let gone_over = product_bound(value, segment);
     let width = width(segment);
     if width > value.len() {
         return (None, gone_over);

@@ -32,14 +32,17 @@ pub(crate) fn find(value: &[u8], text: &[u8], comparator: Comparator) -> (Option
     ensures most { result.1 ≤ (length value.now + 1) * (length text.now + 1) }
     ensures least { length text.now ≤ result.1 }
 {
+    if text.len() > value.len() {
+        return (None, linear_bound(value, text));
+    }
     match comparator {
-        Comparator::Octet => (memmem::find(value, text), sum_of(value, text)),
+        Comparator::Octet => (memmem::find(value, text), linear_bound(value, text)),
         Comparator::Casemap => find_casemap(value, text),
     }
 }
 
-/// The octets gone over by a search in time linear in value and key.
-pub(crate) fn sum_of(value: &[u8], key: &[u8]) -> u64
+/// A bound on the octets that a search in time linear in value and key goes over.
+pub(crate) fn linear_bound(value: &[u8], key: &[u8]) -> u64
     requires { (length value.now + 1) * (length key.now + 1) < 2 ^ 64 }
     ensures most { result ≤ (length value.now + 1) * (length key.now + 1) }
     ensures least { length key.now ≤ result }
@@ -47,8 +50,8 @@ pub(crate) fn sum_of(value: &[u8], key: &[u8]) -> u64
     (value.len() + key.len()) as u64
 }
 
-/// The octets gone over by a search that tries each place.
-pub(crate) fn product_of(value: &[u8], key: &[u8]) -> u64
+/// A bound on the octets that a search which tries each place goes over.
+pub(crate) fn product_bound(value: &[u8], key: &[u8]) -> u64
     requires { (length value.now + 1) * (length key.now + 1) < 2 ^ 64 }
     ensures most { result ≤ (length value.now + 1) * (length key.now + 1) }
     ensures least { length key.now ≤ result }
@@ -57,15 +60,14 @@ pub(crate) fn product_of(value: &[u8], key: &[u8]) -> u64
 }
 
 fn find_casemap(value: &[u8], text: &[u8]) -> (Option<usize>, u64)
-    requires { (length value.now + 1) * (length text.now + 1) < 2 ^ 64 }
+    requires fits { length text.now ≤ length value.now }
+    requires room { (length value.now + 1) * (length text.now + 1) < 2 ^ 64 }
     ensures place { FindsNeedle (compared Casemap value.now) (compared Casemap text.now) 0 result.0 }
     ensures most { result.1 ≤ (length value.now + 1) * (length text.now + 1) }
     ensures least { length text.now ≤ result.1 }
 {
-    let gone_over = sum_of(value, text);
-    if text.len() > value.len() {
-        (None, gone_over)
-    } else if !has_letter(text) {
+    let gone_over = linear_bound(value, text);
+    if !has_letter(text) {
         (memmem::find(value, text), gone_over)
     } else if value.len() <= SHORT {
         (find_folded::<SHORT, SHORT>(value, text), gone_over)
@@ -74,7 +76,7 @@ fn find_casemap(value: &[u8], text: &[u8]) -> (Option<usize>, u64)
     } else if text.len() <= LONG {
         (find_folded::<LONG, LONG_WINDOW>(value, text), gone_over)
     } else {
-        (find_by_octets(value, text), product_of(value, text))
+        (find_by_octets(value, text), product_bound(value, text))
     }
 }
 
@@ -85,6 +87,7 @@ fn has_letter(text: &[u8]) -> bool
 }
 
 // The same by windows, with the text and each window in upper case.
+#[inline(never)]
 fn find_folded<const TEXT: usize, const WINDOW: usize>(value: &[u8], text: &[u8]) -> Option<usize>
     requires text { length text.now ≤ TEXT }
     requires window { TEXT ≤ WINDOW }
