@@ -4,6 +4,7 @@
 mod codecs;
 mod compiling;
 mod machine;
+mod matching;
 mod scripts;
 
 use std::env;
@@ -14,11 +15,13 @@ fn main(rt: HostRuntime) -> anyhow::Result<()> {
     match words.next() {
         Some(job) if job.as_str() == "codecs" => codecs::run(&rt),
         Some(job) if job.as_str() == "compile" => compiling::run(&rt),
+        Some(job) if job.as_str() == "matching" => matching::run(&rt),
         Some(job) if job.as_str() == "run" => machine::run(&rt),
         Some(job) if job.as_str() == "scripts" => scripts::run(&rt),
         _ => {
             println!(rt; "codecs")?;
             println!(rt; "compile")?;
+            println!(rt; "matching")?;
             println!(rt; "run")?;
             println!(rt; "scripts")?;
             Ok(())

@@ -25,6 +25,9 @@ pub(crate) fn equal_folded(value: &[u8], key: &[u8]) -> bool
     requires { length value.now ≡ length key.now }
     ensures { result ≡ is_match Casemap value.now key.now }
 {
+    let Some(last) = value.last_chunk::<32>() else {
+        return fold_block(value) == fold_block(key);
+    };
     let mut place = 0;
     'lanes: while let Some(lanes) = value[place..].first_chunk::<32>() {
         if !begins_with_block(&key[place..], lanes) {
@@ -32,7 +35,8 @@ pub(crate) fn equal_folded(value: &[u8], key: &[u8]) -> bool
         }
         place += 32;
     }
-    fold_block(&value[place..]) == fold_block(&key[place..])
+    // what is left, with octets that were compared
+    begins_with_block(&key[key.len() - 32..], last)
 }
 
 #[inline(always)]
