@@ -6,6 +6,7 @@ mod compiling;
 mod headers;
 mod lines;
 mod machine;
+mod matching;
 mod scripts;
 
 use std::env;
@@ -18,6 +19,7 @@ fn main(rt: HostRuntime) -> anyhow::Result<()> {
         Some(job) if job.as_str() == "compile" => compiling::run(&rt),
         Some(job) if job.as_str() == "headers" => headers::run(&rt),
         Some(job) if job.as_str() == "lines" => lines::run(&rt),
+        Some(job) if job.as_str() == "matching" => matching::run(&rt),
         Some(job) if job.as_str() == "run" => machine::run(&rt),
         Some(job) if job.as_str() == "scripts" => scripts::run(&rt),
         _ => {
@@ -25,6 +27,7 @@ fn main(rt: HostRuntime) -> anyhow::Result<()> {
             println!(rt; "compile")?;
             println!(rt; "headers")?;
             println!(rt; "lines")?;
+            println!(rt; "matching")?;
             println!(rt; "run")?;
             println!(rt; "scripts")?;
             Ok(())

@@ -1,0 +1,65 @@
+-- Worked values.
+use Rattle.std.proofs.Common.{◌≡◌, ℕ, List, [], ◌∷◌, Some, None, true, false, refl}
+use Rattle.std.specs.Prelude.{codes}
+use Rattle.glob_match.specs.declared.comparator.Comparator.TheVariants.{Octet, Casemap}
+use Rattle.glob_match.specs.declared.token.Token.TheVariants.{Literal, AnyOctet, Star}
+use Rattle.glob_match.specs.Comparison.{is_match}
+use Rattle.glob_match.specs.Tokens.{backslash, tokens_of, literals}
+use Rattle.glob_match.specs.Matching.{match_of}
+use Rattle.glob_match.specs.Containment.{contains_match}
+
+shortest_first : match_of Octet (codes "aXbXb") (codes "*X*b") ≡ Some (codes "aXbXb" ∷ codes "a" ∷ codes "bX" ∷ [])
+shortest_first = refl
+
+list_tag : match_of Casemap (codes "[acme] [fwd] x") (codes "[*] *")
+    ≡ Some (codes "[acme] [fwd] x" ∷ codes "acme" ∷ codes "[fwd] x" ∷ [])
+list_tag = refl
+
+-- the whole value has to fit
+unanchored : match_of Octet (codes "abc") (codes "a*b") ≡ None
+unanchored = refl
+
+-- `?` takes one octet, no more and no less
+any_octets : match_of Octet (codes "abc") (codes "?b?") ≡ Some (codes "abc" ∷ codes "a" ∷ codes "c" ∷ [])
+any_octets = refl
+
+no_octet : match_of Octet (codes "ab") (codes "ab?") ≡ None
+no_octet = refl
+
+empty : match_of Octet [] (codes "**") ≡ Some ([] ∷ [] ∷ [] ∷ [])
+empty = refl
+
+-- a backslash takes any octet literally, and a last one is itself
+escaped : tokens_of (92 ∷ 42 ∷ 92 ∷ 97 ∷ 42 ∷ 92 ∷ 92 ∷ 63 ∷ 92 ∷ [])
+    ≡ Literal 42 ∷ Literal 97 ∷ Star ∷ Literal 92 ∷ AnyOctet ∷ Literal 92 ∷ []
+escaped = refl
+
+escaped_literals : literals (tokens_of (92 ∷ 42 ∷ 92 ∷ 97 ∷ 42 ∷ 92 ∷ 92 ∷ 63 ∷ 92 ∷ [])) ≡ 4
+escaped_literals = refl
+
+escaped_star : match_of Octet (codes "ab") (97 ∷ 92 ∷ 42 ∷ []) ≡ None
+escaped_star = refl
+
+-- the captures keep the value's case
+folded : match_of Casemap (codes "Abc") (codes "a*C") ≡ Some (codes "Abc" ∷ codes "b" ∷ [])
+folded = refl
+
+not_folded : match_of Octet (codes "Abc") (codes "a*c") ≡ None
+not_folded = refl
+
+equal : is_match Casemap (codes "Sub{ject") (codes "sUB{JECT") ≡ true
+equal = refl
+
+-- letters alone have a case
+brackets_differ : is_match Casemap (codes "[") (codes "{") ≡ false
+brackets_differ = refl
+
+contained : contains_match Casemap (codes "a Key, b") (codes "kEY") ≡ true
+contained = refl
+
+empty_contained : contains_match Octet (codes "x") [] ≡ true
+empty_contained = refl
+
+-- the key of `:contains` has no wildcards
+star_contained : contains_match Octet (codes "abc") (codes "a*c") ≡ false
+star_contained = refl

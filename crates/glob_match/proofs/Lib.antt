@@ -1,0 +1,15 @@
+mod Added
+mod Blocks
+mod Captured
+mod Cases
+mod Earliest
+mod Examples
+mod Least
+mod Marks
+mod Occurs
+mod Places
+mod Plain
+mod Searched
+mod Segmented
+mod Steps
+mod Texts

@@ -1,0 +1,23 @@
+// Equal texts.
+ghost use Rattle.std.specs.Prelude.{◌≡◌, ◌≤◌, ◌<◌, ◌+◌, ◌*◌, ◌^◌, IsTrue, length};
+ghost use Rattle.glob_match.specs.Comparison.{is_match};
+
+use crate::comparator::Comparator;
+use crate::fold::equal_folded;
+
+/// Whether the value is the key, and a bound on the octets compared (RFC 5228, section 2.7.1).
+pub fn is(value: &[u8], key: &[u8], comparator: Comparator) -> (bool, u64)
+    requires { (length value.now + 1) * (length key.now + 1) < 2 ^ 64 }
+    ensures value { result.0 ≡ is_match comparator value.now key.now }
+    ensures most { result.1 ≤ (length value.now + 1) * (length key.now + 1) }
+    ensures least { IsTrue result.0 → length key.now ≤ result.1 }
+{
+    if value.len() != key.len() {
+        return (false, 0);
+    }
+    let equal = match comparator {
+        Comparator::Octet => value == key,
+        Comparator::Casemap => equal_folded(value, key),
+    };
+    (equal, key.len() as u64)
+}

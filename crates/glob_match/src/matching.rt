@@ -1,0 +1,117 @@
+// Matching with wildcards.
+ghost use Rattle.std.specs.Prelude.{◌≡◌, ◌+◌, ◌*◌, ◌-◌, ◌≤◌, ◌<◌, ◌^◌, ◌∷◌, ℕ, List, OnSome, drop, length, slice_range};
+ghost use Rattle.std.specs.Option.{option_map};
+ghost use Rattle.glob_match.specs.Captures.{texts, with_stretches};
+ghost use Rattle.glob_match.specs.Matching.{least_fit, match_of, max_captures};
+ghost use Rattle.glob_match.specs.Segments.{NoStar, any_octets};
+ghost use Rattle.glob_match.specs.Tokens.{literals, tokens_of};
+ghost use Rattle.glob_match.specs.declared.token.Token.TheVariants.{Star};
+
+use crate::captures::Captures;
+use crate::comparator::Comparator;
+use crate::placement::find_segment;
+use crate::segment::{begins_with, push_any_octets, split_segment, width};
+
+/// Whether the value fits the key, with its captures where it does, and a bound on the octets gone over (RFC 5228,
+/// section 2.7.1; RFC 5229, section 3.2).
+///
+/// In the key `*` stands for any stretch, `?` for one octet, and a backslash makes a literal of the octet after it. Of all
+/// stretches that fit, those of the least lengths are taken, compared from the left.
+pub fn matches(value: &[u8], key: &[u8], comparator: Comparator) -> (Option<Captures>, u64)
+    requires { (length value.now + 1) * (length key.now + 1) < 2 ^ 64 }
+    ensures captures { option_map (texts value.now) result.0 ≡ match_of comparator value.now key.now }
+    ensures most { result.1 ≤ (length value.now + 1) * (length key.now + 1) }
+    ensures least { OnSome result.0 (literals (tokens_of key.now) ≤ result.1) }
+{
+    let (segment, after) = split_segment(key);
+    let gone_over = segment.len() as u64;
+    if !begins_with(value, segment, comparator) {
+        return (None, gone_over);
+    }
+    let end = width(segment);
+    let mut captures = Captures::of_value(value);
+    push_any_octets(&mut captures, segment, 0);
+    match after {
+        Some(rest) => {
+            let (captures, more) = match_after_star(value, end, rest, comparator, captures);
+            (captures, gone_over + more)
+        }
+        None if end == value.len() => (Some(captures), gone_over),
+        None => (None, gone_over),
+    }
+}
+
+// The same for the value from `start` on and what follows a star of a key, with further captures after those that are
+// given.
+fn match_after_star(
+    value: &[u8],
+    start: usize,
+    key: &[u8],
+    comparator: Comparator,
+    captures: Captures,
+) -> (Option<Captures>, u64)
+    requires within { start ≤ length value.now }
+    requires few { length captures ≤ max_captures }
+    requires room { (length value.now + 1) * (length key.now + 1) < 2 ^ 64 }
+    ensures captures { option_map (texts value.now) result.0 ≡ option_map (with_stretches (texts value.now captures)) (least_fit comparator (Star ∷ tokens_of key.now) (drop start value.now)) }
+    ensures most { result.1 ≤ (length value.now + 1) * (length key.now + 1) }
+    ensures least { OnSome result.0 (literals (tokens_of key.now) ≤ result.1) }
+{
+    let mut captures = captures;
+    let mut start = start;
+    let mut rest = key;
+    let mut gone_over = 0;
+    'segments: loop {
+        let (segment, after) = split_segment(rest);
+        let Some(next) = after else {
+            let captures = match_end(value, start, segment, comparator, captures);
+            return (captures, gone_over + segment.len() as u64);
+        };
+        let (place, more) = find_segment(&value[start..], segment, comparator);
+        gone_over += more;
+        let Some(place) = place else {
+            return (None, gone_over);
+        };
+        push_placed(&mut captures, segment, start, start + place);
+        start += place + width(segment);
+        rest = next;
+    }
+}
+
+// The same where no star follows.
+fn match_end(
+    value: &[u8],
+    start: usize,
+    segment: &[u8],
+    comparator: Comparator,
+    captures: Captures,
+) -> Option<Captures>
+    requires within { start ≤ length value.now }
+    requires few { length captures ≤ max_captures }
+    requires no_star { NoStar (tokens_of segment.now) }
+    ensures { option_map (texts value.now) result ≡ option_map (with_stretches (texts value.now captures)) (least_fit comparator (Star ∷ tokens_of segment.now) (drop start value.now)) }
+{
+    let width = width(segment);
+    if width > value.len() - start {
+        return None;
+    }
+    let place = value.len() - width;
+    if !begins_with(&value[place..], segment, comparator) {
+        return None;
+    }
+    let mut captures = captures;
+    push_placed(&mut captures, segment, start, place);
+    Some(captures)
+}
+
+// Adds the captures of a star from `start` on and of the segment after it, whose first octet stands at `place`.
+fn push_placed(captures: &mut Captures, segment: &[u8], start: usize, place: usize)
+    requires few { length captures.old ≤ max_captures }
+    requires from { start ≤ place }
+    requires room { place + length (tokens_of segment.now) < 2 ^ 64 }
+    ensures few { length captures.new ≤ max_captures }
+    ensures texts { (value : List ℕ) → place + length (tokens_of segment.now) ≤ length value → texts value captures.new ≡ with_stretches (texts value captures.old) (slice_range value start place ∷ any_octets (tokens_of segment.now) (drop place value)) }
+{
+    captures.push(start, place);
+    push_any_octets(captures, segment, place);
+}

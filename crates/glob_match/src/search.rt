@@ -1,0 +1,137 @@
+// The first place of a literal text in a value.
+ghost use Rattle.std.specs.Prelude.{◌≡◌, ◌+◌, ◌*◌, ◌≤◌, ◌<◌, ◌^◌, length, map};
+ghost use Rattle.std.specs.Char.{is_ascii_alphabetic};
+ghost use Rattle.std.specs.List.{list_any};
+ghost use Rattle.memchr.specs.Find.{FindsNeedle};
+ghost use Rattle.glob_match.specs.Comparison.{compared};
+ghost use Rattle.glob_match.specs.Containment.{begins_with, first_place};
+ghost use Rattle.glob_match.specs.declared.comparator.Comparator.TheVariants.{Casemap};
+ghost use Rattle.glob_match.specs.declared.token.Token.TheVariants.{Literal};
+
+use crate::comparator::Comparator;
+use crate::fold::{equal_folded, fold};
+use memchr::memmem::{self, Finder};
+
+/// Up to this length a value is searched as one window.
+pub(crate) const SHORT: usize = 256;
+
+/// Up to this length a text needs no large arrays.
+const MEDIUM: usize = 1024;
+
+const MEDIUM_WINDOW: usize = 8 * MEDIUM;
+
+/// Up to this length, which that of a script's strings doesn't exceed, a text is searched in time linear in value and text.
+pub(crate) const LONG: usize = 16_384;
+
+const LONG_WINDOW: usize = 3 * LONG;
+
+/// The first place of the value at which the text stands under the comparator, and a bound on the octets gone over.
+pub(crate) fn find(value: &[u8], text: &[u8], comparator: Comparator) -> (Option<usize>, u64)
+    requires { (length value.now + 1) * (length text.now + 1) < 2 ^ 64 }
+    ensures place { result.0 ≡ first_place (begins_with comparator (map Literal text.now)) value.now }
+    ensures most { result.1 ≤ (length value.now + 1) * (length text.now + 1) }
+    ensures least { length text.now ≤ result.1 }
+{
+    if text.len() > value.len() {
+        return (None, linear_bound(value, text));
+    }
+    match comparator {
+        Comparator::Octet => (memmem::find(value, text), linear_bound(value, text)),
+        Comparator::Casemap => find_casemap(value, text),
+    }
+}
+
+/// A bound on the octets that a search in time linear in value and key goes over.
+pub(crate) fn linear_bound(value: &[u8], key: &[u8]) -> u64
+    requires { (length value.now + 1) * (length key.now + 1) < 2 ^ 64 }
+    ensures most { result ≤ (length value.now + 1) * (length key.now + 1) }
+    ensures least { length key.now ≤ result }
+{
+    (value.len() + key.len()) as u64
+}
+
+/// A bound on the octets that a search which tries each place goes over.
+pub(crate) fn product_bound(value: &[u8], key: &[u8]) -> u64
+    requires { (length value.now + 1) * (length key.now + 1) < 2 ^ 64 }
+    ensures most { result ≤ (length value.now + 1) * (length key.now + 1) }
+    ensures least { length key.now ≤ result }
+{
+    (value.len() as u64 + 1) * key.len() as u64
+}
+
+fn find_casemap(value: &[u8], text: &[u8]) -> (Option<usize>, u64)
+    requires fits { length text.now ≤ length value.now }
+    requires room { (length value.now + 1) * (length text.now + 1) < 2 ^ 64 }
+    ensures place { FindsNeedle (compared Casemap value.now) (compared Casemap text.now) 0 result.0 }
+    ensures most { result.1 ≤ (length value.now + 1) * (length text.now + 1) }
+    ensures least { length text.now ≤ result.1 }
+{
+    let gone_over = linear_bound(value, text);
+    if !has_letter(text) {
+        (memmem::find(value, text), gone_over)
+    } else if value.len() <= SHORT {
+        (find_folded::<SHORT, SHORT>(value, text), gone_over)
+    } else if text.len() <= MEDIUM {
+        (find_folded::<MEDIUM, MEDIUM_WINDOW>(value, text), gone_over)
+    } else if text.len() <= LONG {
+        (find_folded::<LONG, LONG_WINDOW>(value, text), gone_over)
+    } else {
+        (find_by_octets(value, text), product_bound(value, text))
+    }
+}
+
+fn has_letter(text: &[u8]) -> bool
+    ensures { result ≡ list_any is_ascii_alphabetic text.now }
+{
+    text.iter().any(|octet| octet.is_ascii_alphabetic())
+}
+
+// The same by windows, with the text and each window in upper case.
+#[inline(never)]
+fn find_folded<const TEXT: usize, const WINDOW: usize>(value: &[u8], text: &[u8]) -> Option<usize>
+    requires text { length text.now ≤ TEXT }
+    requires window { TEXT ≤ WINDOW }
+    requires small { WINDOW < 2 ^ 63 }
+    requires some { 0 < length text.now }
+    ensures { FindsNeedle (compared Casemap value.now) (compared Casemap text.now) 0 result }
+{
+    let mut folded = [0; TEXT];
+    fold(text, &mut folded[..text.len()]);
+    let finder = Finder::new(&folded[..text.len()]);
+    let mut window = [0; WINDOW];
+    find_in_windows(&finder, text.len(), value, &mut window)
+}
+
+// Windows overlap by one octet less than the text has.
+fn find_in_windows(finder: &Finder, len: usize, value: &[u8], window: &mut [u8]) -> Option<usize>
+    requires text { length finder.now ≡ len }
+    requires window { len ≤ length window.old }
+    requires some { 0 < len }
+    ensures { FindsNeedle (compared Casemap value.now) finder.now 0 result }
+{
+    let mut start = 0;
+    'windows: loop {
+        let octets = (value.len() - start).min(window.len());
+        fold(&value[start..start + octets], &mut window[..octets]);
+        if let Some(place) = finder.find(&window[..octets]) {
+            return Some(start + place);
+        }
+        if start + octets == value.len() {
+            return None;
+        }
+        start += octets + 1 - len;
+    }
+}
+
+// The same for a text of any length, in time of the product.
+fn find_by_octets(value: &[u8], text: &[u8]) -> Option<usize>
+    requires { length text.now ≤ length value.now }
+    ensures { FindsNeedle (compared Casemap value.now) (compared Casemap text.now) 0 result }
+{
+    for place in 0..=value.len() - text.len() {
+        if equal_folded(&value[place..place + text.len()], text) {
+            return Some(place);
+        }
+    }
+    None
+}
