@@ -1,5 +1,31 @@
-use Rattle.std.specs.Prelude.{ℕ, ◌-◌, ◌^◌, ◌<◌}
+-- What is known of a sink, and what calls do to it.
+use Rattle.std.specs.Prelude.{◌≡◌, ℕ, zero, suc, ◌+◌, ◌-◌, ◌^◌, min, List, Option, ◌++◌}
+use Rattle.std.specs.Io.KnownBytes.{Appends, Keeps}
 
--- one more call has failed: the count of failed calls has risen, unless it stood at its end
-abbrev pub HasFailed : ℕ → ℕ → Type 0
-HasFailed old new = old < 2 ^ 64 - 1 → old < new
+-- a count after so many more; counts stop at 2^64 - 1
+abbrev pub counted : ℕ → ℕ → ℕ
+counted zero count = count
+counted (suc more) count = min (count + suc more) (2 ^ 64 - 1)
+
+-- what is known of a sink: the octets that it took, where they are told, and how many of its calls have failed
+pub record Output : Type 0 where
+  pub written : Option (List ℕ)
+  pub faults : ℕ
+
+-- the sink took these octets, and no call failed
+pub record HasTaken (octets : List ℕ) (old new : Output) : Type 0 where
+  pub written : Appends old.written new.written octets
+  pub faults : new.faults ≡ old.faults
+
+-- one call failed, and took nothing
+pub record HasFailed (old new : Output) : Type 0 where
+  pub written : Keeps old.written new.written
+  pub faults : new.faults ≡ counted 1 old.faults
+
+-- the sink took the first of these octets, and then one call failed
+pub record HasBroken (octets : List ℕ) (old new : Output) : Type 0 where
+  pub prefix : List ℕ
+  pub rest : List ℕ
+  pub whole : octets ≡ prefix ++ rest
+  pub written : Appends old.written new.written prefix
+  pub faults : new.faults ≡ counted 1 old.faults

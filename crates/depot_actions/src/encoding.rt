@@ -31,7 +31,7 @@ pub enum Encoding {
 ///
 /// # Errors
 ///
-/// Memory ran out.
+/// An allocation was refused.
 pub fn encode(alloc: Global, encoding: Encoding, octets: &[u8]) -> Result<Vec<u8>, AllocError>
     ensures { IfOk result (λ text. text.items ≡ text_of encoding octets.now) }
 {
@@ -51,8 +51,19 @@ pub fn encode(alloc: Global, encoding: Encoding, octets: &[u8]) -> Result<Vec<u8
 ///
 /// `NotCanonical` where the text reads as no octets. That can't be of raw octets, nor of MIME base64, whose
 /// reader passes over what is no symbol; the other encodings read what `encode` writes and nothing else, base16
-/// also in lower case. `Memory` where memory ran out.
+/// also in lower case. `Memory` where an allocation was refused.
 pub fn decode(alloc: Global, encoding: Encoding, text: &[u8]) -> Result<Vec<u8>, DecodeError>
+    ensures read { IfOk result (λ octets. Reads encoding text.now octets.items) }
+    ensures octets { IfOk result (λ octets. IsOctets octets.items) }
+    ensures refused { IfErr result (λ e. e ≡ NotCanonical → (octets : List ℕ) → IsOctets octets → Reads encoding text.now octets → ⊥) }
+{
+    let octets = read(alloc, encoding, text)?;
+    know_octets(&octets);
+    Ok(octets)
+}
+
+// The octets that a text reads as.
+fn read(alloc: Global, encoding: Encoding, text: &[u8]) -> Result<Vec<u8>, DecodeError>
     ensures octets { IfOk result (λ octets. Reads encoding text.now octets.items) }
     ensures refused { IfErr result (λ e. e ≡ NotCanonical → (octets : List ℕ) → IsOctets octets → Reads encoding text.now octets → ⊥) }
 {
@@ -65,3 +76,8 @@ pub fn decode(alloc: Global, encoding: Encoding, text: &[u8]) -> Result<Vec<u8>,
         Encoding::Base16 => Ok(hex::decode(alloc, text)?),
     }
 }
+
+// To a contract octets are numbers: this says that each is below 256.
+fn know_octets(_octets: &[u8])
+    ensures { IsOctets _octets.now }
+{}

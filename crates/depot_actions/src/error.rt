@@ -5,14 +5,14 @@ ghost use Rattle.depot_actions.specs.declared.error.DecodeError.TheVariants.{Mem
 
 use base64::DecodeAllocError;
 use hex::FromHexError;
-use lanes_base32::Refusal;
+use lanes_base32::Refusal as Base32Refusal;
 use std::alloc::AllocError;
 use thiserror::Error;
 
 /// Why a text gives no octets.
 #[derive(Debug, Drop, PartialEq, Eq, Error)]
 pub enum DecodeError {
-    /// A growth was refused.
+    /// An allocation was refused.
     #[error("refused 1 Memory")]
     Memory,
     /// The text reads as no octets.
@@ -28,13 +28,13 @@ impl From<AllocError> for DecodeError {
     }
 }
 
-impl From<Refusal> for DecodeError {
+impl From<Base32Refusal> for DecodeError {
     ghost from_gives = { λ cause e. e ≡ of_base32 cause };
 
-    fn from(cause: Refusal) -> DecodeError {
+    fn from(cause: Base32Refusal) -> DecodeError {
         match cause {
-            Refusal::Memory => DecodeError::Memory,
-            Refusal::NotCanonical => DecodeError::NotCanonical,
+            Base32Refusal::Memory => DecodeError::Memory,
+            Base32Refusal::NotCanonical => DecodeError::NotCanonical,
         }
     }
 }

@@ -3,8 +3,8 @@
 //! [`encode`] writes octets in an [`Encoding`], and [`decode`] reads them back: exactly the octets that the
 //! text reads as, or `NotCanonical` where there are none.
 //!
-//! A [`Sink`] takes octets. Its contract knows the octets that it took, where they are known, and how
-//! many of its calls have failed; [`OfWrite`] makes a sink of a writer.
+//! A [`Sink`] takes octets. A contract sees the octets that it took, where they are told, and how many of its calls
+//! have failed (`specs/Device`); [`OfWrite`] makes a sink of a writer.
 #![tactic(auto)]
 
 mod encoding;

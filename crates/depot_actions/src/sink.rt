@@ -1,9 +1,9 @@
 // Sinks, and a writer as one.
-ghost use Rattle.std.specs.Prelude.{◌≡◌, ℕ, ◌<◌, ◌≤◌, List, Option, length, take, IfOk, OnOk, OnErr};
+ghost use Rattle.std.specs.Prelude.{◌≡◌, ◌<◌, ◌≤◌, length, take, IfOk, OnErr};
 ghost use Rattle.std.specs.Io.KnownBytes.{Appends, Keeps};
-ghost use Rattle.depot_actions.specs.Device.{HasFailed};
+ghost use Rattle.depot_actions.specs.Device.{HasFailed, HasTaken, Output};
 
-use std::io::Write;
+use std::io::{ErrorKind, Write};
 
 /// A device refused what it was asked for.
 #[derive(Debug, Drop)]
@@ -11,26 +11,28 @@ pub struct DeviceFailed;
 
 /// What takes octets.
 ///
-/// A contract sees the octets that it took, where they are known, and the number of its calls that
-/// have failed.
+/// A contract sees the octets that it took, where they are told, and the number of its calls that have failed.
 pub trait Sink {
-    ghost written: { Self → Option (List ℕ) };
+    ghost output: { Self → Output };
 
-    ghost faults: { Self → ℕ };
-
-    /// Takes the first of the octets, at least one unless there is none, and answers how many. A call
-    /// that fails takes nothing, and is counted.
+    /// Takes the first of the octets, at least one unless there is none, and answers how many.
+    ///
+    /// # Errors
+    ///
+    /// The device failed. Nothing was taken, and the failure is counted.
     fn write(&mut self, octets: &[u8]) -> Result<usize, DeviceFailed>
         ensures bound { IfOk result (λ n. n ≤ length octets.now) }
         ensures some { IfOk result (λ n. 0 < length octets.now → 0 < n) }
-        ensures ok { IfOk result (λ n. Appends (written self.old) (written self.new) (take n octets.now)) }
-        ensures same { OnOk result (faults self.new ≡ faults self.old) }
-        ensures err { OnErr result (Keeps (written self.old) (written self.new)) }
-        ensures failed { OnErr result (HasFailed (faults self.old) (faults self.new)) };
+        ensures ok { IfOk result (λ n. HasTaken (take n octets.now) (output self.old) (output self.new)) }
+        ensures err { OnErr result (HasFailed (output self.old) (output self.new)) };
 }
 
-/// A writer as a sink. Its failed calls are counted up to 2^64 - 1; that it takes nothing of octets
-/// is a failure too.
+/// How often a call is made that a signal interrupts, before it counts as failed.
+const MAX_TRIES: u32 = 16;
+
+/// A writer as a sink.
+///
+/// A call that a signal interrupts is made again, up to 16 times in all. That the writer takes nothing of octets is a failure.
 #[derive(Drop)]
 pub struct OfWrite<W: Write + Drop> {
     /// The writer.
@@ -40,26 +42,40 @@ pub struct OfWrite<W: Write + Drop> {
 }
 
 impl<W: Write + Drop> OfWrite<W> {
-    /// The writer, of whose calls none has failed.
+    /// The writer, of whose calls none has failed. The octets that it holds count as taken.
     pub fn new(inner: W) -> OfWrite<W>
-        ensures { result ≡ record { inner = inner; faults = 0 } }
+        ensures fields { result ≡ record { inner = inner; faults = 0 } }
+        ensures output { ⟦<OfWrite<W> as Sink>⟧.output result ≡ record { written = W.contents inner; faults = 0 } }
     {
         OfWrite { inner, faults: 0 }
     }
 }
 
 impl<W: Write + Drop> Sink for OfWrite<W> {
-    ghost written = { λ s. W.contents s.inner };
-
-    ghost faults = { λ s. s.faults };
+    ghost output = { λ s. record { written = W.contents s.inner; faults = s.faults } };
 
     fn write(&mut self, octets: &[u8]) -> Result<usize, DeviceFailed> {
-        match self.inner.write(octets) {
-            Ok(n) if n > 0 || octets.is_empty() => Ok(n),
-            _ => {
-                self.faults = self.faults.saturating_add(1);
-                Err(DeviceFailed)
-            }
+        let written = write_some(&mut self.inner, octets);
+        if written.is_err() {
+            self.faults = self.faults.saturating_add(1);
+        }
+        written
+    }
+}
+
+// One write, made again where a signal interrupts it.
+fn write_some<W: Write>(writer: &mut W, octets: &[u8]) -> Result<usize, DeviceFailed>
+    ensures bound { IfOk result (λ n. n ≤ length octets.now) }
+    ensures some { IfOk result (λ n. 0 < length octets.now → 0 < n) }
+    ensures ok { IfOk result (λ n. Appends (W.contents writer.old) (W.contents writer.new) (take n octets.now)) }
+    ensures err { OnErr result (Keeps (W.contents writer.old) (W.contents writer.new)) }
+{
+    for _ in 0..MAX_TRIES {
+        match writer.write(octets) {
+            Ok(n) if n > 0 || octets.is_empty() => return Ok(n),
+            Err(fault) if fault.kind() == ErrorKind::Interrupted => {}
+            _ => break,
         }
     }
+    Err(DeviceFailed)
 }

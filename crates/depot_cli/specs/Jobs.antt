@@ -1,37 +1,40 @@
--- What jobs answer, and why they are refused.
-use Rattle.std.specs.Prelude.{◌≡◌, ◌⊎◌, ℕ, List, Option, length, string_bytes}
+-- What jobs answer, why they are refused, and what answering does.
+use Rattle.std.specs.Prelude.{◌≡◌, ◌⊎◌, ℕ, List, length, string_bytes}
 use Rattle.octet_lanes.specs.Encoding.{IsOctets}
+use Rattle.depot_actions.specs.Device.{HasBroken, HasTaken, Output}
 use Rattle.depot_actions.specs.Texts.{Reads, text_of}
 use Rattle.depot_actions.specs.declared.encoding.Encoding.{Encoding}
 use Rattle.bytecode_cost.specs.Text.{budget_text}
 use Rattle.bytecode_format.specs.declared.action.Action.{Action}
 use Rattle.bytecode_format.specs.Code.{Code}
-use Rattle.bytecode_verifier.specs.Budget.{budget_of}
-use Rattle.sieve_engine.specs.Execution.{IsChecked, IsExecution, IsProgramRefusal, IsRefusal}
-use Rattle.sieve_check.specs.Typed.{CommandForms}
-use Rattle.sieve_engine.specs.Evaluation.{IsEvaluation, IsEvaluationRefusal, IsScript, IsScriptRefusal}
-use Rattle.sieve_engine.specs.declared.error.EngineError.{EngineError}
 use Rattle.bytecode_format.specs.Spelling.{spelling}
+use Rattle.bytecode_verifier.specs.Budget.{budget_of}
+use Rattle.sieve_check.specs.Typed.{CommandForms}
+use Rattle.sieve_engine.specs.Evaluation.{IsCompiled, IsEvaluation, IsEvaluationRefusal, IsScript, IsScriptRefusal}
+use Rattle.sieve_engine.specs.Execution.{IsChecked, IsExecution, IsProgramRefusal, IsRefusal}
+use Rattle.depot_cli.specs.Host.{HasMade, HasNotMade, HostState}
 use Rattle.depot_cli.specs.Printed.{line, ok_text, refusal_line, report_text, wrote_text}
-use Rattle.depot_cli.specs.Printing.{HasBroken, HasPrinted}
-use Rattle.depot_cli.specs.Refusals.{of_engine}
+use Rattle.depot_cli.specs.Refusals.{IsEngineRefusal}
 use Rattle.depot_cli.specs.declared.error.Refusal.{Refusal}
 use Rattle.depot_cli.specs.declared.error.Refusal.TheVariants as refusals
 use Rattle.depot_cli.specs.declared.job.Job.{Job}
-use Rattle.depot_cli.specs.declared.job.Job.TheVariants.{Check, Verify, Run, Eval, Encode, Decode}
+use Rattle.depot_cli.specs.declared.job.Job.TheVariants.{Check, Compile, Verify, Run, Eval, Encode, Decode}
 use Rattle.depot_cli.specs.declared.job.Lines.{Lines}
 use Rattle.depot_cli.specs.declared.job.Lines.TheVariants as lines
 
--- the text of a job's answer: that the script has no fault, the budget of the accepted program, the lines of the run, or the octets and nothing else
-abbrev pub IsAnswer : Job → List ℕ → Type 0
-IsAnswer (Check script) text = (form : CommandForms) × IsScript script.now form × (text ≡ line ok_text)
-IsAnswer (Verify program) text = (code : Code) × IsChecked program.now code × (text ≡ line (budget_text (budget_of code)))
-IsAnswer (Run program message) text =
-    (actions : List Action) × (charged : ℕ) × (limit : ℕ) × IsExecution program.now message.now actions charged limit × (text ≡ report_text actions charged limit)
-IsAnswer (Eval script message) text =
-    (actions : List Action) × (charged : ℕ) × (limit : ℕ) × IsEvaluation script.now message.now actions charged limit × (text ≡ report_text actions charged limit)
-IsAnswer (Encode encoding octets) text = text ≡ text_of encoding octets.now
-IsAnswer (Decode encoding text) octets = Reads encoding text.now octets
+-- The text of a job's answer: that the script has no fault, how many octets its program has, the budget of the accepted program, the
+-- lines of the run, or the octets and nothing else. The script's program was made a file; no other job asks anything of the host.
+abbrev pub IsAnswer : Job → List ℕ → HostState → HostState → Type 0
+IsAnswer (Check script) text old new = (form : CommandForms) × IsScript script.now form × (text ≡ line ok_text) × (new ≡ old)
+IsAnswer (Compile script name out) text old new =
+    (code : Code) × IsCompiled script.now code × (text ≡ line (wrote_text (length (spelling code)))) × HasMade out.now name.now (spelling code) old new
+IsAnswer (Verify program) text old new = (code : Code) × IsChecked program.now code × (text ≡ line (budget_text (budget_of code))) × (new ≡ old)
+IsAnswer (Run program message) text old new =
+    (actions : List Action) × (charged : ℕ) × (limit : ℕ) × IsExecution program.now message.now actions charged limit × (text ≡ report_text actions charged limit) × (new ≡ old)
+IsAnswer (Eval script message) text old new =
+    (actions : List Action) × (charged : ℕ) × (limit : ℕ) × IsEvaluation script.now message.now actions charged limit × (text ≡ report_text actions charged limit) × (new ≡ old)
+IsAnswer (Encode encoding octets) text old new = (text ≡ text_of encoding octets.now) × (new ≡ old)
+IsAnswer (Decode encoding text) octets old new = IsOctets octets × Reads encoding text.now octets × (new ≡ old)
 
 -- why a text isn't decoded: memory was refused, or it reads as no octets
 abbrev pub IsUnread : Encoding → List ℕ → Refusal → Type 0
@@ -39,43 +42,49 @@ IsUnread encoding text refusals.Memory = Unit {0}
 IsUnread encoding text refusals.NotCanonical = (octets : List ℕ) → IsOctets octets → Reads encoding text octets → ⊥
 IsUnread encoding text _ = ⊥
 
--- the first refusal of a script
-abbrev pub IsScriptRefused : List ℕ → Refusal → Type 0
-IsScriptRefused script refusal = (error : EngineError) × IsScriptRefusal script error × (refusal ≡ of_engine error)
-
--- the first refusal of a job's files
-abbrev pub IsRefused : Job → Refusal → Type 0
-IsRefused (Check script) refusal = IsScriptRefused script.now refusal
-IsRefused (Verify program) refusal = (error : EngineError) × IsProgramRefusal program.now error × (refusal ≡ of_engine error)
-IsRefused (Run program message) refusal = (error : EngineError) × IsRefusal program.now message.now error × (refusal ≡ of_engine error)
-IsRefused (Eval script message) refusal = (error : EngineError) × IsEvaluationRefusal script.now message.now error × (refusal ≡ of_engine error)
-IsRefused (Encode encoding octets) refusal = refusal ≡ refusals.Memory
-IsRefused (Decode encoding text) refusal = IsUnread encoding text.now refusal
+-- The first refusal of a job's octets, of which the host isn't asked anything; or the job's file could not be made.
+abbrev pub IsJobRefusal : Job → Refusal → HostState → HostState → Type 0
+IsJobRefusal (Check script) refusal old new = IsEngineRefusal (IsScriptRefusal script.now) refusal × (new ≡ old)
+IsJobRefusal (Compile script name out) refusal old new =
+    (IsEngineRefusal (IsScriptRefusal script.now) refusal × (new ≡ old))
+    ⊎ ((code : Code) × IsCompiled script.now code × HasNotMade refusal out.now name.now old new)
+IsJobRefusal (Verify program) refusal old new = IsEngineRefusal (IsProgramRefusal program.now) refusal × (new ≡ old)
+IsJobRefusal (Run program message) refusal old new = IsEngineRefusal (IsRefusal program.now message.now) refusal × (new ≡ old)
+IsJobRefusal (Eval script message) refusal old new = IsEngineRefusal (IsEvaluationRefusal script.now message.now) refusal × (new ≡ old)
+IsJobRefusal (Encode encoding octets) refusal old new = (refusal ≡ refusals.Memory) × (new ≡ old)
+IsJobRefusal (Decode encoding text) refusal old new = IsUnread encoding text.now refusal × (new ≡ old)
 
 -- the text of what an answer is made of
 abbrev pub lines_text : Lines → List ℕ
 lines_text lines.NoFault = line ok_text
+lines_text (lines.Wrote octets) = line (wrote_text octets)
 lines_text (lines.Budget text) = line (string_bytes text)
 lines_text (lines.Octets octets) = octets.items
 lines_text (lines.Report report) = report_text report.outcome.actions.items report.outcome.charged report.limit
 
--- the job's answer was written whole
-abbrev pub HasAnswered : Job → Option (List ℕ) → ℕ → Option (List ℕ) → ℕ → Type 0
-HasAnswered job old before new after = (text : List ℕ) × IsAnswer job text × HasPrinted text old before new after
+-- ---- what answering does
 
--- the device failed while the job's answer was written
-abbrev pub HasStopped : Job → Option (List ℕ) → ℕ → Option (List ℕ) → ℕ → Type 0
-HasStopped job old before new after = (text : List ℕ) × IsAnswer job text × HasBroken text old before new after
+-- what a command works with: the host, standard output and standard error
+pub record World : Type 0 where
+  pub host : HostState
+  pub out : Output
+  pub err : Output
 
--- the line of a refusal was written, or the device failed while it was
-abbrev pub HasTold : Refusal → Option (List ℕ) → ℕ → Option (List ℕ) → ℕ → Type 0
-HasTold refusal old before new after = HasPrinted (refusal_line refusal) old before new after ⊎ HasBroken (refusal_line refusal) old before new after
+abbrev pub world : HostState → Output → Output → World
+world host out err = record { host = host; out = out; err = err }
 
--- the line of the job's refusal was written, or the device failed while it was
-abbrev pub HasRefused : Job → Option (List ℕ) → ℕ → Option (List ℕ) → ℕ → Type 0
-HasRefused job old before new after =
-    (refusal : Refusal) × IsRefused job refusal × HasTold refusal old before new after
+-- the line of a refusal was written, or the sink broke while it was
+abbrev pub HasTold : Refusal → Output → Output → Type 0
+HasTold refusal old new = HasTaken (refusal_line refusal) old new ⊎ HasBroken (refusal_line refusal) old new
 
--- the line behind a program that was written
-abbrev pub wrote_line : Code → List ℕ
-wrote_line code = line (wrote_text (length (spelling code)))
+-- the job was done, and its answer was written whole
+abbrev pub HasAnswered : Job → World → World → Type 0
+HasAnswered job old new = (text : List ℕ) × IsAnswer job text old.host new.host × HasTaken text old.out new.out × (new.err ≡ old.err)
+
+-- the job was done, but its answer broke off
+abbrev pub HasStopped : Job → World → World → Type 0
+HasStopped job old new = (text : List ℕ) × IsAnswer job text old.host new.host × HasBroken text old.out new.out × HasTold refusals.Write old.err new.err
+
+-- the job was refused
+abbrev pub HasRefused : Job → World → World → Type 0
+HasRefused job old new = (refusal : Refusal) × IsJobRefusal job refusal old.host new.host × HasTold refusal old.err new.err × (new.out ≡ old.out)

@@ -1,7 +1,12 @@
+pub mod Files
+pub mod Gathering
+pub mod Host
 pub mod Jobs
+pub mod LimitedReading
+pub mod Limits
 pub mod Pieces
 pub mod Printed
-pub mod Printing
-pub mod Reading
 pub mod Refusals
+pub mod Running
+pub mod Supply
 pub mod Words

@@ -6,23 +6,34 @@ use Rattle.std.specs.Prelude.{false}
 use Rattle.bytecode_format.specs.declared.action.Action.{Action}
 use Rattle.bytecode_format.specs.declared.action.Action.TheVariants.{Keep, File, Store}
 use Rattle.depot_cli.specs.declared.error.Refusal.{Refusal}
+use Rattle.depot_cli.specs.declared.piece.Setting.{Setting}
+use Rattle.depot_cli.specs.declared.piece.Setting.TheVariants.{Quotes, Text}
 use Rattle.depot_cli.specs.declared.error.Refusal.TheVariants.{Memory, MessageTooLarge, NotCanonical, Lexical, ScriptTooLong, Syntax, TooDeep, UnknownCommand, MissingCapability, UnknownCapability, BadArguments, Limit, Spelling, Index, Form, End, Loop, Jump, NoPart, Stack, Write, Read}
 
 -- the text and the end of its line
 abbrev pub line : List ℕ → List ℕ
 line text = text ++ 10 ∷ []
 
--- an octet that is printed as it is: 32 to 126, but for the quote and the backslash
-abbrev pub is_plain : ℕ → Bool
-is_plain octet = (nat_le 32 octet && nat_le octet 126) && not (octet == 34 || octet == 92)
+-- an octet that is printed as it is: 32 to 126; between quotes without the quote and the backslash, in a text also a line break
+abbrev pub is_plain : Setting → ℕ → Bool
+is_plain Quotes octet = (nat_le 32 octet && nat_le octet 126) && not (octet == 34 || octet == 92)
+is_plain Text octet = (nat_le 32 octet && nat_le octet 126) || octet == 10
 
--- an octet among others between quotes: itself, or a backslash and its two hexadecimal digits
-abbrev pub quoted_octet : ℕ → List ℕ
-quoted_octet octet = if is_plain octet then octet ∷ [] else 92 ∷ digit_glyph false (octet / 16) ∷ digit_glyph false (octet % 16) ∷ []
+-- an octet among others: itself, or a backslash and its two hexadecimal digits
+abbrev pub escaped_octet : Setting → ℕ → List ℕ
+escaped_octet setting octet = if is_plain setting octet then octet ∷ [] else 92 ∷ digit_glyph false (octet / 16) ∷ digit_glyph false (octet % 16) ∷ []
+
+-- octets among others
+abbrev pub escaped : Setting → List ℕ → List ℕ
+escaped setting = flat_map (escaped_octet setting)
 
 -- octets between quotes
 abbrev pub quoted : List ℕ → List ℕ
-quoted octets = 34 ∷ [] ++ flat_map quoted_octet octets ++ 34 ∷ []
+quoted octets = 34 ∷ [] ++ escaped Quotes octets ++ 34 ∷ []
+
+-- a text that may have been written by anyone
+abbrev pub shown : List ℕ → List ℕ
+shown = escaped Text
 
 -- what an action does
 abbrev pub action_text : Action → List ℕ

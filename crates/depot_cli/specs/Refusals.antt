@@ -1,4 +1,5 @@
 -- The refusals of the engine and of decoding, as jobs answer them.
+use Rattle.std.specs.Prelude.{◌≡◌}
 use Rattle.depot_actions.specs.declared.error.DecodeError.{DecodeError}
 use Rattle.depot_actions.specs.declared.error.DecodeError.TheVariants as decoding
 use Rattle.sieve_engine.specs.declared.error.EngineError.{EngineError}
@@ -32,3 +33,7 @@ of_engine (engine.Stack place) = Stack place
 abbrev pub of_decoding : DecodeError → Refusal
 of_decoding decoding.Memory = Memory
 of_decoding decoding.NotCanonical = NotCanonical
+
+-- the refusal of an error of the engine of which this holds
+abbrev pub IsEngineRefusal : (EngineError → Type 0) → Refusal → Type 0
+IsEngineRefusal IsCause refusal = (error : EngineError) × IsCause error × (refusal ≡ of_engine error)

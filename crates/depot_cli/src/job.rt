@@ -1,19 +1,30 @@
 // Jobs and their answers.
-ghost use Rattle.std.specs.Prelude.{◌≡◌, ◌≤◌, ◌⊎◌, IfOk, IfErr, OnOk, OnErr, string_bytes};
+ghost use Rattle.std.specs.Prelude.{◌≡◌, ◌≤◌, ◌⊎◌, IfErr, IfOk, OnErr, OnOk, string_bytes};
 ghost use Rattle.bytecode_cost.specs.Text.{budget_text};
-ghost use Rattle.bytecode_verifier.specs.Budget.{budget_of};
 ghost use Rattle.bytecode_format.specs.Code.{Code};
+ghost use Rattle.bytecode_format.specs.Spelling.{spelling};
+ghost use Rattle.bytecode_verifier.specs.Budget.{budget_of};
+ghost use Rattle.sieve_engine.specs.Evaluation.{IsCompiled, IsScriptRefusal};
 ghost use Rattle.sieve_engine.specs.Execution.{IsChecked, IsProgramRefusal};
-ghost use Rattle.sieve_engine.specs.declared.error.EngineError.{EngineError};
-ghost use Rattle.depot_cli.specs.Refusals.{of_engine};
-ghost use Rattle.depot_cli.specs.Jobs.{HasAnswered, HasRefused, HasStopped, IsAnswer, IsRefused, lines_text};
-ghost use Rattle.depot_cli.specs.Printing.{HasBroken, HasPrinted};
+ghost use Rattle.depot_actions.specs.Device.{HasBroken, HasTaken};
+ghost use Rattle.depot_cli.specs.Jobs.{HasAnswered, HasRefused, HasStopped, HasTold, IsAnswer, IsJobRefusal, lines_text, world};
+ghost use Rattle.depot_cli.specs.Refusals.{IsEngineRefusal};
 
 use crate::error::Refusal;
-use crate::printing::{put, put_line, put_refusal, put_report};
+use crate::gathering::put;
+use crate::host::Host;
+use crate::making::make_file;
+use crate::piece::Piece;
+use crate::printing::{put_line, put_pieces, put_refusal, put_report};
 use depot_actions::{DeviceFailed, Encoding, Sink, decode, encode};
-use sieve_engine::{Report, check_program, check_script, evaluate, execute};
+use sieve_engine::{Report, check_program, check_script, compile_script, evaluate, execute};
 use std::alloc::Global;
+
+/// The status of a command that was done and whose answer was written whole.
+const SUCCESS: u8 = 0;
+
+/// The status of a command that was refused, or whose answer broke off.
+const REFUSED: u8 = 1;
 
 /// A command with the octets of its files.
 #[derive(Clone, Copy, Debug)]
@@ -21,6 +32,14 @@ pub enum Job<'a> {
     /// Whether a script has a fault.
     Check {
         script: &'a [u8],
+    },
+    /// A script as a program, into a file.
+    Compile {
+        script: &'a [u8],
+        /// The name of the script's file.
+        name: &'a str,
+        /// The name of the program's file.
+        out: &'a str,
     },
     /// Whether a program is accepted, and what it may charge.
     Verify {
@@ -53,6 +72,8 @@ pub enum Job<'a> {
 pub enum Lines {
     /// A script has no fault.
     NoFault,
+    /// So many octets were written to a file.
+    Wrote(usize),
     /// The text of an accepted program's budget.
     Budget(String),
     /// The report of a run.
@@ -61,39 +82,62 @@ pub enum Lines {
     Octets(Vec<u8>),
 }
 
-/// Carries out a job: writes its answer to `out` and gives 0, or writes the line of its refusal to
-/// `err` and gives 1.
+/// Carries out a job: writes its answer to `out` and gives 0, or writes the line of its refusal to `err` and gives 1.
 ///
-/// Writing follows the job and takes no memory. Where `out` fails, a front of the answer is written
-/// there, nothing to `err`, and the status is 1; where `err` fails, a front of the line.
-pub fn answer<O: Sink, E: Sink>(alloc: Global, job: Job<'_>, out: &mut O, err: &mut E) -> u8
+/// Writing follows the job and takes no memory. Where `out` fails, a prefix of the answer is written there, what the job did stands,
+/// the line of `Write` is written to `err`, and the status is 1. Where `err` fails, a prefix of the line is written there.
+///
+/// The job of compile is refused with `Write` only where a call on the file failed, and then no file is kept.
+pub fn answer<H: Host, O: Sink, E: Sink>(
+    alloc: Global,
+    job: Job<'_>,
+    host: &mut H,
+    out: &mut O,
+    err: &mut E,
+) -> u8
     ensures status { result ≤ 1 }
-    ensures done { result ≡ 0 → HasAnswered job.entry (O.written out.old) (O.faults out.old) (O.written out.new) (O.faults out.new) × (err.new ≡ err.old) }
+    ensures done { result ≡ 0 → HasAnswered job.entry
+        (world (H.state host.old) (O.output out.old) (E.output err.old)) (world (H.state host.new) (O.output out.new) (E.output err.new))
+        × (err.new ≡ err.old) }
     ensures failed { result ≡ 1 →
-        (HasStopped job.entry (O.written out.old) (O.faults out.old) (O.written out.new) (O.faults out.new) × (err.new ≡ err.old))
-        ⊎ (HasRefused job.entry (E.written err.old) (E.faults err.old) (E.written err.new) (E.faults err.new) × (out.new ≡ out.old)) }
+        HasStopped job.entry
+            (world (H.state host.old) (O.output out.old) (E.output err.old)) (world (H.state host.new) (O.output out.new) (E.output err.new))
+        ⊎ (HasRefused job.entry
+            (world (H.state host.old) (O.output out.old) (E.output err.old)) (world (H.state host.new) (O.output out.new) (E.output err.new))
+        × (out.new ≡ out.old)) }
 {
-    match carry_out(alloc, job) {
+    match carry_out(alloc, job, host) {
         Ok(lines) => match put_lines(out, &lines) {
-            Ok(()) => 0,
-            Err(DeviceFailed) => 1,
+            Ok(()) => SUCCESS,
+            Err(DeviceFailed) => tell(err, &Refusal::Write),
         },
-        Err(refusal) => {
-            let _ = put_refusal(err, &refusal);
-            1
-        }
+        Err(refusal) => tell(err, &refusal),
     }
 }
 
+/// Writes the line of a refusal, and gives the status of one.
+pub fn tell<E: Sink>(err: &mut E, refusal: &Refusal) -> u8
+    ensures status { result ≡ 1 }
+    ensures told { HasTold refusal.now (E.output err.old) (E.output err.new) }
+{
+    let _ = put_refusal(err, refusal);
+    REFUSED
+}
+
 // What the job comes to, with all that its lines are made of.
-fn carry_out(alloc: Global, job: Job<'_>) -> Result<Lines, Refusal>
-    ensures answered { IfOk result (λ lines. IsAnswer job.entry (lines_text lines)) }
-    ensures refused { IfErr result (λ refusal. IsRefused job.entry refusal) }
+fn carry_out<H: Host>(alloc: Global, job: Job<'_>, host: &mut H) -> Result<Lines, Refusal>
+    ensures answered { IfOk result (λ lines. IsAnswer job.entry (lines_text lines) (H.state host.old) (H.state host.new)) }
+    ensures refused { IfErr result (λ refusal. IsJobRefusal job.entry refusal (H.state host.old) (H.state host.new)) }
 {
     match job {
         Job::Check { script } => {
             let _checked = check_script(alloc, script)?;
             Ok(Lines::NoFault)
+        }
+        Job::Compile { script, name, out } => {
+            let program = program_octets(alloc, script)?;
+            make_file(alloc, host, out, name, &program)?;
+            Ok(Lines::Wrote(program.len()))
         }
         Job::Verify { program } => Ok(Lines::Budget(budget_line(alloc, program)?)),
         Job::Run { program, message } => Ok(Lines::Report(execute(alloc, program, message)?)),
@@ -103,10 +147,19 @@ fn carry_out(alloc: Global, job: Job<'_>) -> Result<Lines, Refusal>
     }
 }
 
+// The octets of a script's program.
+fn program_octets(alloc: Global, script: &[u8]) -> Result<Vec<u8>, Refusal>
+    ensures compiled { IfOk result (λ octets. (code : Code) × IsCompiled script.now code × (octets.items ≡ spelling code)) }
+    ensures refused { IfErr result (λ refusal. IsEngineRefusal (IsScriptRefusal script.now) refusal) }
+{
+    let program = compile_script(alloc, script)?;
+    Ok(program.write(alloc)?)
+}
+
 // The text of an accepted program's budget.
 fn budget_line(alloc: Global, program: &[u8]) -> Result<String, Refusal>
     ensures accepted { IfOk result (λ text. (code : Code) × IsChecked program.now code × (string_bytes text ≡ budget_text (budget_of code))) }
-    ensures refused { IfErr result (λ refusal. (error : EngineError) × IsProgramRefusal program.now error × (refusal ≡ of_engine error)) }
+    ensures refused { IfErr result (λ refusal. IsEngineRefusal (IsProgramRefusal program.now) refusal) }
 {
     let verified = check_program(alloc, program)?;
     Ok(format!(in alloc; "{}", verified.budget())?)
@@ -114,11 +167,19 @@ fn budget_line(alloc: Global, program: &[u8]) -> Result<String, Refusal>
 
 // Writes the lines.
 fn put_lines<O: Sink>(out: &mut O, lines: &Lines) -> Result<(), DeviceFailed>
-    ensures ok { OnOk result (HasPrinted (lines_text lines.now) (O.written out.old) (O.faults out.old) (O.written out.new) (O.faults out.new)) }
-    ensures err { OnErr result (HasBroken (lines_text lines.now) (O.written out.old) (O.faults out.old) (O.written out.new) (O.faults out.new)) }
+    ensures ok { OnOk result (HasTaken (lines_text lines.now) (O.output out.old) (O.output out.new)) }
+    ensures err { OnErr result (HasBroken (lines_text lines.now) (O.output out.old) (O.output out.new)) }
 {
     match lines {
         Lines::NoFault => put_line(out, "ok"),
+        Lines::Wrote(octets) => put_pieces(
+            out,
+            &[
+                Piece::Text("wrote "),
+                Piece::Number(*octets as u128),
+                Piece::Text(" octets\n"),
+            ],
+        ),
         Lines::Budget(text) => put_line(out, text.as_str()),
         Lines::Report(report) => put_report(out, report),
         Lines::Octets(octets) => put(out, octets),

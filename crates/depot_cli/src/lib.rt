@@ -1,25 +1,31 @@
-//! The command line of `depot`: what its words say, what its files hold, what it prints.
+//! The command line of `depot`: what its words say, what its files hold, what it does and prints.
 //!
-//! [`line_of`] says what the words say, [`read_limited`] reads a file up to a limit, and [`answer`] carries
-//! out a job: it writes exactly the answer, or the line of the refusal (`specs/Jobs`,
-//! `specs/Printed`). Writing takes no memory, and what a failed device has then got is a front of the text.
+//! [`run`] goes from the words to the status (`specs/Running`). What it needs of its surroundings is a [`Host`], which opens and makes
+//! files: a contract sees what it was asked for, and what it gave. [`System`] is the host of a real system. [`line_of`] says what the
+//! words say (`specs/Words`); [`read_limited`] reads a [`Source`] up to a limit (`specs/LimitedReading`); [`answer`] carries out a
+//! [`Job`]: it writes exactly the answer, or the line of the refusal (`specs/Jobs`, `specs/Printed`). Writing takes no memory, and what
+//! a sink that failed has got is a prefix of the text.
 #![tactic(auto)]
 
-mod compiling;
 mod error;
+mod gathering;
+mod host;
 mod job;
 mod line;
+mod making;
 mod new_file;
 mod piece;
 mod printing;
 mod reading;
+mod running;
 mod source;
+mod system;
 
-pub use compiling::compile_to;
 pub use error::Refusal;
-pub use job::{Job, answer};
+pub use host::{Host, Input};
+pub use job::{Job, answer, tell};
 pub use line::{CommandLine, line_of};
-pub use new_file::NewFile;
-pub use printing::put_refusal;
 pub use reading::read_limited;
+pub use running::{explain, run};
 pub use source::{OfRead, Source};
+pub use system::System;

@@ -7,6 +7,17 @@ pub enum Piece<'a> {
     Text(&'a str),
     /// Octets between quotes.
     Quoted(&'a [u8]),
+    /// Lines of a text that may have been written by anyone.
+    Lines(&'a str),
     /// A number in decimal digits.
     Number(u128),
+}
+
+/// What octets stand among, which says the ones that are printed as they are.
+#[derive(Clone, Copy, Debug)]
+pub enum Setting {
+    /// Between quotes.
+    Quotes,
+    /// In lines of text.
+    Text,
 }

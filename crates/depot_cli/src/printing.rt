@@ -1,79 +1,115 @@
-// Printing into a sink, without memory.
-ghost use Rattle.std.specs.Prelude.{◌≡◌, ◌++◌, ◌∷◌, [], ◌<◌, ◌+◌, OnOk, OnErr, length, true, false};
-ghost use Rattle.std.specs.List.{flat_map, list_all};
+// Printing into a sink, without memory: each line in one call, unless it is a long one.
+ghost use Rattle.std.specs.Prelude.{◌≡◌, ◌++◌, ◌<◌, OnErr, OnOk, false};
+ghost use Rattle.std.specs.List.{list_all};
 ghost use Rattle.std.specs.Fmt.{decimal, digit_glyph};
+ghost use Rattle.depot_actions.specs.Device.{HasBroken, HasTaken};
+ghost use Rattle.depot_cli.specs.Gathering.{HasGathered, gathering};
 ghost use Rattle.depot_cli.specs.Pieces.{piece_text, pieces_text};
-ghost use Rattle.depot_cli.specs.Printed.{action_text, actions_text, charge_text, line, quoted, quoted_octet, refusal_line, report_text};
+ghost use Rattle.depot_cli.specs.Printed.{action_text, actions_text, charge_text, escaped, escaped_octet, line as line_of, quoted, refusal_line, report_text, shown};
 ghost use Rattle.depot_cli.specs.Printed as Printed;
-ghost use Rattle.depot_cli.specs.Printing.{HasBroken, HasPrinted};
 
 use crate::error::Refusal;
-use crate::piece::Piece;
+use crate::gathering::{Line, gather, send};
+use crate::piece::{Piece, Setting};
 use bytecode_format::Action;
 use depot_actions::{DeviceFailed, Sink};
 use itoa::Buffer;
 use sieve_engine::Report;
 
-/// Writes the octets, as they are.
-pub fn put<O: Sink>(out: &mut O, octets: &[u8]) -> Result<(), DeviceFailed>
-    ensures ok { OnOk result (HasPrinted octets.now (O.written out.old) (O.faults out.old) (O.written out.new) (O.faults out.new)) }
-    ensures err { OnErr result (HasBroken octets.now (O.written out.old) (O.faults out.old) (O.written out.new) (O.faults out.new)) }
+/// Writes the line that pieces make.
+pub fn put_pieces<O: Sink>(out: &mut O, pieces: &[Piece<'_>]) -> Result<(), DeviceFailed>
+    ensures ok { OnOk result (HasTaken (pieces_text pieces.now) (O.output out.old) (O.output out.new)) }
+    ensures err { OnErr result (HasBroken (pieces_text pieces.now) (O.output out.old) (O.output out.new)) }
 {
-    let mut done = 0;
-    'pieces: while done < octets.len() {
-        done += out.write(&octets[done..])?;
+    let mut line = Line::new();
+    for piece in pieces {
+        gather_piece(&mut line, out, piece)?;
     }
-    Ok(())
+    send(&mut line, out)
 }
 
-// Writes the octets between quotes.
-fn put_quoted<O: Sink>(out: &mut O, octets: &[u8]) -> Result<(), DeviceFailed>
-    ensures ok { OnOk result (HasPrinted (quoted octets.now) (O.written out.old) (O.faults out.old) (O.written out.new) (O.faults out.new)) }
-    ensures err { OnErr result (HasBroken (quoted octets.now) (O.written out.old) (O.faults out.old) (O.written out.new) (O.faults out.new)) }
+// Adds a piece to a line.
+fn gather_piece<O: Sink>(
+    line: &mut Line,
+    out: &mut O,
+    piece: &Piece<'_>,
+) -> Result<(), DeviceFailed>
+    ensures ok { OnOk result (HasGathered (piece_text piece.now) (gathering line.old.items (O.output out.old)) (gathering line.new.items (O.output out.new))) }
+    ensures err { OnErr result (HasBroken (line.old.items ++ piece_text piece.now) (O.output out.old) (O.output out.new)) }
 {
-    put(out, b"\"")?;
-    put_octets(out, octets)?;
-    put(out, b"\"")
+    match piece {
+        Piece::Text(text) => gather(line, out, text.as_bytes()),
+        Piece::Quoted(octets) => gather_quoted(line, out, octets),
+        Piece::Lines(text) => gather_escaped(line, out, Setting::Text, text.as_bytes()),
+        Piece::Number(n) => gather(line, out, Buffer::new().format(*n).as_bytes()),
+    }
 }
 
-// Writes octets as they stand between quotes. Mostly they are plain, and written at once.
-fn put_octets<O: Sink>(out: &mut O, octets: &[u8]) -> Result<(), DeviceFailed>
-    ensures ok { OnOk result (HasPrinted (flat_map quoted_octet octets.now) (O.written out.old) (O.faults out.old) (O.written out.new) (O.faults out.new)) }
-    ensures err { OnErr result (HasBroken (flat_map quoted_octet octets.now) (O.written out.old) (O.faults out.old) (O.written out.new) (O.faults out.new)) }
+// Adds octets between quotes to a line.
+fn gather_quoted<O: Sink>(
+    line: &mut Line,
+    out: &mut O,
+    octets: &[u8],
+) -> Result<(), DeviceFailed>
+    ensures ok { OnOk result (HasGathered (quoted octets.now) (gathering line.old.items (O.output out.old)) (gathering line.new.items (O.output out.new))) }
+    ensures err { OnErr result (HasBroken (line.old.items ++ quoted octets.now) (O.output out.old) (O.output out.new)) }
 {
-    if are_plain(octets) {
-        return put(out, octets);
+    gather(line, out, b"\"")?;
+    gather_escaped(line, out, Setting::Quotes, octets)?;
+    gather(line, out, b"\"")
+}
+
+// Adds octets among others to a line. Mostly they are plain, and added at once.
+fn gather_escaped<O: Sink>(
+    line: &mut Line,
+    out: &mut O,
+    setting: Setting,
+    octets: &[u8],
+) -> Result<(), DeviceFailed>
+    ensures ok { OnOk result (HasGathered (escaped setting octets.now) (gathering line.old.items (O.output out.old)) (gathering line.new.items (O.output out.new))) }
+    ensures err { OnErr result (HasBroken (line.old.items ++ escaped setting octets.now) (O.output out.old) (O.output out.new)) }
+{
+    if are_plain(setting, octets) {
+        return gather(line, out, octets);
     }
     for octet in octets {
-        put_octet(out, *octet)?;
+        gather_octet(line, out, setting, *octet)?;
     }
     Ok(())
 }
 
-// Writes an octet as it stands between quotes.
-fn put_octet<O: Sink>(out: &mut O, octet: u8) -> Result<(), DeviceFailed>
-    ensures ok { OnOk result (HasPrinted (quoted_octet octet) (O.written out.old) (O.faults out.old) (O.written out.new) (O.faults out.new)) }
-    ensures err { OnErr result (HasBroken (quoted_octet octet) (O.written out.old) (O.faults out.old) (O.written out.new) (O.faults out.new)) }
+// Adds an octet among others to a line.
+fn gather_octet<O: Sink>(
+    line: &mut Line,
+    out: &mut O,
+    setting: Setting,
+    octet: u8,
+) -> Result<(), DeviceFailed>
+    ensures ok { OnOk result (HasGathered (escaped_octet setting octet) (gathering line.old.items (O.output out.old)) (gathering line.new.items (O.output out.new))) }
+    ensures err { OnErr result (HasBroken (line.old.items ++ escaped_octet setting octet) (O.output out.old) (O.output out.new)) }
 {
-    if is_plain(octet) {
-        put(out, &[octet])
+    if is_plain(setting, octet) {
+        gather(line, out, &[octet])
     } else {
-        put(out, &[b'\\', digit(octet / 16), digit(octet % 16)])
+        gather(line, out, &[b'\\', digit(octet / 16), digit(octet % 16)])
     }
 }
 
-// Whether octets stand between quotes as they are.
-fn are_plain(octets: &[u8]) -> bool
-    ensures { result ≡ list_all Printed.is_plain octets.now }
+// Whether octets are printed as they are.
+fn are_plain(setting: Setting, octets: &[u8]) -> bool
+    ensures { result ≡ list_all (Printed.is_plain setting) octets.now }
 {
-    octets.iter().all(|octet| is_plain(*octet))
+    octets.iter().all(|octet| is_plain(setting, *octet))
 }
 
-// Whether an octet stands between quotes as it is.
-fn is_plain(octet: u8) -> bool
-    ensures { result ≡ Printed.is_plain octet }
+// Whether an octet is printed as it is.
+fn is_plain(setting: Setting, octet: u8) -> bool
+    ensures { result ≡ Printed.is_plain setting octet }
 {
-    matches!(octet, 32..=126) && !matches!(octet, b'"' | b'\\')
+    match setting {
+        Setting::Quotes => matches!(octet, 32..=126) && !matches!(octet, b'"' | b'\\'),
+        Setting::Text => matches!(octet, 32..=126 | b'\n'),
+    }
 }
 
 // A hexadecimal digit.
@@ -84,44 +120,13 @@ fn digit(n: u8) -> u8
     if n < 10 { b'0' + n } else { b'a' - 10 + n }
 }
 
-// Writes a number in decimal digits.
-fn put_number<O: Sink>(out: &mut O, n: u128) -> Result<(), DeviceFailed>
-    ensures ok { OnOk result (HasPrinted (decimal n) (O.written out.old) (O.faults out.old) (O.written out.new) (O.faults out.new)) }
-    ensures err { OnErr result (HasBroken (decimal n) (O.written out.old) (O.faults out.old) (O.written out.new) (O.faults out.new)) }
-{
-    put(out, Buffer::new().format(n).as_bytes())
-}
-
-// Writes a piece of a line.
-fn put_piece<O: Sink>(out: &mut O, piece: &Piece<'_>) -> Result<(), DeviceFailed>
-    ensures ok { OnOk result (HasPrinted (piece_text piece.now) (O.written out.old) (O.faults out.old) (O.written out.new) (O.faults out.new)) }
-    ensures err { OnErr result (HasBroken (piece_text piece.now) (O.written out.old) (O.faults out.old) (O.written out.new) (O.faults out.new)) }
-{
-    match piece {
-        Piece::Text(text) => put(out, text.as_bytes()),
-        Piece::Quoted(octets) => put_quoted(out, octets),
-        Piece::Number(n) => put_number(out, *n),
-    }
-}
-
-/// Writes pieces in turn.
-pub fn put_pieces<O: Sink>(out: &mut O, pieces: &[Piece<'_>]) -> Result<(), DeviceFailed>
-    ensures ok { OnOk result (HasPrinted (pieces_text pieces.now) (O.written out.old) (O.faults out.old) (O.written out.new) (O.faults out.new)) }
-    ensures err { OnErr result (HasBroken (pieces_text pieces.now) (O.written out.old) (O.faults out.old) (O.written out.new) (O.faults out.new)) }
-{
-    for piece in pieces {
-        put_piece(out, piece)?;
-    }
-    Ok(())
-}
-
 // Writes the line of an action.
 fn put_action<O: Sink>(out: &mut O, action: &Action) -> Result<(), DeviceFailed>
-    ensures ok { OnOk result (HasPrinted (line (action_text action.now)) (O.written out.old) (O.faults out.old) (O.written out.new) (O.faults out.new)) }
-    ensures err { OnErr result (HasBroken (line (action_text action.now)) (O.written out.old) (O.faults out.old) (O.written out.new) (O.faults out.new)) }
+    ensures ok { OnOk result (HasTaken (line_of (action_text action.now)) (O.output out.old) (O.output out.new)) }
+    ensures err { OnErr result (HasBroken (line_of (action_text action.now)) (O.output out.old) (O.output out.new)) }
 {
     match action {
-        Action::Keep => put(out, b"keep\n"),
+        Action::Keep => put_line(out, "keep"),
         Action::File(folder) => put_pieces(
             out,
             &[
@@ -145,11 +150,11 @@ fn put_action<O: Sink>(out: &mut O, action: &Action) -> Result<(), DeviceFailed>
 
 // Writes a line for each action, or one that there is none.
 fn put_actions<O: Sink>(out: &mut O, actions: &[Action]) -> Result<(), DeviceFailed>
-    ensures ok { OnOk result (HasPrinted (actions_text actions.now) (O.written out.old) (O.faults out.old) (O.written out.new) (O.faults out.new)) }
-    ensures err { OnErr result (HasBroken (actions_text actions.now) (O.written out.old) (O.faults out.old) (O.written out.new) (O.faults out.new)) }
+    ensures ok { OnOk result (HasTaken (actions_text actions.now) (O.output out.old) (O.output out.new)) }
+    ensures err { OnErr result (HasBroken (actions_text actions.now) (O.output out.old) (O.output out.new)) }
 {
     if actions.is_empty() {
-        return put(out, b"none\n");
+        return put_line(out, "none");
     }
     for action in actions {
         put_action(out, action)?;
@@ -159,8 +164,8 @@ fn put_actions<O: Sink>(out: &mut O, actions: &[Action]) -> Result<(), DeviceFai
 
 /// Writes the lines of a run: its actions, and what it charged of what it may charge.
 pub fn put_report<O: Sink>(out: &mut O, report: &Report) -> Result<(), DeviceFailed>
-    ensures ok { OnOk result (HasPrinted (report_text report.now.outcome.actions.items report.now.outcome.charged report.now.limit) (O.written out.old) (O.faults out.old) (O.written out.new) (O.faults out.new)) }
-    ensures err { OnErr result (HasBroken (report_text report.now.outcome.actions.items report.now.outcome.charged report.now.limit) (O.written out.old) (O.faults out.old) (O.written out.new) (O.faults out.new)) }
+    ensures ok { OnOk result (HasTaken (report_text report.now.outcome.actions.items report.now.outcome.charged report.now.limit) (O.output out.old) (O.output out.new)) }
+    ensures err { OnErr result (HasBroken (report_text report.now.outcome.actions.items report.now.outcome.charged report.now.limit) (O.output out.old) (O.output out.new)) }
 {
     let outcome = &report.outcome;
     put_run(out, &outcome.actions, outcome.charged, report.limit)
@@ -173,8 +178,8 @@ fn put_run<O: Sink>(
     charged: u128,
     limit: u128,
 ) -> Result<(), DeviceFailed>
-    ensures ok { OnOk result (HasPrinted (report_text actions.now charged limit) (O.written out.old) (O.faults out.old) (O.written out.new) (O.faults out.new)) }
-    ensures err { OnErr result (HasBroken (report_text actions.now charged limit) (O.written out.old) (O.faults out.old) (O.written out.new) (O.faults out.new)) }
+    ensures ok { OnOk result (HasTaken (report_text actions.now charged limit) (O.output out.old) (O.output out.new)) }
+    ensures err { OnErr result (HasBroken (report_text actions.now charged limit) (O.output out.old) (O.output out.new)) }
 {
     put_actions(out, actions)?;
     put_charge(out, charged, limit)
@@ -182,8 +187,8 @@ fn put_run<O: Sink>(
 
 // Writes the line of what a run charged.
 fn put_charge<O: Sink>(out: &mut O, charged: u128, limit: u128) -> Result<(), DeviceFailed>
-    ensures ok { OnOk result (HasPrinted (line (charge_text charged limit)) (O.written out.old) (O.faults out.old) (O.written out.new) (O.faults out.new)) }
-    ensures err { OnErr result (HasBroken (line (charge_text charged limit)) (O.written out.old) (O.faults out.old) (O.written out.new) (O.faults out.new)) }
+    ensures ok { OnOk result (HasTaken (line_of (charge_text charged limit)) (O.output out.old) (O.output out.new)) }
+    ensures err { OnErr result (HasBroken (line_of (charge_text charged limit)) (O.output out.old) (O.output out.new)) }
 {
     put_pieces(
         out,
@@ -199,16 +204,16 @@ fn put_charge<O: Sink>(out: &mut O, charged: u128, limit: u128) -> Result<(), De
 
 /// Writes a text and the end of its line.
 pub fn put_line<O: Sink>(out: &mut O, text: &str) -> Result<(), DeviceFailed>
-    ensures ok { OnOk result (HasPrinted (line text.now) (O.written out.old) (O.faults out.old) (O.written out.new) (O.faults out.new)) }
-    ensures err { OnErr result (HasBroken (line text.now) (O.written out.old) (O.faults out.old) (O.written out.new) (O.faults out.new)) }
+    ensures ok { OnOk result (HasTaken (line_of text.now) (O.output out.old) (O.output out.new)) }
+    ensures err { OnErr result (HasBroken (line_of text.now) (O.output out.old) (O.output out.new)) }
 {
     put_pieces(out, &[Piece::Text(text), Piece::Text("\n")])
 }
 
 /// Writes the line of a refusal: its number, its name, and its place where it has one.
 pub fn put_refusal<O: Sink>(out: &mut O, refusal: &Refusal) -> Result<(), DeviceFailed>
-    ensures ok { OnOk result (HasPrinted (refusal_line refusal.now) (O.written out.old) (O.faults out.old) (O.written out.new) (O.faults out.new)) }
-    ensures err { OnErr result (HasBroken (refusal_line refusal.now) (O.written out.old) (O.faults out.old) (O.written out.new) (O.faults out.new)) }
+    ensures ok { OnOk result (HasTaken (refusal_line refusal.now) (O.output out.old) (O.output out.new)) }
+    ensures err { OnErr result (HasBroken (refusal_line refusal.now) (O.output out.old) (O.output out.new)) }
 {
     let number = Piece::Number(refusal.number() as u128);
     let name = Piece::Text(refusal.name());
@@ -236,4 +241,12 @@ pub fn put_refusal<O: Sink>(out: &mut O, refusal: &Refusal) -> Result<(), Device
             ],
         ),
     }
+}
+
+/// Writes lines of a text, in which all octets but printable characters and line breaks are escaped.
+pub fn put_text<O: Sink>(out: &mut O, text: &str) -> Result<(), DeviceFailed>
+    ensures ok { OnOk result (HasTaken (shown text.now) (O.output out.old) (O.output out.new)) }
+    ensures err { OnErr result (HasBroken (shown text.now) (O.output out.old) (O.output out.new)) }
+{
+    put_pieces(out, &[Piece::Lines(text)])
 }

@@ -1,47 +1,78 @@
 // Reading up to a limit.
-ghost use Rattle.std.specs.Prelude.{◌≡◌, ◌+◌, ◌<◌, ◌≤◌, ◌^◌, true, vec_len, IfOk, OnOk, IfErr};
-ghost use Rattle.std.specs.Io.KnownBytes.{Consumes, IsAtEnd};
-ghost use Rattle.depot_cli.specs.Reading.{HasGivenUp, TakesUpTo};
+ghost use Rattle.std.specs.Prelude.{◌≡◌, ◌+◌, ◌<◌, ◌≤◌, drop, take, vec_len, IfErr, IfOk, OnErr, OnOk};
+ghost use Rattle.depot_cli.specs.LimitedReading.{HasGivenUp};
+ghost use Rattle.depot_cli.specs.Supply.{HasEnded, HasFailedToGive, HasGiven};
 
 use crate::error::Refusal;
 use crate::source::Source;
-use std::alloc::Global;
+use depot_actions::DeviceFailed;
+use std::alloc::{AllocError, Global};
 
-/// How many octets are read at a time.
-const PIECE: usize = 4_096;
+/// How many octets are asked for at a time.
+const PIECE: usize = 65_536;
 
 /// All octets of a source, if they are no more than the limit.
 ///
-/// At most one octet more than the limit is taken, also from a source that never ends.
-/// `MessageTooLarge` comes exactly where more octets came than the limit, `Read` only where the source
-/// failed, and no other error but `Memory`. Else the source has met its end.
+/// At most one octet more than the limit is taken, also from a source that never ends; then the answer is `MessageTooLarge`, and it is
+/// in no other case. `Read` comes only where the source failed, and no other error but `Memory`. Else the source has met its end.
 pub fn read_limited<R: Source>(
     alloc: Global,
     source: &mut R,
     limit: usize,
 ) -> Result<Vec<u8>, Refusal>
-    requires { limit < 2 ^ 62 }
-    ensures all { IfOk result (λ v. Consumes (R.left source.old) (R.left source.new) v.items) }
-    ensures end { OnOk result (IsAtEnd (R.left source.new)) }
-    ensures ended { OnOk result (R.has_ended source.new ≡ true) }
-    ensures faultless { OnOk result (R.faults source.new ≡ R.faults source.old) }
-    ensures small { IfOk result (λ v. vec_len v ≤ limit) }
-    ensures taken { TakesUpTo (limit + 1) (R.left source.old) (R.left source.new) }
-    ensures refused { IfErr result (λ e. HasGivenUp e limit (R.left source.old) (R.left source.new) (R.faults source.old) (R.faults source.new)) }
+    ensures all { IfOk result (λ octets. HasGiven octets.items (R.supply source.old) (R.supply source.new)) }
+    ensures ended { OnOk result (HasEnded (R.supply source.new)) }
+    ensures small { IfOk result (λ octets. vec_len octets ≤ limit) }
+    ensures refused { IfErr result (λ e. HasGivenUp e limit (R.supply source.old) (R.supply source.new)) }
 {
-    let mut taken = Vec::new(alloc);
-    let mut piece = [0u8; PIECE];
+    let mut octets = Vec::new(alloc);
+    let mut filled = 0;
     'pieces: loop {
-        let room = (limit + 1 - taken.len()).min(PIECE);
-        let Ok(n) = source.read(&mut piece[..room]) else {
-            return Err(Refusal::Read);
-        };
-        if n == 0 {
-            return Ok(taken);
+        make_room(&mut octets, filled, limit)?;
+        match read_from(source, &mut octets, filled) {
+            Ok(0) => {
+                octets.truncate(filled);
+                return Ok(octets);
+            }
+            Ok(n) => filled += n,
+            Err(DeviceFailed) => return Err(Refusal::Read),
         }
-        taken.extend_from_slice(&piece[..n])?;
-        if taken.len() > limit {
+        if filled > limit {
             return Err(Refusal::MessageTooLarge);
         }
     }
+}
+
+// Makes room after the octets that are filled: for a piece, or for one octet more than the limit. So no octet is taken that memory
+// is refused for.
+fn make_room(octets: &mut Vec<u8>, filled: usize, limit: usize) -> Result<(), AllocError>
+    requires filled { filled ≤ vec_len octets.old }
+    requires more { filled ≤ limit }
+    requires small { vec_len octets.old ≤ limit + 1 }
+    ensures kept { OnOk result (take filled octets.new.items ≡ take filled octets.old.items) }
+    ensures some { OnOk result (filled < vec_len octets.new) }
+    ensures small { OnOk result (vec_len octets.new ≤ limit + 1) }
+{
+    let end = limit.saturating_add(1).min(filled + PIECE);
+    if octets.len() < end {
+        octets.resize(end, 0)?;
+    }
+    Ok(())
+}
+
+// One read into the room after the octets that are filled.
+fn read_from<R: Source>(
+    source: &mut R,
+    octets: &mut Vec<u8>,
+    filled: usize,
+) -> Result<usize, DeviceFailed>
+    requires { filled < vec_len octets.old }
+    ensures len { vec_len octets.new ≡ vec_len octets.old }
+    ensures kept { take filled octets.new.items ≡ take filled octets.old.items }
+    ensures bound { IfOk result (λ n. filled + n ≤ vec_len octets.new) }
+    ensures ok { IfOk result (λ n. HasGiven (take n (drop filled octets.new.items)) (R.supply source.old) (R.supply source.new)) }
+    ensures ended { IfOk result (λ n. n ≡ 0 → HasEnded (R.supply source.new)) }
+    ensures err { OnErr result (HasFailedToGive (R.supply source.old) (R.supply source.new)) }
+{
+    source.read(&mut octets[filled..])
 }

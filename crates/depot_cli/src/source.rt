@@ -1,40 +1,43 @@
 // Sources, and a reader as one.
-ghost use Rattle.std.specs.Prelude.{◌≡◌, ℕ, ◌<◌, ◌≤◌, List, Option, Bool, true, false, length, take, IfOk, OnOk, OnErr};
+ghost use Rattle.std.specs.Prelude.{◌≡◌, ◌<◌, ◌≤◌, false, length, take, IfOk, OnErr};
 ghost use Rattle.std.specs.Io.KnownBytes.{Consumes, IsAtEnd, Keeps};
-ghost use Rattle.depot_actions.specs.Device.{HasFailed};
+ghost use Rattle.depot_cli.specs.Supply.{HasEnded, HasFailedToGive, HasGiven, Supply};
 
 use depot_actions::DeviceFailed;
-use std::io::Read;
+use std::io::{ErrorKind, Read};
 
 /// What gives octets.
 ///
-/// A contract sees the octets that are left, where they are known, whether the last read met the end,
-/// and the number of reads that have failed.
+/// A contract sees the octets that are left, where they are told, how many it gave, whether the last read met the end, and the
+/// number of reads that have failed.
 pub trait Source {
-    ghost left: { Self → Option (List ℕ) };
+    ghost supply: { Self → Supply };
 
-    ghost has_ended: { Self → Bool };
-
-    ghost faults: { Self → ℕ };
-
-    /// Gives the next octets into the start of the room, and answers how many: none only at the end,
-    /// or where there is no room. A read that fails gives nothing, and is counted.
+    /// Gives the next octets into the start of the room, and answers how many: none only at the end, or where there is no room.
+    ///
+    /// # Errors
+    ///
+    /// The device failed. Nothing was given, and the failure is counted.
     fn read(&mut self, room: &mut [u8]) -> Result<usize, DeviceFailed>
         ensures bound { IfOk result (λ n. n ≤ length room.new) }
-        ensures ok { IfOk result (λ n. Consumes (left self.old) (left self.new) (take n room.new)) }
-        ensures goes_on { IfOk result (λ n. 0 < n → has_ended self.new ≡ false) }
-        ensures ended { IfOk result (λ n. n ≡ 0 → 0 < length room.new → has_ended self.new ≡ true) }
-        ensures end { IfOk result (λ n. n ≡ 0 → 0 < length room.new → IsAtEnd (left self.new)) }
-        ensures same { OnOk result (faults self.new ≡ faults self.old) }
-        ensures err { OnErr result (Keeps (left self.old) (left self.new)) }
-        ensures failed { OnErr result (HasFailed (faults self.old) (faults self.new)) };
+        ensures ok { IfOk result (λ n. HasGiven (take n room.new) (supply self.old) (supply self.new)) }
+        ensures goes_on { IfOk result (λ n. 0 < n → (supply self.new).has_ended ≡ false) }
+        ensures ended { IfOk result (λ n. n ≡ 0 → 0 < length room.new → HasEnded (supply self.new)) }
+        ensures err { OnErr result (HasFailedToGive (supply self.old) (supply self.new)) };
 }
 
-/// A reader as a source. Its failed reads are counted up to 2^64 - 1.
+/// How often a call is made that a signal interrupts, before it counts as failed.
+const MAX_TRIES: u32 = 16;
+
+/// A reader as a source.
+///
+/// A call that a signal interrupts is made again, up to 16 times in all.
 #[derive(Drop)]
 pub struct OfRead<R: Read + Drop> {
     /// The reader.
     pub inner: R,
+    /// How many octets it gave, at most 2^64 - 1.
+    pub given: u64,
     /// Whether the last read met the end.
     pub has_ended: bool,
     /// How many reads have failed, at most 2^64 - 1.
@@ -44,10 +47,12 @@ pub struct OfRead<R: Read + Drop> {
 impl<R: Read + Drop> OfRead<R> {
     /// The reader, of which nothing was read so far.
     pub fn new(inner: R) -> OfRead<R>
-        ensures { result ≡ record { inner = inner; has_ended = false; faults = 0 } }
+        ensures fields { result ≡ record { inner = inner; given = 0; has_ended = false; faults = 0 } }
+        ensures supply { ⟦<OfRead<R> as Source>⟧.supply result ≡ record { left = R.remaining inner; given = 0; has_ended = false; faults = 0 } }
     {
         OfRead {
             inner,
+            given: 0,
             has_ended: false,
             faults: 0,
         }
@@ -55,22 +60,36 @@ impl<R: Read + Drop> OfRead<R> {
 }
 
 impl<R: Read + Drop> Source for OfRead<R> {
-    ghost left = { λ s. R.remaining s.inner };
-
-    ghost has_ended = { λ s. s.has_ended };
-
-    ghost faults = { λ s. s.faults };
+    ghost supply = { λ s. record { left = R.remaining s.inner; given = s.given; has_ended = s.has_ended; faults = s.faults } };
 
     fn read(&mut self, room: &mut [u8]) -> Result<usize, DeviceFailed> {
-        match self.inner.read(room) {
+        match read_some(&mut self.inner, room) {
             Ok(n) => {
+                self.given = self.given.saturating_add(n as u64);
                 self.has_ended = n == 0 && !room.is_empty();
                 Ok(n)
             }
-            Err(_) => {
+            Err(DeviceFailed) => {
                 self.faults = self.faults.saturating_add(1);
                 Err(DeviceFailed)
             }
         }
     }
+}
+
+// One read, made again where a signal interrupts it.
+fn read_some<R: Read>(reader: &mut R, room: &mut [u8]) -> Result<usize, DeviceFailed>
+    ensures bound { IfOk result (λ n. n ≤ length room.new) }
+    ensures ok { IfOk result (λ n. Consumes (R.remaining reader.old) (R.remaining reader.new) (take n room.new)) }
+    ensures end { IfOk result (λ n. n ≡ 0 → 0 < length room.new → IsAtEnd (R.remaining reader.new)) }
+    ensures err { OnErr result (Keeps (R.remaining reader.old) (R.remaining reader.new)) }
+{
+    for _ in 0..MAX_TRIES {
+        match reader.read(room) {
+            Ok(n) => return Ok(n),
+            Err(fault) if fault.kind() == ErrorKind::Interrupted => {}
+            Err(_) => break,
+        }
+    }
+    Err(DeviceFailed)
 }

@@ -1,5 +1,6 @@
 use Rattle.depot_cli.specs.Printed.{action_text, line}
-use Rattle.depot_cli.proofs.Lines.{broken_at, on_err, some_actions}
+use Rattle.depot_cli.proofs.OutputLemmas.{broken_in_turn, on_err}
+use Rattle.depot_cli.proofs.PrintedLemmas.{some_actions}
 use Rattle.depot_cli.proofs.printing.put_actions.Goals as goal
 
 pub returns-in_err-put_action-clause-err : goal.returns-in_err-put_action-clause-err
@@ -9,4 +10,4 @@ returns-in_err-put_action-clause-err g c =
     let within = c.loop-action-test.true in
     let e = some_actions actions at.action-index within in
     on_err c.from_residual.result
-    (rw e (broken_at (λ a. line (action_text a)) actions at.action-index c.action-item.result within c.action-item.is at.invariant c.in_err-put_action.ensures.err))
+    (rw e (broken_in_turn (λ a. line (action_text a)) actions at.action-index c.action-item.result within c.action-item.is at.invariant c.in_err-put_action.ensures.err))

@@ -1,6 +1,6 @@
 use Rattle.std.proofs.lemmas.Result.{on_err_weaker}
 use Rattle.depot_cli.specs.Printed.{actions_text, charge_text, line}
-use Rattle.depot_cli.proofs.Lines.{broken_first, broken_next, on_err}
+use Rattle.depot_cli.proofs.OutputLemmas.{broken_first, broken_later, on_err}
 use Rattle.depot_cli.proofs.printing.put_run.Goals as goal
 
 pub returns-in_err-put_actions-clause-err : goal.returns-in_err-put_actions-clause-err
@@ -11,5 +11,5 @@ returns-in_err-put_actions-clause-err g c =
 pub returns-clause-err : goal.returns-clause-err
 returns-clause-err g c =
     on_err_weaker c.put_charge.result
-    (λ last. broken_next (actions_text c.args.actions.now) (line (charge_text c.args.charged c.args.limit)) c.in_ok-put_actions.ensures.ok last)
+    (λ last. broken_later (actions_text c.args.actions.now) (line (charge_text c.args.charged c.args.limit)) c.in_ok-put_actions.ensures.ok last)
     c.put_charge.ensures.err

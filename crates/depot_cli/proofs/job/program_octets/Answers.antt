@@ -1,7 +1,7 @@
 use Rattle.std.proofs.Common.{refl}
 use Rattle.std.proofs.lemmas.Result.{err_from_is_err_and}
 use Rattle.sieve_engine.specs.declared.error.EngineError.TheVariants.{Memory}
-use Rattle.depot_cli.proofs.compiling.program_octets.Goals as goal
+use Rattle.depot_cli.proofs.job.program_octets.Goals as goal
 
 pub returns-in_err-write-clause-refused : goal.returns-in_err-write-clause-refused
 returns-in_err-write-clause-refused c =

@@ -2,7 +2,7 @@ use Rattle.std.proofs.Common.{refl}
 use Rattle.std.proofs.lemmas.Result.{err_from_is_err_and}
 use Rattle.depot_actions.proofs.Hexadecimal.{decoded_is_written}
 use Rattle.depot_actions.proofs.Readings.{refused_base16, refused_base64}
-use Rattle.depot_actions.proofs.encoding.decode.Goals as goal
+use Rattle.depot_actions.proofs.encoding.read.Goals as goal
 
 pub returns-in_err-decode-in-Base64-clause-refused : goal.returns-in_err-decode-in-Base64-clause-refused
 returns-in_err-decode-in-Base64-clause-refused c =

@@ -1,0 +1,33 @@
+-- What comes of words, from what comes of their parts.
+use Rattle.std.proofs.Common.{◌≡◌, ◌≤◌, ◌⊎◌, ℕ, zero, suc, Bool, true, false, List, inl, inr, refl, arith}
+use Rattle.clap.specs.Words.{App, Text, takes}
+use Rattle.clap.specs.declared.error.kind.ErrorKind.{ErrorKind}
+use Rattle.clap.specs.declared.error.kind.ErrorKind.TheVariants.{OutOfMemory}
+use Rattle.depot_actions.specs.Device.{Output}
+use Rattle.depot_cli.specs.Jobs.{HasAnswered, HasRefused, HasStopped, HasTold, World}
+use Rattle.depot_cli.specs.Running.{HasExplained, HasOutcome, HasRun, IsNoLine, KeepsOthers, refused, usage}
+use Rattle.depot_cli.specs.Words.{IsDepot}
+use Rattle.depot_cli.specs.declared.error.Refusal.TheVariants.{Memory}
+use Rattle.depot_cli.specs.declared.job.Job.{Job}
+
+-- a status is that of success or of a refusal
+pub outcome : {P Q : Type 0} (job : Job) (status : ℕ) (old new : World) → status ≤ 1
+    → (status ≡ 0 → HasAnswered job old new × P) → (status ≡ 1 → HasStopped job old new ⊎ (HasRefused job old new × Q)) → HasOutcome job status old new
+outcome job zero old new small done failed = inl (refl, (done refl).0)
+outcome job (suc zero) old new small done failed =
+    inr (refl, elim (failed refl) as (λ _. HasStopped job old new ⊎ HasRefused job old new) [ inl stopped ↦ inl stopped | inr gave ↦ inr gave.0 ])
+outcome job (suc (suc n)) old new small done failed = absurd (omega arith)
+
+not_taken : (b : Bool) (kind : ErrorKind) → (b ≡ true → kind ≡ OutOfMemory) → (kind ≡ OutOfMemory → ⊥) → b ≡ false
+not_taken true kind taken other = absurd (other (taken refl))
+not_taken false kind taken other = refl
+
+-- the words are refused for another reason than memory
+pub no_line : {words : List Text} {kind : ErrorKind} → (app : App) × IsDepot app × (takes app words ≡ true → kind ≡ OutOfMemory) → (kind ≡ OutOfMemory → ⊥) → IsNoLine words
+no_line {words} {kind} taken other = (taken.0, taken.1, not_taken (takes taken.0 words) kind taken.2 other)
+
+-- words that say no command were explained, or memory was refused
+pub explained : {words : List Text} {status : ℕ} {old new : World} → IsNoLine words → KeepsOthers old new
+    → ((status ≡ refused) × HasTold Memory old.err new.err) ⊎ ((status ≡ usage) × HasExplained old.err new.err) → HasRun words status old new
+explained none others (inl told) = inr (inl (told.0, others, told.1))
+explained none others (inr text) = inr (inr (text.0, none, others, text.1))

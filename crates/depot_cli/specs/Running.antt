@@ -1,0 +1,153 @@
+-- What comes of the words of a command line.
+use Rattle.std.specs.Prelude.{◌≡◌, ◌⊎◌, ℕ, ◌+◌, ◌<◌, ◌≤◌, Bool, false, List, [], ◌∷◌, length, IfSome, slice_index_or}
+use Rattle.std.specs.Borrow.{Bor}
+use Rattle.clap.specs.Words.{App, Text, subcommand_of, takes}
+use Rattle.bytecode_format.specs.Code.{Code}
+use Rattle.bytecode_format.specs.Operations.{octet_of}
+use Rattle.bytecode_format.specs.Spelling.{spelling}
+use Rattle.bytecode_format.specs.declared.operation.Operation.TheVariants.{Keep, Halt}
+use Rattle.depot_actions.specs.Device.{HasBroken, HasTaken, Output, counted}
+use Rattle.depot_cli.specs.Host.{HostState, Origin, file, opens, origin_of, standard, with_call, with_faults}
+use Rattle.depot_cli.specs.Jobs.{HasAnswered, HasRefused, HasStopped, HasTold, World, world}
+use Rattle.depot_cli.specs.Limits.{max_input}
+use Rattle.depot_cli.specs.Printed.{shown}
+use Rattle.depot_cli.specs.Words.{IsDepot, Says}
+use Rattle.depot_cli.specs.declared.error.Refusal.{Refusal}
+use Rattle.depot_cli.specs.declared.error.Refusal.TheVariants.{Memory, MessageTooLarge, Read}
+use Rattle.depot_cli.specs.declared.job.Job.{Job}
+use Rattle.depot_cli.specs.declared.job.Job.TheVariants as jobs
+use Rattle.depot_cli.specs.declared.line.CommandLine.{CommandLine}
+use Rattle.depot_cli.specs.declared.line.CommandLine.TheVariants.{NoWords, Check, Compile, Verify, Run, Eval, Encode, Decode}
+use Rattle.depot_cli.specs.declared.running.Inputs.{Inputs}
+use Rattle.depot_cli.specs.declared.running.Inputs.TheVariants.{One, Two}
+
+-- ---- what is read
+
+-- what a command reads, in the order of its words
+abbrev pub origins_of : CommandLine → List Origin
+origins_of NoWords = standard ∷ []
+origins_of (Check script) = file script.now ∷ []
+origins_of (Compile script out) = file script.now ∷ []
+origins_of (Verify program) = file program.now ∷ []
+origins_of (Run program message) = file program.now ∷ file message.now ∷ []
+origins_of (Eval script message) = file script.now ∷ file message.now ∷ []
+origins_of (Encode encoding) = standard ∷ []
+origins_of (Decode encoding) = standard ∷ []
+
+-- the same of what the code says that it reads
+abbrev pub origins_in : Inputs → List Origin
+origins_in (One first) = origin_of first ∷ []
+origins_in (Two first second) = origin_of first ∷ origin_of second ∷ []
+
+-- the host opened what gives octets, and it gave so many
+abbrev pub after_reading : Origin → ℕ → HostState → HostState
+after_reading origin given state = record (with_call (opens origin) state) { given = counted given state.given }
+
+-- octets were read to their end, no more of them than the limit: all that there are, where that is told
+pub record HasRead (origin : Origin) (octets : List ℕ) (old new : HostState) : Type 0 where
+  pub small : length octets ≤ max_input
+  pub told : IfSome (old.contents origin) (λ all. octets ≡ all)
+  pub state : new ≡ after_reading origin (length octets) old
+
+-- Octets were not read: memory was refused or a call failed, with no more octets given than the limit; or one octet more was given.
+abbrev pub HasNotRead : Refusal → Origin → HostState → HostState → Type 0
+HasNotRead Memory origin old new = (given : ℕ) × (given ≤ max_input) × (new ≡ after_reading origin given old)
+HasNotRead MessageTooLarge origin old new = IfSome (old.contents origin) (λ all. max_input < length all) × (new ≡ after_reading origin (max_input + 1) old)
+HasNotRead Read origin old new = (given : ℕ) × (given ≤ max_input) × (new ≡ with_faults 1 (after_reading origin given old))
+HasNotRead _ origin old new = ⊥
+
+-- octets were read, one after another
+abbrev pub HaveRead : List Origin → List (List ℕ) → HostState → HostState → Type 0
+HaveRead [] [] old new = new ≡ old
+HaveRead (origin ∷ origins) (octets ∷ inputs) old new = (mid : HostState) × HasRead origin octets old mid × HaveRead origins inputs mid new
+HaveRead origins inputs old new = ⊥
+
+-- the octets before were read, and some were not; none after them were asked for
+abbrev pub HaveNotRead : Refusal → List Origin → HostState → HostState → Type 0
+HaveNotRead refusal [] old new = ⊥
+HaveNotRead refusal (origin ∷ origins) old new =
+    HasNotRead refusal origin old new ⊎ ((octets : List ℕ) × (mid : HostState) × HasRead origin octets old mid × HaveNotRead refusal origins mid new)
+
+-- ---- what is done
+
+-- the program that keeps every message
+abbrev pub keeping_code : Code
+keeping_code =
+    record {
+      version = 1;
+      variables = 0;
+      numbers = [];
+      strings = [];
+      instructions = record { op = octet_of Keep; a = 0; b = 0; c = 0 } ∷ record { op = octet_of Halt; a = 0; b = 0; c = 0 } ∷ [];
+    }
+
+-- the octets that were read at this place, none where so many weren't
+abbrev pub input : List (List ℕ) → ℕ → List ℕ
+input inputs place = slice_index_or inputs place []
+
+-- the job of a command, with the octets that were read
+abbrev pub IsJobOf : CommandLine → List (List ℕ) → Job → Type 0
+IsJobOf NoWords inputs job = (program message : Bor (List ℕ)) × (job ≡ jobs.Run program message) × (program.now ≡ spelling keeping_code) × (message.now ≡ input inputs 0)
+IsJobOf (Check name) inputs job = (script : Bor (List ℕ)) × (job ≡ jobs.Check script) × (script.now ≡ input inputs 0)
+IsJobOf (Compile name out) inputs job =
+    (script : Bor (List ℕ)) × (from to : Bor Text) × (job ≡ jobs.Compile script from to) × (script.now ≡ input inputs 0) × (from.now ≡ name.now) × (to.now ≡ out.now)
+IsJobOf (Verify name) inputs job = (program : Bor (List ℕ)) × (job ≡ jobs.Verify program) × (program.now ≡ input inputs 0)
+IsJobOf (Run name other) inputs job = (program message : Bor (List ℕ)) × (job ≡ jobs.Run program message) × (program.now ≡ input inputs 0) × (message.now ≡ input inputs 1)
+IsJobOf (Eval name other) inputs job = (script message : Bor (List ℕ)) × (job ≡ jobs.Eval script message) × (script.now ≡ input inputs 0) × (message.now ≡ input inputs 1)
+IsJobOf (Encode encoding) inputs job = (octets : Bor (List ℕ)) × (job ≡ jobs.Encode encoding octets) × (octets.now ≡ input inputs 0)
+IsJobOf (Decode encoding) inputs job = (text : Bor (List ℕ)) × (job ≡ jobs.Decode encoding text) × (text.now ≡ input inputs 0)
+
+-- ---- what comes of it
+
+-- the status of success, of a refusal or of an answer that broke off, and of words that are no command
+abbrev pub success : ℕ
+success = 0
+
+abbrev pub refused : ℕ
+refused = 1
+
+abbrev pub usage : ℕ
+usage = 2
+
+-- a job was answered with this status
+abbrev pub HasOutcome : Job → ℕ → World → World → Type 0
+HasOutcome job status old new = ((status ≡ success) × HasAnswered job old new) ⊎ ((status ≡ refused) × (HasStopped job old new ⊎ HasRefused job old new))
+
+-- what a command reads was read, and its job was answered with this status
+pub record HasWorked (line : CommandLine) (status : ℕ) (old new : World) : Type 0 where
+  pub inputs : List (List ℕ)
+  pub mid : HostState
+  pub read : HaveRead (origins_of line) inputs old.host mid
+  pub job : Job
+  pub is_job : IsJobOf line inputs job
+  pub outcome : HasOutcome job status (world mid old.out old.err) new
+
+-- what a command reads was not read, and the refusal was told
+pub record HasNotWorked (line : CommandLine) (status : ℕ) (old new : World) : Type 0 where
+  pub refusal : Refusal
+  pub unread : HaveNotRead refusal (origins_of line) old.host new.host
+  pub told : HasTold refusal old.err new.err
+  pub out : new.out ≡ old.out
+  pub is_refused : status ≡ refused
+
+-- the words say this command
+abbrev pub IsLine : List Text → CommandLine → Type 0
+IsLine words line = (app : App) × IsDepot app × Says line (subcommand_of app words)
+
+-- the words aren't those of a command
+abbrev pub IsNoLine : List Text → Type 0
+IsNoLine words = (app : App) × IsDepot app × (takes app words ≡ false)
+
+-- a text for the user was written, or the sink broke while it was
+abbrev pub HasExplained : Output → Output → Type 0
+HasExplained old new = (text : List ℕ) × (HasTaken (shown text) old new ⊎ HasBroken (shown text) old new)
+
+-- nothing but standard error was touched
+abbrev pub KeepsOthers : World → World → Type 0
+KeepsOthers old new = (new.host ≡ old.host) × (new.out ≡ old.out)
+
+-- what comes of words: the command that they say is carried out, or memory was refused while they were read, or they say none
+abbrev pub HasRun : List Text → ℕ → World → World → Type 0
+HasRun words status old new =
+    ((line : CommandLine) × IsLine words line × (HasWorked line status old new ⊎ HasNotWorked line status old new))
+    ⊎ (((status ≡ refused) × KeepsOthers old new × HasTold Memory old.err new.err) ⊎ ((status ≡ usage) × IsNoLine words × KeepsOthers old new × HasExplained old.err new.err))

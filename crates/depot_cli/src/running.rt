@@ -1,0 +1,203 @@
+// From the words of a command line to its status.
+ghost use Rattle.std.specs.Prelude.{◌≡◌, ◌≤◌, ◌⊎◌, List, ℕ, [], ◌∷◌, IfErr, IfOk, map};
+ghost use Rattle.bytecode_format.specs.Spelling.{spelling};
+ghost use Rattle.depot_cli.specs.Host.{HostState, origin_of};
+ghost use Rattle.depot_cli.specs.Jobs.{HasTold, world};
+ghost use Rattle.depot_cli.specs.declared.error.Refusal.TheVariants.{Memory};
+ghost use Rattle.depot_cli.specs.Running.{HasExplained, HasNotRead, HasNotWorked, HasRead, HasRun, HasWorked, HaveNotRead, HaveRead, IsJobOf, input, keeping_code, origins_in, origins_of, refused, usage};
+
+use crate::error::Refusal;
+use crate::host::{Host, Input};
+use crate::job::{Job, answer, tell};
+use crate::line::{CommandLine, line_of};
+use crate::printing::put_text;
+use crate::reading::read_limited;
+use clap::Error;
+use clap::error::ErrorKind;
+use depot_actions::Sink;
+use mime_decode::MAX_MESSAGE;
+use std::alloc::Global;
+
+/// The status where the words aren't those of a command, or ask for help.
+const USAGE: u8 = 2;
+
+/// The program that keeps every message.
+const KEEPS_ALL: &[u8] = &[
+    b'S', b'V', b'B', b'C', 1, // the format and its version
+    0, 0, 0, 0, 0, 0, // no variables, numbers and strings
+    0, 0, 0, 2, // two instructions
+    0x13, 0, 0, 0, 0, 0, 0, 0, // keep
+    0x01, 0, 0, 0, 0, 0, 0, 0, // halt
+];
+
+/// What a command reads, in the order of its words.
+#[derive(Clone, Copy, Debug)]
+pub enum Inputs<'a> {
+    /// The octets of one file, or of standard input.
+    One(Input<'a>),
+    /// Those of two.
+    Two(Input<'a>, Input<'a>),
+}
+
+/// Carries out what the words say, of which the first is the program's name, and gives the status: 0 for success, 1 for a refusal or
+/// an answer that broke off, 2 for words that aren't those of a command, and for help.
+///
+/// What the command reads is read in the order of its words, before anything is done with it; each at most one octet past the limit.
+/// Where it can't be read, the refusal is told, and nothing after it is opened. Then the job is answered, with these octets.
+pub fn run<'a, H: Host, O: Sink, E: Sink>(
+    alloc: Global,
+    words: &'a [&'a str],
+    host: &mut H,
+    out: &mut O,
+    err: &mut E,
+) -> u8
+    ensures { HasRun (map (λ w. w.now) words.entry.now) result
+        (world (H.state host.old) (O.output out.old) (E.output err.old)) (world (H.state host.new) (O.output out.new) (E.output err.new)) }
+{
+    match line_of(alloc, words) {
+        Ok(line) => carry_out(alloc, line, host, out, err),
+        Err(fault) if fault.kind() == ErrorKind::OutOfMemory => tell(err, &Refusal::Memory),
+        Err(fault) => explain_fault(alloc, fault, err),
+    }
+}
+
+/// Writes a text for the user, in which all octets but printable characters and line breaks are escaped, and gives the status of
+/// words that aren't those of a command.
+pub fn explain<E: Sink>(err: &mut E, text: &str) -> u8
+    ensures status { result ≡ usage }
+    ensures explained { HasExplained (E.output err.old) (E.output err.new) }
+{
+    let _ = put_text(err, text);
+    USAGE
+}
+
+// Writes why the words aren't those of a command, or the help that they ask for.
+fn explain_fault<E: Sink>(alloc: Global, fault: Error, err: &mut E) -> u8
+    ensures { ((result ≡ refused) × HasTold Memory (E.output err.old) (E.output err.new))
+        ⊎ ((result ≡ usage) × HasExplained (E.output err.old) (E.output err.new)) }
+{
+    match format!(in alloc; "{fault}") {
+        Ok(text) => explain(err, text.as_str()),
+        Err(_) => tell(err, &Refusal::Memory),
+    }
+}
+
+// Reads what a command reads, and answers its job.
+fn carry_out<H: Host, O: Sink, E: Sink>(
+    alloc: Global,
+    line: CommandLine<'_>,
+    host: &mut H,
+    out: &mut O,
+    err: &mut E,
+) -> u8
+    ensures { HasWorked line.entry result
+            (world (H.state host.old) (O.output out.old) (E.output err.old)) (world (H.state host.new) (O.output out.new) (E.output err.new))
+        ⊎ HasNotWorked line.entry result
+            (world (H.state host.old) (O.output out.old) (E.output err.old)) (world (H.state host.new) (O.output out.new) (E.output err.new)) }
+{
+    match read_inputs(alloc, inputs_of(line), host) {
+        Ok((first, second)) => {
+            let job = job_of(line, &first, &second);
+            answer(alloc, job, host, out, err)
+        }
+        Err(refusal) => tell(err, &refusal),
+    }
+}
+
+// What a command reads, in the order of its words.
+fn inputs_of<'a>(line: CommandLine<'a>) -> Inputs<'a>
+    ensures { origins_in result ≡ origins_of line.entry }
+{
+    match line {
+        CommandLine::NoWords | CommandLine::Encode { .. } | CommandLine::Decode { .. } => {
+            Inputs::One(Input::Standard)
+        }
+        CommandLine::Check { script } | CommandLine::Compile { script, .. } => {
+            Inputs::One(Input::File(script))
+        }
+        CommandLine::Verify { program } => Inputs::One(Input::File(program)),
+        CommandLine::Run { program, message } => {
+            Inputs::Two(Input::File(program), Input::File(message))
+        }
+        CommandLine::Eval { script, message } => {
+            Inputs::Two(Input::File(script), Input::File(message))
+        }
+    }
+}
+
+// The job of a command with the octets that it reads, the second ones empty where it reads once.
+fn job_of<'a>(line: CommandLine<'a>, first: &'a [u8], second: &'a [u8]) -> Job<'a>
+    ensures { (inputs : List (List ℕ)) → first.entry.now ≡ input inputs 0 → second.entry.now ≡ input inputs 1 → IsJobOf line.entry inputs result }
+{
+    match line {
+        CommandLine::NoWords => Job::Run {
+            program: keeping_program(),
+            message: first,
+        },
+        CommandLine::Check { .. } => Job::Check { script: first },
+        CommandLine::Compile { script, out } => Job::Compile {
+            script: first,
+            name: script,
+            out,
+        },
+        CommandLine::Verify { .. } => Job::Verify { program: first },
+        CommandLine::Run { .. } => Job::Run {
+            program: first,
+            message: second,
+        },
+        CommandLine::Eval { .. } => Job::Eval {
+            script: first,
+            message: second,
+        },
+        CommandLine::Encode { encoding } => Job::Encode {
+            encoding,
+            octets: first,
+        },
+        CommandLine::Decode { encoding } => Job::Decode {
+            encoding,
+            text: first,
+        },
+    }
+}
+
+// The program that keeps every message.
+fn keeping_program() -> &'static [u8]
+    ensures { result.now ≡ spelling keeping_code }
+{
+    KEEPS_ALL
+}
+
+// The octets of what a command reads, the second ones empty where it reads once.
+fn read_inputs<H: Host>(
+    alloc: Global,
+    inputs: Inputs<'_>,
+    host: &mut H,
+) -> Result<(Vec<u8>, Vec<u8>), Refusal>
+    ensures read { IfOk result (λ octets. (all : List (List ℕ)) × HaveRead (origins_in inputs.entry) all (H.state host.old) (H.state host.new)
+        × (octets.0.items ≡ input all 0) × (octets.1.items ≡ input all 1)) }
+    ensures refused { IfErr result (λ e. HaveNotRead e (origins_in inputs.entry) (H.state host.old) (H.state host.new)) }
+{
+    match inputs {
+        Inputs::One(first) => Ok((read_input(alloc, first, host)?, Vec::new(alloc))),
+        Inputs::Two(first, second) => {
+            let first = read_input(alloc, first, host)?;
+            let second = read_input(alloc, second, host)?;
+            Ok((first, second))
+        }
+    }
+}
+
+// The octets of a file, or of standard input.
+fn read_input<H: Host>(
+    alloc: Global,
+    input: Input<'_>,
+    host: &mut H,
+) -> Result<Vec<u8>, Refusal>
+    ensures read { IfOk result (λ octets. HasRead (origin_of input.entry) octets.items (H.state host.old) (H.state host.new)) }
+    ensures refused { IfErr result (λ e. HasNotRead e (origin_of input.entry) (H.state host.old) (H.state host.new)) }
+{
+    let mut reader = host.open(input)?;
+    let octets = read_limited(alloc, &mut reader, MAX_MESSAGE);
+    host.close(reader);
+    octets
+}
