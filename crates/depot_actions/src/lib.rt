@@ -14,4 +14,4 @@ mod sink;
 
 pub use encoding::{Encoding, decode, encode};
 pub use error::DecodeError;
-pub use sink::{DeviceFailed, OfWrite, Sink};
+pub use sink::{DeviceFailed, MAX_TRIES, OfWrite, Sink};

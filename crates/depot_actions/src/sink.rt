@@ -27,12 +27,12 @@ pub trait Sink {
         ensures err { OnErr result (HasFailed (output self.old) (output self.new)) };
 }
 
-/// How often a call is made that a signal interrupts, before it counts as failed.
-const MAX_TRIES: u32 = 16;
+/// How often a call is made that signals interrupt, before it counts as failed.
+pub const MAX_TRIES: u32 = 16;
 
 /// A writer as a sink.
 ///
-/// A call that a signal interrupts is made again, up to 16 times in all. That the writer takes nothing of octets is a failure.
+/// A call that a signal interrupts is made again, up to [`MAX_TRIES`] times in all. That the writer takes nothing of octets is a failure.
 #[derive(Drop)]
 pub struct OfWrite<W: Write + Drop> {
     /// The writer.

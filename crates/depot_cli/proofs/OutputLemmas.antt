@@ -1,6 +1,5 @@
 -- What calls of a sink come to, one after another.
-use Rattle.std.proofs.Common.{◌≡◌, ◌∙◌, ◌+◌, ◌-◌, ◌≤◌, ◌<◌, ap, refl, ℕ, suc, zero, List, [], ◌∷◌, ◌++◌, Option, sym, subst, arith, length, take, drop, take_all, length-drop, get_or, append_assoc, append-nil, take-append-drop, Result, Ok, Err, OnErr}
-use Rattle.std.specs.Io.KnownBytes.{Appends}
+use Rattle.std.proofs.Common.{◌≡◌, ◌∙◌, ◌+◌, ◌-◌, ◌≤◌, ◌<◌, ap, refl, ℕ, suc, zero, List, [], ◌∷◌, ◌++◌, sym, subst, arith, length, take, drop, take_all, length-drop, get_or, append_assoc, append-nil, take-append-drop, Result, Ok, Err, OnErr}
 use Rattle.std.specs.List.{flat_map}
 use Rattle.std.proofs.KnownBytes.{Appends-kept, Appends-nil, Appends-trans}
 use Rattle.std.proofs.Math.Seq.{take-add}
@@ -102,8 +101,8 @@ module _ {s0 s1 s2 : Gathering} where
   gathered_both xs ys first later = record {
     gone = first.gone ++ later.gone;
     whole =
-    sym (append_assoc s0.waiting xs ys) ∙ ap (λ text. text ++ ys) first.whole ∙ append_assoc first.gone s1.waiting ys ∙ ap (λ text. first.gone ++ text) later.whole
-    ∙ sym (append_assoc first.gone later.gone s2.waiting);
+        sym (append_assoc s0.waiting xs ys) ∙ ap (λ text. text ++ ys) first.whole ∙ append_assoc first.gone s1.waiting ys ∙ ap (λ text. first.gone ++ text) later.whole
+        ∙ sym (append_assoc first.gone later.gone s2.waiting);
     taken = taken_both first.gone later.gone first.taken later.taken;
   }
 

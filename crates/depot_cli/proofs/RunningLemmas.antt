@@ -1,14 +1,21 @@
 -- What comes of words, from what comes of their parts.
-use Rattle.std.proofs.Common.{◌≡◌, ◌≤◌, ◌⊎◌, ℕ, zero, suc, Bool, true, false, List, inl, inr, refl, arith}
+use Rattle.std.proofs.Common.{◌≡◌, ◌≤◌, ◌⊎◌, ℕ, zero, suc, Bool, true, false, List, [], ◌∷◌, inl, inr, refl, arith}
 use Rattle.clap.specs.Words.{App, Text, takes}
 use Rattle.clap.specs.declared.error.kind.ErrorKind.{ErrorKind}
 use Rattle.clap.specs.declared.error.kind.ErrorKind.TheVariants.{OutOfMemory}
-use Rattle.depot_actions.specs.Device.{Output}
 use Rattle.depot_cli.specs.Jobs.{HasAnswered, HasRefused, HasStopped, HasTold, World}
-use Rattle.depot_cli.specs.Running.{HasExplained, HasOutcome, HasRun, IsNoLine, KeepsOthers, refused, usage}
+use Rattle.depot_cli.specs.Host.{HostState, Origin}
+use Rattle.depot_cli.specs.Running.{HasExplained, HasOutcome, HasRead, HasRun, HaveRead, IsNoLine, KeepsOthers, refused, usage}
 use Rattle.depot_cli.specs.Words.{IsDepot}
 use Rattle.depot_cli.specs.declared.error.Refusal.TheVariants.{Memory}
 use Rattle.depot_cli.specs.declared.job.Job.{Job}
+
+-- one was read, and two were
+pub read_one : {origin : Origin} {octets : List ℕ} {s0 s1 : HostState} → HasRead origin octets s0 s1 → HaveRead (origin ∷ []) (octets ∷ []) s0 s1
+read_one {s1 = s1} read = (s1, read, refl)
+
+pub read_two : {first second : Origin} {xs ys : List ℕ} {s0 s1 s2 : HostState} → HasRead first xs s0 s1 → HasRead second ys s1 s2 → HaveRead (first ∷ second ∷ []) (xs ∷ ys ∷ []) s0 s2
+read_two {s1 = s1} read later = (s1, read, read_one later)
 
 -- a status is that of success or of a refusal
 pub outcome : {P Q : Type 0} (job : Job) (status : ℕ) (old new : World) → status ≤ 1

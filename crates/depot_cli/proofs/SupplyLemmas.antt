@@ -1,5 +1,5 @@
 -- What calls of a source come to, one after another.
-use Rattle.std.proofs.Common.{◌≡◌, ◌∙◌, ◌+◌, ◌-◌, ◌≤◌, ◌<◌, ◌^◌, min, ap, ℕ, zero, suc, List, [], ◌++◌, sym, subst, refl, arith, length, take, drop, length-append, length-take-le}
+use Rattle.std.proofs.Common.{◌≡◌, ◌∙◌, ◌+◌, ap, ℕ, zero, suc, List, [], ◌++◌, sym, subst, refl, arith, length, take, drop, length-append}
 use Rattle.std.proofs.Math.Seq.{take-add}
 use Rattle.std.proofs.KnownBytes.{Consumes-kept, Consumes-nil, Consumes-trans}
 use Rattle.depot_actions.specs.Device.{counted}
@@ -23,7 +23,7 @@ module _ {s0 s1 s2 : Supply} where
   given_both xs ys first later = record {
     left = Consumes-trans s0.left s1.left s2.left xs ys first.left later.left;
     given =
-    later.given ∙ ap (counted (length ys)) first.given ∙ counted-counted (length xs) (length ys) s0.given ∙ ap (λ n. counted n s0.given) (sym (length-append xs ys));
+        later.given ∙ ap (counted (length ys)) first.given ∙ counted-counted (length xs) (length ys) s0.given ∙ ap (λ n. counted n s0.given) (sym (length-append xs ys));
     faults = later.faults ∙ first.faults;
   }
 

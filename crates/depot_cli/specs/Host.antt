@@ -1,5 +1,5 @@
 -- What is known of a host, and what calls do to it.
-use Rattle.std.specs.Prelude.{◌≡◌, ℕ, suc, List, [], ◌∷◌, ◌++◌, Option, None, Some, IfSome, OnSome}
+use Rattle.std.specs.Prelude.{◌≡◌, ◌⊎◌, ℕ, List, [], ◌∷◌, ◌++◌, Option, None, Some, IfSome, OnSome}
 use Rattle.std.specs.Option.{option_map}
 use Rattle.depot_actions.specs.Device.{Output, counted}
 use Rattle.depot_cli.specs.Supply.{Supply}
@@ -44,6 +44,10 @@ with_faults more state = record state { faults = counted more state.faults }
 abbrev pub with_supply : Supply → HostState → HostState
 with_supply supply state = record state { given = counted supply.given state.given; faults = counted supply.faults state.faults }
 
+-- the host was asked, or memory was refused before it was
+abbrev pub MayHaveAsked : Call → HostState → HostState → Type 0
+MayHaveAsked call old new = (new ≡ with_call call old) ⊎ (new ≡ old)
+
 -- ---- reading
 
 -- a source that nothing was read of: it has the octets that are told
@@ -54,7 +58,7 @@ pub record IsFreshSupply (told : Option (List ℕ)) (supply : Supply) : Type 0 w
 
 -- what gives octets couldn't be opened: memory was refused, or the call failed
 abbrev pub HasNotOpened : Refusal → Origin → HostState → HostState → Type 0
-HasNotOpened Memory origin old new = new ≡ with_call (opens origin) old
+HasNotOpened Memory origin old new = MayHaveAsked (opens origin) old new
 HasNotOpened Read origin old new = new ≡ with_faults 1 (with_call (opens origin) old)
 HasNotOpened _ origin old new = ⊥
 
@@ -67,7 +71,7 @@ pub record IsFreshOutput (state : HostState) (output : Output) : Type 0 where
 
 -- a file was not made, or what was to be written to it failed: memory was refused, or a call failed. No file was kept.
 abbrev pub HasNotMade : Refusal → List ℕ → List ℕ → HostState → HostState → Type 0
-HasNotMade Memory name script old new = new ≡ with_call (makes name script) old
+HasNotMade Memory name script old new = MayHaveAsked (makes name script) old new
 HasNotMade Write name script old new = new ≡ with_faults 1 (with_call (makes name script) old)
 HasNotMade _ name script old new = ⊥
 

@@ -1,5 +1,5 @@
 -- What jobs answer, why they are refused, and what answering does.
-use Rattle.std.specs.Prelude.{◌≡◌, ◌⊎◌, ℕ, List, length, string_bytes}
+use Rattle.std.specs.Prelude.{◌≡◌, ◌⊎◌, ℕ, List, length}
 use Rattle.octet_lanes.specs.Encoding.{IsOctets}
 use Rattle.depot_actions.specs.Device.{HasBroken, HasTaken, Output}
 use Rattle.depot_actions.specs.Texts.{Reads, text_of}
@@ -19,8 +19,6 @@ use Rattle.depot_cli.specs.declared.error.Refusal.{Refusal}
 use Rattle.depot_cli.specs.declared.error.Refusal.TheVariants as refusals
 use Rattle.depot_cli.specs.declared.job.Job.{Job}
 use Rattle.depot_cli.specs.declared.job.Job.TheVariants.{Check, Compile, Verify, Run, Eval, Encode, Decode}
-use Rattle.depot_cli.specs.declared.job.Lines.{Lines}
-use Rattle.depot_cli.specs.declared.job.Lines.TheVariants as lines
 
 -- The text of a job's answer: that the script has no fault, how many octets its program has, the budget of the accepted program, the
 -- lines of the run, or the octets and nothing else. The script's program was made a file; no other job asks anything of the host.
@@ -53,14 +51,6 @@ IsJobRefusal (Run program message) refusal old new = IsEngineRefusal (IsRefusal 
 IsJobRefusal (Eval script message) refusal old new = IsEngineRefusal (IsEvaluationRefusal script.now message.now) refusal × (new ≡ old)
 IsJobRefusal (Encode encoding octets) refusal old new = (refusal ≡ refusals.Memory) × (new ≡ old)
 IsJobRefusal (Decode encoding text) refusal old new = IsUnread encoding text.now refusal × (new ≡ old)
-
--- the text of what an answer is made of
-abbrev pub lines_text : Lines → List ℕ
-lines_text lines.NoFault = line ok_text
-lines_text (lines.Wrote octets) = line (wrote_text octets)
-lines_text (lines.Budget text) = line (string_bytes text)
-lines_text (lines.Octets octets) = octets.items
-lines_text (lines.Report report) = report_text report.outcome.actions.items report.outcome.charged report.limit
 
 -- ---- what answering does
 

@@ -1,12 +1,13 @@
-pub mod Files
-pub mod Gathering
-pub mod Host
-pub mod Jobs
-pub mod LimitedReading
 pub mod Limits
-pub mod Pieces
+pub mod Supply
+pub mod LimitedReading
+pub mod Host
 pub mod Printed
 pub mod Refusals
-pub mod Running
-pub mod Supply
+pub mod Jobs
 pub mod Words
+pub mod Running
+-- how lines are gathered, what they are made of, and how files that are being made are named; nothing public rests on these
+pub mod Gathering
+pub mod Pieces
+pub mod Files

@@ -1,8 +1,10 @@
--- The text of the pieces of a line.
-use Rattle.std.specs.Prelude.{ℕ, List}
+-- The text of the pieces of a line, and of what an answer is made of.
+use Rattle.std.specs.Prelude.{ℕ, List, string_bytes}
 use Rattle.std.specs.List.{flat_map}
 use Rattle.std.specs.Fmt.{decimal}
-use Rattle.depot_cli.specs.Printed.{escaped, quoted}
+use Rattle.depot_cli.specs.Printed.{escaped, line, ok_text, quoted, report_text, wrote_text}
+use Rattle.depot_cli.specs.declared.job.Lines.{Lines}
+use Rattle.depot_cli.specs.declared.job.Lines.TheVariants as lines
 use Rattle.depot_cli.specs.declared.piece.Piece.{Piece}
 use Rattle.depot_cli.specs.declared.piece.Piece.TheVariants as pieces
 use Rattle.depot_cli.specs.declared.piece.Setting.TheVariants as settings
@@ -17,3 +19,11 @@ piece_text (pieces.Number n) = decimal n
 -- the texts of pieces in turn
 abbrev pub pieces_text : List Piece → List ℕ
 pieces_text = flat_map piece_text
+
+-- the text of what an answer is made of
+abbrev pub lines_text : Lines → List ℕ
+lines_text lines.NoFault = line ok_text
+lines_text (lines.Wrote octets) = line (wrote_text octets)
+lines_text (lines.Budget text) = line (string_bytes text)
+lines_text (lines.Octets octets) = octets.items
+lines_text (lines.Report report) = report_text report.outcome.actions.items report.outcome.charged report.limit

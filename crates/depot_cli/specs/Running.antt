@@ -1,5 +1,5 @@
 -- What comes of the words of a command line.
-use Rattle.std.specs.Prelude.{◌≡◌, ◌⊎◌, ℕ, ◌+◌, ◌<◌, ◌≤◌, Bool, false, List, [], ◌∷◌, length, IfSome, slice_index_or}
+use Rattle.std.specs.Prelude.{◌≡◌, ◌⊎◌, ℕ, ◌+◌, ◌<◌, ◌≤◌, false, List, [], ◌∷◌, length, IfSome, slice_index_or}
 use Rattle.std.specs.Borrow.{Bor}
 use Rattle.clap.specs.Words.{App, Text, subcommand_of, takes}
 use Rattle.bytecode_format.specs.Code.{Code}
@@ -34,7 +34,7 @@ origins_of (Eval script message) = file script.now ∷ file message.now ∷ []
 origins_of (Encode encoding) = standard ∷ []
 origins_of (Decode encoding) = standard ∷ []
 
--- the same of what the code says that it reads
+-- the same of what the code says that it reads; nothing public rests on this
 abbrev pub origins_in : Inputs → List Origin
 origins_in (One first) = origin_of first ∷ []
 origins_in (Two first second) = origin_of first ∷ origin_of second ∷ []
@@ -49,9 +49,10 @@ pub record HasRead (origin : Origin) (octets : List ℕ) (old new : HostState) :
   pub told : IfSome (old.contents origin) (λ all. octets ≡ all)
   pub state : new ≡ after_reading origin (length octets) old
 
--- Octets were not read: memory was refused or a call failed, with no more octets given than the limit; or one octet more was given.
+-- Octets were not read: memory was refused or a call failed, with no more octets given than the limit; or one octet more was given,
+-- of more than the limit, where that is told.
 abbrev pub HasNotRead : Refusal → Origin → HostState → HostState → Type 0
-HasNotRead Memory origin old new = (given : ℕ) × (given ≤ max_input) × (new ≡ after_reading origin given old)
+HasNotRead Memory origin old new = (new ≡ old) ⊎ ((given : ℕ) × (given ≤ max_input) × (new ≡ after_reading origin given old))
 HasNotRead MessageTooLarge origin old new = IfSome (old.contents origin) (λ all. max_input < length all) × (new ≡ after_reading origin (max_input + 1) old)
 HasNotRead Read origin old new = (given : ℕ) × (given ≤ max_input) × (new ≡ with_faults 1 (after_reading origin given old))
 HasNotRead _ origin old new = ⊥

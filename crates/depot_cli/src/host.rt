@@ -50,12 +50,7 @@ pub trait Host {
     /// # Errors
     ///
     /// `Memory` where an allocation was refused, `Write` where no file can be made, and where that name is the script's own file.
-    fn create(
-        &mut self,
-        alloc: Global,
-        name: &str,
-        script: &str,
-    ) -> Result<Self::Writer, Refusal>
+    fn create(&mut self, alloc: Global, name: &str, script: &str) -> Result<Self::Writer, Refusal>
         ensures fresh { IfOk result (λ writer. IsFreshOutput (state self.old) (Self.Writer.output writer)) }
         ensures ok { OnOk result (state self.new ≡ with_call (makes name.now script.now) (state self.old)) }
         ensures err { IfErr result (λ e. HasNotMade e name.now script.now (state self.old) (state self.new)) };

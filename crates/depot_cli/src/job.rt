@@ -7,7 +7,8 @@ ghost use Rattle.bytecode_verifier.specs.Budget.{budget_of};
 ghost use Rattle.sieve_engine.specs.Evaluation.{IsCompiled, IsScriptRefusal};
 ghost use Rattle.sieve_engine.specs.Execution.{IsChecked, IsProgramRefusal};
 ghost use Rattle.depot_actions.specs.Device.{HasBroken, HasTaken};
-ghost use Rattle.depot_cli.specs.Jobs.{HasAnswered, HasRefused, HasStopped, HasTold, IsAnswer, IsJobRefusal, lines_text, world};
+ghost use Rattle.depot_cli.specs.Jobs.{HasAnswered, HasRefused, HasStopped, HasTold, IsAnswer, IsJobRefusal, world};
+ghost use Rattle.depot_cli.specs.Pieces.{lines_text};
 ghost use Rattle.depot_cli.specs.Refusals.{IsEngineRefusal};
 
 use crate::error::Refusal;
@@ -101,9 +102,9 @@ pub fn answer<H: Host, O: Sink, E: Sink>(
         × (err.new ≡ err.old) }
     ensures failed { result ≡ 1 →
         HasStopped job.entry
-            (world (H.state host.old) (O.output out.old) (E.output err.old)) (world (H.state host.new) (O.output out.new) (E.output err.new))
+        (world (H.state host.old) (O.output out.old) (E.output err.old)) (world (H.state host.new) (O.output out.new) (E.output err.new))
         ⊎ (HasRefused job.entry
-            (world (H.state host.old) (O.output out.old) (E.output err.old)) (world (H.state host.new) (O.output out.new) (E.output err.new))
+        (world (H.state host.old) (O.output out.old) (E.output err.old)) (world (H.state host.new) (O.output out.new) (E.output err.new))
         × (out.new ≡ out.old)) }
 {
     match carry_out(alloc, job, host) {

@@ -149,12 +149,7 @@ fn create_new<R: Files>(rt: &R, path: &str, mode: u32) -> io::Result<R::File> {
 }
 
 // The path of a new file, in the folder of another.
-fn path_beside(
-    alloc: Global,
-    kept: &PathBuf,
-    number: u32,
-    n: u32,
-) -> Result<PathBuf, AllocError>
+fn path_beside(alloc: Global, kept: &PathBuf, number: u32, n: u32) -> Result<PathBuf, AllocError>
     ensures { IfOk result (λ path. path_buf_bytes path ≡ path_with_file_name (path_buf_bytes kept.now) (new_name number n)) }
 {
     let name = format!(in alloc; ".depot-{number}-{n}")?;

@@ -46,11 +46,7 @@ fn gather_piece<O: Sink>(
 }
 
 // Adds octets between quotes to a line.
-fn gather_quoted<O: Sink>(
-    line: &mut Line,
-    out: &mut O,
-    octets: &[u8],
-) -> Result<(), DeviceFailed>
+fn gather_quoted<O: Sink>(line: &mut Line, out: &mut O, octets: &[u8]) -> Result<(), DeviceFailed>
     ensures ok { OnOk result (HasGathered (quoted octets.now) (gathering line.old.items (O.output out.old)) (gathering line.new.items (O.output out.new))) }
     ensures err { OnErr result (HasBroken (line.old.items ++ quoted octets.now) (O.output out.old) (O.output out.new)) }
 {

@@ -91,9 +91,9 @@ fn carry_out<H: Host, O: Sink, E: Sink>(
     err: &mut E,
 ) -> u8
     ensures { HasWorked line.entry result
-            (world (H.state host.old) (O.output out.old) (E.output err.old)) (world (H.state host.new) (O.output out.new) (E.output err.new))
+        (world (H.state host.old) (O.output out.old) (E.output err.old)) (world (H.state host.new) (O.output out.new) (E.output err.new))
         ⊎ HasNotWorked line.entry result
-            (world (H.state host.old) (O.output out.old) (E.output err.old)) (world (H.state host.new) (O.output out.new) (E.output err.new)) }
+        (world (H.state host.old) (O.output out.old) (E.output err.old)) (world (H.state host.new) (O.output out.new) (E.output err.new)) }
 {
     match read_inputs(alloc, inputs_of(line), host) {
         Ok((first, second)) => {
@@ -188,11 +188,7 @@ fn read_inputs<H: Host>(
 }
 
 // The octets of a file, or of standard input.
-fn read_input<H: Host>(
-    alloc: Global,
-    input: Input<'_>,
-    host: &mut H,
-) -> Result<Vec<u8>, Refusal>
+fn read_input<H: Host>(alloc: Global, input: Input<'_>, host: &mut H) -> Result<Vec<u8>, Refusal>
     ensures read { IfOk result (λ octets. HasRead (origin_of input.entry) octets.items (H.state host.old) (H.state host.new)) }
     ensures refused { IfErr result (λ e. HasNotRead e (origin_of input.entry) (H.state host.old) (H.state host.new)) }
 {

@@ -3,7 +3,7 @@ ghost use Rattle.std.specs.Prelude.{◌≡◌, ◌<◌, ◌≤◌, false, length
 ghost use Rattle.std.specs.Io.KnownBytes.{Consumes, IsAtEnd, Keeps};
 ghost use Rattle.depot_cli.specs.Supply.{HasEnded, HasFailedToGive, HasGiven, Supply};
 
-use depot_actions::DeviceFailed;
+use depot_actions::{DeviceFailed, MAX_TRIES};
 use std::io::{ErrorKind, Read};
 
 /// What gives octets.
@@ -26,12 +26,9 @@ pub trait Source {
         ensures err { OnErr result (HasFailedToGive (supply self.old) (supply self.new)) };
 }
 
-/// How often a call is made that a signal interrupts, before it counts as failed.
-const MAX_TRIES: u32 = 16;
-
 /// A reader as a source.
 ///
-/// A call that a signal interrupts is made again, up to 16 times in all.
+/// A call that a signal interrupts is made again, up to [`MAX_TRIES`] times in all.
 #[derive(Drop)]
 pub struct OfRead<R: Read + Drop> {
     /// The reader.

@@ -9,10 +9,9 @@ use crate::new_file::{NewFile, begin, discard, persist};
 use crate::source::OfRead;
 use depot_actions::DeviceFailed;
 use std::alloc::Global;
-use std::fs;
 use std::fs::Files;
-use std::io;
 use std::io::{ErrorKind, Read};
+use std::{fs, io};
 
 /// The files and the standard input of a system. A contract is told nothing of what they hold.
 #[derive(Drop)]
@@ -92,12 +91,7 @@ impl<R: Files + io::Input> Host for System<'_, R> {
         self.faults = self.faults.saturating_add(reader.faults);
     }
 
-    fn create(
-        &mut self,
-        alloc: Global,
-        name: &str,
-        script: &str,
-    ) -> Result<Self::Writer, Refusal> {
+    fn create(&mut self, alloc: Global, name: &str, script: &str) -> Result<Self::Writer, Refusal> {
         match begin(self.rt, alloc, self.number, name, script) {
             Ok(file) => Ok(file),
             Err(fault) => Err(self.refusal(&fault, Refusal::Write)),

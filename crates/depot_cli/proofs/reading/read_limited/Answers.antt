@@ -1,6 +1,5 @@
-use Rattle.std.proofs.Common.{◌≡◌, ◌∙◌, ◌+◌, ◌≤◌, arith, length, length-take-le, take, vec_len}
+use Rattle.std.proofs.Common.{◌≡◌, ◌∙◌, ◌+◌, ◌≤◌, arith, length-take-le, take, vec_len}
 use Rattle.depot_cli.proofs.SupplyLemmas.{given_more}
-use Rattle.depot_cli.specs.Supply.{HasGiven}
 use Rattle.depot_cli.proofs.reading.read_limited.Goals as goal
 
 pub returns-then-filled-limit-clause-refused : goal.returns-then-filled-limit-clause-refused
@@ -27,5 +26,5 @@ pieces-preserved g c =
       filled = read.bound;
       small = omega (arith, read.len, c.in_ok-make_room.ensures.small);
       given =
-      given_more c.pieces.octets.items c.make_room.new.octets.items c.read_from.new.octets.items filled n c.pieces.invariant.given c.in_ok-make_room.ensures.kept read.kept read.ok;
+          given_more c.pieces.octets.items c.make_room.new.octets.items c.read_from.new.octets.items filled n c.pieces.invariant.given c.in_ok-make_room.ensures.kept read.kept read.ok;
     }

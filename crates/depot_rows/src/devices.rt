@@ -1,0 +1,119 @@
+// Devices that do little at a time, and fail.
+
+use depot_actions::{DeviceFailed, OfWrite, Sink};
+use depot_cli::{OfRead, Source};
+use std::io;
+use std::io::{Error, ErrorKind, Read, Write};
+
+/// Takes so many octets at a time, in so many calls, and fails then. It notes the lengths of what it was given.
+#[derive(Drop)]
+pub struct Calls {
+    pub octets: Vec<u8>,
+    pub lengths: Vec<usize>,
+    pub most: usize,
+    pub left: usize,
+    pub faults: u64,
+}
+
+impl Calls {
+    pub fn new(rt: &HostRuntime, most: usize, left: usize) -> Calls {
+        Calls {
+            octets: Vec::new(rt.alloc()),
+            lengths: Vec::new(rt.alloc()),
+            most,
+            left,
+            faults: 0,
+        }
+    }
+}
+
+impl Write for Calls {
+    fn write(&mut self, octets: &[u8]) -> io::Result<usize> {
+        if self.left == 0 {
+            return Err(Error::from(ErrorKind::StorageFull));
+        }
+        self.left -= 1;
+        let n = octets.len().min(self.most);
+        self.octets.extend_from_slice(&octets[..n])?;
+        self.lengths.push(octets.len())?;
+        Ok(n)
+    }
+
+    fn flush(&mut self) -> io::Result<()> {
+        Ok(())
+    }
+}
+
+/// Is interrupted so often before it does what it is asked for.
+#[derive(Drop)]
+pub struct Interrupted<T> {
+    pub inner: T,
+    pub left: u32,
+}
+
+impl<T> Interrupted<T> {
+    // Whether this call is interrupted.
+    fn interrupts(&mut self) -> bool {
+        if self.left == 0 {
+            return false;
+        }
+        self.left -= 1;
+        true
+    }
+}
+
+impl<R: Read> Read for Interrupted<R> {
+    fn read(&mut self, room: &mut [u8]) -> io::Result<usize> {
+        if self.interrupts() {
+            return Err(Error::from(ErrorKind::Interrupted));
+        }
+        self.inner.read(room)
+    }
+}
+
+impl<W: Write> Write for Interrupted<W> {
+    fn write(&mut self, octets: &[u8]) -> io::Result<usize> {
+        if self.interrupts() {
+            return Err(Error::from(ErrorKind::Interrupted));
+        }
+        self.inner.write(octets)
+    }
+
+    fn flush(&mut self) -> io::Result<()> {
+        Ok(())
+    }
+}
+
+#[test]
+fn interrupted_calls_are_made_again(rt: HostRuntime) {
+    for (left, works) in [(0, true), (1, true), (15, true), (16, false)] {
+        let mut source = OfRead::new(Interrupted {
+            inner: b"abc".as_slice(),
+            left,
+        });
+        let mut room = [0; 8];
+        let read = source.read(&mut room);
+        assert_eq!(rt; read.is_ok(), works, "reading, {left}");
+        assert_eq!(rt; source.faults == 0, works, "reading, {left}");
+        let mut sink = OfWrite::new(Interrupted {
+            inner: Vec::new(rt.alloc()),
+            left,
+        });
+        let written = sink.write(b"abc");
+        assert_eq!(rt; written.is_ok(), works, "writing, {left}");
+        assert_eq!(rt; sink.faults == 0, works, "writing, {left}");
+        assert_eq!(rt;
+            sink.inner.inner.as_slice() == b"abc".as_slice(),
+            works,
+            "writing, {left}"
+        );
+    }
+}
+
+#[test]
+fn a_writer_that_takes_nothing_has_failed(rt: HostRuntime) {
+    let mut sink = OfWrite::new(Calls::new(&rt, 0, 10));
+    assert!(rt; matches!(sink.write(b"abc"), Err(DeviceFailed)));
+    assert_eq!(rt; sink.faults, 1);
+    assert!(rt; matches!(sink.write(b""), Ok(0)));
+}

@@ -1,0 +1,12 @@
+//! Tests of the depot's layer over its public calls, and a host whose files are known: what a contract is told of a host can be told.
+#![tactic(auto)]
+
+#[cfg(test)]
+mod answers;
+#[cfg(test)]
+mod devices;
+#[cfg(test)]
+mod readings;
+#[cfg(test)]
+mod runs;
+pub mod shelf;
