@@ -9,7 +9,7 @@ use std::alloc::{AllocError, AllocFailed};
 /// Why a job has no answer. Its line has the refusal's number and name, and its place where it has one.
 #[derive(Debug, Drop)]
 pub enum Refusal {
-    /// A growth was refused.
+    /// An allocation was refused.
     Memory,
     /// A file or a message has more octets than the limit.
     MessageTooLarge,
@@ -49,7 +49,7 @@ pub enum Refusal {
     NoPart { place: usize },
     /// An entry of the stack is missing, of the wrong kind, too many, or left where none may be.
     Stack { place: usize },
-    /// A file couldn't be made or written; the octets written so far are a front of what it was to get.
+    /// A file couldn't be made or written, or standard output failed.
     Write,
     /// A file or standard input couldn't be read.
     Read,
