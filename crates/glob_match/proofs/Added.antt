@@ -1,14 +1,14 @@
 -- Captures, one stretch after another.
 use Rattle.std.proofs.Common.{◌≡◌, ℕ, zero, suc, ◌+◌, ◌-◌, ◌<◌, ◌≤◌, List, [], ◌∷◌, ◌++◌, map, length, take, drop, inl, inr, refl, sym, ap, ◌∙◌, arith, min, get_or}
 use Rattle.std.proofs.lemmas.Bool.{cases_lt}
-use Rattle.std.proofs.lemmas.List.{append-nil, append_assoc, drop_more, length-append, length-map, length-take, map-append, map_push, take-append-le, take-take, take_all, take_at, take-map}
+use Rattle.std.proofs.lemmas.List.{append-nil, append_assoc, drop_more, length-append, length-map, length-take, map-append, map_push, take-take, take_all, take_at}
 use Rattle.std.specs.List.{slice_range}
 use Rattle.glob_match.specs.declared.captures.Stretch.{Stretch}
 use Rattle.glob_match.specs.declared.token.Token.{Token}
 use Rattle.glob_match.specs.declared.token.Token.TheVariants.{Literal, AnyOctet, Star}
 use Rattle.glob_match.specs.Segments.{any_octets}
 use Rattle.glob_match.specs.Captures.{texts, with_stretches}
-use Rattle.glob_match.specs.Matching.{captures_of, max_capture, max_captures}
+use Rattle.glob_match.specs.Matching.{max_capture, max_captures}
 
 -- a stretch of so many octets, cut
 pub cut_text : (value : List ℕ) (start end kept : ℕ) → kept ≡ min (end - start) max_capture

@@ -1,5 +1,5 @@
 -- Equal texts, block by block.
-use Rattle.std.proofs.Common.{◌≡◌, ℕ, zero, suc, ◌+◌, ◌-◌, ◌≤◌, ◌==◌, Bool, true, false, ◌&&◌, List, [], ◌∷◌, ◌++◌, length, map, take, drop, replicate, refl, sym, ap, ◌∙◌, arith}
+use Rattle.std.proofs.Common.{◌≡◌, ℕ, zero, suc, ◌+◌, ◌≤◌, ◌==◌, Bool, true, false, ◌&&◌, List, [], ◌∷◌, ◌++◌, length, map, take, drop, refl, sym, ap, ◌∙◌, arith}
 use Rattle.std.proofs.lemmas.Bool.{and_from, and_left, and_parts, and_right, eq-eqb}
 use Rattle.std.proofs.lemmas.List.{drop-take, length-map, map-append, take-take, take_at}
 use Rattle.std.specs.Char.{to_ascii_uppercase}
@@ -56,28 +56,28 @@ module _ (value key : List ℕ) (place : ℕ) (so_far : is_match Casemap (take p
   block_more block same is e equal =
       is_match_split place (take (place + 32) value) (take (place + 32) key)
       ∙ and_from (is_match Casemap (take place (take (place + 32) value)) (take place (take (place + 32) key)))
-        (is_match Casemap (drop place (take (place + 32) value)) (drop place (take (place + 32) key)))
-        (ap (λ xs. is_match Casemap xs (take place (take (place + 32) key))) (take-take place (place + 32) value (omega arith))
-          ∙ ap (is_match Casemap (take place value)) (take-take place (place + 32) key (omega arith)) ∙ so_far)
-        (ap (λ xs. is_match Casemap xs (drop place (take (place + 32) key))) (drop-take place 32 value ∙ sym is)
-          ∙ ap (is_match Casemap block) (drop-take place 32 key) ∙ sym e ∙ equal)
+      (is_match Casemap (drop place (take (place + 32) value)) (drop place (take (place + 32) key)))
+      (ap (λ xs. is_match Casemap xs (take place (take (place + 32) key))) (take-take place (place + 32) value (omega arith))
+      ∙ ap (is_match Casemap (take place value)) (take-take place (place + 32) key (omega arith)) ∙ so_far)
+      (ap (λ xs. is_match Casemap xs (drop place (take (place + 32) key))) (drop-take place 32 value ∙ sym is)
+      ∙ ap (is_match Casemap block) (drop-take place 32 key) ∙ sym e ∙ equal)
 
   -- a block that differs
   pub block_differs : (block : List ℕ) (same : Bool) → block ≡ take 32 (drop place value) → same ≡ is_match Casemap block (take 32 (drop place key))
       → same ≡ false → false ≡ is_match Casemap value key
   block_differs block same is e other =
       sym (is_match_split place value key
-        ∙ and_right (is_match Casemap (take place value) (take place key)) (is_match Casemap (drop place value) (drop place key))
-          (is_match_split 32 (drop place value) (drop place key)
-            ∙ and_left (is_match Casemap (take 32 (drop place value)) (take 32 (drop place key))) (is_match Casemap (drop 32 (drop place value)) (drop 32 (drop place key)))
-              (ap (λ xs. is_match Casemap xs (take 32 (drop place key))) (sym is) ∙ sym e ∙ other)))
+      ∙ and_right (is_match Casemap (take place value) (take place key)) (is_match Casemap (drop place value) (drop place key))
+      (is_match_split 32 (drop place value) (drop place key)
+      ∙ and_left (is_match Casemap (take 32 (drop place value)) (take 32 (drop place key))) (is_match Casemap (drop 32 (drop place value)) (drop 32 (drop place key)))
+      (ap (λ xs. is_match Casemap xs (take 32 (drop place key))) (sym is) ∙ sym e ∙ other)))
 
   -- what is left, with octets before it
   pub block_last : (n : ℕ) → n ≤ place → is_match Casemap (drop n value) (drop n key) ≡ is_match Casemap value key
   block_last n before =
       let parts = and_parts (is_match Casemap (take n (take place value)) (take n (take place key))) (is_match Casemap (drop n (take place value)) (drop n (take place key)))
-        (sym (is_match_split n (take place value) (take place key)) ∙ so_far) in
+      (sym (is_match_split n (take place value) (take place key)) ∙ so_far) in
       let front : is_match Casemap (take n value) (take n key) ≡ true =
-        ap (λ xs. is_match Casemap xs (take n key)) (sym (take-take n place value before))
-        ∙ ap (is_match Casemap (take n (take place value))) (sym (take-take n place key before)) ∙ parts.0 in
+      ap (λ xs. is_match Casemap xs (take n key)) (sym (take-take n place value before))
+      ∙ ap (is_match Casemap (take n (take place value))) (sym (take-take n place key before)) ∙ parts.0 in
       sym (is_match_split n value key ∙ ap (λ b. b && is_match Casemap (drop n value) (drop n key)) front)

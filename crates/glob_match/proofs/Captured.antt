@@ -1,9 +1,9 @@
 -- The captures, as a function and as a relation.
-use Rattle.std.proofs.Common.{◌≡◌, ◌↔◌, ℕ, List, Option, Some, None, refl, sym, ap, ◌∙◌}
+use Rattle.std.proofs.Common.{◌≡◌, ℕ, List, Some, None, refl, sym, ap, ◌∙◌}
 use Rattle.std.specs.Option.{option_map}
 use Rattle.glob_match.specs.declared.comparator.Comparator.{Comparator}
 use Rattle.glob_match.specs.Tokens.{tokens_of}
-use Rattle.glob_match.specs.Matching.{Captured, IsLeastFit, captures_of, least_fit, match_of}
+use Rattle.glob_match.specs.Matching.{Captured, captures_of, least_fit, match_of}
 use Rattle.glob_match.proofs.Least.{least_from, least_once, some_least}
 
 module _ (comparator : Comparator) (value key : List ℕ) where

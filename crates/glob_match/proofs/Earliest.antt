@@ -1,13 +1,13 @@
 -- The least stretches by segments: each segment but the last one at its first place, the last one at the end.
-use Rattle.std.proofs.Common.{◌≡◌, ℕ, zero, suc, ◌+◌, ◌-◌, ◌<◌, ◌≤◌, Bool, true, false, ◌&&◌, cond, List, [], ◌∷◌, ◌++◌, length, take, drop, Option, Some, None, inl, inr, refl, sym, ap, subst, ◌∙◌, add-one, arith}
-use Rattle.std.proofs.lemmas.Bool.{true≢false, false≢true, and_parts, and_from, cond_both, cond-true, cond-false, cases_Bool, cases_lt, cases_eq}
-use Rattle.std.proofs.lemmas.List.{append-nil, drop-drop, drop_all, length-drop}
+use Rattle.std.proofs.Common.{◌≡◌, ℕ, zero, suc, ◌+◌, ◌-◌, ◌<◌, ◌≤◌, Bool, true, false, ◌&&◌, List, [], ◌∷◌, ◌++◌, length, take, drop, Option, Some, None, inl, inr, refl, sym, ap, subst, ◌∙◌, arith}
+use Rattle.std.proofs.lemmas.Bool.{true≢false, false≢true, and_parts, cond_both, cond-true, cases_Bool, cases_lt}
+use Rattle.std.proofs.lemmas.List.{append-nil, drop-drop, length-drop}
 use Rattle.std.specs.Option.{option_map, option_or}
 use Rattle.glob_match.specs.declared.comparator.Comparator.{Comparator}
 use Rattle.glob_match.specs.declared.token.Token.{Token}
 use Rattle.glob_match.specs.declared.token.Token.TheVariants.{Literal, AnyOctet, Star}
 use Rattle.glob_match.specs.Comparison.{same_octet}
-use Rattle.glob_match.specs.Containment.{takes, begins_with, first_place}
+use Rattle.glob_match.specs.Containment.{begins_with, first_place}
 use Rattle.glob_match.specs.Matching.{Fit, empty_fit, star_fit, lengthened, least_fit}
 use Rattle.glob_match.specs.Segments.{NoStar, any_octets}
 use Rattle.glob_match.proofs.Places.{IsPlace, place_of}

@@ -1,10 +1,10 @@
 -- Worked values.
-use Rattle.std.proofs.Common.{◌≡◌, ℕ, List, [], ◌∷◌, Some, None, true, false, refl}
+use Rattle.std.proofs.Common.{◌≡◌, [], ◌∷◌, Some, None, true, false, refl}
 use Rattle.std.specs.Prelude.{codes}
 use Rattle.glob_match.specs.declared.comparator.Comparator.TheVariants.{Octet, Casemap}
 use Rattle.glob_match.specs.declared.token.Token.TheVariants.{Literal, AnyOctet, Star}
 use Rattle.glob_match.specs.Comparison.{is_match}
-use Rattle.glob_match.specs.Tokens.{backslash, tokens_of, literals}
+use Rattle.glob_match.specs.Tokens.{tokens_of, literals}
 use Rattle.glob_match.specs.Matching.{match_of}
 use Rattle.glob_match.specs.Containment.{contains_match}
 

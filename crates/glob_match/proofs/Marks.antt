@@ -1,6 +1,6 @@
 -- Lanes that are marked for the places from which on a test passes.
-use Rattle.std.proofs.Common.{◌≡◌, ◌≢◌, ℕ, zero, suc, ◌+◌, ◌<◌, ◌≤◌, ◌==◌, eqb, Bool, true, false, ◌&&◌, ◌||◌, not, cond, inl, inr, List, [], ◌∷◌, length, map, take, drop, replicate, refl, sym, ap, subst, ◌∙◌, arith, w8}
-use Rattle.std.proofs.lemmas.Bool.{true≢false, false≢true, cases_Bool, cond_both, or_parts}
+use Rattle.std.proofs.Common.{◌≡◌, ℕ, zero, suc, ◌+◌, ◌<◌, ◌≤◌, ◌==◌, eqb, Bool, true, false, ◌&&◌, ◌||◌, not, cond, inl, inr, List, [], ◌∷◌, length, map, take, drop, replicate, refl, sym, ap, ◌∙◌, arith, w8}
+use Rattle.std.proofs.lemmas.Bool.{cases_Bool, cond_both, or_parts}
 use Rattle.std.proofs.lemmas.List.{drop-drop}
 use Rattle.std.proofs.lemmas.Simd.{tops_compared}
 use Rattle.std.specs.List.{list_any, position_or_len}
@@ -58,7 +58,7 @@ module _ (comparator : Comparator) (key : List Token) where
   -- a literal
   pub marked_literal : (literal : ℕ) (marks text : List ℕ) → length marks ≤ length text
       → marked (begins_with comparator (Literal literal ∷ key)) marks text
-        ≡ marked begins (zip2 (kept_if (compared_octet comparator literal)) (map (compared_octet comparator) (take (length marks) text)) marks) (drop 1 text)
+      ≡ marked begins (zip2 (kept_if (compared_octet comparator literal)) (map (compared_octet comparator) (take (length marks) text)) marks) (drop 1 text)
   marked_literal literal [] text long = refl
   marked_literal literal (mark ∷ marks) [] long = absurd (omega arith)
   marked_literal literal (mark ∷ marks) (x ∷ xs) long =
@@ -125,10 +125,10 @@ module _ (test : List ℕ → Bool) where
       elim (cases_Bool (test text)) [
         | inl passes ↦ ap (λ m. test (drop m text)) (first_here n text passes) ∙ passes
         | inr fails ↦
-          let later = first_later n text fails in
-          ap (λ m. test (drop m text)) later
-          ∙ ap test (sym (drop-drop (first n (drop 1 text)) 1 text))
-          ∙ first_there n (drop 1 text) (omega (arith, later))
+            let later = first_later n text fails in
+            ap (λ m. test (drop m text)) later
+            ∙ ap test (sym (drop-drop (first n (drop 1 text)) 1 text))
+            ∙ first_there n (drop 1 text) (omega (arith, later))
       ]
 
   -- where no place passes

@@ -1,9 +1,9 @@
 -- Where a text stands in another, as `memchr` says it and as the first place from which on a test passes.
-use Rattle.std.proofs.Common.{◌≡◌, ℕ, ◌+◌, ◌-◌, ◌<◌, ◌≤◌, Bool, true, false, List, ◌++◌, map, length, take, drop, get_or, Option, Some, None, inl, inr, refl, sym, ap, subst, ◌∙◌, arith}
-use Rattle.std.proofs.lemmas.Bool.{false_from_ne_true, true≢false, cases_lt}
+use Rattle.std.proofs.Common.{◌≡◌, ℕ, ◌+◌, ◌-◌, ◌<◌, ◌≤◌, true, false, List, ◌++◌, map, length, take, drop, get_or, Option, Some, None, inl, inr, sym, ap, subst, ◌∙◌, arith}
+use Rattle.std.proofs.lemmas.Bool.{false_from_ne_true, cases_lt}
 use Rattle.std.proofs.lemmas.List.{drop-map, get_or-drop, get_or-take, length-append, length-drop, length-map, length-take-le, map-id, take-append-drop, take-map, take_at}
 use Rattle.std.specs.Char.{to_ascii_uppercase}
-use Rattle.memchr.specs.Find.{FindsNeedle, NoneBefore, Nowhere, OccursAt}
+use Rattle.memchr.specs.Find.{FindsNeedle, Nowhere, OccursAt}
 use Rattle.memchr.proofs.lemmas.MatchLemmas.{OccursAt-part, OccursAt-from_part}
 use Rattle.glob_match.specs.declared.comparator.Comparator.{Comparator}
 use Rattle.glob_match.specs.declared.comparator.Comparator.TheVariants.{Octet, Casemap}
@@ -154,4 +154,4 @@ module _ (value text : List ℕ) (k : ℕ) (within : k + length text ≤ length 
   equal_from_occurs occurs =
       equal_since Casemap stretch text
       (ap (λ n. compared Casemap (take n (drop k value))) size ∙ sym (part Casemap value text (length (compared Casemap text)) k)
-        ∙ OccursAt-part (compared Casemap value) (compared Casemap text) k occurs)
+      ∙ OccursAt-part (compared Casemap value) (compared Casemap text) k occurs)

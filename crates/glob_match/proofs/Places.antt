@@ -1,5 +1,5 @@
 -- The first place from which on a list passes a test.
-use Rattle.std.proofs.Common.{◌≡◌, ℕ, zero, suc, ◌+◌, ◌-◌, ◌<◌, ◌≤◌, Bool, true, false, cond, List, [], ◌∷◌, length, drop, Option, Some, None, inl, inr, refl, sym, ap, subst, ◌∙◌, add-one, arith}
+use Rattle.std.proofs.Common.{◌≡◌, ℕ, zero, suc, ◌+◌, ◌-◌, ◌<◌, ◌≤◌, Bool, true, false, List, [], ◌∷◌, length, drop, Option, Some, None, inl, inr, refl, sym, ap, subst, ◌∙◌, add-one, arith}
 use Rattle.std.proofs.lemmas.Bool.{true≢false, cond_both, cases_lt, cases_order}
 use Rattle.std.proofs.lemmas.List.{drop-drop}
 use Rattle.std.specs.Option.{option_map}
@@ -56,6 +56,6 @@ module _ (test : List ℕ → Bool) where
       elim (cases_lt j place) [
         | inl early ↦ before j early
         | inr from ↦
-          let at : place + (j - place) ≡ j = omega arith in
-          ap test (ap (λ m. drop m value) (sym at) ∙ sym (drop-drop (j - place) place value)) ∙ after (j - place) (omega arith)
+            let at : place + (j - place) ≡ j = omega arith in
+            ap test (ap (λ m. drop m value) (sym at) ∙ sym (drop-drop (j - place) place value)) ∙ after (j - place) (omega arith)
       ]

@@ -1,6 +1,6 @@
 -- Segments without wildcards and backslashes, and how many octets a segment needs.
-use Rattle.std.proofs.Common.{◌≡◌, ℕ, ◌<◌, ◌≤◌, ◌==◌, ◌||◌, Bool, true, false, cond, List, [], ◌∷◌, map, length, drop, Option, Some, None, refl, sym, ap, subst, ◌∙◌, arith}
-use Rattle.std.proofs.lemmas.Bool.{true≢false, false≢true, or_parts, and_parts, false_from_ne_true, cond-false, cond_both}
+use Rattle.std.proofs.Common.{◌≡◌, ℕ, ◌<◌, ◌≤◌, ◌==◌, ◌||◌, Bool, true, false, cond, List, [], ◌∷◌, map, length, drop, None, refl, sym, ap, subst, ◌∙◌, arith}
+use Rattle.std.proofs.lemmas.Bool.{false≢true, or_parts, and_parts, false_from_ne_true, cond-false, cond_both}
 use Rattle.std.proofs.lemmas.List.{length-drop, length-map}
 use Rattle.std.specs.List.{list_any}
 use Rattle.glob_match.specs.declared.comparator.Comparator.{Comparator}
@@ -8,8 +8,8 @@ use Rattle.glob_match.specs.declared.token.Token.{Token}
 use Rattle.glob_match.specs.declared.token.Token.TheVariants.{Literal, AnyOctet, Star}
 use Rattle.glob_match.specs.Containment.{takes, begins_with, first_place}
 use Rattle.glob_match.specs.Segments.{NoStar}
-use Rattle.glob_match.specs.Tokens.{backslash, star, question_mark, token_of, tokens_of, tokens_escaped}
-use Rattle.glob_match.proofs.Places.{IsPlace, place_of, place_once}
+use Rattle.glob_match.specs.Tokens.{backslash, star, question_mark, token_of, tokens_of}
+use Rattle.glob_match.proofs.Places.{place_of, place_once}
 use Rattle.glob_match.proofs.Segmented.{other_tokens}
 
 -- what doesn't stand for itself, a star excepted

@@ -1,8 +1,6 @@
 -- What each segment of a key leaves to be matched.
-use Rattle.std.proofs.Common.{◌≡◌, ℕ, ◌+◌, ◌*◌, ◌-◌, ◌<◌, ◌≤◌, Bool, true, false, List, [], ◌∷◌, ◌++◌, length, map, take, drop, Option, Some, None, MatchOption, Bor, refl, sym, ap, subst, ◌∙◌, arith}
-use Rattle.std.proofs.Math.Nat.{mul-le-mul_left}
-use Rattle.std.proofs.lemmas.Bool.{true≢false}
-use Rattle.std.proofs.lemmas.List.{append-nil, drop-drop, length-append, length-drop, take-map}
+use Rattle.std.proofs.Common.{◌≡◌, ℕ, ◌+◌, ◌-◌, ◌<◌, ◌≤◌, Bool, true, false, List, [], ◌∷◌, ◌++◌, length, take, drop, Option, Some, None, MatchOption, Bor, refl, sym, ap, subst, ◌∙◌, arith}
+use Rattle.std.proofs.lemmas.List.{append-nil, drop-drop, length-drop, take-map}
 use Rattle.std.specs.List.{slice_range}
 use Rattle.std.specs.Option.{option_map}
 use Rattle.glob_match.specs.declared.comparator.Comparator.{Comparator}
@@ -10,7 +8,7 @@ use Rattle.glob_match.specs.declared.token.Token.{Token}
 use Rattle.glob_match.specs.declared.token.Token.TheVariants.{Literal, AnyOctet, Star}
 use Rattle.glob_match.specs.Captures.{with_stretches}
 use Rattle.glob_match.specs.Containment.{begins_with, first_place}
-use Rattle.glob_match.specs.Matching.{captures_of, least_fit, match_of, max_capture, max_captures}
+use Rattle.glob_match.specs.Matching.{captures_of, least_fit, max_capture, max_captures}
 use Rattle.glob_match.specs.Segments.{NoStar, any_octets}
 use Rattle.glob_match.specs.Tokens.{literals, tokens_of}
 use Rattle.glob_match.proofs.Added.{with_stretches-append}

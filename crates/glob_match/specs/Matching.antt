@@ -1,5 +1,5 @@
 -- Matching with wildcards (RFC 5228, section 2.7.1; RFC 5229, section 3.2).
-use Rattle.std.specs.Prelude.{◌≡◌, ◌⊎◌, ℕ, ◌<◌, Bool, IsTrue, List, [], ◌∷◌, ◌++◌, map, length, take, Option, Some, None, if◌then◌else◌}
+use Rattle.std.specs.Prelude.{◌≡◌, ◌⊎◌, ℕ, ◌<◌, IsTrue, List, [], ◌∷◌, ◌++◌, map, length, take, Option, Some, None, if◌then◌else◌}
 use Rattle.std.specs.Option.{option_map, option_or}
 use Rattle.glob_match.specs.declared.comparator.Comparator.{Comparator}
 use Rattle.glob_match.specs.declared.token.Token.{Token}

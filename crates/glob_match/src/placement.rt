@@ -8,7 +8,7 @@ ghost use Rattle.glob_match.specs.declared.token.Token.TheVariants.{Literal};
 
 use crate::comparator::Comparator;
 use crate::lanes::places_before;
-use crate::search::{LONG, SHORT, find, product_bound, linear_bound};
+use crate::search::{LONG, SHORT, find, linear_bound, product_bound};
 use crate::segment::{begins_with, width};
 use crate::token::{Token, first_token};
 
@@ -93,11 +93,7 @@ fn unescape(segment: &[u8], text: &mut [u8]) -> Option<usize>
 }
 
 // The same by trying each place.
-fn find_by_tokens(
-    value: &[u8],
-    segment: &[u8],
-    comparator: Comparator,
-) -> (Option<usize>, u64)
+fn find_by_tokens(value: &[u8], segment: &[u8], comparator: Comparator) -> (Option<usize>, u64)
     requires no_star { NoStar (tokens_of segment.now) }
     requires room { (length value.now + 1) * (length segment.now + 1) < 2 ^ 64 }
     ensures place { result.0 ≡ first_place (begins_with comparator (tokens_of segment.now)) value.now }

@@ -36,7 +36,7 @@ pub(crate) fn find(value: &[u8], text: &[u8], comparator: Comparator) -> (Option
         return (None, linear_bound(value, text));
     }
     match comparator {
-        Comparator::Octet => (memmem::find(value, text), linear_bound(value, text)),
+        Comparator::Octet => (find_octets(value, text), linear_bound(value, text)),
         Comparator::Casemap => find_casemap(value, text),
     }
 }
@@ -59,6 +59,13 @@ pub(crate) fn product_bound(value: &[u8], key: &[u8]) -> u64
     (value.len() as u64 + 1) * key.len() as u64
 }
 
+// The first place where the octets stand as they are.
+fn find_octets(value: &[u8], text: &[u8]) -> Option<usize>
+    ensures { FindsNeedle value.now text.now 0 result }
+{
+    memmem::find(value, text)
+}
+
 fn find_casemap(value: &[u8], text: &[u8]) -> (Option<usize>, u64)
     requires fits { length text.now ≤ length value.now }
     requires room { (length value.now + 1) * (length text.now + 1) < 2 ^ 64 }
@@ -68,7 +75,7 @@ fn find_casemap(value: &[u8], text: &[u8]) -> (Option<usize>, u64)
 {
     let gone_over = linear_bound(value, text);
     if !has_letter(text) {
-        (memmem::find(value, text), gone_over)
+        (find_octets(value, text), gone_over)
     } else if value.len() <= SHORT {
         (find_folded::<SHORT, SHORT>(value, text), gone_over)
     } else if text.len() <= MEDIUM {

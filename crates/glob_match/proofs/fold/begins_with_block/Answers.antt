@@ -1,4 +1,4 @@
-use Rattle.std.proofs.Common.{◌≡◌, ◌∙◌, ap, map, take, nat_eq}
+use Rattle.std.proofs.Common.{◌≡◌, ◌∙◌, ap, map, nat_eq}
 use Rattle.std.specs.Char.{to_ascii_uppercase}
 use Rattle.std.specs.Cmp.Lexicographic.{pointwise}
 use Rattle.glob_match.specs.Comparison.{is_match}

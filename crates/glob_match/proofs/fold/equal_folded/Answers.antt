@@ -1,4 +1,4 @@
-use Rattle.std.proofs.Common.{◌≡◌, ◌+◌, ◌-◌, ◌≤◌, ◌∙◌, ◌++◌, ap, sym, length, map, take, drop, replicate, nat_eq, arith}
+use Rattle.std.proofs.Common.{◌≡◌, ◌-◌, ◌≤◌, ◌∙◌, ◌++◌, ap, length, map, take, drop, replicate, nat_eq, arith}
 use Rattle.std.proofs.lemmas.List.{length-drop, take_all, take_rest}
 use Rattle.std.specs.Char.{to_ascii_uppercase}
 use Rattle.std.specs.Cmp.Lexicographic.{pointwise}
@@ -15,7 +15,7 @@ returns-in_default c =
     c.eq.ensures
     ∙ ap (λ zs. pointwise nat_eq zs c.fold_block-in_default.result) c.fold_block.ensures
     ∙ ap (pointwise nat_eq (map to_ascii_uppercase (value ++ replicate (32 - length value) 0)))
-      (c.fold_block-in_default.ensures ∙ ap (λ n. map to_ascii_uppercase (key ++ replicate n 0)) same_zeros)
+    (c.fold_block-in_default.ensures ∙ ap (λ n. map to_ascii_uppercase (key ++ replicate n 0)) same_zeros)
     ∙ uppers_same (value ++ replicate (32 - length value) 0) (key ++ replicate (32 - length value) 0)
     ∙ padded_same value key (replicate (32 - length value) 0) c.requires
 
@@ -36,12 +36,13 @@ lanes-preserved c =
     let key = c.args.key.now in
     let place = c.lanes.place in
     let chunk = c.in-Some-first_chunk.ensures.cases in
-    let lanes = c.in-Some-first_chunk.lanes.now in
-    (omega (arith, chunk.enough, ap length (take_rest value place), length-drop place value, c.lanes.invariant.0),
+    let lanes = c.in-Some-first_chunk.lanes.now in (
+      omega (arith, chunk.enough, ap length (take_rest value place), length-drop place value, c.lanes.invariant.0),
       block_more value key place c.lanes.invariant.1 lanes c.begins_with_block.result
-      (chunk.same ∙ ap (take 32) (take_rest value place))
-      (c.begins_with_block.ensures ∙ ap (λ xs. is_match Casemap lanes (take 32 xs)) (take_rest key place))
-      c.if-not-begins_with_block.false)
+          (chunk.same ∙ ap (take 32) (take_rest value place))
+          (c.begins_with_block.ensures ∙ ap (λ xs. is_match Casemap lanes (take 32 xs)) (take_rest key place))
+          c.if-not-begins_with_block.false,
+    )
 
 pub returns : goal.returns
 returns c =
@@ -53,8 +54,8 @@ returns c =
     let m : length key - 32 ≡ n = omega (arith, c.requires) in
     let before : n ≤ place = omega (arith, c.in_default-first_chunk.ensures.cases, ap length (take_rest value place), length-drop place value) in
     let whole : take 32 (take (length key - (length key - 32)) (drop (length key - 32) key)) ≡ drop n key =
-      ap (take 32) (take_rest key (length key - 32)) ∙ ap (λ k. take 32 (drop k key)) m
-      ∙ take_all 32 (drop n key) (omega (arith, length-drop n key, c.requires, last.0)) in
+    ap (take 32) (take_rest key (length key - 32)) ∙ ap (λ k. take 32 (drop k key)) m
+    ∙ take_all 32 (drop n key) (omega (arith, length-drop n key, c.requires, last.0)) in
     c.begins_with_block-2.ensures ∙ ap (is_match Casemap c.in-Some.last.now) whole
     ∙ ap (λ xs. is_match Casemap xs (drop n key)) last.1.same
     ∙ block_last value key place c.lanes.invariant.1 n before

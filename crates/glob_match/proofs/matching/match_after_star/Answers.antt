@@ -1,4 +1,4 @@
-use Rattle.std.proofs.Common.{◌≡◌, ◌+◌, ◌*◌, ◌≤◌, ◌<◌, ◌∙◌, ◌++◌, ◌∷◌, ap, sym, length, drop, None, Some, arith}
+use Rattle.std.proofs.Common.{◌≡◌, ◌+◌, ◌*◌, ◌≤◌, ◌∙◌, ◌∷◌, ap, sym, length, drop, None, arith}
 use Rattle.std.proofs.lemmas.List.{take_rest}
 use Rattle.glob_match.specs.declared.token.Token.TheVariants.{Star}
 use Rattle.glob_match.specs.Captures.{texts, with_stretches}

@@ -1,4 +1,4 @@
-use Rattle.std.proofs.Common.{◌≡◌, ◌+◌, ◌-◌, ◌≤◌, ◌<◌, ◌∙◌, ℕ, sym, ap, subst, drop, length, true, false, Some, None, arith}
+use Rattle.std.proofs.Common.{◌≡◌, ◌+◌, ◌∙◌, sym, ap, drop, length, true, Some, None, arith}
 use Rattle.std.proofs.lemmas.Bool.{false_from_ne_true, true≢false}
 use Rattle.std.proofs.lemmas.List.{drop-drop, length-drop, take_rest}
 use Rattle.glob_match.specs.Containment.{begins_with}
@@ -20,11 +20,13 @@ returns-then-before-tried-clause-place c =
     let tried = c.places_tried-before.ensures in
     let rest = take_rest value place in
     let there : test (drop (place + n) value) ≡ true =
-      ap test (sym (ap (drop n) rest ∙ drop-drop n place value)) ∙ tried.there c.if-before-tried.true in
+    ap test (sym (ap (drop n) rest ∙ drop-drop n place value)) ∙ tried.there c.if-before-tried.true in
     let long = begins_length c.args.comparator (tokens_of c.args.segment.now) (drop (place + n) value) there in
-    place_once test value (Some (place + n)) _
-    (omega (arith, c.places-test.true, tried.within, c.if-before-tried.true, c.width-width.ensures, ap length rest, length-drop place value), there,
-      ruled_out test value place n c.places.invariant.1 (λ j less. ap test (ap (drop j) (sym rest)) ∙ tried.before j less))
+    place_once test value (Some (place + n)) _ (
+      omega (arith, c.places-test.true, tried.within, c.if-before-tried.true, c.width-width.ensures, ap length rest, length-drop place value),
+      there,
+      ruled_out test value place n c.places.invariant.1 (λ j less. ap test (ap (drop j) (sym rest)) ∙ tried.before j less),
+    )
     (place_of test value)
 
 pub places-preserved : goal.places-preserved
@@ -33,10 +35,11 @@ places-preserved c =
     let test = begins_with c.args.comparator (tokens_of c.args.segment.now) in
     let place = c.places.place in
     let tried = c.places_tried-before.ensures in
-    let rest = take_rest value place in
-    (omega (arith, c.places-test.true, tried.within, ap length rest, length-drop place value),
+    let rest = take_rest value place in (
+      omega (arith, c.places-test.true, tried.within, ap length rest, length-drop place value),
       ruled_out test value place c.places_tried-before.result.1 c.places.invariant.1
-      (λ j less. ap test (ap (drop j) (sym rest)) ∙ tried.before j (omega (arith, c.if-before-tried.false))))
+          (λ j less. ap test (ap (drop j) (sym rest)) ∙ tried.before j (omega (arith, c.if-before-tried.false))),
+    )
 
 pub returns-clause-place : goal.returns-clause-place
 returns-clause-place c =
@@ -45,6 +48,6 @@ returns-clause-place c =
     let test = begins_with c.args.comparator key in
     place_once test value None _
     (λ j within. false_from_ne_true (test (drop j value)) (λ there.
-      let long = begins_length c.args.comparator key (drop j value) there in
-      absurd (true≢false (sym there ∙ c.places.invariant.1 j (omega (arith, c.places-test.false, c.width-width.ensures, long, length-drop j value))))))
+    let long = begins_length c.args.comparator key (drop j value) there in
+    absurd (true≢false (sym there ∙ c.places.invariant.1 j (omega (arith, c.places-test.false, c.width-width.ensures, long, length-drop j value))))))
     (place_of test value)

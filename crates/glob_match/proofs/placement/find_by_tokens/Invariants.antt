@@ -1,4 +1,4 @@
-use Rattle.std.proofs.Common.{◌≡◌, ◌+◌, ◌-◌, ◌<◌, ◌≤◌, ℕ, false, drop, length}
+use Rattle.std.proofs.Common.{◌≡◌, ◌+◌, ◌-◌, ◌<◌, ◌≤◌, ℕ, false, drop}
 use Rattle.glob_match.specs.Containment.{begins_with}
 use Rattle.glob_match.specs.Tokens.{tokens_of}
 use Rattle.glob_match.proofs.placement.find_by_tokens.Given as goal

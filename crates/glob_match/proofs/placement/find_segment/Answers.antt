@@ -1,4 +1,4 @@
-use Rattle.std.proofs.Common.{◌≡◌, ◌∙◌, sym, ap, subst, arith, map}
+use Rattle.std.proofs.Common.{◌∙◌, sym, ap, arith}
 use Rattle.glob_match.specs.Containment.{begins_with, first_place}
 use Rattle.glob_match.specs.Tokens.{tokens_of}
 use Rattle.glob_match.proofs.Plain.{literal_tokens, too_short}

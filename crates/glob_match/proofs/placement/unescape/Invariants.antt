@@ -1,4 +1,4 @@
-use Rattle.std.proofs.Common.{◌≡◌, ◌+◌, ◌≤◌, ◌++◌, length, map, take}
+use Rattle.std.proofs.Common.{◌≡◌, ◌+◌, ◌++◌, length, map, take}
 use Rattle.glob_match.specs.Tokens.{tokens_of}
 use Rattle.glob_match.specs.declared.token.Token.TheVariants.{Literal}
 use Rattle.glob_match.proofs.placement.unescape.Given as goal

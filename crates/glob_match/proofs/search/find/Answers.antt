@@ -1,6 +1,6 @@
 use Rattle.std.proofs.Common.{◌∙◌, sym, ap, map, arith}
 use Rattle.glob_match.specs.Containment.{begins_with, first_place}
-use Rattle.glob_match.specs.declared.comparator.Comparator.TheVariants.{Octet, Casemap}
+use Rattle.glob_match.specs.declared.comparator.Comparator.TheVariants.{Casemap}
 use Rattle.glob_match.specs.declared.token.Token.TheVariants.{Literal}
 use Rattle.glob_match.proofs.Occurs.{found, found_octets}
 use Rattle.glob_match.proofs.Plain.{text_too_short}
@@ -11,7 +11,7 @@ returns-then-text-value-clause-place c = text_too_short c.args.comparator c.args
 
 pub returns-in-Octet-clause-place : goal.returns-in-Octet-clause-place
 returns-in-Octet-clause-place c =
-    found_octets c.args.value.now c.args.text.now c.find.result c.find.ensures
+    found_octets c.args.value.now c.args.text.now c.find_octets.result c.find_octets.ensures
     ∙ ap (λ comparator. first_place (begins_with comparator (map Literal c.args.text.now)) c.args.value.now) (sym c.in-Octet.is)
 
 pub returns-in-Casemap-clause-place : goal.returns-in-Casemap-clause-place

@@ -1,4 +1,4 @@
-use Rattle.std.proofs.Common.{◌≡◌, ◌∙◌, ◌++◌, ap, sym, subst, length, map, take, drop}
+use Rattle.std.proofs.Common.{◌≡◌, ◌∙◌, ap, subst, length}
 use Rattle.std.proofs.lemmas.List.{length-map, take_at}
 use Rattle.std.specs.Char.{to_ascii_uppercase}
 use Rattle.memchr.specs.Find.{FindsNeedle}

@@ -1,4 +1,4 @@
-use Rattle.std.proofs.Common.{◌≡◌, ◌≤◌, ◌-◌, ◌+◌, length}
+use Rattle.std.proofs.Common.{◌≤◌, ◌-◌, length}
 use Rattle.memchr.specs.Find.{Nowhere, OccursAt}
 use Rattle.glob_match.specs.Comparison.{compared}
 use Rattle.glob_match.specs.declared.comparator.Comparator.TheVariants.{Casemap}

@@ -1,9 +1,8 @@
-use Rattle.std.proofs.Common.{◌≡◌, ◌+◌, ◌∙◌, ◌++◌, ◌∷◌, ap, subst, sym, suc, take, drop, length, add-one, arith}
-use Rattle.std.proofs.lemmas.List.{take_all, take_rest}
-use Rattle.glob_match.specs.Segments.{NoStar}
+use Rattle.std.proofs.Common.{◌+◌, ◌∙◌, ◌++◌, ◌∷◌, ap, sym, take, arith}
+use Rattle.std.proofs.lemmas.List.{take_rest}
 use Rattle.glob_match.specs.Tokens.{tokens_of}
 use Rattle.glob_match.specs.declared.token.Token.TheVariants.{Star}
-use Rattle.glob_match.proofs.Segmented.{star_place, split_at, step_star, step_escaped, split_found, split_none}
+use Rattle.glob_match.proofs.Segmented.{step_escaped, split_found, split_none}
 use Rattle.glob_match.proofs.segment.split_segment.Goals as goal
 
 pub returns-in-42-clause-tokens : goal.returns-in-42-clause-tokens

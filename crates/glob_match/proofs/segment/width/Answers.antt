@@ -1,5 +1,4 @@
-use Rattle.std.proofs.Common.{◌≡◌, ◌≤◌, ◌∷◌, length, ap, arith}
-use Rattle.glob_match.specs.Tokens.{tokens_of}
+use Rattle.std.proofs.Common.{length, ap, arith}
 use Rattle.glob_match.proofs.Segmented.{length-tokens_of}
 use Rattle.glob_match.proofs.segment.width.Goals as goal
 
