@@ -58,11 +58,7 @@ impl Pass {
         let row = row_named(program.version(), instruction.op);
         let count = program.instructions().len();
         self.stack = advance(self.stack, &mut self.shape, place, targeted, operation)?;
-        self.index = first(
-            self.index,
-            misses_index(program, row, instruction),
-            place,
-        );
+        self.index = first(self.index, misses_index(program, row, instruction), place);
         self.form = first(self.form, !is_well_formed(row, instruction), place);
         self.jump = first(
             self.jump,

@@ -45,7 +45,10 @@ fn words(rt: &HostRuntime) -> io::Result<Vec<String>> {
 }
 
 // The words as texts.
-fn texts<'a>(rt: &HostRuntime, words: &'a [String]) -> Result<Vec<&'a str>, std::alloc::AllocError> {
+fn texts<'a>(
+    rt: &HostRuntime,
+    words: &'a [String],
+) -> Result<Vec<&'a str>, std::alloc::AllocError> {
     let mut texts = Vec::new(rt.alloc());
     for word in words {
         texts.push(word.as_str())?;

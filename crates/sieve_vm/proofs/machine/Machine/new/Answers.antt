@@ -4,9 +4,11 @@ use Rattle.sieve_vm.specs.Standing.{value_of}
 use Rattle.sieve_vm.proofs.machine.Machine.new.Goals as goal
 
 pub returns : goal.returns
-returns c = λ code mail.
-    (start code, record {
-      steps = 0;
-      run = refl;
-      stands = record { place = refl; stack = ap (λ xs. map value_of (reverse xs)) c.new.ensures.items; actions = c.new-2.ensures; implicit_keep = refl; charge = refl };
-    })
+returns c = λ code mail. (
+  start code,
+  record {
+    steps = 0;
+    run = refl;
+    stands = record { place = refl; stack = ap (λ xs. map value_of (reverse xs)) c.new.ensures.items; actions = c.new-2.ensures; implicit_keep = refl; charge = refl };
+  },
+)
