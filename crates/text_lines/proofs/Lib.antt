@@ -1,0 +1,3 @@
+pub mod Broken
+mod Examples
+pub mod FirstLine

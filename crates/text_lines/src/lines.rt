@@ -1,0 +1,84 @@
+// The lines of a text, one after the other.
+ghost use Rattle.std.specs.Prelude.{◌≡◌, ◌<◌, length};
+ghost use Rattle.text_lines.specs.Lines.{IsLineAt};
+
+use crate::line::Line;
+use memchr::memchr;
+use std::iter::FusedIterator;
+use std::marker::Model;
+
+/// The lines of a text, from the first to the last. No step takes memory.
+///
+/// A contract sees the text and the place up to which its lines were given.
+#[derive(Debug, Drop)]
+pub struct Lines<'a> {
+    text: &'a [u8],
+    place: usize,
+}
+
+impl<'a> Model for Lines<'a> {
+    ghost use Rattle.std.specs.Prelude.{◌≤◌, length};
+    ghost use Rattle.text_lines.specs.Unread.{Unread};
+
+    ghost Value = { Unread };
+
+    ghost view = { λ lines. record { text = lines.text.now; place = lines.place } };
+
+    ghost invariant = { λ lines. lines.place ≤ length lines.text.now };
+}
+
+impl<'a> Lines<'a> {
+    /// The lines of the text, of which none was given yet.
+    pub fn new(text: &'a [u8]) -> Lines<'a>
+        ensures { result ≡ record { text = text.now; place = 0 } }
+    {
+        Lines { text, place: 0 }
+    }
+}
+
+impl<'a> Iterator for Lines<'a> {
+    type Item = Line;
+
+    ghost use Rattle.text_lines.specs.Lines.{GivesLine, lines_left_at_most};
+
+    ghost next_gives = { GivesLine };
+
+    ghost remaining = { lines_left_at_most };
+
+    fn next(&mut self) -> Option<Line> {
+        if self.place == self.text.len() {
+            return None;
+        }
+        let line = line_at(self.text, self.place);
+        self.place = line.stop;
+        Some(line)
+    }
+}
+
+impl<'a> FusedIterator for Lines<'a> {}
+
+// The line that starts at this place.
+#[inline]
+fn line_at(text: &[u8], start: usize) -> Line
+    requires { start < length text.now }
+    ensures { IsLineAt text.now start result }
+{
+    let Some(feed) = memchr(b'\n', &text[start..]) else {
+        return Line {
+            start,
+            end: text.len(),
+            stop: text.len(),
+        };
+    };
+    let feed = start + feed;
+    let end = if start < feed && text[feed - 1] == b'\r' {
+        feed - 1
+    } else {
+        feed
+    };
+    Line {
+        start,
+        end,
+        stop: feed + 1,
+    }
+}
