@@ -1,10 +1,11 @@
 -- The first line of a text, found by its first LF.
-use Rattle.std.proofs.Common.{◌≡◌, ◌≢◌, ℕ, ◌-◌, ◌+◌, ◌<◌, ◌≤◌, true, false, List, [], ◌∷◌, zero, suc, refl, sym, ◌∙◌, ap, arith, length, take, drop, get_or, add-one, Some, None, ◌==◌, ◌&&◌}
+use Rattle.std.proofs.Common.{◌≡◌, ◌≢◌, ℕ, ◌-◌, ◌+◌, ◌<◌, ◌≤◌, true, false, List, [], ◌∷◌, zero, suc, refl, sym, ◌∙◌, ap, arith, length, take, drop, get_or, add-one, below_more, inl, inr, Some, None, ◌==◌, ◌&&◌}
 use Rattle.std.proofs.lemmas.Bool.{eq-eqb, ne_eqb, eqb-true}
 use Rattle.std.proofs.lemmas.List.{drop-drop, length-drop, take_all, drop_all, get_or-drop}
 use Rattle.std.proofs.Math.Seq.{drop-cons}
-use Rattle.memchr.specs.Find.{IsFirstByte, is_byte}
-use Rattle.text_lines.specs.Lines.{lines_of, is_first_of_break, onto_content, IsLineAt}
+use Rattle.memchr.specs.Find.{IsFirstByte, is_byte, NoneBefore, Passes}
+use Rattle.text_lines.specs.Lines.{lines_of, is_first_of_break, onto_content, text_line, IsBreakAt, IsLineAt}
+use Rattle.text_lines.specs.declared.line.Line.{Line}
 
 -- one octet more at the beginning of a text
 pub lines_feed : (octet : ℕ) (rest : List ℕ) → octet ≡ 10 → lines_of (octet ∷ rest) ≡ record { content = []; break = 10 ∷ [] } ∷ lines_of rest
@@ -62,78 +63,102 @@ two_at text n lt =
     let here : n < length text = omega arith in
     rw (drop-cons text n 0, drop-cons text (suc n) 0) refl
 
--- the line with n octets and a break of m, by its places
-line_between : (text : List ℕ) (start n m end stop : ℕ) → end ≡ start + n → stop ≡ end + m → 0 < n + m → stop ≤ length text
-    → lines_of (drop start text) ≡ record { content = take n (drop start text); break = take m (drop n (drop start text)) } ∷ lines_of (drop (n + m) (drop start text))
-    → IsLineAt text start record { start = start; end = end; stop = stop }
-line_between text start n m end stop ends stops some within first = record {
+-- what stands at a place of the octets from a place on
+at_tail : (text : List ℕ) (start k : ℕ) → get_or (drop start text) k 0 ≡ get_or text (start + k) 0
+at_tail text start k = get_or-drop start text k 0
+
+-- the first line of what is left, by its lengths, is the line by its places
+first_by_places : (text : List ℕ) (line : Line) (n m : ℕ) (break : List ℕ) → line.end ≡ line.start + n → line.stop ≡ line.end + m
+    → take m (drop n (drop line.start text)) ≡ break
+    → lines_of (drop line.start text) ≡ record { content = take n (drop line.start text); break = break } ∷ lines_of (drop (n + m) (drop line.start text))
+    → lines_of (drop line.start text) ≡ text_line text line ∷ lines_of (drop line.stop text)
+first_by_places text line n m break ends stops is first =
+    let content : line.end - line.start ≡ n = omega arith in
+    let break : line.stop - line.end ≡ m = omega arith in
+    let from_end : drop line.end text ≡ drop n (drop line.start text) = rw (drop-drop, ends) refl in
+    let reach : line.start + (n + m) ≡ line.stop = omega arith in
+    let from_stop : drop line.stop text ≡ drop (n + m) (drop line.start text) = rw (drop-drop, reach) refl in
+    rw (content, break, from_end, from_stop, is) first
+
+-- the line that stands at its places
+pub line_standing : (text : List ℕ) (line : Line) → line.start ≤ line.end → line.start < line.stop → line.stop ≤ length text
+    → ((i : ℕ) → line.start ≤ i → i < line.end → get_or text i 0 ≢ 10) → IsBreakAt text line → IsLineAt text line.start line
+line_standing text line ordered some within no_feed break = record {
   start = refl;
-  end_after_start = omega arith;
-  stop_after_end = omega arith;
-  some = omega arith;
+  end_after_start = ordered;
+  stop_after_end = elim break [ inl (stops, lf, bare) ↦ omega arith | inr (inl (stops, cr, lf)) ↦ omega arith | inr (inr (stops, ended)) ↦ omega arith ];
+  some = some;
   within = within;
+  no_feed = no_feed;
+  break = break;
   first =
-      let content : end - start ≡ n = omega arith in
-      let break : stop - end ≡ m = omega arith in
-      let from_end : drop end text ≡ drop n (drop start text) = rw (drop-drop, ends) refl in
-      let reach : start + (n + m) ≡ stop = omega arith in
-      let from_stop : drop stop text ≡ drop (n + m) (drop start text) = rw (drop-drop, reach) refl in
-      rw (content, break, from_end, from_stop) first;
+      let n = line.end - line.start in
+      let long = length-drop line.start text in
+      let tail = drop line.start text in
+      let before : (k : ℕ) → k < n → get_or tail k 0 ≢ 10 = λ k lt. rw (at_tail text line.start k) (no_feed (line.start + k) (omega arith) (omega arith)) in
+      let at_end : line.start + n ≡ line.end = omega arith in
+      let here : get_or tail n 0 ≡ get_or text line.end 0 = rw (at_tail text line.start n, at_end) refl in
+      elim break [
+        | inl (stops, lf, bare) ↦
+            let within_tail : n < length tail = omega (arith, long) in
+            first_by_places text line n 1 (10 ∷ []) (omega arith) stops (rw (one_at tail n within_tail, here, lf) refl)
+            (rw add-one (feed_line tail n within_tail before (here ∙ lf)
+            (λ k e. rw (at_tail text line.start k) (bare (line.start + k) (omega arith) (omega arith)))))
+        | inr (inl (stops, cr, lf)) ↦
+            let within_tail : suc n < length tail = omega (arith, long) in
+            let at_feed : line.start + suc n ≡ line.end + 1 = omega arith in
+            let feed : get_or tail (suc n) 0 ≡ get_or text (line.end + 1) 0 = rw (at_tail text line.start (suc n), at_feed) refl in
+            let two : n + 2 ≡ suc (suc n) = omega arith in
+            first_by_places text line n 2 (13 ∷ 10 ∷ []) (omega arith) stops (rw (two_at tail n within_tail, here, feed, cr, lf) refl)
+            (rw two (crlf_line tail n within_tail
+            (λ k lt. below_more (λ k. get_or tail k 0 ≢ 10) n before (λ e. omega (arith, e, here ∙ cr)) k (omega arith)) (here ∙ cr) (feed ∙ lf)))
+        | inr (inr (stops, ended)) ↦
+            let whole : n + 0 ≡ length tail = omega (arith, long) in
+            let all : n ≡ length tail = omega (arith, long) in
+            first_by_places text line n 0 [] (omega arith) (omega arith) refl
+            (rw (whole, all, take_all (length tail) tail (omega arith), drop_all (length tail) tail (omega arith))
+            (only_line tail (omega (arith, long)) (λ k lt. before k (omega arith))))
+      ];
 }
 
 -- the octets from a place on, as a slice has them
 tail_of : (text : List ℕ) (start : ℕ) → take (length text - start) (drop start text) ≡ drop start text
 tail_of text start = take_all (length text - start) (drop start text) (omega (arith, length-drop start text))
 
--- the line that ends at the first LF from its start on, with no CR before the LF
-line_to_feed : (text : List ℕ) (start n end stop : ℕ) → end ≡ start + n → stop ≡ end + 1 → n < length (drop start text)
-    → ((k : ℕ) → k < n → get_or (drop start text) k 0 ≢ 10) → get_or (drop start text) n 0 ≡ 10
-    → ((k : ℕ) → suc k ≡ n → get_or (drop start text) k 0 ≢ 13)
-    → IsLineAt text start record { start = start; end = end; stop = stop }
-line_to_feed text start n end stop ends stops within before lf bare =
-    line_between text start n 1 end stop ends stops (omega arith) (omega (arith, length-drop start text))
-    (rw (one_at (drop start text) n within, lf, add-one) (feed_line (drop start text) n within before lf bare))
-
--- the line that ends at the first LF from its start on, with a CR before the LF
-line_to_crlf : (text : List ℕ) (start n end stop : ℕ) → end ≡ start + n → stop ≡ end + 2 → suc n < length (drop start text)
-    → ((k : ℕ) → k < suc n → get_or (drop start text) k 0 ≢ 10) → get_or (drop start text) (suc n) 0 ≡ 10
-    → get_or (drop start text) n 0 ≡ 13
-    → IsLineAt text start record { start = start; end = end; stop = stop }
-line_to_crlf text start n end stop ends stops within before lf cr =
-    line_between text start n 2 end stop ends stops (omega arith) (omega (arith, length-drop start text))
-    (let two : n + 2 ≡ suc (suc n) = omega arith in
-    rw (two_at (drop start text) n within, cr, lf, two) (crlf_line (drop start text) n within before cr lf))
-
--- what stands at a place of the octets from a place on
-at_tail : (text : List ℕ) (start k : ℕ) → get_or (drop start text) k 0 ≡ get_or text (start + k) 0
-at_tail text start k = get_or-drop start text k 0
+-- no LF stands between a line's start and its first LF
+no_feed_before : (text : List ℕ) (start n : ℕ) → NoneBefore (Passes (is_byte 10) (drop start text)) 0 (length (drop start text)) n
+    → (end : ℕ) → end ≤ start + n → (i : ℕ) → start ≤ i → i < end → get_or text i 0 ≢ 10
+no_feed_before text start n none end to i from lt e =
+    let at : start + (i - start) ≡ i = omega arith in
+    none.before (i - start) (omega arith) (omega arith) (eq-eqb _ _ (at_tail text start (i - start) ∙ (rw at e)))
 
 -- the line from a place up to its first LF, with or without a CR before that
 pub line_at_crlf : (text : List ℕ) (start n : ℕ) → IsFirstByte (is_byte 10) (take (length text - start) (drop start text)) (Some n)
     → 0 < n → get_or text (start + n - 1) 0 ≡ 13 → IsLineAt text start record { start = start; end = start + n - 1; stop = start + n + 1 }
-line_at_crlf text start zero found some cr = absurd (omega arith)
-line_at_crlf text start (suc n) found some cr =
+line_at_crlf text start n found some cr =
     let first = rw (tail_of text start) at found in
-    let before : start + suc n - 1 ≡ start + n = omega arith in
-    line_to_crlf text start n (start + suc n - 1) (start + suc n + 1) (omega arith) (omega arith) first.0.high
-    (λ k l e. first.0.before k (omega arith) l (eq-eqb _ _ e)) (eqb-true _ _ first.1)
-    (at_tail text start n ∙ (rw before at cr))
+    let long = length-drop start text in
+    let at_feed : start + n - 1 + 1 ≡ start + n = omega arith in
+    line_standing text (record { start = start; end = start + n - 1; stop = start + n + 1 }) (omega arith) (omega arith) (omega (arith, long, first.0.high))
+    (no_feed_before text start n first.0 (start + n - 1) (omega arith))
+    (inr (inl (omega arith, cr, rw at_feed (sym (at_tail text start n) ∙ eqb-true _ _ first.1))))
 
 pub line_at_feed : (text : List ℕ) (start n : ℕ) → IsFirstByte (is_byte 10) (take (length text - start) (drop start text)) (Some n)
     → (0 < n → get_or text (start + n - 1) 0 ≢ 13) → IsLineAt text start record { start = start; end = start + n; stop = start + n + 1 }
 line_at_feed text start n found bare =
     let first = rw (tail_of text start) at found in
-    line_to_feed text start n (start + n) (start + n + 1) refl refl first.0.high
-    (λ k l e. first.0.before k (omega arith) l (eq-eqb _ _ e)) (eqb-true _ _ first.1)
-    (λ k e cr. let at : start + n - 1 ≡ start + k = omega arith in bare (omega arith) (rw at (sym (at_tail text start k) ∙ cr)))
+    let long = length-drop start text in
+    line_standing text (record { start = start; end = start + n; stop = start + n + 1 }) (omega arith) (omega arith) (omega (arith, long, first.0.high))
+    (no_feed_before text start n first.0 (start + n) (omega arith))
+    (inl (refl, sym (at_tail text start n) ∙ eqb-true _ _ first.1, λ i from e cr. let at : start + n - 1 ≡ i = omega arith in bare (omega arith) (rw at cr)))
 
 -- the line that no LF ends
 pub line_at_end : (text : List ℕ) (start : ℕ) → start < length text → IsFirstByte (is_byte 10) (take (length text - start) (drop start text)) None
     → IsLineAt text start record { start = start; end = length text; stop = length text }
 line_at_end text start within none =
-    let long = length-drop start text in
     let nowhere = rw (tail_of text start) at none in
-    line_between text start (length (drop start text)) 0 (length text) (length text) (omega (arith, long)) (omega arith) (omega (arith, long)) (omega arith)
-    (let none_more : length (drop start text) + 0 ≡ length (drop start text) = omega arith in
-    rw (none_more, take_all (length (drop start text)) (drop start text) (omega arith), drop_all (length (drop start text)) (drop start text) (omega arith))
-    (only_line (drop start text) (omega (arith, long)) (λ k l e. nowhere k (omega arith) l (eq-eqb _ _ e))))
+    let long = length-drop start text in
+    line_standing text (record { start = start; end = length text; stop = length text }) (omega arith) within (omega arith)
+    (λ i from lt e. let at : start + (i - start) ≡ i = omega arith in
+    nowhere (i - start) (omega arith) (omega (arith, long)) (eq-eqb _ _ (at_tail text start (i - start) ∙ (rw at e))))
+    (inr (inr (refl, refl)))

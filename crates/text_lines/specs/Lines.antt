@@ -1,4 +1,4 @@
-use Rattle.std.specs.Prelude.{◌≡◌, ◌≢◌, ◌⊎◌, All, ℕ, ◌<◌, ◌≤◌, Bool, false, ◌==◌, ◌&&◌, if◌then◌else◌, List, [], ◌∷◌, ◌++◌, length, drop, slice_range, flat_map, Option, MatchOption}
+use Rattle.std.specs.Prelude.{◌≡◌, ◌≢◌, ◌⊎◌, All, ℕ, ◌+◌, ◌<◌, ◌≤◌, Bool, false, ◌==◌, ◌&&◌, if◌then◌else◌, List, [], ◌∷◌, ◌++◌, length, drop, slice_index, slice_range, flat_map, Option, MatchOption}
 use Rattle.std.specs.Iterator.{Count, at_most}
 use Rattle.text_lines.specs.Unread.{Unread}
 use Rattle.text_lines.specs.declared.line.Line.{Line}
@@ -67,6 +67,14 @@ text_line text line = record { content = slice_range text line.start line.end; b
 abbrev pub lines_left : Unread → List TextLine
 lines_left unread = lines_of (drop unread.place unread.text)
 
+-- from place `end` to place `stop` stands the break of a line that starts at place `start`: LF with no CR of the line before it, CRLF, or
+-- nothing at the text's end
+abbrev pub IsBreakAt : List ℕ → Line → Type 0
+IsBreakAt text line =
+    ((line.stop ≡ line.end + 1) × (slice_index text line.end ≡ 10) × ((i : ℕ) → line.start ≤ i → i + 1 ≡ line.end → slice_index text i ≢ 13))
+    ⊎ (((line.stop ≡ line.end + 2) × (slice_index text line.end ≡ 13) × (slice_index text (line.end + 1) ≡ 10))
+    ⊎ ((line.stop ≡ line.end) × (line.stop ≡ length text)))
+
 -- the line starts at the place, and the lines from there on are this one and those from its stop on
 pub record IsLineAt (text : List ℕ) (place : ℕ) (line : Line) : Type 0 where
   pub start : line.start ≡ place
@@ -74,6 +82,8 @@ pub record IsLineAt (text : List ℕ) (place : ℕ) (line : Line) : Type 0 where
   pub stop_after_end : line.end ≤ line.stop
   pub some : line.start < line.stop
   pub within : line.stop ≤ length text
+  pub no_feed : (i : ℕ) → line.start ≤ i → i < line.end → slice_index text i ≢ 10
+  pub break : IsBreakAt text line
   pub first : lines_of (drop place text) ≡ text_line text line ∷ lines_of (drop line.stop text)
 
 -- the line is the first of those that weren't given, and the others are left
