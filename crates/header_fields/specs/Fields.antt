@@ -1,7 +1,6 @@
--- A header field.
 use Rattle.std.specs.Prelude.{ℕ, List}
 
--- the octets before the colon, without the blanks there; and the value, its lines joined, without outer blanks
+-- a header field: its name, and its value without folds and outer blanks
 pub record Field : Type 0 where
   pub name : List ℕ
   pub value : List ℕ

@@ -1,4 +1,15 @@
-//! The header fields of a mail message (RFC 2045, section 2; RFC 5322, section 2.2).
+//! The header of a mail message or part: its fields, and where its body begins (RFC 5322, section 2.2; RFC 2045, section 3).
 //!
-//! What a field is to whoever reads one stands in `specs/Fields`.
+//! [`Header::read`] reads any octets. What a header's fields, names and values are stands in `specs/Header`, the
+//! record of a field in `specs/Fields`, and how long fields are beside their lines in `specs/Extent` and the laws.
 #![tactic(auto)]
+
+mod error;
+mod field;
+mod field_line;
+mod header;
+pub mod laws;
+
+pub use error::HeaderError;
+pub use field::{Field, name_is, unfold};
+pub use header::Header;

@@ -8,15 +8,15 @@ use Rattle.text_lines.specs.Lines.{TextLine, lines_of, octets_of, is_first_of_br
 use Rattle.text_lines.proofs.FirstLine.{lines_feed, lines_other, no_break_at, no_break_of, only_line}
 
 -- a text begins with CRLF
-record IsBreak (octet : ℕ) (rest : List ℕ) : Type 0 where
-  after : List ℕ
-  cr : octet ≡ 13
-  lf : rest ≡ 10 ∷ after
+pub record IsBreak (octet : ℕ) (rest : List ℕ) : Type 0 where
+  pub after : List ℕ
+  pub cr : octet ≡ 13
+  pub lf : rest ≡ 10 ∷ after
 
 -- a text begins with an octet that belongs to no break
-record IsContent (octet : ℕ) (rest : List ℕ) : Type 0 where
-  other : octet ≢ 10
-  no_break : is_first_of_break octet rest ≡ false
+pub record IsContent (octet : ℕ) (rest : List ℕ) : Type 0 where
+  pub other : octet ≢ 10
+  pub no_break : is_first_of_break octet rest ≡ false
 
 is_break : (octet : ℕ) (rest : List ℕ) → is_first_of_break octet rest ≡ true → IsBreak octet rest
 is_break octet [] e = absurd (true≢false (sym e))
@@ -26,7 +26,8 @@ is_break octet (following ∷ after) e =
       | inr other ↦ absurd (true≢false (sym (rw other at e)))
     ]
 
-beginning : (octet : ℕ) (rest : List ℕ) → (octet ≡ 10) ⊎ (IsBreak octet rest ⊎ IsContent octet rest)
+-- what a text begins with
+pub beginning : (octet : ℕ) (rest : List ℕ) → (octet ≡ 10) ⊎ (IsBreak octet rest ⊎ IsContent octet rest)
 beginning octet rest = elim (cases_Bool (octet == 10)) [
   | inl lf ↦ inl (eqb-true octet 10 lf)
   | inr other ↦ elim (cases_Bool (is_first_of_break octet rest)) [
@@ -35,7 +36,7 @@ beginning octet rest = elim (cases_Bool (octet == 10)) [
   ]
 ]
 
-lines_crlf : (octet : ℕ) (rest : List ℕ) → (b : IsBreak octet rest) → lines_of (octet ∷ rest) ≡ record { content = []; break = 13 ∷ 10 ∷ [] } ∷ lines_of b.after
+pub lines_crlf : (octet : ℕ) (rest : List ℕ) → (b : IsBreak octet rest) → lines_of (octet ∷ rest) ≡ record { content = []; break = 13 ∷ 10 ∷ [] } ∷ lines_of b.after
 lines_crlf octet rest b = rw (b.cr, b.lf) refl
 
 octets_of-onto_content : (octet : ℕ) (lines : List TextLine) → octets_of (onto_content octet lines) ≡ octet ∷ octets_of lines

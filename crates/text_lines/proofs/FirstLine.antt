@@ -54,11 +54,11 @@ only_line (x ∷ y ∷ rest) pos none =
     lines_other x (y ∷ rest) (none 0 (omega arith)) (no_break_at x y rest (none 1 (omega arith)))
     ∙ ap (onto_content x) (only_line (y ∷ rest) (omega arith) (λ k l. none (suc k) (omega arith)))
 
--- the octets from a place on, of which the next is there
-one_at : (text : List ℕ) (n : ℕ) → n < length text → take 1 (drop n text) ≡ get_or text n 0 ∷ []
+-- one octet, or two, from a place on
+pub one_at : (text : List ℕ) (n : ℕ) → n < length text → take 1 (drop n text) ≡ get_or text n 0 ∷ []
 one_at text n lt = rw (drop-cons text n 0) refl
 
-two_at : (text : List ℕ) (n : ℕ) → suc n < length text → take 2 (drop n text) ≡ get_or text n 0 ∷ get_or text (suc n) 0 ∷ []
+pub two_at : (text : List ℕ) (n : ℕ) → suc n < length text → take 2 (drop n text) ≡ get_or text n 0 ∷ get_or text (suc n) 0 ∷ []
 two_at text n lt =
     let here : n < length text = omega arith in
     rw (drop-cons text n 0, drop-cons text (suc n) 0) refl

@@ -1,0 +1,6 @@
+pub mod Breaks
+pub mod Continuations
+pub mod FieldLines
+pub mod Steps
+pub mod Trimming
+pub mod Lengths

@@ -1,0 +1,55 @@
+use Rattle.std.specs.Prelude.{◌≡◌, ℕ, ◌+◌, ◌-◌, ◌≤◌, List, [], ◌++◌, length, drop, slice_range, true, false, Option, MatchOption}
+use Rattle.octets.specs.Blank.{without_outer_blanks}
+use Rattle.text_lines.specs.Unread.{Unread}
+use Rattle.text_lines.specs.Lines.{lines_left, IsFirstLine}
+use Rattle.text_lines.specs.declared.line.Line.{Line}
+use Rattle.header_fields.specs.Fields.{Field}
+use Rattle.header_fields.specs.Header.{begins_blank, is_field_line, name_of, after_colon, fields_in, header_lines, header_length, continuation, without_breaks}
+
+-- the fields of the header's lines that weren't given yet
+abbrev pub fields_left : Unread → List Field
+fields_left unread = fields_in (header_lines (lines_left unread))
+
+-- where the body begins, by the lines that weren't given yet
+abbrev pub body_left : Unread → ℕ
+body_left unread = unread.place + header_length (lines_left unread)
+
+-- the first line that wasn't given yet was, and it begins with SP or TAB
+pub record IsContinuation (old : Unread) (line : Line) (new : Unread) : Type 0 where
+  pub first : IsFirstLine old line new
+  pub blank : begins_blank (drop old.place old.text) ≡ true
+
+-- the first line that wasn't given yet, if there is one, doesn't begin with SP or TAB, and it isn't given
+pub record NoContinuation (old new : Unread) : Type 0 where
+  pub same : new ≡ old
+  pub none : continuation (lines_left old) ≡ []
+
+-- the first line that wasn't given yet, where it continues the one before it
+abbrev pub GivesContinuation : Unread → Option Line → Unread → Type 0
+GivesContinuation old answer new = MatchOption answer (NoContinuation old new) (λ line. IsContinuation old line new)
+
+-- of the lines that continue a line some were given, and the last of them ends at this place
+pub record IsContinuing (text : List ℕ) (line : Line) (old : Unread) (end : ℕ) (new : Unread) : Type 0 where
+  pub after : line.end ≤ end
+  pub forward : old.place ≤ new.place
+  pub fields : fields_left new ≡ fields_left old
+  pub body : body_left new ≡ body_left old
+  pub value : (start : ℕ) → line.start ≤ start → start ≤ line.end
+      → without_breaks (slice_range text start end) ++ continuation (lines_left new) ≡ slice_range text start line.end ++ continuation (lines_left old)
+
+-- all of them were given
+pub record IsContinued (text : List ℕ) (line : Line) (old : Unread) (end : ℕ) (new : Unread) : Type 0 where
+  pub same_text : new.text ≡ text
+  pub within : end ≤ length text
+  pub so_far : IsContinuing text line old end new
+  pub none_left : continuation (lines_left new) ≡ []
+
+-- the field of a line and of the lines that continue it, of which the last ends at this place, if it is a field line
+abbrev pub IsFieldAt : List ℕ → Line → ℕ → Option Field → Type 0
+IsFieldAt text line end answer =
+    let content = slice_range text line.start line.end in
+    MatchOption answer (is_field_line content ≡ false)
+    (λ field. (is_field_line content ≡ true) × (field ≡ record {
+      name = name_of content;
+      value = without_outer_blanks (without_breaks (slice_range text (line.end - length (after_colon content)) end));
+    }))

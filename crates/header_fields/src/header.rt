@@ -1,0 +1,126 @@
+// The header of a message or part.
+ghost use Rattle.std.specs.Prelude.{◌≡◌, ◌<◌, ◌≤◌, length, IfOk};
+ghost use Rattle.text_lines.specs.Lines.{IsLineAt};
+ghost use Rattle.header_fields.specs.Header.{header_of, fields_of, body_start_of, begins_blank};
+ghost use Rattle.header_fields.specs.Extent.{IsHeader};
+ghost use Rattle.header_fields.specs.Reading.{IsContinued, IsFieldAt, GivesContinuation};
+
+use crate::error::HeaderError;
+use crate::field::Field;
+use crate::field_line::split_field;
+use std::alloc::Global;
+use std::marker::Model;
+use text_lines::{Line, Lines};
+
+/// The header that octets begin with, over octets that are lent: nothing is copied.
+///
+/// A contract sees the record of its fields and of the place where the body begins.
+#[derive(Debug, Drop)]
+pub struct Header<'a> {
+    fields: Vec<Field<'a>>,
+    body_start: usize,
+}
+
+impl<'a> Model for Header<'a> {
+    ghost use Rattle.header_fields.specs.Header.{Header};
+
+    ghost Value = { Header };
+
+    ghost view = { λ h. record { fields = h.fields.items; body_start = h.body_start } };
+
+    ghost use Rattle.std.specs.Prelude.{◌≤◌};
+    ghost use Rattle.header_fields.specs.Extent.{values_length};
+
+    ghost invariant = { λ h. values_length h.fields.items ≤ h.body_start };
+}
+
+impl<'a> Header<'a> {
+    /// The header that the octets begin with.
+    ///
+    /// It goes up to the first empty line, or to the end of the octets. What is no field line is skipped with its
+    /// continuations. [`HeaderError::Memory`] comes only where memory was refused.
+    pub fn read(alloc: Global, text: &'a [u8]) -> Result<Header<'a>, HeaderError>
+        ensures { IfOk result (λ header. header ≡ header_of text.now) }
+    {
+        let (mut fields, body_start) = read_fields(alloc, text)?;
+        fields.shrink_to_fit();
+        Ok(Header { fields, body_start })
+    }
+
+    /// Its fields, in order.
+    pub fn fields(&self) -> &[Field<'a>]
+        ensures fields { result.now ≡ self.now.fields }
+        ensures header { IsHeader self.now }
+    {
+        self.fields.as_slice()
+    }
+
+    /// The place where the body begins: after the empty line, or at the end of the octets.
+    pub fn body_start(&self) -> usize
+        ensures { result ≡ self.now.body_start }
+    {
+        self.body_start
+    }
+}
+
+// The fields of the header that the octets begin with, and where the body begins.
+fn read_fields<'a>(alloc: Global, text: &'a [u8]) -> Result<(Vec<Field<'a>>, usize), HeaderError>
+    ensures { IfOk result (λ read. (read.0.items ≡ fields_of text.now) × (read.1 ≡ body_start_of text.now)) }
+{
+    let mut fields = Vec::new(alloc);
+    let mut lines = Lines::new(text);
+    'lines: while let Some(line) = lines.next() {
+        if line.start == line.end {
+            return Ok((fields, line.stop));
+        }
+        let end = continued_end(text, line, &mut lines);
+        if let Some(field) = field_at(text, line, end) {
+            fields.push(field)?;
+        }
+    }
+    Ok((fields, text.len()))
+}
+
+// The field of this line and of the lines that continue it, of which the last ends at this place; nothing where it is no
+// field line.
+fn field_at<'a>(text: &'a [u8], line: Line, end: usize) -> Option<Field<'a>>
+    requires ordered { (line.start ≤ line.end) × (line.end ≤ end) × (end ≤ length text.now) }
+    ensures { IsFieldAt text.now line end result }
+{
+    let (name, after) = split_field(&text[line.start..line.end])?;
+    Some(Field::new(name, &text[line.end - after.len()..end]))
+}
+
+// Where the last of the lines ends that continue this one, which are taken.
+fn continued_end(text: &[u8], line: Line, lines: &mut Lines) -> usize
+    requires here { IsLineAt text.now line.start line }
+    requires some { line.start < line.end }
+    requires next { lines.old ≡ record { text = text.now; place = line.stop } }
+    ensures { IsContinued text.now line lines.old result lines.new }
+{
+    let mut last = line;
+    'continuations: while let Some(next) = next_continuation(text, last.stop, lines) {
+        last = next;
+    }
+    last.end
+}
+
+// The next line, which starts at this place, where it continues the line before it.
+fn next_continuation(text: &[u8], place: usize, lines: &mut Lines) -> Option<Line>
+    requires within { place ≤ length text.now }
+    requires next { lines.old ≡ record { text = text.now; place = place } }
+    ensures { GivesContinuation lines.old result lines.new }
+{
+    if begins_blank(&text[place..]) {
+        lines.next()
+    } else {
+        None
+    }
+}
+
+// Whether the text begins with SP or TAB.
+fn begins_blank(text: &[u8]) -> bool
+    ensures { result ≡ begins_blank text.now }
+{
+    matches!(text, [b' ' | b'\t', ..])
+}
