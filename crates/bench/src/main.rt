@@ -3,6 +3,8 @@
 
 mod codecs;
 mod compiling;
+mod headers;
+mod lines;
 mod machine;
 mod scripts;
 
@@ -14,11 +16,15 @@ fn main(rt: HostRuntime) -> anyhow::Result<()> {
     match words.next() {
         Some(job) if job.as_str() == "codecs" => codecs::run(&rt),
         Some(job) if job.as_str() == "compile" => compiling::run(&rt),
+        Some(job) if job.as_str() == "headers" => headers::run(&rt),
+        Some(job) if job.as_str() == "lines" => lines::run(&rt),
         Some(job) if job.as_str() == "run" => machine::run(&rt),
         Some(job) if job.as_str() == "scripts" => scripts::run(&rt),
         _ => {
             println!(rt; "codecs")?;
             println!(rt; "compile")?;
+            println!(rt; "headers")?;
+            println!(rt; "lines")?;
             println!(rt; "run")?;
             println!(rt; "scripts")?;
             Ok(())
