@@ -4,3 +4,5 @@ pub mod FieldLines
 pub mod Steps
 pub mod Trimming
 pub mod Lengths
+pub mod Alone
+mod Examples

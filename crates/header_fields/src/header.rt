@@ -40,7 +40,8 @@ impl<'a> Header<'a> {
     /// It goes up to the first empty line, or to the end of the octets. What is no field line is skipped with its
     /// continuations. [`HeaderError::Memory`] comes only where memory was refused.
     pub fn read(alloc: Global, text: &'a [u8]) -> Result<Header<'a>, HeaderError>
-        ensures { IfOk result (λ header. header ≡ header_of text.now) }
+        ensures header { IfOk result (λ header. header ≡ header_of text.now) }
+        ensures within { IfOk result (λ header. header.body_start ≤ length text.now) }
     {
         let (mut fields, body_start) = read_fields(alloc, text)?;
         fields.shrink_to_fit();

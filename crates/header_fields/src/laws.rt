@@ -1,5 +1,5 @@
 // The laws of headers: how long fields are.
-ghost use Rattle.std.specs.Prelude.{◌≤◌, ℕ, List, length};
+ghost use Rattle.std.specs.Prelude.{◌≡◌, ◌≤◌, ℕ, List, length, take};
 ghost use Rattle.std.specs.List.{AllZip};
 ghost use Rattle.header_fields.specs.Header.{header_of, fields_of, body_start_of};
 ghost use Rattle.header_fields.specs.Extent.{IsHeader, IsShorter, AreApart, field_lines_of};
@@ -22,4 +22,9 @@ pub fn values_fit_into_the_header()
 /// The body begins within the text, or at its end.
 pub fn body_starts_within_the_text()
     ensures { (text : List ℕ) → body_start_of text ≤ length text }
+{}
+
+/// The header is that of the octets before the body alone.
+pub fn header_stands_alone()
+    ensures { (text : List ℕ) → header_of (take (body_start_of text) text) ≡ header_of text }
 {}

@@ -1,0 +1,11 @@
+//! Tests of the mail crates, over their public calls.
+#![tactic(auto)]
+
+#[cfg(test)]
+mod headers;
+#[cfg(test)]
+mod large_headers;
+#[cfg(test)]
+mod lines;
+#[cfg(test)]
+mod repeated;
