@@ -1,41 +1,18 @@
 -- The lines that continue a line.
-use Rattle.std.proofs.Common.{◌≡◌, ◌≢◌, ℕ, ◌+◌, ◌-◌, ◌<◌, ◌≤◌, true, false, List, [], ◌∷◌, ◌++◌, zero, suc, refl, sym, ◌∙◌, ap, arith, length, take, drop, get_or, inl, inr, ◌==◌, zero-add, add-one}
+use Rattle.std.proofs.Common.{◌≡◌, ◌≢◌, ℕ, ◌+◌, ◌-◌, ◌<◌, ◌≤◌, true, false, List, [], ◌∷◌, ◌++◌, suc, refl, sym, ◌∙◌, ap, arith, length, drop, get_or, inl, inr, ◌==◌, add-one}
 use Rattle.std.specs.List.{slice_range}
 use Rattle.std.proofs.lemmas.Bool.{eqb-true, ne_eqb, cases_Bool, true≢false, cases_lt}
-use Rattle.std.proofs.lemmas.List.{drop-drop, append_assoc, length-take, length-drop, get_or-take, get_or-drop}
+use Rattle.std.proofs.lemmas.List.{append_assoc}
 use Rattle.std.proofs.Math.Seq.{drop-cons}
 use Rattle.octets.specs.Blank.{is_blank}
 use Rattle.text_lines.specs.Lines.{TextLine, lines_left, text_line, IsFirstLine, IsLineAt}
 use Rattle.text_lines.specs.declared.line.Line.{Line}
-use Rattle.text_lines.proofs.FirstLine.{no_break_at, no_break_of, one_at, two_at}
+use Rattle.text_lines.proofs.Slices.{slice_join, length-slice, get_or-slice, one_at, two_at}
+use Rattle.text_lines.proofs.FirstLine.{no_break_at, no_break_of}
 use Rattle.header_fields.specs.Header.{is_empty, line_length, begins_blank, is_name_octet, is_field_line, continuation, fields_in, header_lines, header_length, without_breaks}
 use Rattle.text_lines.specs.Unread.{Unread}
 use Rattle.header_fields.specs.Reading.{IsContinuation, IsContinuing}
 use Rattle.header_fields.proofs.Breaks.{without_breaks-append, without_breaks_none}
-
--- ---- stretches of a text
-
-take_none : {A : Type 0} (n : ℕ) → take {A = A} n [] ≡ []
-take_none zero = refl
-take_none (suc n) = refl
-
-take_join : {A : Type 0} (n m : ℕ) (xs : List A) → take n xs ++ take m (drop n xs) ≡ take (n + m) xs
-take_join zero m xs = rw zero-add refl
-take_join (suc n) m [] = rw (take_none m, take_none (suc n + m)) refl
-take_join (suc n) m (x ∷ xs) = let e : suc n + m ≡ suc (n + m) = omega arith in rw (e, take_join n m xs) refl
-
-pub slice_join : {A : Type 0} (xs : List A) (a b c : ℕ) → a ≤ b → b ≤ c → slice_range xs a b ++ slice_range xs b c ≡ slice_range xs a c
-slice_join xs a b c low high =
-    let from : a + (b - a) ≡ b = omega arith in
-    let whole : b - a + (c - b) ≡ c - a = omega arith in
-    let at : drop (b - a) (drop a xs) ≡ drop b xs = rw (drop-drop, from) refl in
-    rw (← at, take_join (b - a) (c - b) (drop a xs), whole) refl
-
-pub length-slice : {A : Type 0} (xs : List A) (a b : ℕ) → a ≤ b → b ≤ length xs → length (slice_range xs a b) ≡ b - a
-length-slice xs a b low high = simp (length-take, length-drop) (omega arith)
-
-pub get_or-slice : (xs : List ℕ) (a b k : ℕ) → k < b - a → get_or (slice_range xs a b) k 0 ≡ get_or xs (a + k) 0
-get_or-slice xs a b k lt = get_or-take (b - a) (drop a xs) k 0 lt ∙ get_or-drop a xs k 0
 
 -- ---- a line that begins with SP or TAB
 
@@ -100,9 +77,7 @@ content_begins text place line at blank =
 
 -- the lines from a line on
 pub lines_from : (text : List ℕ) (line : Line) (old new : Unread) → old.text ≡ text → IsFirstLine old line new → lines_left old ≡ text_line text line ∷ lines_left new
-lines_from text line old new same_text first =
-    let here = rw same_text at first.here in
-    rw (first.after, first.same_text, same_text) here.first
+lines_from text line old new same_text first = first.left ∙ ap (λ t. text_line t line ∷ lines_left new) same_text
 
 -- the octets of a line, its break counted
 pub length_between : (text : List ℕ) (place : ℕ) (line : Line) → IsLineAt text place line → place + line_length (text_line text line) ≡ line.stop

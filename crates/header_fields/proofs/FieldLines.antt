@@ -2,12 +2,12 @@
 use Rattle.std.proofs.Common.{◌≡◌, ℕ, ◌+◌, ◌-◌, ◌≤◌, true, false, List, [], ◌∷◌, ◌++◌, refl, sym, ◌∙◌, ap, arith, length, take, drop, inl, inr, ◌&&◌, nat_lt, Bool}
 use Rattle.std.specs.List.{slice_range, prefix_len}
 use Rattle.std.proofs.lemmas.Bool.{cases_Bool, ltb-true, true≢false}
-use Rattle.std.proofs.lemmas.List.{drop-drop, drop-take, take-append-drop, append_assoc, length-append, length-drop}
+use Rattle.std.proofs.lemmas.List.{take-append-drop, append_assoc, length-append, length-drop}
 use Rattle.std.proofs.lemmas.List.Prefix.{end_rest}
 use Rattle.std.proofs.lemmas.List.Folds.{length-prefix_len}
 use Rattle.octets.specs.Blank.{is_blank, without_leading_blanks}
 use Rattle.header_fields.specs.Header.{is_name_octet, name_of, after_name, begins_with_colon, is_field_line, after_colon}
-use Rattle.header_fields.proofs.Continuations.{length-slice}
+use Rattle.text_lines.proofs.Slices.{length-slice, drop-slice}
 
 -- a text ends with another
 abbrev pub EndsWith : List ℕ → List ℕ → Type 0
@@ -37,12 +37,6 @@ ends-after_colon line =
 -- what follows the colon is no longer than the line
 pub after_colon_fits : (line : List ℕ) → length (after_colon line) ≤ length line
 after_colon_fits line = let e = ends-after_colon line in omega (arith, ap length e.1 ∙ length-append e.0 (after_colon line))
-
--- the end of a stretch of a text
-drop-slice : (text : List ℕ) (start end n : ℕ) → n ≤ end - start → drop n (slice_range text start end) ≡ slice_range text (start + n) end
-drop-slice text start end n within =
-    let more : end - start ≡ n + (end - (start + n)) = omega arith in
-    rw (more, drop-take) (rw drop-drop refl)
 
 -- what follows the colon, by its place in the text
 pub after_colon_slice : (text : List ℕ) (start end : ℕ) → start ≤ end → end ≤ length text

@@ -7,10 +7,11 @@ use Rattle.octets.specs.Blank.{without_outer_blanks}
 use Rattle.text_lines.specs.Unread.{Unread}
 use Rattle.text_lines.specs.Lines.{TextLine, lines_left, text_line, IsLineAt, IsFirstLine}
 use Rattle.text_lines.specs.declared.line.Line.{Line}
+use Rattle.text_lines.proofs.Slices.{length-slice}
 use Rattle.header_fields.specs.Fields.{Field}
 use Rattle.header_fields.specs.Header.{is_empty, begins_blank, is_field_line, name_of, after_colon, continuation, field_of, fields_in, header_lines, header_length, line_length, without_breaks}
 use Rattle.header_fields.specs.Reading.{fields_left, body_left, IsContinued}
-use Rattle.header_fields.proofs.Continuations.{length-slice, length_between, lines_from, not_empty}
+use Rattle.header_fields.proofs.Continuations.{length_between, lines_from, not_empty}
 use Rattle.header_fields.proofs.FieldLines.{after_colon_slice, after_colon_fits}
 
 -- a line with octets before its break

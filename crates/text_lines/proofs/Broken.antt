@@ -4,7 +4,7 @@ use Rattle.std.specs.List.{All}
 use Rattle.std.proofs.lemmas.Bool.{eqb-true, eqb-false, cases_Bool, true≢false}
 use Rattle.std.proofs.lemmas.List.{append_assoc, append-nil}
 use Rattle.std.proofs.lemmas.List.Elements.{All-nil, All-cons, All-head, All-tail}
-use Rattle.text_lines.specs.Lines.{TextLine, lines_of, octets_of, is_first_of_break, onto_content, IsNotFeed, IsEndedLine, AreLines}
+use Rattle.text_lines.specs.Lines.{TextLine, lines_of, line_octets, octets_of, is_first_of_break, onto_content, IsNotFeed, IsEndedLine, AreLines}
 use Rattle.text_lines.proofs.FirstLine.{lines_feed, lines_other, no_break_at, no_break_of, only_line}
 
 -- a text begins with CRLF
@@ -120,6 +120,22 @@ lines_of-feed (c ∷ d ∷ content) more none bare =
     lines_other c (d ∷ (content ++ 10 ∷ more)) (All-head IsNotFeed c (d ∷ content) none) (no_break_at c d (content ++ 10 ∷ more) (All-head IsNotFeed d content later))
     ∙ ap (onto_content c) (lines_of-feed (d ∷ content) more later (λ before e. bare (c ∷ before) (ap (λ x. c ∷ x) e)))
 
+-- lines that breaks end, before a text
+abbrev pub AreEnded : List TextLine → Type 0
+AreEnded [] = Unit {0}
+AreEnded (line ∷ lines) = IsEndedLine line × AreEnded lines
+
+lines_of-ended_one : (line : TextLine) (text : List ℕ) → IsEndedLine line → lines_of (line_octets line ++ text) ≡ line ∷ lines_of text
+lines_of-ended_one line text ended = elim ended.ended [
+  | inl crlf ↦ rw (crlf, append_assoc) (lines_of-crlf line.content text ended.no_feed ∙ rw (← crlf) refl)
+  | inr (lf, bare) ↦ rw (lf, append_assoc) (lines_of-feed line.content text ended.no_feed bare ∙ rw (← lf) refl)
+]
+
+pub lines_of-ended : (lines : List TextLine) (text : List ℕ) → AreEnded lines → lines_of (octets_of lines ++ text) ≡ lines ++ lines_of text
+lines_of-ended [] text ended = refl
+lines_of-ended (line ∷ lines) text (ended, more) =
+    rw (append_assoc, lines_of-ended_one line (octets_of lines ++ text) ended, lines_of-ended lines text more) refl
+
 some_of : (xs : List ℕ) → xs ≢ [] → 0 < length xs
 some_of [] ne = absurd (ne refl)
 some_of (x ∷ xs) ne = omega arith
@@ -127,12 +143,7 @@ some_of (x ∷ xs) ne = omega arith
 -- lines are those of the text that they make
 pub lines_of-octets_of : (lines : List TextLine) → AreLines lines → lines_of (octets_of lines) ≡ lines
 lines_of-octets_of [] are = refl
-lines_of-octets_of (line ∷ lines) (inl (ended, more)) =
-    let after = lines_of-octets_of lines more in
-    elim ended.ended [
-      | inl crlf ↦ rw (crlf, append_assoc) (lines_of-crlf line.content (octets_of lines) ended.no_feed ∙ rw (after, ← crlf) refl)
-      | inr (lf, bare) ↦ rw (lf, append_assoc) (lines_of-feed line.content (octets_of lines) ended.no_feed bare ∙ rw (after, ← lf) refl)
-    ]
+lines_of-octets_of (line ∷ lines) (inl (ended, more)) = lines_of-ended_one line (octets_of lines) ended ∙ ap (λ x. line ∷ x) (lines_of-octets_of lines more)
 lines_of-octets_of (line ∷ lines) (inr (last, none)) =
     rw (none, last.no_break, append-nil, append-nil)
     (only_line line.content (some_of line.content last.some) (λ k lt. last.no_feed k 0 lt) ∙ rw (← last.no_break) refl)

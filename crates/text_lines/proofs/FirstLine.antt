@@ -2,10 +2,10 @@
 use Rattle.std.proofs.Common.{◌≡◌, ◌≢◌, ℕ, ◌-◌, ◌+◌, ◌<◌, ◌≤◌, true, false, List, [], ◌∷◌, zero, suc, refl, sym, ◌∙◌, ap, arith, length, take, drop, get_or, add-one, below_more, inl, inr, Some, None, ◌==◌, ◌&&◌}
 use Rattle.std.proofs.lemmas.Bool.{eq-eqb, ne_eqb, eqb-true}
 use Rattle.std.proofs.lemmas.List.{drop-drop, length-drop, take_all, drop_all, get_or-drop}
-use Rattle.std.proofs.Math.Seq.{drop-cons}
 use Rattle.memchr.specs.Find.{IsFirstByte, is_byte, NoneBefore, Passes}
-use Rattle.text_lines.specs.Lines.{lines_of, is_first_of_break, onto_content, text_line, IsBreakAt, IsLineAt}
+use Rattle.text_lines.specs.Lines.{lines_of, is_first_of_break, onto_content, text_line, EndsInBreak, IsLineAt}
 use Rattle.text_lines.specs.declared.line.Line.{Line}
+use Rattle.text_lines.proofs.Slices.{one_at, two_at}
 
 -- one octet more at the beginning of a text
 pub lines_feed : (octet : ℕ) (rest : List ℕ) → octet ≡ 10 → lines_of (octet ∷ rest) ≡ record { content = []; break = 10 ∷ [] } ∷ lines_of rest
@@ -54,15 +54,6 @@ only_line (x ∷ y ∷ rest) pos none =
     lines_other x (y ∷ rest) (none 0 (omega arith)) (no_break_at x y rest (none 1 (omega arith)))
     ∙ ap (onto_content x) (only_line (y ∷ rest) (omega arith) (λ k l. none (suc k) (omega arith)))
 
--- one octet, or two, from a place on
-pub one_at : (text : List ℕ) (n : ℕ) → n < length text → take 1 (drop n text) ≡ get_or text n 0 ∷ []
-one_at text n lt = rw (drop-cons text n 0) refl
-
-pub two_at : (text : List ℕ) (n : ℕ) → suc n < length text → take 2 (drop n text) ≡ get_or text n 0 ∷ get_or text (suc n) 0 ∷ []
-two_at text n lt =
-    let here : n < length text = omega arith in
-    rw (drop-cons text n 0, drop-cons text (suc n) 0) refl
-
 -- what stands at a place of the octets from a place on
 at_tail : (text : List ℕ) (start k : ℕ) → get_or (drop start text) k 0 ≡ get_or text (start + k) 0
 at_tail text start k = get_or-drop start text k 0
@@ -82,7 +73,7 @@ first_by_places text line n m break ends stops is first =
 
 -- the line that stands at its places
 pub line_standing : (text : List ℕ) (line : Line) → line.start ≤ line.end → line.start < line.stop → line.stop ≤ length text
-    → ((i : ℕ) → line.start ≤ i → i < line.end → get_or text i 0 ≢ 10) → IsBreakAt text line → IsLineAt text line.start line
+    → ((i : ℕ) → line.start ≤ i → i < line.end → get_or text i 0 ≢ 10) → EndsInBreak text line → IsLineAt text line.start line
 line_standing text line ordered some within no_feed break = record {
   start = refl;
   end_after_start = ordered;

@@ -1,3 +1,4 @@
 pub mod Broken
 mod Examples
 pub mod FirstLine
+pub mod Slices

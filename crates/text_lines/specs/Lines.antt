@@ -67,10 +67,9 @@ text_line text line = record { content = slice_range text line.start line.end; b
 abbrev pub lines_left : Unread → List TextLine
 lines_left unread = lines_of (drop unread.place unread.text)
 
--- from place `end` to place `stop` stands the break of a line that starts at place `start`: LF with no CR of the line before it, CRLF, or
--- nothing at the text's end
-abbrev pub IsBreakAt : List ℕ → Line → Type 0
-IsBreakAt text line =
+-- after the line's octets stands its break: LF with no CR of the line before it, CRLF, or nothing at the text's end
+abbrev pub EndsInBreak : List ℕ → Line → Type 0
+EndsInBreak text line =
     ((line.stop ≡ line.end + 1) × (slice_index text line.end ≡ 10) × ((i : ℕ) → line.start ≤ i → i + 1 ≡ line.end → slice_index text i ≢ 13))
     ⊎ (((line.stop ≡ line.end + 2) × (slice_index text line.end ≡ 13) × (slice_index text (line.end + 1) ≡ 10))
     ⊎ ((line.stop ≡ line.end) × (line.stop ≡ length text)))
@@ -83,7 +82,7 @@ pub record IsLineAt (text : List ℕ) (place : ℕ) (line : Line) : Type 0 where
   pub some : line.start < line.stop
   pub within : line.stop ≤ length text
   pub no_feed : (i : ℕ) → line.start ≤ i → i < line.end → slice_index text i ≢ 10
-  pub break : IsBreakAt text line
+  pub break : EndsInBreak text line
   pub first : lines_of (drop place text) ≡ text_line text line ∷ lines_of (drop line.stop text)
 
 -- the line is the first of those that weren't given, and the others are left
@@ -91,6 +90,7 @@ pub record IsFirstLine (old : Unread) (line : Line) (new : Unread) : Type 0 wher
   pub same_text : new.text ≡ old.text
   pub after : new.place ≡ line.stop
   pub here : IsLineAt old.text old.place line
+  pub left : lines_left old ≡ text_line old.text line ∷ lines_left new
 
 -- the whole text was given, and nothing changes
 pub record IsAtEnd (old new : Unread) : Type 0 where

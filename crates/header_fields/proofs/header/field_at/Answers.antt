@@ -1,7 +1,7 @@
 use Rattle.std.proofs.Common.{arith, ap, length}
 use Rattle.std.specs.List.{slice_range}
 use Rattle.header_fields.proofs.FieldLines.{after_colon_fits}
-use Rattle.header_fields.proofs.Continuations.{length-slice}
+use Rattle.text_lines.proofs.Slices.{length-slice}
 use Rattle.header_fields.proofs.header.field_at.Goals as goal
 
 pub overflow_sub-line : goal.overflow_sub-line
