@@ -10,7 +10,7 @@ use Rattle.text_lines.specs.Lines.{TextLine, lines_of, line_octets, octets_of}
 use Rattle.text_lines.proofs.Broken.{octets_of-lines_of}
 use Rattle.header_fields.specs.Fields.{Field}
 use Rattle.header_fields.specs.Header.{is_empty, line_length, begins_blank, is_field_line, after_colon, continuation, fields_in, header_lines, header_length, fields_of, body_start_of}
-use Rattle.header_fields.specs.Extent.{values_length, FieldLines, continuation_length, field_lines_from, field_lines_of, AreApart, IsShorter}
+use Rattle.header_fields.specs.Extent.{fields_extent, FieldLines, continuation_length, field_lines_from, field_lines_of, AreApart, IsShorter}
 use Rattle.header_fields.proofs.Continuations.{not_field}
 use Rattle.header_fields.proofs.FieldLines.{field_line_longer}
 use Rattle.header_fields.proofs.Trimming.{trimmed_fits}
@@ -86,14 +86,14 @@ lines_apart text =
     apart_within (0 + continuation_length lines) (0 + lines_length lines) 0 (body_start_of text) (field_lines_from 0 lines) (omega arith) (omega (arith, header_fits (lines_of text))) (apart_from 0 lines)
 
 -- values that are shorter than lines apart
-sum_fits : (fields : List Field) (places : List FieldLines) (from to : ℕ) → AllZip IsShorter fields places → AreApart from to places → from + values_length fields ≤ to
+sum_fits : (fields : List Field) (places : List FieldLines) (from to : ℕ) → AllZip IsShorter fields places → AreApart from to places → from + fields_extent fields ≤ to
 sum_fits [] [] from to shorter apart = omega (arith, apart)
 sum_fits [] (lines ∷ others) from to shorter apart = absurd shorter
 sum_fits (field ∷ fields) [] from to shorter apart = absurd shorter
 sum_fits (field ∷ fields) (lines ∷ others) from to shorter apart =
     omega (arith, shorter.0, apart.0, apart.1, sum_by-cons (λ f. length f.value + 2) field fields, sum_fits fields others lines.stop to shorter.1 apart.2)
 
-pub values_fit : (text : List ℕ) → values_length (fields_of text) ≤ body_start_of text
+pub values_fit : (text : List ℕ) → fields_extent (fields_of text) ≤ body_start_of text
 values_fit text = omega (arith, sum_fits (fields_of text) (field_lines_of text) 0 (body_start_of text) (values_shorter text) (lines_apart text))
 
 -- the header is within the text

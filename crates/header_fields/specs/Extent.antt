@@ -4,13 +4,13 @@ use Rattle.text_lines.specs.Lines.{TextLine, lines_of}
 use Rattle.header_fields.specs.Fields.{Field}
 use Rattle.header_fields.specs.Header.{Header, line_length, begins_blank, is_field_line, header_lines}
 
--- the octets of the values, and two for each field
-abbrev pub values_length : List Field → ℕ
-values_length fields = sum_by (λ field. length field.value + 2) fields
+-- how many octets fields take at least: each its value, a colon, and one more for its name
+abbrev pub fields_extent : List Field → ℕ
+fields_extent fields = sum_by (λ field. length field.value + 2) fields
 
--- the values of a header are short beside it
+-- the fields of a header take no more octets than stand before the body
 abbrev pub IsHeader : Header → Type 0
-IsHeader header = values_length header.fields ≤ header.body_start
+IsHeader header = fields_extent header.fields ≤ header.body_start
 
 -- the places from which and up to which the lines of a field stand, with the break of the last
 pub record FieldLines : Type 0 where

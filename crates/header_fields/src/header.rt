@@ -29,9 +29,9 @@ impl<'a> Model for Header<'a> {
     ghost view = { λ h. record { fields = h.fields.items; body_start = h.body_start } };
 
     ghost use Rattle.std.specs.Prelude.{◌≤◌};
-    ghost use Rattle.header_fields.specs.Extent.{values_length};
+    ghost use Rattle.header_fields.specs.Extent.{fields_extent};
 
-    ghost invariant = { λ h. values_length h.fields.items ≤ h.body_start };
+    ghost invariant = { λ h. fields_extent h.fields.items ≤ h.body_start };
 }
 
 impl<'a> Header<'a> {
