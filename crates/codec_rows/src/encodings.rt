@@ -36,7 +36,7 @@ fn foobar_and_back(rt: HostRuntime) {
 fn texts_that_read_as_nothing(rt: HostRuntime) {
     let alloc = rt.alloc();
     for (encoding, text) in [
-        // no padding, spare bits, a stray, a line break
+        // no padding, spare bits, a stray character, a line break
         (Encoding::Base64, "Zg"),
         (Encoding::Base64, "Zh=="),
         (Encoding::Base64, "Zm9!"),

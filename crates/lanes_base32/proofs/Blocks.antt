@@ -15,7 +15,7 @@ use Rattle.octet_lanes.proofs.Texts.{AreGroups, encoding_prefix, encoding_whole,
 
 -- ---- a block of symbols
 
--- an octet is a stray, or the symbol of its class
+-- an octet is a stray character, or the symbol of its class
 spelled : Alphabet → ℕ → Bool
 spelled alphabet octet = eqb (class_of alphabet octet) stray || eqb (symbol_of alphabet (class_of alphabet octet)) octet
 
@@ -43,7 +43,7 @@ symbols_again alphabet (octet ∷ block) small free = go (eqb (class_of alphabet
         let r = rest h in
         (λ i. symbol_again alphabet octet small.0 e i ∷ r.0 i, (class_below alphabet octet (class_of alphabet octet) refl (eqb-false _ _ e), r.1))
 
--- a block without strays is the text of its octets
+-- a block without stray characters is the text of its octets
 pub block_spelled : (alphabet : Alphabet) (block classes octets : List ℕ) → Each1 (λ octet. octet < 256) block → classes ≡ map (class_of alphabet) block
     → list_any (λ class. eqb class stray) classes ≡ false → all_bits 8 octets ≡ all_bits (width alphabet) classes → length octets ≡ 4 * width alphabet → Spells alphabet block octets
 block_spelled alphabet block classes octets small is free same long =
@@ -62,7 +62,7 @@ symbols_free alphabet (g ∷ groups) small =
     is_value Base32 g h e = omega arith
     is_value Base32Hex g h e = omega arith
 
--- the text of a whole block has no strays
+-- the text of a whole block has no stray characters
 pub spelled_free : (alphabet : Alphabet) (block octets : List ℕ) → length octets ≡ 4 * width alphabet → Spells alphabet block octets → list_any (λ class. eqb class stray) (map (class_of alphabet) block) ≡ false
 spelled_free alphabet block octets long spells =
     let w = width alphabet in

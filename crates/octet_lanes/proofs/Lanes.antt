@@ -95,7 +95,7 @@ pub any_equal : (xs : List ℕ) (n x : ℕ) → length xs ≡ n → n ≤ 64
     → not (eqb (mask_l (map (top 7) (zip2 (λ a b. cond (eqb a b) 255 0) xs (replicate n x))) % 2 ^ 64) 0) ≡ list_any (λ y. eqb y x) xs
 any_equal xs n x long few = ap (λ m. not (eqb m 0)) (bitmask_splat w8 eqb xs n x long few) ∙ any_from_mask (λ y. eqb y x) xs
 
--- without strays all classes are values
+-- without stray characters all classes are values
 pub all_values : (xs : List ℕ) → list_any (λ y. eqb y stray) xs ≡ false → values_among xs ≡ xs
 all_values [] h = refl
 all_values (x ∷ xs) h = go (eqb x stray) refl (all_values xs)

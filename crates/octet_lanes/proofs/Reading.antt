@@ -230,7 +230,7 @@ whole_quanta Base64 n = omega arith
 whole_quanta Base32 n = omega arith
 whole_quanta Base32Hex n = omega arith
 
--- what comes before the first stray is values
+-- what comes before the first stray character is values
 pub prefix_values : (alphabet : Alphabet) (n : ℕ) (block : List ℕ) → n ≤ position_or_len (λ class. eqb class stray) (map (class_of alphabet) block)
     → (list_any (λ class. eqb class stray) (map (class_of alphabet) (take n block)) ≡ false)
     × (take n (map (λ class. class % 2 ^ width alphabet) (map (class_of alphabet) block)) ≡ map (class_of alphabet) (take n block))
@@ -249,7 +249,7 @@ prefix_values alphabet (suc n) (x ∷ block) le = go (eqb (class_of alphabet x) 
         let r = rest (omega arith) in
         (ap (λ b. b || list_any (λ c. eqb c stray) (map (class_of alphabet) (take n block))) e ∙ r.0, λ i. mod-eq_of_lt (class_small alphabet x e) i ∷ r.1 i)
 
--- strays are passed over
+-- stray characters are passed over
 pub strays_passed : (alphabet : Alphabet) (block rest : List ℕ) (start k : ℕ) → start + k ≤ length block
     → ((i : ℕ) → start ≤ i → i < start + k → (get_or (map (class_of alphabet) block) i 0 ≡ stray) × (get_or block i 0 ≢ padding))
     → decoding_of alphabet (drop start block ++ rest) ≡ decoding_of alphabet (drop (start + k) block ++ rest)
@@ -288,7 +288,7 @@ block_octets alphabet text block after classes more prefix back long is free =
     ∙ run_read alphabet (4 * w) block (after ++ more) (ap (list_any (λ class. eqb class stray)) (sym is) ∙ free) count
     ∙ ap (λ l. octets_of (all_bits w l) ++ decoding_of alphabet (after ++ more)) (sym all)
 
--- the whole quanta before a stray
+-- the whole quanta before a stray character
 pub run_octets : (alphabet : Alphabet) (run n : ℕ) (block classes values rest : List ℕ) → classes ≡ map (class_of alphabet) block
     → run ≡ position_or_len (λ class. eqb class stray) classes → n ≡ run - run % quantum alphabet → values ≡ map (λ class. class % 2 ^ width alphabet) classes
     → decoding_of alphabet (block ++ rest) ≡ octets_of (all_bits (width alphabet) (take n values)) ++ decoding_of alphabet (drop n block ++ rest)
@@ -381,7 +381,7 @@ closed_octets alphabet m kept filler octets small few is same =
     let room : m ≤ 4 * w = subst (λ k. k ≤ 4 * w) (sym is) (few_octets alphabet (length kept) few) in
     sym (bits_of-values w m kept (map low filler) octets is room (same ∙ ap (all_bits w) (map-append low kept filler ∙ ap (λ l. l ++ map low filler) values)))
 
--- ---- values with strays between them
+-- ---- values with stray characters between them
 
 -- a first part without padding, whose values are whole octets
 prefix_read : (alphabet : Alphabet) (m : ℕ) (prefix rest : List ℕ) → list_any (λ octet. eqb octet padding) prefix ≡ false → length (values_of alphabet prefix) * width alphabet ≡ m * 8
@@ -403,7 +403,7 @@ free_part (suc n) (x ∷ block) free = go (eqb x padding) free (free_part n bloc
     go true h rest = absurd (false≢true (sym h))
     go false h rest = rest h
 
--- the whole quanta of a block, where strays stand between its values
+-- the whole quanta of a block, where stray characters stand between its values
 pub closed_read : (alphabet : Alphabet) (n last end : ℕ) (block classes closed values rest : List ℕ) → classes ≡ map (class_of alphabet) block → list_any (λ octet. eqb octet padding) block ≡ false
     → n ≡ length (values_among classes) → closed ≡ values_among classes ++ replicate (32 - length (values_among classes)) stray → values ≡ map (λ value. value % 2 ^ width alphabet) closed
     → last ≡ n % quantum alphabet → length (values_among (drop end classes)) ≡ last

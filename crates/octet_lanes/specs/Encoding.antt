@@ -32,7 +32,7 @@ symbol_of alphabet value = slice_index (table alphabet) value
 abbrev pub stray : ℕ
 stray = 255
 
--- the class of an octet: the value whose symbol it is, or that of a stray
+-- the class of an octet: the value whose symbol it is, or that of a stray character
 abbrev pub class_of : Alphabet → ℕ → ℕ
 class_of alphabet octet =
     let place = position_or_len (λ symbol. symbol == octet) (table alphabet) in

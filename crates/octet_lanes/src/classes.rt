@@ -81,7 +81,7 @@ fn base32hex_classes(lanes: u8x32) -> u8x32
     less(plus(run(lanes, b'0', 10, 1), run(lanes, b'A', 22, 11)), 1)
 }
 
-/// Whether a class is that of a stray.
+/// Whether a class is that of a stray character.
 #[inline(always)]
 pub fn has_stray(classes: &[u8; 32]) -> bool
     ensures { result ≡ list_any (λ class. class == stray) classes.now }
@@ -92,7 +92,7 @@ pub fn has_stray(classes: &[u8; 32]) -> bool
         != 0
 }
 
-/// Whether strays are so many that runs between them are short.
+/// Whether stray characters are so many that runs between them are short.
 #[inline(always)]
 pub(crate) fn has_many_strays(classes: &[u8; 32]) -> bool {
     let strays = u8x32::from_array(*classes)
@@ -101,7 +101,7 @@ pub(crate) fn has_many_strays(classes: &[u8; 32]) -> bool {
     strays.count_ones() > 3
 }
 
-/// How many classes come before the first stray.
+/// How many classes come before the first stray character.
 #[inline(always)]
 pub(crate) fn run_len(classes: &[u8; 32]) -> usize
     ensures { result ≡ position_or_len (λ class. class == stray) classes.now }
@@ -123,7 +123,7 @@ pub(crate) fn class(octet: u8, alphabet: Alphabet) -> u8
     classify(&[octet; 32], alphabet)[0]
 }
 
-/// The values among the classes as they are, and some value in place of each stray.
+/// The values among the classes as they are, and some value in place of each stray character.
 #[inline(always)]
 pub(crate) fn some_values(classes: &[u8; 32], alphabet: Alphabet) -> [u8; 32]
     ensures { result ≡ map (λ class. class % 2 ^ width alphabet) classes.now }

@@ -1,4 +1,4 @@
-// Values closed up over strays.
+// Values closed up over stray characters.
 ghost use Rattle.std.specs.Prelude.{◌≡◌, ◌++◌, ◌-◌, ◌≤◌, length, replicate};
 ghost use Rattle.octet_lanes.specs.Encoding.{stray, values_among};
 
@@ -17,7 +17,7 @@ pub fn close_up(classes: &[u8; 32]) -> ([u8; 32], usize)
     }
     let mut closed = [STRAY; 32];
     let mut n = 0;
-    // a stray writes the filler, and the next value overwrites it
+    // a stray character writes the filler, and the next value overwrites it
     for class in classes {
         closed[n] = *class;
         if *class != STRAY {

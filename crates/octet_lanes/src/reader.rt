@@ -85,7 +85,7 @@ impl Held {
         Ok(())
     }
 
-    // Appends the octets of the open quantum where the text completes it, whatever strays interrupt it, and gives what
+    // Appends the octets of the open quantum where the text completes it, whatever stray characters interrupt it, and gives what
     // follows it.
     #[inline(always)]
     fn append_quantum<'a>(
@@ -149,7 +149,7 @@ impl Held {
 }
 
 // Appends the octets of whole quanta from the start, a block at a time, and gives what follows them: fewer than 32 octets, or
-// a quantum that strays interrupt.
+// a quantum that stray characters interrupt.
 #[inline(always)]
 fn append_runs<'a>(
     text: &'a [u8],
@@ -177,7 +177,7 @@ fn append_runs<'a>(
     Ok(rest)
 }
 
-// Appends the octets of whole quanta before a block with strays, and gives where they end. Which of the two ways
+// Appends the octets of whole quanta before a block with stray characters, and gives where they end. Which of the two ways
 // it goes changes the time alone.
 #[inline(always)]
 fn append_prefix(
@@ -196,7 +196,7 @@ fn append_prefix(
     append_run(block, classes, alphabet, out)
 }
 
-// Appends the octets of the whole quanta before a block, and gives where they and the strays after them end.
+// Appends the octets of the whole quanta before a block, and gives where they and the stray characters after them end.
 #[inline(always)]
 fn append_run(
     block: &[u8; 32],
@@ -217,7 +217,7 @@ fn append_run(
     Ok(end_of_strays(block, classes, whole))
 }
 
-// Where the strays from `start` on end, at the first `=` at the latest.
+// Where the stray characters from `start` on end, at the first `=` at the latest.
 #[inline(always)]
 fn end_of_strays(block: &[u8; 32], classes: &[u8; 32], start: usize) -> usize
     requires { start ≤ 32 }
@@ -231,7 +231,7 @@ fn end_of_strays(block: &[u8; 32], classes: &[u8; 32], start: usize) -> usize
     end
 }
 
-// Appends the octets of the whole quanta before a block, whatever strays interrupt them, and gives where they end.
+// Appends the octets of the whole quanta before a block, whatever stray characters interrupt them, and gives where they end.
 #[inline(always)]
 fn append_closed(
     block: &[u8; 32],
@@ -250,7 +250,7 @@ fn append_closed(
     Ok(start_of_last(classes, last))
 }
 
-// Where the last `n` values start, with the strays between them and after them.
+// Where the last `n` values start, with the stray characters between them and after them.
 #[inline(always)]
 fn start_of_last(classes: &[u8; 32], n: usize) -> usize
     requires { n ≤ length (values_among classes.now) }
