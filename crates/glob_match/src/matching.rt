@@ -111,7 +111,7 @@ fn push_placed(captures: &mut Captures, segment: &[u8], start: usize, place: usi
     ensures few { length captures.new ≤ max_captures }
     ensures texts { (value : List ℕ) → place + length (tokens_of segment.now) ≤ length value
         → texts value captures.new ≡ with_stretches (texts value captures.old)
-            (slice_range value start place ∷ any_octets (tokens_of segment.now) (drop place value)) }
+        (slice_range value start place ∷ any_octets (tokens_of segment.now) (drop place value)) }
 {
     captures.push(start, place);
     push_any_octets(captures, segment, place);
