@@ -110,8 +110,9 @@ fn main() {
         b"[project-announce] Release 4.4 is out, and so is its manual!",
     ];
     for comparator in [Comparator::Octet, Comparator::Casemap] {
-        let key = values[0];
-        println!("is: {} ns", nanos(&values, |value| comparator.equal(value, black_box(key))));
+        for key in [values[0], b"its manual"] {
+            println!("is: {} ns", nanos(&values, |value| comparator.equal(value, black_box(key))));
+        }
         for key in [&b"its manual"[..], b"release 4.", b"1234567890"] {
             println!("contains: {} ns", nanos(&values, |value| contains(value, black_box(key), comparator)));
         }

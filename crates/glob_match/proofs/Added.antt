@@ -6,8 +6,8 @@ use Rattle.std.specs.List.{slice_range}
 use Rattle.glob_match.specs.declared.captures.Stretch.{Stretch}
 use Rattle.glob_match.specs.declared.token.Token.{Token}
 use Rattle.glob_match.specs.declared.token.Token.TheVariants.{Literal, AnyOctet, Star}
-use Rattle.glob_match.specs.Segments.{any_octets}
-use Rattle.glob_match.specs.Captures.{texts, with_stretches}
+use Rattle.glob_match.specs.Segments.{any_octets, with_stretches}
+use Rattle.glob_match.specs.Captures.{texts}
 use Rattle.glob_match.specs.Matching.{max_capture, max_captures}
 
 -- a stretch of so many octets, cut

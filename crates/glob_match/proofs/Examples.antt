@@ -6,7 +6,7 @@ use Rattle.glob_match.specs.declared.token.Token.TheVariants.{Literal, AnyOctet,
 use Rattle.glob_match.specs.Comparison.{is_match}
 use Rattle.glob_match.specs.Tokens.{tokens_of, literals}
 use Rattle.glob_match.specs.Matching.{match_of}
-use Rattle.glob_match.specs.Containment.{contains_match}
+use Rattle.glob_match.specs.Containment.{Is, Contains, Matches, contains_match, matched}
 
 shortest_first : match_of Octet (codes "aXbXb") (codes "*X*b") ≡ Some (codes "aXbXb" ∷ codes "a" ∷ codes "bX" ∷ [])
 shortest_first = refl
@@ -63,3 +63,22 @@ empty_contained = refl
 -- the key of `:contains` has no wildcards
 star_contained : contains_match Octet (codes "abc") (codes "a*c") ≡ false
 star_contained = refl
+
+-- the three match types
+matched_is : matched Is Casemap (codes "Key") (codes "kEY") ≡ true
+matched_is = refl
+
+matched_part : matched Is Octet (codes "a Key") (codes "Key") ≡ false
+matched_part = refl
+
+matched_contains : matched Contains Octet (codes "a Key") (codes "Key") ≡ true
+matched_contains = refl
+
+matched_star : matched Contains Octet (codes "a Key") (codes "K*") ≡ false
+matched_star = refl
+
+matched_matches : matched Matches Octet (codes "a Key") (codes "*K*") ≡ true
+matched_matches = refl
+
+matched_whole : matched Matches Octet (codes "a Key") (codes "K*") ≡ false
+matched_whole = refl

@@ -7,10 +7,10 @@ use Rattle.std.specs.Option.{option_map}
 use Rattle.glob_match.specs.declared.captures.Stretch.{Stretch}
 use Rattle.glob_match.specs.declared.comparator.Comparator.{Comparator}
 use Rattle.glob_match.specs.declared.token.Token.TheVariants.{Star}
-use Rattle.glob_match.specs.Captures.{texts, with_stretches}
+use Rattle.glob_match.specs.Captures.{texts}
 use Rattle.glob_match.specs.Containment.{begins_with, first_place}
 use Rattle.glob_match.specs.Matching.{least_fit, max_captures}
-use Rattle.glob_match.specs.Segments.{NoStar, any_octets}
+use Rattle.glob_match.specs.Segments.{NoStar, any_octets, with_stretches}
 use Rattle.glob_match.specs.Tokens.{literals, tokens_of}
 use Rattle.glob_match.proofs.Segmented.{length-tokens_of}
 use Rattle.glob_match.proofs.Steps.{literals-append, literals_most, next_found, next_within}

@@ -6,10 +6,9 @@ use Rattle.std.specs.Option.{option_map}
 use Rattle.glob_match.specs.declared.comparator.Comparator.{Comparator}
 use Rattle.glob_match.specs.declared.token.Token.{Token}
 use Rattle.glob_match.specs.declared.token.Token.TheVariants.{Literal, AnyOctet, Star}
-use Rattle.glob_match.specs.Captures.{with_stretches}
 use Rattle.glob_match.specs.Containment.{begins_with, first_place}
 use Rattle.glob_match.specs.Matching.{captures_of, least_fit, max_capture, max_captures}
-use Rattle.glob_match.specs.Segments.{NoStar, any_octets}
+use Rattle.glob_match.specs.Segments.{NoStar, any_octets, with_stretches}
 use Rattle.glob_match.specs.Tokens.{literals, tokens_of}
 use Rattle.glob_match.proofs.Added.{with_stretches-append}
 use Rattle.glob_match.proofs.Earliest.{last_found, last_none, map_map, next_segment, no_segment, segment_fits, segment_none, whole_found, whole_none}

@@ -1,6 +1,7 @@
 // What the wildcards of a key stand for.
 ghost use Rattle.std.specs.Prelude.{◌≡◌, ◌≤◌, ℕ, [], List, length, slice_index_or, slice_range, ◌∷◌};
-ghost use Rattle.glob_match.specs.Captures.{texts, with_stretches};
+ghost use Rattle.glob_match.specs.Captures.{texts};
+ghost use Rattle.glob_match.specs.Segments.{with_stretches};
 ghost use Rattle.glob_match.specs.Matching.{captures_of, max_capture, max_captures};
 
 use arrayvec::ArrayVec;
@@ -52,7 +53,8 @@ impl Captures {
     pub(crate) fn push(&mut self, start: usize, end: usize)
         requires { start ≤ end }
         ensures few { length self.new ≤ max_captures }
-        ensures texts { (value : List ℕ) → texts value self.new ≡ with_stretches (texts value self.old) (slice_range value start end ∷ []) }
+        ensures texts { (value : List ℕ)
+            → texts value self.new ≡ with_stretches (texts value self.old) (slice_range value start end ∷ []) }
     {
         if !self.stretches.is_full() {
             let kept = (end - start).min(MAX_CAPTURE);

@@ -42,7 +42,8 @@ fn kept_by(token: Token, octets: &[u8], comparator: Comparator, kept: u8x32) -> 
     requires room { 32 ≤ length octets.now }
     requires no_star { NoStar (token ∷ []) }
     ensures lanes { length result ≡ 32 }
-    ensures marks { (key : List Token) → marked (begins_with comparator (token ∷ key)) kept octets.now ≡ marked (begins_with comparator key) result (drop 1 octets.now) }
+    ensures marks { (key : List Token) → marked (begins_with comparator (token ∷ key)) kept octets.now
+        ≡ marked (begins_with comparator key) result (drop 1 octets.now) }
 {
     let Token::Literal(literal) = token else {
         return kept;

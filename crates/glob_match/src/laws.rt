@@ -8,30 +8,36 @@ ghost use Rattle.glob_match.specs.Matching.{Captured, Fits, IsLeastFit, least_fi
 
 /// The function that goes over the tokens gives the least list of stretches that the value fits with.
 pub fn least_fit_is_the_least()
-    ensures { (comparator : Comparator) (key : List Token) (value : List ℕ) (stretches : List (List ℕ)) → (least_fit comparator key value ≡ Some stretches) ↔ IsLeastFit comparator key value stretches }
+    ensures { (comparator : Comparator) (key : List Token) (value : List ℕ) (stretches : List (List ℕ))
+        → (least_fit comparator key value ≡ Some stretches) ↔ IsLeastFit comparator key value stretches }
 {}
 
 /// It gives none exactly where the value fits with none.
 pub fn none_where_nothing_fits()
-    ensures { (comparator : Comparator) (key : List Token) (value : List ℕ) → (least_fit comparator key value ≡ None) ↔ ((stretches : List (List ℕ)) → Fits comparator key stretches value → ⊥) }
+    ensures { (comparator : Comparator) (key : List Token) (value : List ℕ)
+        → (least_fit comparator key value ≡ None) ↔ ((stretches : List (List ℕ)) → Fits comparator key stretches value → ⊥) }
 {}
 
 /// The function of value and key gives the captures.
 pub fn match_is_captured()
-    ensures { (comparator : Comparator) (value key : List ℕ) (captures : List (List ℕ)) → (match_of comparator value key ≡ Some captures) ↔ Captured comparator value key captures }
+    ensures { (comparator : Comparator) (value key : List ℕ) (captures : List (List ℕ))
+        → (match_of comparator value key ≡ Some captures) ↔ Captured comparator value key captures }
 {}
 
 /// A value and a key have one list of captures at most.
 pub fn captures_are_unique()
-    ensures { (comparator : Comparator) (value key : List ℕ) (captures others : List (List ℕ)) → Captured comparator value key captures → Captured comparator value key others → captures ≡ others }
+    ensures { (comparator : Comparator) (value key : List ℕ) (captures others : List (List ℕ))
+        → Captured comparator value key captures → Captured comparator value key others → captures ≡ others }
 {}
 
 /// `:is` is equality of what is compared.
 pub fn is_means_equal()
-    ensures { (comparator : Comparator) (value key : List ℕ) → IsTrue (is_match comparator value key) ↔ (compared comparator value ≡ compared comparator key) }
+    ensures { (comparator : Comparator) (value key : List ℕ)
+        → IsTrue (is_match comparator value key) ↔ (compared comparator value ≡ compared comparator key) }
 {}
 
 /// `:contains` is that an equal stretch exists.
 pub fn contains_means_a_stretch()
-    ensures { (comparator : Comparator) (value key : List ℕ) → IsTrue (contains_match comparator value key) ↔ HasStretch comparator value key }
+    ensures { (comparator : Comparator) (value key : List ℕ)
+        → IsTrue (contains_match comparator value key) ↔ HasStretch comparator value key }
 {}

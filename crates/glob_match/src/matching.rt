@@ -1,11 +1,10 @@
 // Matching with wildcards.
 ghost use Rattle.std.specs.Prelude.{◌≡◌, ◌+◌, ◌*◌, ◌-◌, ◌≤◌, ◌<◌, ◌^◌, ◌∷◌, ℕ, List, OnSome, drop, length, slice_range};
 ghost use Rattle.std.specs.Option.{option_map};
-ghost use Rattle.glob_match.specs.Captures.{texts, with_stretches};
-ghost use Rattle.glob_match.specs.Matching.{least_fit, match_of, max_captures};
-ghost use Rattle.glob_match.specs.Segments.{NoStar, any_octets};
+ghost use Rattle.glob_match.specs.Captures.{texts};
+ghost use Rattle.glob_match.specs.Matching.{match_of, max_captures};
+ghost use Rattle.glob_match.specs.Segments.{NoStar, any_octets, captures_after_star, with_stretches};
 ghost use Rattle.glob_match.specs.Tokens.{literals, tokens_of};
-ghost use Rattle.glob_match.specs.declared.token.Token.TheVariants.{Star};
 
 use crate::captures::Captures;
 use crate::comparator::Comparator;
@@ -53,7 +52,7 @@ fn match_after_star(
     requires within { start ≤ length value.now }
     requires few { length captures ≤ max_captures }
     requires room { (length value.now + 1) * (length key.now + 1) < 2 ^ 64 }
-    ensures captures { option_map (texts value.now) result.0 ≡ option_map (with_stretches (texts value.now captures)) (least_fit comparator (Star ∷ tokens_of key.now) (drop start value.now)) }
+    ensures captures { option_map (texts value.now) result.0 ≡ captures_after_star comparator value.now start key.now (texts value.now captures) }
     ensures most { result.1 ≤ (length value.now + 1) * (length key.now + 1) }
     ensures least { OnSome result.0 (literals (tokens_of key.now) ≤ result.1) }
 {
@@ -89,7 +88,7 @@ fn match_end(
     requires within { start ≤ length value.now }
     requires few { length captures ≤ max_captures }
     requires no_star { NoStar (tokens_of segment.now) }
-    ensures { option_map (texts value.now) result ≡ option_map (with_stretches (texts value.now captures)) (least_fit comparator (Star ∷ tokens_of segment.now) (drop start value.now)) }
+    ensures { option_map (texts value.now) result ≡ captures_after_star comparator value.now start segment.now (texts value.now captures) }
 {
     let width = width(segment);
     if width > value.len() - start {
@@ -110,7 +109,9 @@ fn push_placed(captures: &mut Captures, segment: &[u8], start: usize, place: usi
     requires from { start ≤ place }
     requires room { place + length (tokens_of segment.now) < 2 ^ 64 }
     ensures few { length captures.new ≤ max_captures }
-    ensures texts { (value : List ℕ) → place + length (tokens_of segment.now) ≤ length value → texts value captures.new ≡ with_stretches (texts value captures.old) (slice_range value start place ∷ any_octets (tokens_of segment.now) (drop place value)) }
+    ensures texts { (value : List ℕ) → place + length (tokens_of segment.now) ≤ length value
+        → texts value captures.new ≡ with_stretches (texts value captures.old)
+        (slice_range value start place ∷ any_octets (tokens_of segment.now) (drop place value)) }
 {
     captures.push(start, place);
     push_any_octets(captures, segment, place);

@@ -1,9 +1,9 @@
 // Stretches of a key without stars. Each token of one stands for one octet.
 ghost use Rattle.std.specs.Prelude.{◌≡◌, ◌∷◌, ◌++◌, ◌+◌, ◌≤◌, ℕ, List, MatchOption, drop, length, ◌<◌, ◌^◌};
-ghost use Rattle.glob_match.specs.Captures.{texts, with_stretches};
+ghost use Rattle.glob_match.specs.Captures.{texts};
 ghost use Rattle.glob_match.specs.Containment.{begins_with};
 ghost use Rattle.glob_match.specs.Matching.{max_captures};
-ghost use Rattle.glob_match.specs.Segments.{NoStar, any_octets};
+ghost use Rattle.glob_match.specs.Segments.{NoStar, any_octets, with_stretches};
 ghost use Rattle.glob_match.specs.Tokens.{tokens_of};
 ghost use Rattle.glob_match.specs.declared.token.Token.TheVariants.{Star};
 
@@ -13,8 +13,10 @@ use crate::token::{Token, first_token};
 
 /// The key up to its first star, and what follows that star.
 pub(crate) fn split_segment(key: &[u8]) -> (&[u8], Option<&[u8]>)
-    ensures tokens { MatchOption result.1 (tokens_of key.now ≡ tokens_of result.0.now) (λ rest. tokens_of key.now ≡ tokens_of result.0.now ++ Star ∷ tokens_of rest.now) }
-    ensures lengths { MatchOption result.1 (length key.now ≡ length result.0.now) (λ rest. length key.now ≡ length result.0.now + (1 + length rest.now)) }
+    ensures tokens { MatchOption result.1 (tokens_of key.now ≡ tokens_of result.0.now)
+        (λ rest. tokens_of key.now ≡ tokens_of result.0.now ++ Star ∷ tokens_of rest.now) }
+    ensures lengths { MatchOption result.1 (length key.now ≡ length result.0.now)
+        (λ rest. length key.now ≡ length result.0.now + (1 + length rest.now)) }
     ensures no_star { NoStar (tokens_of result.0.now) }
 {
     let mut place = 0;
@@ -65,7 +67,8 @@ pub(crate) fn push_any_octets(captures: &mut Captures, segment: &[u8], start: us
     requires few { length captures.old ≤ max_captures }
     requires room { start + length (tokens_of segment.now) < 2 ^ 64 }
     ensures few { length captures.new ≤ max_captures }
-    ensures texts { (value : List ℕ) → start + length (tokens_of segment.now) ≤ length value → texts value captures.new ≡ with_stretches (texts value captures.old) (any_octets (tokens_of segment.now) (drop start value)) }
+    ensures texts { (value : List ℕ) → start + length (tokens_of segment.now) ≤ length value
+        → texts value captures.new ≡ with_stretches (texts value captures.old) (any_octets (tokens_of segment.now) (drop start value)) }
 {
     let mut place = start;
     let mut tokens = segment;

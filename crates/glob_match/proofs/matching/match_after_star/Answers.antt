@@ -1,7 +1,8 @@
 use Rattle.std.proofs.Common.{◌≡◌, ◌+◌, ◌*◌, ◌≤◌, ◌∙◌, ◌∷◌, ap, sym, length, drop, None, arith}
 use Rattle.std.proofs.lemmas.List.{take_rest}
+use Rattle.glob_match.specs.Segments.{with_stretches}
 use Rattle.glob_match.specs.declared.token.Token.TheVariants.{Star}
-use Rattle.glob_match.specs.Captures.{texts, with_stretches}
+use Rattle.glob_match.specs.Captures.{texts}
 use Rattle.glob_match.specs.Containment.{begins_with, first_place}
 use Rattle.glob_match.specs.Matching.{least_fit}
 use Rattle.glob_match.specs.Tokens.{tokens_of}

@@ -1,7 +1,8 @@
 use Rattle.std.proofs.Common.{◌∷◌, length, drop}
 use Rattle.std.specs.Option.{option_map}
+use Rattle.glob_match.specs.Segments.{with_stretches}
 use Rattle.glob_match.specs.declared.token.Token.TheVariants.{Star}
-use Rattle.glob_match.specs.Captures.{texts, with_stretches}
+use Rattle.glob_match.specs.Captures.{texts}
 use Rattle.glob_match.specs.Matching.{least_fit}
 use Rattle.glob_match.specs.Tokens.{tokens_of}
 use Rattle.glob_match.proofs.Searched.{IsSearched}

@@ -1,9 +1,9 @@
 use Rattle.std.proofs.Common.{◌≡◌, ◌∙◌, ◌∷◌, [], ap, sym, drop, Some, arith}
 use Rattle.std.specs.Option.{option_map}
 use Rattle.glob_match.specs.declared.token.Token.TheVariants.{Star}
-use Rattle.glob_match.specs.Captures.{texts, with_stretches}
+use Rattle.glob_match.specs.Captures.{texts}
 use Rattle.glob_match.specs.Matching.{captures_of, least_fit}
-use Rattle.glob_match.specs.Segments.{any_octets}
+use Rattle.glob_match.specs.Segments.{any_octets, with_stretches}
 use Rattle.glob_match.specs.Tokens.{literals, tokens_of}
 use Rattle.glob_match.proofs.Plain.{begins_length}
 use Rattle.glob_match.proofs.Searched.{some_more, split_end, split_next}

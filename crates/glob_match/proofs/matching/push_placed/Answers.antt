@@ -1,7 +1,7 @@
 use Rattle.std.proofs.Common.{◌∙◌, ◌∷◌, [], ap, drop}
 use Rattle.std.specs.List.{slice_range}
-use Rattle.glob_match.specs.Captures.{texts, with_stretches}
-use Rattle.glob_match.specs.Segments.{any_octets}
+use Rattle.glob_match.specs.Captures.{texts}
+use Rattle.glob_match.specs.Segments.{any_octets, with_stretches}
 use Rattle.glob_match.specs.Tokens.{tokens_of}
 use Rattle.glob_match.proofs.Added.{with_stretches-append}
 use Rattle.glob_match.proofs.matching.push_placed.Goals as goal

@@ -2,9 +2,9 @@ use Rattle.std.proofs.Common.{◌≡◌, ◌+◌, ◌<◌, ◌≤◌, ◌∙◌,
 use Rattle.std.proofs.lemmas.List.{length-map}
 use Rattle.std.specs.List.{slice_range}
 use Rattle.glob_match.specs.declared.captures.Stretch.{Stretch}
-use Rattle.glob_match.specs.Captures.{texts, with_stretches}
+use Rattle.glob_match.specs.Captures.{texts}
 use Rattle.glob_match.specs.Matching.{max_captures}
-use Rattle.glob_match.specs.Segments.{any_octets}
+use Rattle.glob_match.specs.Segments.{any_octets, with_stretches}
 use Rattle.glob_match.specs.Tokens.{tokens_of}
 use Rattle.glob_match.proofs.Added.{any_added, none_added, with_none}
 use Rattle.glob_match.proofs.segment.push_any_octets.Goals as goal

@@ -2,8 +2,9 @@ use Rattle.std.proofs.Common.{◌≡◌, ◌≢◌, ◌∙◌, [], ◌∷◌, ap
 use Rattle.std.proofs.lemmas.Bool.{eqb-true, eqb-false}
 use Rattle.std.proofs.lemmas.List.{length-map}
 use Rattle.std.specs.List.{slice_range}
+use Rattle.glob_match.specs.Segments.{with_stretches}
 use Rattle.glob_match.specs.declared.captures.Stretch.{Stretch}
-use Rattle.glob_match.specs.Captures.{texts, with_stretches}
+use Rattle.glob_match.specs.Captures.{texts}
 use Rattle.glob_match.specs.Matching.{max_captures}
 use Rattle.glob_match.proofs.Added.{cut_text, pushed, full}
 use Rattle.glob_match.proofs.captures.Captures.push.Goals as goal
