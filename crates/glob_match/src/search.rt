@@ -109,7 +109,7 @@ fn find_folded<const TEXT: usize, const WINDOW: usize>(value: &[u8], text: &[u8]
     find_in_windows(&finder, text.len(), value, &mut window)
 }
 
-// Windows overlap by one octet less than the text has.
+// Windows overlap by one octet less than the text has. The first one is small, since a text is often found at once.
 fn find_in_windows(finder: &Finder, len: usize, value: &[u8], window: &mut [u8]) -> Option<usize>
     requires text { length finder.now ≡ len }
     requires window { len ≤ length window.old }
@@ -117,8 +117,9 @@ fn find_in_windows(finder: &Finder, len: usize, value: &[u8], window: &mut [u8])
     ensures { FindsNeedle (compared Casemap value.now) finder.now 0 result }
 {
     let mut start = 0;
+    let mut room = len.max(SHORT).min(window.len());
     'windows: loop {
-        let octets = (value.len() - start).min(window.len());
+        let octets = (value.len() - start).min(room);
         fold(&value[start..start + octets], &mut window[..octets]);
         if let Some(place) = finder.find(&window[..octets]) {
             return Some(start + place);
@@ -127,6 +128,7 @@ fn find_in_windows(finder: &Finder, len: usize, value: &[u8], window: &mut [u8])
             return None;
         }
         start += octets + 1 - len;
+        room = window.len();
     }
 }
 
