@@ -22,7 +22,7 @@ const LONGEST_PROGRAM: usize = 4_194_304;
 
 // KEEP, over and over, up to a HALT.
 fn keeps(alloc: Global, count: usize) -> Result<Vec<Instruction>, Fail> {
-    let mut instructions = vec![in alloc; plain(Operation::Keep); count - 1]?;
+    let mut instructions = vec![in alloc; plain(Operation::Keep); count.saturating_sub(1)]?;
     instructions.push(plain(Operation::Halt))?;
     Ok(instructions)
 }
