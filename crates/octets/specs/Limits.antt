@@ -1,5 +1,5 @@
--- The limits of messages, scripts and programs. Each number stands here alone; whatever refuses or cuts cites it by name.
-use Rattle.std.specs.Prelude.{ℕ, ◌^◌}
+-- The limits of messages, scripts, programs and entries. Each number stands here alone; whatever refuses or cuts cites it by name.
+use Rattle.std.specs.Prelude.{ℕ, ◌^◌, ◌-◌}
 
 -- octets of a message, and the number of its parts
 abbrev pub max_message : ℕ
@@ -7,6 +7,10 @@ max_message = 2 ^ 26
 
 abbrev pub max_parts : ℕ
 max_parts = 4096
+
+-- the depth of a part, the message's own being 1
+abbrev pub max_depth : ℕ
+max_depth = 32
 
 -- octets of a script; braces and test names that enclose a token, its own included; octets of a string in it
 abbrev pub max_script : ℕ
@@ -34,3 +38,10 @@ max_stack = 1024
 
 abbrev pub max_loops : ℕ
 max_loops = 3
+
+-- the number of an entry, and octets of a user's name
+abbrev pub max_entry_number : ℕ
+max_entry_number = 2 ^ 32 - 1
+
+abbrev pub max_user : ℕ
+max_user = 64
