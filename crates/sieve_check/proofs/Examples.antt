@@ -1,11 +1,16 @@
 -- Rows that were worked out by hand.
-use Rattle.std.proofs.Common.{◌≡◌, ℕ, [], ◌∷◌, Some, None, true, inl, inr, refl}
+use Rattle.std.proofs.Common.{◌≡◌, ℕ, [], ◌∷◌, Some, None, true, refl}
 use Rattle.std.specs.Prelude.{codes}
 use Rattle.sieve_parser.specs.Tree.{text, text_list, amount, label, InvocationTree, invocation, no_test, one_test, test_list, last, next, CommandsTree, simple, block, no_command, command}
 use Rattle.sieve_check.specs.declared.error.CheckError.TheVariants.{UnknownCommand, UnknownCapability, BadArguments}
-use Rattle.sieve_check.specs.FormOf.{IsFormOf}
-use Rattle.sieve_check.specs.Rules.{fault_of}
-use Rattle.sieve_check.specs.Typed.{constant, keep, stop, choice, otherwise, branch}
+use Rattle.sieve_check.specs.declared.names.Capability.TheVariants.{Mime, FileInto}
+use Rattle.sieve_check.specs.declared.names.TestName.TheVariants.{Size}
+use Rattle.sieve_check.specs.declared.typed.Order.TheVariants.{Over}
+use Rattle.sieve_check.specs.FormOf.{IsFormOf, form_of, test_form_of}
+use Rattle.sieve_check.specs.Rules.{fault_of, after_invocation}
+use Rattle.sieve_check.specs.Signatures.{Read, reading, test_signature}
+use Rattle.sieve_check.specs.Surroundings.{at_start, lacks}
+use Rattle.sieve_check.specs.Typed.{constant, size, keep, stop, choice, otherwise, branch}
 use Rattle.sieve_check.specs.Typed as typed
 
 abbrev keep_at : ℕ → CommandsTree → CommandsTree
@@ -29,6 +34,11 @@ required_late = refl
 -- keep; require "regex";
 required_late_and_unknown : fault_of (keep_at 0 (command (simple (invocation 2 (codes "require") (text (codes "regex") ∷ []) no_test)) no_command)) ≡ Some (UnknownCapability 2)
 required_late_and_unknown = refl
+
+-- require ["mime", "regex"] "fileinto";
+unknown_before_extra :
+    fault_of (command (simple (invocation 0 (codes "require") (text_list (codes "mime") (codes "regex" ∷ []) ∷ text (codes "fileinto") ∷ []) no_test)) no_command) ≡ Some (UnknownCapability 0)
+unknown_before_extra = refl
 
 -- else {} vacation;
 place_before_number :
@@ -56,6 +66,30 @@ faultless :
     ≡ None
 faultless = refl
 
+-- what was required is there afterwards, and nothing else
+required : lacks (after_invocation at_start (invocation 0 (codes "require") (text_list (codes "fileinto") (codes "mime" ∷ []) ∷ []) no_test)) (Some Mime) ≡ Rattle.std.proofs.Common.false
+required = refl
+
+not_all_required : lacks (after_invocation at_start (invocation 0 (codes "require") (text (codes "mime") ∷ []) no_test)) (Some FileInto) ≡ true
+not_all_required = refl
+
+-- size :over 10, with one tag, with none, with two, and with the tag behind the number
+over_read : reading (test_signature Size) (label (codes "over") ∷ amount 10 ∷ []) ≡ Some (let r : Read = record { tags = record { order = Some Over }; positional = amount 10 ∷ [] } in r)
+over_read = refl
+
+no_tag_read : reading (test_signature Size) (amount 10 ∷ []) ≡ None
+no_tag_read = refl
+
+two_tags_read : reading (test_signature Size) (label (codes "over") ∷ label (codes "under") ∷ amount 10 ∷ []) ≡ None
+two_tags_read = refl
+
+tag_behind : reading (test_signature Size) (amount 10 ∷ label (codes "over") ∷ []) ≡ None
+tag_behind = refl
+
+-- size :over 10
+one_test_form : test_form_of (invocation 0 (codes "size") (label (codes "over") ∷ amount 10 ∷ []) no_test) ≡ Some (size Over 10)
+one_test_form = refl
+
 -- require "mime"; if true {} else { keep; } stop;
 one_form :
     IsFormOf
@@ -64,29 +98,8 @@ one_form :
     (command (block (invocation 7 (codes "else") [] no_test) (keep_at 9 no_command))
     (command (simple (invocation 12 (codes "stop") [] no_test)) no_command))))
     (typed.command (choice (branch (constant true) typed.no_command (otherwise (typed.command keep typed.no_command)))) (typed.command stop typed.no_command))
-one_form =
-    inl (record {
-      is = record { args = text (codes "mime") ∷ []; tests = no_test; is = record { token = 0; word = codes "require"; same = refl; named = refl } };
-      begins = refl;
-      rest = inl (record {
-        f = constant true;
-        body = typed.no_command;
-        more = otherwise (typed.command keep typed.no_command);
-        others = typed.command stop typed.no_command;
-        is = record {
-          guard = true_at 4;
-          is = record { token = 3; word = codes "if"; same = refl; named = refl };
-          test = record { token = 4; word = codes "true"; same = refl; named = refl };
-          block = (refl, refl);
-        };
-        begins = refl;
-        same = refl;
-        rest = inr (inr (record {
-          body = typed.command keep typed.no_command;
-          is = record { token = 7; word = codes "else"; same = refl; named = refl };
-          block = inr (record { action = keep; others = typed.no_command; is = record { token = 9; word = codes "keep"; same = refl; named = refl }; begins = refl; same = refl; rest = (refl, refl) });
-          same = refl;
-          rest = inr (record { action = stop; others = typed.no_command; is = record { token = 12; word = codes "stop"; same = refl; named = refl }; begins = refl; same = refl; rest = (refl, refl) });
-        }));
-      });
-    })
+one_form = refl
+
+-- keep; else {}
+no_form : form_of (keep_at 0 (command (block (invocation 2 (codes "else") [] no_test) no_command) no_command)) ≡ None
+no_form = refl

@@ -1,81 +1,255 @@
 -- A typed form has no more tokens than the commands that are written so.
-use Rattle.std.proofs.Common.{◌≡◌, ℕ, ◌+◌, ◌≤◌, suc, List, [], ◌∷◌, ◌++◌, inl, inr, arith, length, length-append}
-use Rattle.sieve_parser.specs.Tree.{InvocationTree, MoreTests, CommandTree, simple, block, CommandsTree, no_command as no_more, command as then}
-use Rattle.sieve_parser.specs.Lexemes.{identifier, closing_parenthesis, opening_brace, closing_brace}
-use Rattle.sieve_parser.specs.Grammar.{Placed, at_depth, invocation_spelled, more_tests_spelled, command_spelled, commands_spelled}
+use Rattle.std.proofs.Common.{◌≡◌, ℕ, ◌+◌, ◌≤◌, suc, List, [], ◌∷◌, ◌++◌, Option, Some, None, arith, length, length-append, ap, subst, ◌∙◌}
+use Rattle.std.proofs.lemmas.Option.{same_Some}
+use Rattle.sieve_parser.specs.Tree.{ArgumentTree, text, text_list, amount, label, InvocationTree, invocation, TestsTree, no_test, one_test, test_list, MoreTests, last as no_more, next, CommandTree, simple, block, CommandsTree, no_command as no_tree, command as tree}
+use Rattle.sieve_parser.specs.Lexemes.{semicolon, closing_parenthesis, opening_brace, closing_brace}
+use Rattle.sieve_parser.specs.Grammar.{at_depth, arguments_spelled, argument_spelled, invocation_spelled, tests_spelled, more_tests_spelled, command_spelled, commands_spelled}
 use Rattle.sieve_parser.specs.Scripts.{IsTree}
 use Rattle.sieve_parser.proofs.Extent.{tree_fits}
-use Rattle.sieve_check.specs.Typed.{TestForm, constant, negation, all_of, any_of, size, TestForms, no_test as no_other, test, CommandForm, keep, discard, stop, choice, CommandForms, BranchForms, no_branch}
+use Rattle.sieve_check.specs.declared.names.CommandName.{CommandName}
+use Rattle.sieve_check.specs.declared.names.CommandName.TheVariants.{Require, If, Elsif, Else, Stop, Keep, Discard}
+use Rattle.sieve_check.specs.declared.names.TestName.{TestName}
+use Rattle.sieve_check.specs.declared.names.TestName.TheVariants.{Constant, Not, AllOf, AnyOf, Size}
+use Rattle.sieve_check.specs.declared.typed.Order.{Order}
+use Rattle.sieve_check.specs.declared.signature.Signature.{Signature}
+use Rattle.sieve_check.specs.declared.signature.Tags.{Tags}
+use Rattle.sieve_check.specs.Names.{command_named, test_named, tag_named}
+use Rattle.sieve_check.specs.Signatures.{Read, no_tag, add_tag, tags_read, is_complete, reading, command_signature, test_signature}
+use Rattle.sieve_check.specs.Typed.{TestForm, constant, negation, all_of, any_of, size, TestForms, no_test as no_other, test, keep, discard, stop, CommandForms, no_command, command, BranchForms, no_branch, otherwise, branch}
 use Rattle.sieve_check.specs.Bounded.{IsBounded}
 use Rattle.sieve_check.specs.Extent.{test_extent, tests_extent, command_extent, commands_extent, branches_extent}
-use Rattle.sieve_check.specs.FormOf.{IsTestForm, AreTestForms, IsAction, Begins, AreForms, IsFormOf}
+use Rattle.sieve_check.specs.FormOf.{InnerForms, none, one, bracketed, number_in, test_of, test_form_of, inner_forms_of, more_forms_of, PartForm, nothing, action, first, next_branch, last, simple_of, block_of, simple_part, block_part, Forms, closed, closed_by, after_none, put, part_of, forms_of, IsFormOf}
+use Rattle.sieve_check.proofs.Options.{step_some, map_some, if_some}
 
-bracketed : (before inner : List Placed) (x : Placed) → length (before ++ (inner ++ x ∷ [])) ≡ length before + length inner + 1
-bracketed before inner x = omega (arith, length-append before (inner ++ x ∷ []), length-append inner (x ∷ []))
+-- an order that was given, as a number
+abbrev given : Option Order → ℕ
+given None = 0
+given (Some order) = 1
 
-guarded : (name : Placed) (guard body : List Placed) (x y : Placed) → length ((name ∷ guard) ++ (x ∷ (body ++ y ∷ []))) ≡ 3 + length guard + length body
-guarded name guard body x y = omega (arith, length-append (name ∷ guard) (x ∷ (body ++ y ∷ [])), length-append body (y ∷ []))
+one_at_most : (o : Option Order) → given o ≤ 1
+one_at_most None = omega arith
+one_at_most (Some order) = omega arith
+
+-- each tag that was read is an argument
+tags_fit : (signature : Signature) (tags : Tags) (args : List ArgumentTree) (read : Read) → tags_read signature tags args ≡ Some read → given read.tags.order + length read.positional ≤ given tags.order + length args
+tags_fit signature tags [] read h = subst (λ (r : Read). given r.tags.order + length r.positional ≤ given tags.order + 0) (same_Some _ read h) (omega arith)
+tags_fit signature tags (text s ∷ args) read h = subst (λ (r : Read). given r.tags.order + length r.positional ≤ given tags.order + length (text s ∷ args)) (same_Some _ read h) (omega arith)
+tags_fit signature tags (text_list s ss ∷ args) read h = subst (λ (r : Read). given r.tags.order + length r.positional ≤ given tags.order + length (text_list s ss ∷ args)) (same_Some _ read h) (omega arith)
+tags_fit signature tags (amount n ∷ args) read h = subst (λ (r : Read). given r.tags.order + length r.positional ≤ given tags.order + length (amount n ∷ args)) (same_Some _ read h) (omega arith)
+tags_fit signature tags (label name ∷ args) read h =
+    let tag = step_some (tag_named name) _ read h in
+    let more = step_some (add_tag signature tag.0 tags) _ read tag.2 in
+    omega (arith, tags_fit signature more.0 args read more.2, one_at_most more.0.order)
+
+-- arguments by which a size was read
+size_args : (args : List ArgumentTree) (read : Read) (order : Order) (n : ℕ) → reading (test_signature Size) args ≡ Some read → read.tags.order ≡ Some order → number_in read.positional ≡ Some n → 2 ≤ length args
+size_args args read order n h is number =
+    let r = step_some (tags_read (test_signature Size) no_tag args) _ read h in
+    let same = same_Some r.0 read (if_some (is_complete (test_signature Size) r.0) r.0 read r.2).1 in
+    let fits = tags_fit (test_signature Size) no_tag args read (r.1 ∙ ap Some same) in
+    let some : given read.tags.order ≡ 1 = ap given is in
+    omega (arith, fits, some, positional read.positional n number)
+  where
+    positional : (xs : List ArgumentTree) (n : ℕ) → number_in xs ≡ Some n → 1 ≤ length xs
+    positional [] n h = absurd (cc)
+    positional (x ∷ xs) n h = omega arith
+
+argument_some : (d : ℕ) (a : ArgumentTree) → 1 ≤ length (argument_spelled d a)
+argument_some d (text s) = omega arith
+argument_some d (text_list s ss) = omega arith
+argument_some d (amount n) = omega arith
+argument_some d (label name) = omega arith
+
+arguments_fit : (d : ℕ) (args : List ArgumentTree) → length args ≤ length (arguments_spelled d args)
+arguments_fit d [] = omega arith
+arguments_fit d (a ∷ args) = omega (arith, arguments_fit d args, argument_some d a, length-append (argument_spelled d a) (arguments_spelled d args))
+
+-- how many tokens tests behind arguments have, at least
+abbrev inner_extent : InnerForms → ℕ
+inner_extent none = 0
+inner_extent (one f) = test_extent f
+inner_extent (bracketed f fs) = 2 + test_extent f + tests_extent fs
+
+test_of_fits : (name : TestName) (args : List ArgumentTree) (read : Read) (inner : InnerForms) (f : TestForm) → reading (test_signature name) args ≡ Some read → test_of name read inner ≡ Some f
+    → test_extent f ≤ 1 + length args + inner_extent inner
+test_of_fits (Constant b) args read none f h is = subst (λ x. test_extent x ≤ 1 + length args + 0) (same_Some (constant b) f is) (omega arith)
+test_of_fits Not args read (one t) f h is = subst (λ x. test_extent x ≤ 1 + length args + test_extent t) (same_Some (negation t) f is) (omega arith)
+test_of_fits AllOf args read (bracketed t ts) f h is = subst (λ x. test_extent x ≤ 1 + length args + (2 + test_extent t + tests_extent ts)) (same_Some (all_of t ts) f is) (omega arith)
+test_of_fits AnyOf args read (bracketed t ts) f h is = subst (λ x. test_extent x ≤ 1 + length args + (2 + test_extent t + tests_extent ts)) (same_Some (any_of t ts) f is) (omega arith)
+test_of_fits Size args read none f h is =
+    let order = step_some read.tags.order _ f is in
+    let n = step_some (number_in read.positional) _ f order.2 in
+    subst (λ x. test_extent x ≤ 1 + length args + 0) (same_Some (size order.0 n.0) f n.2) (omega (arith, size_args args read order.0 n.0 h order.1 n.1))
+test_of_fits (Constant b) args read (one t) f h is = absurd (cc)
+test_of_fits (Constant b) args read (bracketed t ts) f h is = absurd (cc)
+test_of_fits Not args read none f h is = absurd (cc)
+test_of_fits Not args read (bracketed t ts) f h is = absurd (cc)
+test_of_fits AllOf args read none f h is = absurd (cc)
+test_of_fits AllOf args read (one t) f h is = absurd (cc)
+test_of_fits AnyOf args read none f h is = absurd (cc)
+test_of_fits AnyOf args read (one t) f h is = absurd (cc)
+test_of_fits Size args read (one t) f h is = absurd (cc)
+test_of_fits Size args read (bracketed t ts) f h is = absurd (cc)
 
 mutual
-  test_fits : (f : TestForm) (i : InvocationTree) (d : ℕ) → IsTestForm f i → test_extent f ≤ length (invocation_spelled d i)
-  test_fits (constant b) i d is = rw is.same (omega arith)
-  test_fits (negation f) i d (t, (is, inner)) = rw is.same (omega (arith, test_fits f t (suc d) inner))
-  test_fits (all_of f fs) i d (t, (ts, (is, first, others))) =
-      rw is.same (omega (arith, test_fits f t (suc d) first, tests_fit fs ts d others, bracketed (invocation_spelled (suc d) t) (more_tests_spelled d ts) (at_depth d closing_parenthesis)))
-  test_fits (any_of f fs) i d (t, (ts, (is, first, others))) =
-      rw is.same (omega (arith, test_fits f t (suc d) first, tests_fit fs ts d others, bracketed (invocation_spelled (suc d) t) (more_tests_spelled d ts) (at_depth d closing_parenthesis)))
-  test_fits (size order n) i d (tag, (is, named)) = rw is.same (omega arith)
-
-  tests_fit : (fs : TestForms) (ts : MoreTests) (d : ℕ) → AreTestForms fs ts → tests_extent fs ≤ length (more_tests_spelled d ts)
-  tests_fit no_other ts d h = omega arith
-  tests_fit (test f fs) others d (t, (ts, (same, first, rest))) =
-      rw same (omega (arith, test_fits f t (suc d) first, tests_fit fs ts d rest, length-append (invocation_spelled (suc d) t) (more_tests_spelled d ts)))
-
-action_fits : (f : CommandForm) (i : InvocationTree) (d : ℕ) → IsAction f i → command_extent f ≤ length (command_spelled d (simple i))
-action_fits keep i d is = rw is.same (omega arith)
-action_fits discard i d is = rw is.same (omega arith)
-action_fits stop i d is = rw is.same (omega arith)
-action_fits (choice branches) i d is = absurd is
-
-mutual
-  begun_fits : (c : CommandTree) (d : ℕ) (rest : CommandsTree) (n : ℕ)
-      → ((branches : BranchForms) (forms : CommandForms) → AreForms rest branches forms → branches_extent branches + commands_extent forms ≤ n)
-      → (branches : BranchForms) (forms : CommandForms) → Begins c (λ more others. AreForms rest more others) branches forms → branches_extent branches + commands_extent forms ≤ length (command_spelled d c) + n
-  begun_fits (simple i) d rest n below branches forms (inl h) = rw h.begins (omega (arith, below no_branch forms h.rest))
-  begun_fits (simple i) d rest n below branches forms (inr h) =
-      rw (h.begins, h.same) (omega (arith, action_fits h.action i d h.is, below no_branch h.others h.rest))
-  begun_fits (block i cs) d rest n below branches forms (inl h) =
-      rw (h.begins, h.same, h.is.is.same) (omega (
-        arith,
-        test_fits h.f h.is.guard (suc d) h.is.test,
-        forms_fit cs (suc d) no_branch h.body h.is.block,
-        below h.more h.others h.rest,
-        guarded (at_depth d (identifier h.is.is.token h.is.is.word)) (invocation_spelled (suc d) h.is.guard) (commands_spelled (suc d) cs) (at_depth (suc d) opening_brace) (at_depth (suc d) closing_brace),
-      ))
-  begun_fits (block i cs) d rest n below branches forms (inr (inl h)) =
-      rw (h.same, h.is.is.same) (omega (
-        arith,
-        test_fits h.f h.is.guard (suc d) h.is.test,
-        forms_fit cs (suc d) no_branch h.body h.is.block,
-        below h.more forms h.rest,
-        guarded (at_depth d (identifier h.is.is.token h.is.is.word)) (invocation_spelled (suc d) h.is.guard) (commands_spelled (suc d) cs) (at_depth (suc d) opening_brace) (at_depth (suc d) closing_brace),
-      ))
-  begun_fits (block i cs) d rest n below branches forms (inr (inr h)) =
-      rw (h.same, h.is.same) (omega (
-        arith,
-        forms_fit cs (suc d) no_branch h.body h.block,
-        below no_branch forms h.rest,
-        guarded (at_depth d (identifier h.is.token h.is.word)) [] (commands_spelled (suc d) cs) (at_depth (suc d) opening_brace) (at_depth (suc d) closing_brace),
-      ))
-
-  pub forms_fit : (cs : CommandsTree) (d : ℕ) (branches : BranchForms) (forms : CommandForms) → AreForms cs branches forms → branches_extent branches + commands_extent forms ≤ length (commands_spelled d cs)
-  forms_fit no_more d branches forms (begins, same) = rw (begins, same) (omega arith)
-  forms_fit (then c cs) d branches forms h =
+  test_fits : (i : InvocationTree) (f : TestForm) (d : ℕ) → test_form_of i ≡ Some f → test_extent f ≤ length (invocation_spelled d i)
+  test_fits (invocation token word args tests) f d h =
+      let inner = step_some (inner_forms_of tests) _ f h in
+      let name = step_some (test_named word) _ f inner.2 in
+      let read = step_some (reading (test_signature name.0) args) _ f name.2 in
       omega (
         arith,
-        begun_fits c d cs (length (commands_spelled d cs)) (λ more others k. forms_fit cs d more others k) branches forms h,
-        length-append (command_spelled d c) (commands_spelled d cs),
+        test_of_fits name.0 args read.0 inner.0 f read.1 read.2,
+        inner_fits tests inner.0 d inner.1,
+        arguments_fit d args,
+        length-append (arguments_spelled d args) (tests_spelled d tests),
       )
 
-pub script_form_fits : (cs : CommandsTree) (forms : CommandForms) → IsTree cs → IsFormOf cs forms → IsBounded forms
-script_form_fits cs forms (script, parsed) is = record { octets = omega (arith, forms_fit cs 0 no_branch forms is, tree_fits script cs parsed, parsed.0) }
+  inner_fits : (tests : TestsTree) (inner : InnerForms) (d : ℕ) → inner_forms_of tests ≡ Some inner → inner_extent inner ≤ length (tests_spelled d tests)
+  inner_fits no_test inner d h = subst (λ x. inner_extent x ≤ 0) (same_Some none inner h) (omega arith)
+  inner_fits (one_test t) inner d h =
+      let f = map_some (test_form_of t) one inner h in
+      subst (λ x. inner_extent x ≤ length (invocation_spelled (suc d) t)) (same_Some (one f.0) inner f.2) (test_fits t f.0 (suc d) f.1)
+  inner_fits (test_list t ts) inner d h =
+      let f = step_some (test_form_of t) _ inner h in
+      let fs = map_some (more_forms_of ts) (bracketed f.0) inner f.2 in
+      subst (λ x. inner_extent x ≤ length (tests_spelled d (test_list t ts))) (same_Some (bracketed f.0 fs.0) inner fs.2) (omega (
+        arith,
+        test_fits t f.0 (suc d) f.1,
+        more_fit ts fs.0 d fs.1,
+        length-append (invocation_spelled (suc d) t) (more_tests_spelled d ts ++ at_depth d closing_parenthesis ∷ []),
+        length-append (more_tests_spelled d ts) (at_depth d closing_parenthesis ∷ []),
+      ))
+
+  more_fit : (ts : MoreTests) (fs : TestForms) (d : ℕ) → more_forms_of ts ≡ Some fs → tests_extent fs ≤ length (more_tests_spelled d ts)
+  more_fit no_more fs d h = subst (λ x. tests_extent x ≤ 0) (same_Some no_other fs h) (omega arith)
+  more_fit (next t ts) fs d h =
+      let f = step_some (test_form_of t) _ fs h in
+      let others = map_some (more_forms_of ts) (test f.0) fs f.2 in
+      subst (λ x. tests_extent x ≤ length (more_tests_spelled d (next t ts))) (same_Some (test f.0 others.0) fs others.2) (omega (
+        arith,
+        test_fits t f.0 (suc d) f.1,
+        more_fit ts others.0 d others.1,
+        length-append (invocation_spelled (suc d) t) (more_tests_spelled d ts),
+      ))
+
+-- how many tokens a part has, at least
+abbrev part_extent : PartForm → ℕ
+part_extent nothing = 0
+part_extent (action c) = command_extent c
+part_extent (first f body) = 3 + test_extent f + commands_extent body
+part_extent (next_branch f body) = 3 + test_extent f + commands_extent body
+part_extent (last body) = 3 + commands_extent body
+
+simple_fits : (name : CommandName) (inner : InnerForms) (p : PartForm) → simple_of name inner ≡ Some p → part_extent p ≤ 2
+simple_fits Require none p h = subst (λ x. part_extent x ≤ 2) (same_Some nothing p h) (omega arith)
+simple_fits Stop none p h = subst (λ x. part_extent x ≤ 2) (same_Some (action stop) p h) (omega arith)
+simple_fits Keep none p h = subst (λ x. part_extent x ≤ 2) (same_Some (action keep) p h) (omega arith)
+simple_fits Discard none p h = subst (λ x. part_extent x ≤ 2) (same_Some (action discard) p h) (omega arith)
+simple_fits Require (one f) p h = absurd (cc)
+simple_fits Require (bracketed f fs) p h = absurd (cc)
+simple_fits If none p h = absurd (cc)
+simple_fits If (one f) p h = absurd (cc)
+simple_fits If (bracketed f fs) p h = absurd (cc)
+simple_fits Elsif none p h = absurd (cc)
+simple_fits Elsif (one f) p h = absurd (cc)
+simple_fits Elsif (bracketed f fs) p h = absurd (cc)
+simple_fits Else none p h = absurd (cc)
+simple_fits Else (one f) p h = absurd (cc)
+simple_fits Else (bracketed f fs) p h = absurd (cc)
+simple_fits Stop (one f) p h = absurd (cc)
+simple_fits Stop (bracketed f fs) p h = absurd (cc)
+simple_fits Keep (one f) p h = absurd (cc)
+simple_fits Keep (bracketed f fs) p h = absurd (cc)
+simple_fits Discard (one f) p h = absurd (cc)
+simple_fits Discard (bracketed f fs) p h = absurd (cc)
+
+block_fits : (name : CommandName) (inner : InnerForms) (body : CommandForms) (p : PartForm) → block_of name inner body ≡ Some p → part_extent p ≤ 3 + inner_extent inner + commands_extent body
+block_fits If (one f) body p h = subst (λ x. part_extent x ≤ 3 + test_extent f + commands_extent body) (same_Some (first f body) p h) (omega arith)
+block_fits Elsif (one f) body p h = subst (λ x. part_extent x ≤ 3 + test_extent f + commands_extent body) (same_Some (next_branch f body) p h) (omega arith)
+block_fits Else none body p h = subst (λ x. part_extent x ≤ 3 + 0 + commands_extent body) (same_Some (last body) p h) (omega arith)
+block_fits Require none body p h = absurd (cc)
+block_fits Require (one f) body p h = absurd (cc)
+block_fits Require (bracketed f fs) body p h = absurd (cc)
+block_fits If none body p h = absurd (cc)
+block_fits If (bracketed f fs) body p h = absurd (cc)
+block_fits Elsif none body p h = absurd (cc)
+block_fits Elsif (bracketed f fs) body p h = absurd (cc)
+block_fits Else (one f) body p h = absurd (cc)
+block_fits Else (bracketed f fs) body p h = absurd (cc)
+block_fits Stop none body p h = absurd (cc)
+block_fits Stop (one f) body p h = absurd (cc)
+block_fits Stop (bracketed f fs) body p h = absurd (cc)
+block_fits Keep none body p h = absurd (cc)
+block_fits Keep (one f) body p h = absurd (cc)
+block_fits Keep (bracketed f fs) body p h = absurd (cc)
+block_fits Discard none body p h = absurd (cc)
+block_fits Discard (one f) body p h = absurd (cc)
+block_fits Discard (bracketed f fs) body p h = absurd (cc)
+
+abbrev forms_extent : Forms → ℕ
+forms_extent r = branches_extent r.branches + commands_extent r.commands
+
+closed_fits : (branches : BranchForms) (commands cs : CommandForms) → closed_by branches commands ≡ Some cs → commands_extent cs ≤ branches_extent branches + commands_extent commands
+closed_fits no_branch commands cs h = let e : commands_extent commands ≡ commands_extent cs = ap commands_extent (same_Some commands cs h) in omega (arith, e)
+closed_fits (otherwise body) commands cs h = absurd (cc)
+closed_fits (branch f body more) commands cs h = absurd (cc)
+
+put_fits : (p : PartForm) (rest r : Forms) → put p rest ≡ Some r → forms_extent r ≤ part_extent p + forms_extent rest
+put_fits nothing rest r h =
+    let cs = map_some (closed rest) after_none r h in
+    subst (λ x. forms_extent x ≤ part_extent nothing + forms_extent rest) (same_Some (after_none cs.0) r cs.2) (omega (arith, closed_fits rest.branches rest.commands cs.0 cs.1))
+put_fits (action c) rest r h =
+    let cs = map_some (closed rest) (λ cs. after_none (command c cs)) r h in
+    subst (λ x. forms_extent x ≤ part_extent (action c) + forms_extent rest) (same_Some (after_none (command c cs.0)) r cs.2) (omega (arith, closed_fits rest.branches rest.commands cs.0 cs.1))
+put_fits (first f body) rest r h = subst (λ x. forms_extent x ≤ part_extent (first f body) + forms_extent rest) (same_Some _ r h) (omega arith)
+put_fits (next_branch f body) rest r h = subst (λ x. forms_extent x ≤ part_extent (next_branch f body) + forms_extent rest) (same_Some _ r h) (omega arith)
+put_fits (last body) rest r h =
+    let cs = map_some (closed rest) (λ cs. let x : Forms = record { branches = otherwise body; commands = cs } in x) r h in
+    subst (λ x. forms_extent x ≤ part_extent (last body) + forms_extent rest) (same_Some _ r cs.2) (omega (arith, closed_fits rest.branches rest.commands cs.0 cs.1))
+
+simple_part_fits : (i : InvocationTree) (p : PartForm) (d : ℕ) → simple_part i ≡ Some p → part_extent p ≤ length (command_spelled d (simple i))
+simple_part_fits (invocation token word args tests) p d h =
+    let inner = step_some (inner_forms_of tests) _ p h in
+    let name = step_some (command_named word) _ p inner.2 in
+    let read = step_some (reading (command_signature name.0) args) _ p name.2 in
+    omega (arith, simple_fits name.0 inner.0 p read.2, length-append (invocation_spelled d (invocation token word args tests)) (at_depth d semicolon ∷ []))
+
+block_part_fits : (i : InvocationTree) (body : CommandForms) (p : PartForm) (d : ℕ) → block_part i body ≡ Some p → part_extent p ≤ 2 + length (invocation_spelled d i) + commands_extent body
+block_part_fits (invocation token word args tests) body p d h =
+    let inner = step_some (inner_forms_of tests) _ p h in
+    let name = step_some (command_named word) _ p inner.2 in
+    let read = step_some (reading (command_signature name.0) args) _ p name.2 in
+    omega (
+      arith,
+      block_fits name.0 inner.0 body p read.2,
+      inner_fits tests inner.0 d inner.1,
+      length-append (arguments_spelled d args) (tests_spelled d tests),
+    )
+
+mutual
+  part_fits : (c : CommandTree) (p : PartForm) (d : ℕ) → part_of c ≡ Some p → part_extent p ≤ length (command_spelled d c)
+  part_fits (simple i) p d h = simple_part_fits i p d h
+  part_fits (block i cs) p d h =
+      let forms = step_some (forms_of cs) _ p h in
+      let body = step_some (closed forms.0) _ p forms.2 in
+      omega (
+        arith,
+        block_part_fits i body.0 p d body.2,
+        closed_fits forms.0.branches forms.0.commands body.0 body.1,
+        forms_fit cs forms.0 (suc d) forms.1,
+        length-append (invocation_spelled d i) (at_depth (suc d) opening_brace ∷ (commands_spelled (suc d) cs ++ at_depth (suc d) closing_brace ∷ [])),
+        length-append (commands_spelled (suc d) cs) (at_depth (suc d) closing_brace ∷ []),
+      )
+
+  forms_fit : (cs : CommandsTree) (r : Forms) (d : ℕ) → forms_of cs ≡ Some r → forms_extent r ≤ length (commands_spelled d cs)
+  forms_fit no_tree r d h = subst (λ x. forms_extent x ≤ 0) (same_Some (after_none no_command) r h) (omega arith)
+  forms_fit (tree c cs) r d h =
+      let rest = step_some (forms_of cs) _ r h in
+      let p = step_some (part_of c) _ r rest.2 in
+      omega (arith, put_fits p.0 rest.0 r p.2, part_fits c p.0 d p.1, forms_fit cs rest.0 d rest.1, length-append (command_spelled d c) (commands_spelled d cs))
+
+pub script_form_fits : (cs : CommandsTree) (form : CommandForms) → IsTree cs → IsFormOf cs form → IsBounded form
+script_form_fits cs form (script, parsed) is =
+    let forms = step_some (forms_of cs) closed form is in
+    record { octets = omega (arith, closed_fits forms.0.branches forms.0.commands form forms.2, forms_fit cs forms.0 0 forms.1, tree_fits script cs parsed, parsed.0) }

@@ -1,5 +1,5 @@
 -- Commands put together, one after another.
-use Rattle.std.proofs.Common.{◌≡◌, ◌<◌, true, false, List, [], ◌∷◌, ◌++◌, map, length, Option, refl, sym, ap, ◌∙◌, arith}
+use Rattle.std.proofs.Common.{◌≡◌, ◌<◌, Bool, true, false, if◌then◌else◌, List, [], ◌∷◌, ◌++◌, map, length, Option, Some, None, option_map, refl, sym, ap, ◌∙◌, arith}
 use Rattle.std.specs.Global.{Vec}
 use Rattle.std.proofs.lemmas.List.{map-append}
 use Rattle.std.proofs.lemmas.Bool.{both_ways}
@@ -7,8 +7,11 @@ use Rattle.sieve_check.specs.declared.sequence.Sequence.{Sequence}
 use Rattle.sieve_check.specs.declared.typed.Branch.{Branch}
 use Rattle.sieve_check.specs.declared.typed.Command.{Command}
 use Rattle.sieve_check.specs.declared.typed.Command.TheVariants.{If}
-use Rattle.sieve_check.specs.Sequences.{onto, choice_onto, joined, has_branch, is_open, Closed, Added}
-use Rattle.sieve_check.specs.Typed.{CommandForm, choice, CommandForms, no_command, command, BranchForms, no_branch, branch}
+use Rattle.sieve_check.specs.declared.sequence.Part.TheVariants.{Nothing, Action, First, Next, Last}
+use Rattle.sieve_check.specs.FormOf.{Forms, after_none, closed as closed_forms}
+use Rattle.sieve_check.specs.Signatures.{◌>>=◌}
+use Rattle.sieve_check.specs.Sequences.{onto, choice_onto, joined, has_branch, is_open, finished_by, Closed, Pushed}
+use Rattle.sieve_check.specs.Typed.{CommandForm, choice, CommandForms, no_command, command, BranchForms, no_branch, otherwise, branch}
 use Rattle.sieve_check.specs.TypedView.{GuardedForm, test_form, branch_form, command_form, commands_of, commands_form, branch_forms, else_form}
 use Rattle.sieve_check.proofs.Forms.{form_if, form_branch}
 
@@ -38,6 +41,10 @@ still_open : (bs : List Branch) (b : Branch) → has_branch (bs ++ b ∷ []) ≡
 still_open [] b = refl
 still_open (x ∷ bs) b = refl
 
+pub open_if_some : (bs : List Branch) → 0 < length bs → has_branch bs ≡ true
+open_if_some [] h = absurd (omega (arith, h))
+open_if_some (x ∷ bs) h = refl
+
 choice_of : (bs : List Branch) (more : BranchForms) (others : CommandForms) → 0 < length bs → choice_onto bs more others ≡ command (choice (branch_forms bs more)) others
 choice_of [] more others h = absurd (omega (arith, h))
 choice_of (x ∷ bs) more others h = refl
@@ -45,7 +52,7 @@ choice_of (x ∷ bs) more others h = refl
 pub closed : (old new : Sequence) (branches : Vec Branch) (last : Option (Vec Command)) → branches ≡ old.branches → 0 < length branches.items
     → new.commands.items ≡ old.commands.items ++ If branches last ∷ [] → new.branches.items ≡ [] → Closed old (else_form last) new
 closed old new branches last are some more none = record {
-  closed = none;
+  none = none;
   same = λ others. ap (λ cs. onto (map command_form cs) (choice_onto new.branches.items no_branch others)) more
       ∙ ap (λ bs. onto (map command_form (old.commands.items ++ If branches last ∷ [])) (choice_onto bs no_branch others)) none
       ∙ onto_more old.commands.items (If branches last) others
@@ -54,31 +61,88 @@ closed old new branches last are some more none = record {
       ∙ ap (λ (bs : Vec Branch). onto (map command_form old.commands.items) (choice_onto bs.items (else_form last) others)) are;
 }
 
--- a command after a choice that is closed
-pub added : (old shut new : Sequence) (c : Command) → Closed old no_branch shut → new.commands.items ≡ shut.commands.items ++ c ∷ [] → new.branches.items ≡ shut.branches.items
-    → Added old (λ others. command (command_form c) others) new
-added old shut new c is more same = record {
-  closed = ap has_branch (same ∙ is.closed);
-  same = λ others. ap (λ cs. onto (map command_form cs) (choice_onto new.branches.items no_branch others)) more
-      ∙ ap (λ bs. onto (map command_form (shut.commands.items ++ c ∷ [])) (choice_onto bs no_branch others)) (same ∙ is.closed)
-      ∙ onto_more shut.commands.items c others
-      ∙ ap (λ bs. onto (map command_form shut.commands.items) (choice_onto bs no_branch (command (command_form c) others))) (sym is.closed)
-      ∙ is.same (command (command_form c) others);
-}
+-- what is still to come, where no branch may be added
+shut : (s : Sequence) → s.branches.items ≡ [] → (rest : Forms) → finished_by s rest ≡ option_map (λ others. joined s no_branch others) (closed_forms rest)
+shut s none rest = ap (λ b. if b then Some (joined s rest.branches rest.commands) else option_map (λ others. joined s no_branch others) (closed_forms rest)) (ap has_branch none)
+
+-- and where one may
+wide : (s : Sequence) → is_open s ≡ true → (rest : Forms) → finished_by s rest ≡ Some (joined s rest.branches rest.commands)
+wide s some rest = ap (λ b. if b then Some (joined s rest.branches rest.commands) else option_map (λ others. joined s no_branch others) (closed_forms rest)) some
+
+-- commands that go on with nothing before them, whether a branch may be added or not
+after_all : (s : Sequence) (cs : CommandForms) → finished_by s (after_none cs) ≡ Some (joined s no_branch cs)
+after_all s cs = either (is_open s) where
+  either : (b : Bool) → (if b then Some (joined s no_branch cs) else option_map (λ others. joined s no_branch others) (Some cs)) ≡ Some (joined s no_branch cs)
+  either true = refl
+  either false = refl
+
+-- more commands, after a choice that is closed
+module _ (old new : Sequence) (add : CommandForms → CommandForms) (none : new.branches.items ≡ []) (same : (others : CommandForms) → joined new no_branch others ≡ joined old no_branch (add others)) where
+  added_to : (o : Option CommandForms) → (option_map (λ cs. after_none (add cs)) o >>= finished_by old) ≡ option_map (λ others. joined new no_branch others) o
+  added_to None = refl
+  added_to (Some cs) = after_all old (add cs) ∙ ap Some (sym (same cs))
+
+  pub added : (rest : Forms) → (option_map (λ cs. after_none (add cs)) (closed_forms rest) >>= finished_by old) ≡ finished_by new rest
+  added rest = added_to (closed_forms rest) ∙ sym (shut new none rest)
+
+pub nothing_added : (old new : Sequence) → Closed old no_branch new → Pushed old Nothing true new
+nothing_added old new is rest = added old new (λ cs. cs) is.none is.same rest
+
+pub action_added : (old shut_one new : Sequence) (c : Command) → Closed old no_branch shut_one → new.commands.items ≡ shut_one.commands.items ++ c ∷ [] → new.branches.items ≡ shut_one.branches.items
+    → Pushed old (Action c) true new
+action_added old shut_one new c is more same rest = added old new (λ cs. command (command_form c) cs) (same ∙ is.none)
+    (λ others. ap (λ cs. onto (map command_form cs) (choice_onto new.branches.items no_branch others)) more
+    ∙ ap (λ bs. onto (map command_form (shut_one.commands.items ++ c ∷ [])) (choice_onto bs no_branch others)) (same ∙ is.none)
+    ∙ onto_more shut_one.commands.items c others
+    ∙ ap (λ bs. onto (map command_form shut_one.commands.items) (choice_onto bs no_branch (command (command_form c) others))) (sym is.none)
+    ∙ is.same (command (command_form c) others))
+    rest
+
+-- the first branch of a choice
+pub first_added : (old shut_one new : Sequence) (b : Branch) → Closed old no_branch shut_one → new.commands.items ≡ shut_one.commands.items → new.branches.items ≡ shut_one.branches.items ++ b ∷ []
+    → Pushed old (First b) true new
+first_added old shut_one new b is same more rest =
+    let cs = command (choice (branch (test_form b.test) (commands_form b.block.items) rest.branches)) rest.commands in
+    let alone : new.branches.items ≡ b ∷ [] = more ∙ ap (λ bs. bs ++ b ∷ []) is.none in
+    after_all old cs
+    ∙ ap Some (sym (is.same cs)
+    ∙ ap (λ bs. onto (map command_form shut_one.commands.items) (choice_onto bs no_branch cs)) is.none
+    ∙ ap (λ (g : GuardedForm). onto (map command_form shut_one.commands.items) (command (choice (branch g.test g.block rest.branches)) rest.commands)) (sym (form_branch b))
+    ∙ ap (λ xs. onto (map command_form xs) (choice_onto (b ∷ []) rest.branches rest.commands)) (sym same)
+    ∙ ap (λ bs. onto (map command_form new.commands.items) (choice_onto bs rest.branches rest.commands)) (sym alone))
+    ∙ sym (wide new (ap has_branch alone) rest)
 
 -- a branch after another
-pub branch_added : (old new : Sequence) (b : Branch) → new.commands ≡ old.commands → new.branches.items ≡ old.branches.items ++ b ∷ [] → is_open old ≡ true
-    → (is_open new ≡ true) × ((more : BranchForms) (others : CommandForms) → joined new more others ≡ joined old (branch (test_form b.test) (commands_form b.block.items) more) others)
-branch_added old new b same more_branches is_open_before = (
-  ap has_branch more_branches ∙ still_open old.branches.items b,
-  λ more others. ap (λ (cs : Vec Command). onto (map command_form cs.items) (choice_onto new.branches.items more others)) same
-      ∙ ap (λ bs. onto (map command_form old.commands.items) (choice_onto bs more others)) more_branches
-      ∙ ap (onto (map command_form old.commands.items)) (choice_more old.branches.items b more others is_open_before),
-)
+pub next_added : (old new : Sequence) (b : Branch) → new.commands ≡ old.commands → new.branches.items ≡ old.branches.items ++ b ∷ [] → is_open old ≡ true → Pushed old (Next b) true new
+next_added old new b same more open_before rest =
+    wide old open_before (record { branches = branch (test_form b.test) (commands_form b.block.items) rest.branches; commands = rest.commands })
+    ∙ ap Some (sym (
+    ap (λ (cs : Vec Command). onto (map command_form cs.items) (choice_onto new.branches.items rest.branches rest.commands)) same
+    ∙ ap (λ bs. onto (map command_form old.commands.items) (choice_onto bs rest.branches rest.commands)) more
+    ∙ ap (onto (map command_form old.commands.items)) (choice_more old.branches.items b rest.branches rest.commands open_before)
+    ))
+    ∙ sym (wide new (ap has_branch more ∙ still_open old.branches.items b) rest)
+
+-- the last branch of a choice
+pub last_added : (old new : Sequence) (block : Vec Command) → Closed old (otherwise (commands_form block.items)) new → is_open old ≡ true → Pushed old (Last block) true new
+last_added old new block is open_before rest = with (closed_forms rest) ∙ sym (shut new is.none rest) where
+  with : (o : Option CommandForms) → (option_map (λ cs. let r : Forms = record { branches = otherwise (commands_form block.items); commands = cs } in r) o >>= finished_by old) ≡ option_map (λ others. joined new no_branch others) o
+  with None = refl
+  with (Some cs) = wide old open_before (record { branches = otherwise (commands_form block.items); commands = cs }) ∙ ap Some (sym (is.same cs))
+
+-- where no choice is open no branch can be added
+pub no_next : (old new : Sequence) (b : Branch) → old.branches.items ≡ [] → Pushed old (Next b) false new
+no_next old new b none rest = shut old none (record { branches = branch (test_form b.test) (commands_form b.block.items) rest.branches; commands = rest.commands })
+
+pub no_last : (old new : Sequence) (block : Vec Command) → old.branches.items ≡ [] → Pushed old (Last block) false new
+no_last old new block none rest = with (closed_forms rest) where
+  with : (o : Option CommandForms) → (option_map (λ cs. let r : Forms = record { branches = otherwise (commands_form block.items); commands = cs } in r) o >>= finished_by old) ≡ None
+  with None = refl
+  with (Some cs) = shut old none (record { branches = otherwise (commands_form block.items); commands = cs })
 
 -- nothing is to come
 pub finished : (old shut : Sequence) → Closed old no_branch shut → commands_form shut.commands.items ≡ joined old no_branch no_command
 finished old shut is =
     sym (onto_nothing (map command_form shut.commands.items))
-    ∙ ap (λ bs. onto (map command_form shut.commands.items) (choice_onto bs no_branch no_command)) (sym is.closed)
+    ∙ ap (λ bs. onto (map command_form shut.commands.items) (choice_onto bs no_branch no_command)) (sym is.none)
     ∙ is.same no_command

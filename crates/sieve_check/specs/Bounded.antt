@@ -1,5 +1,5 @@
 -- What a script's limits say of its typed form.
-use Rattle.std.specs.Prelude.{ℕ, ◌≤◌}
+use Rattle.std.specs.Prelude.{◌≤◌}
 use Rattle.octets.specs.Limits.{max_script}
 use Rattle.sieve_check.specs.Typed.{CommandForms}
 use Rattle.sieve_check.specs.Extent.{commands_extent}

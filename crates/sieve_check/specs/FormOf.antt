@@ -1,121 +1,116 @@
--- The typed form of a script: how commands and tests are written.
-use Rattle.std.specs.Prelude.{◌≡◌, ◌⊎◌, ℕ, List, [], ◌∷◌, Some}
-use Rattle.sieve_parser.specs.Tree.{ArgumentTree, amount, label, InvocationTree, invocation, TestsTree, no_test, one_test, test_list, MoreTests, last, next, CommandTree, simple, block, CommandsTree, no_command as no_more, command as then}
+-- The typed form of a script.
+use Rattle.std.specs.Prelude.{◌≡◌, ℕ, List, [], ◌∷◌, Option, Some, None, option_map}
+use Rattle.sieve_parser.specs.Tree.{ArgumentTree, amount, InvocationTree, invocation, TestsTree, no_test, one_test, test_list, MoreTests, last as no_more, next, CommandTree, simple, block, CommandsTree, no_command as no_tree, command as tree}
 use Rattle.sieve_check.specs.declared.names.CommandName.{CommandName}
 use Rattle.sieve_check.specs.declared.names.CommandName.TheVariants.{Require, If, Elsif, Else, Stop, Keep, Discard}
 use Rattle.sieve_check.specs.declared.names.TestName.{TestName}
 use Rattle.sieve_check.specs.declared.names.TestName.TheVariants.{Constant, Not, AllOf, AnyOf, Size}
-use Rattle.sieve_check.specs.Names.{command_named, test_named, order_tagged}
+use Rattle.sieve_check.specs.Names.{command_named, test_named}
+use Rattle.sieve_check.specs.Signatures.{◌>>=◌, Read, reading, command_signature, test_signature}
 use Rattle.sieve_check.specs.Typed.{TestForm, constant, negation, all_of, any_of, size, TestForms, no_test as no_other, test, CommandForm, keep, discard, stop, choice, CommandForms, no_command, command, BranchForms, no_branch, otherwise, branch}
 
--- a test of this name, with these arguments and tests
-pub record IsTest (name : TestName) (args : List ArgumentTree) (tests : TestsTree) (i : InvocationTree) : Type 0 where
-  pub token : ℕ
-  pub word : List ℕ
-  pub same : i ≡ invocation token word args tests
-  pub named : test_named word ≡ Some name
+-- the forms of the tests behind arguments: none, one, or a first and others in brackets
+pub data InnerForms : Type 0 where
+  none : InnerForms
+  one : TestForm → InnerForms
+  bracketed : TestForm → TestForms → InnerForms
+
+abbrev pub number_in : List ArgumentTree → Option ℕ
+number_in (amount n ∷ []) = Some n
+number_in _ = None
+
+-- a test of this name, with the arguments that were read and the tests behind them
+abbrev pub test_of : TestName → Read → InnerForms → Option TestForm
+test_of (Constant b) read none = Some (constant b)
+test_of Not read (one f) = Some (negation f)
+test_of AllOf read (bracketed f fs) = Some (all_of f fs)
+test_of AnyOf read (bracketed f fs) = Some (any_of f fs)
+test_of Size read none = read.tags.order >>= λ order. number_in read.positional >>= λ n. Some (size order n)
+test_of _ _ _ = None
 
 abbrev mutual
-  -- the test is written so
-  pub IsTestForm : TestForm → InvocationTree → Type 0
-  IsTestForm (constant b) i = IsTest (Constant b) [] no_test i
-  IsTestForm (negation f) i = (t : InvocationTree) × (IsTest Not [] (one_test t) i × IsTestForm f t)
-  IsTestForm (all_of f fs) i = (t : InvocationTree) × ((ts : MoreTests) × (IsTest AllOf [] (test_list t ts) i × IsTestForm f t × AreTestForms fs ts))
-  IsTestForm (any_of f fs) i = (t : InvocationTree) × ((ts : MoreTests) × (IsTest AnyOf [] (test_list t ts) i × IsTestForm f t × AreTestForms fs ts))
-  IsTestForm (size order n) i = (tag : List ℕ) × (IsTest Size (label tag ∷ amount n ∷ []) no_test i × (order_tagged tag ≡ Some order))
+  pub test_form_of : InvocationTree → Option TestForm
+  test_form_of (invocation token word args tests) = inner_forms_of tests >>= λ inner. test_named word >>= λ name. reading (test_signature name) args >>= λ read. test_of name read inner
 
-  -- the tests of a list after its first are written so
-  pub AreTestForms : TestForms → MoreTests → Type 0
-  AreTestForms no_other ts = ts ≡ last
-  AreTestForms (test f fs) others = (t : InvocationTree) × ((ts : MoreTests) × ((others ≡ next t ts) × IsTestForm f t × AreTestForms fs ts))
+  pub inner_forms_of : TestsTree → Option InnerForms
+  inner_forms_of no_test = Some none
+  inner_forms_of (one_test t) = option_map one (test_form_of t)
+  inner_forms_of (test_list t ts) = test_form_of t >>= λ f. option_map (bracketed f) (more_forms_of ts)
 
--- a command of this name, with these arguments and tests
-pub record IsCommand (name : CommandName) (args : List ArgumentTree) (tests : TestsTree) (i : InvocationTree) : Type 0 where
-  pub token : ℕ
-  pub word : List ℕ
-  pub same : i ≡ invocation token word args tests
-  pub named : command_named word ≡ Some name
+  pub more_forms_of : MoreTests → Option TestForms
+  more_forms_of no_more = Some no_other
+  more_forms_of (next t ts) = test_form_of t >>= λ f. option_map (test f) (more_forms_of ts)
 
--- a require, with whatever arguments and tests: they are a matter of the static rules
-pub record IsRequire (i : InvocationTree) : Type 0 where
-  pub args : List ArgumentTree
-  pub tests : TestsTree
-  pub is : IsCommand Require args tests i
+-- what a command adds: nothing, itself, or with its block a choice, a further branch of a choice, or its last one
+pub data PartForm : Type 0 where
+  nothing : PartForm
+  action : CommandForm → PartForm
+  first : TestForm → CommandForms → PartForm
+  next_branch : TestForm → CommandForms → PartForm
+  last : CommandForms → PartForm
 
--- a command that is a name alone, as its own form
-abbrev pub IsAction : CommandForm → InvocationTree → Type 0
-IsAction keep i = IsCommand Keep [] no_test i
-IsAction discard i = IsCommand Discard [] no_test i
-IsAction stop i = IsCommand Stop [] no_test i
-IsAction (choice branches) i = ⊥
+-- a command of this name that ends in a semicolon
+abbrev pub simple_of : CommandName → InnerForms → Option PartForm
+simple_of Require none = Some nothing
+simple_of Stop none = Some (action stop)
+simple_of Keep none = Some (action keep)
+simple_of Discard none = Some (action discard)
+simple_of _ _ = None
 
--- an if or elsif with its test, and its block
-pub record IsBranch (name : CommandName) (i : InvocationTree) (Block : CommandForms → Type 0) (f : TestForm) (body : CommandForms) : Type 0 where
-  pub guard : InvocationTree
-  pub is : IsCommand name [] (one_test guard) i
-  pub test : IsTestForm f guard
-  pub block : Block body
+-- a command of this name that ends in a block
+abbrev pub block_of : CommandName → InnerForms → CommandForms → Option PartForm
+block_of If (one f) body = Some (first f body)
+block_of Elsif (one f) body = Some (next_branch f body)
+block_of Else none body = Some (last body)
+block_of _ _ _ = None
 
--- Commands are read in two parts: the branches with which they go on with an if that stands before them, its elsifs and its else,
--- none where they begin with neither; then the forms of the commands after these. Below, Rest says this of the commands after
--- the one at hand, and Block says what form its block has.
+-- commands, of which the first may go on with a choice before them: those branches, and then the commands
+pub record Forms : Type 0 where
+  pub branches : BranchForms
+  pub commands : CommandForms
 
--- a require gives nothing
-pub record GivesNothing (i : InvocationTree) (Rest : BranchForms → CommandForms → Type 0) (branches : BranchForms) (forms : CommandForms) : Type 0 where
-  pub is : IsRequire i
-  pub begins : branches ≡ no_branch
-  pub rest : Rest no_branch forms
+-- commands that go on with nothing before them
+abbrev pub closed_by : BranchForms → CommandForms → Option CommandForms
+closed_by no_branch commands = Some commands
+closed_by _ commands = None
 
--- an action gives itself
-pub record GivesAction (i : InvocationTree) (Rest : BranchForms → CommandForms → Type 0) (branches : BranchForms) (forms : CommandForms) : Type 0 where
-  pub action : CommandForm
-  pub others : CommandForms
-  pub is : IsAction action i
-  pub begins : branches ≡ no_branch
-  pub same : forms ≡ command action others
-  pub rest : Rest no_branch others
+abbrev pub closed : Forms → Option CommandForms
+closed forms = closed_by forms.branches forms.commands
 
--- an if gives a choice, of its own branch and of those after it
-pub record GivesChoice (i : InvocationTree) (Block : CommandForms → Type 0) (Rest : BranchForms → CommandForms → Type 0) (branches : BranchForms) (forms : CommandForms) : Type 0 where
-  pub f : TestForm
-  pub body : CommandForms
-  pub more : BranchForms
-  pub others : CommandForms
-  pub is : IsBranch If i Block f body
-  pub begins : branches ≡ no_branch
-  pub same : forms ≡ command (choice (branch f body more)) others
-  pub rest : Rest more others
+abbrev pub after_none : CommandForms → Forms
+after_none commands = record { branches = no_branch; commands = commands }
 
--- an elsif gives a branch
-pub record GivesBranch (i : InvocationTree) (Block : CommandForms → Type 0) (Rest : BranchForms → CommandForms → Type 0) (branches : BranchForms) (forms : CommandForms) : Type 0 where
-  pub f : TestForm
-  pub body : CommandForms
-  pub more : BranchForms
-  pub is : IsBranch Elsif i Block f body
-  pub same : branches ≡ branch f body more
-  pub rest : Rest more forms
+-- what a command adds, before the commands after it
+abbrev pub put : PartForm → Forms → Option Forms
+put nothing rest = option_map after_none (closed rest)
+put (action c) rest = option_map (λ cs. after_none (command c cs)) (closed rest)
+put (first f body) rest = Some (after_none (command (choice (branch f body rest.branches)) rest.commands))
+put (next_branch f body) rest = Some (record { branches = branch f body rest.branches; commands = rest.commands })
+put (last body) rest = option_map (λ cs. record { branches = otherwise body; commands = cs }) (closed rest)
 
--- an else gives the last branch
-pub record GivesLast (i : InvocationTree) (Block : CommandForms → Type 0) (Rest : BranchForms → CommandForms → Type 0) (branches : BranchForms) (forms : CommandForms) : Type 0 where
-  pub body : CommandForms
-  pub is : IsCommand Else [] no_test i
-  pub block : Block body
-  pub same : branches ≡ otherwise body
-  pub rest : Rest no_branch forms
+-- a command that ends in a semicolon
+abbrev pub simple_part : InvocationTree → Option PartForm
+simple_part (invocation token word args tests) =
+    inner_forms_of tests >>= λ inner. command_named word >>= λ name. reading (command_signature name) args >>= λ read. simple_of name inner
+
+-- a command that ends in a block, which has that form
+abbrev pub block_part : InvocationTree → CommandForms → Option PartForm
+block_part (invocation token word args tests) body =
+    inner_forms_of tests >>= λ inner. command_named word >>= λ name. reading (command_signature name) args >>= λ read. block_of name inner body
 
 abbrev mutual
-  -- a command, and what stands after it
-  pub Begins : CommandTree → (BranchForms → CommandForms → Type 0) → BranchForms → CommandForms → Type 0
-  Begins (simple i) Rest branches forms = GivesNothing i Rest branches forms ⊎ GivesAction i Rest branches forms
-  Begins (block i cs) Rest branches forms =
-      GivesChoice i (λ body. AreForms cs no_branch body) Rest branches forms
-      ⊎ (GivesBranch i (λ body. AreForms cs no_branch body) Rest branches forms ⊎ GivesLast i (λ body. AreForms cs no_branch body) Rest branches forms)
+  pub part_of : CommandTree → Option PartForm
+  part_of (simple i) = simple_part i
+  part_of (block i cs) = forms_of cs >>= λ forms. closed forms >>= λ body. block_part i body
 
-  -- the commands are written so
-  pub AreForms : CommandsTree → BranchForms → CommandForms → Type 0
-  AreForms no_more branches forms = (branches ≡ no_branch) × (forms ≡ no_command)
-  AreForms (then c cs) branches forms = Begins c (λ more others. AreForms cs more others) branches forms
+  -- commands, one before the others
+  pub forms_of : CommandsTree → Option Forms
+  forms_of no_tree = Some (after_none no_command)
+  forms_of (tree c cs) = forms_of cs >>= λ rest. part_of c >>= λ part. put part rest
 
--- the typed form of a script
+-- the typed form of a script, if it is written as it has to be
+abbrev pub form_of : CommandsTree → Option CommandForms
+form_of script = forms_of script >>= closed
+
 abbrev pub IsFormOf : CommandsTree → CommandForms → Type 0
-IsFormOf script forms = AreForms script no_branch forms
+IsFormOf script form = form_of script ≡ Some form

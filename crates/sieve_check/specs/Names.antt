@@ -1,13 +1,15 @@
--- What commands, tests and capabilities are called.
-use Rattle.std.specs.Prelude.{ℕ, Bool, true, false, if◌then◌else◌, List, [], ◌∷◌, Option, Some, None, bytes_eq, codes}
-use Rattle.std.specs.List.{list_any}
+-- What commands, tests, tags and capabilities are called.
+use Rattle.std.specs.Prelude.{ℕ, Bool, true, false, if◌then◌else◌, List, Option, Some, None, bytes_eq, codes}
 use Rattle.octets.specs.Ascii.{lowercase_of}
-use Rattle.sieve_check.specs.declared.typed.Order.{Order}
 use Rattle.sieve_check.specs.declared.typed.Order.TheVariants.{Over, Under}
 use Rattle.sieve_check.specs.declared.names.CommandName.{CommandName}
 use Rattle.sieve_check.specs.declared.names.CommandName.TheVariants.{Require, If, Elsif, Else, Stop, Keep, Discard}
 use Rattle.sieve_check.specs.declared.names.TestName.{TestName}
 use Rattle.sieve_check.specs.declared.names.TestName.TheVariants.{Constant, Not, AllOf, AnyOf, Size}
+use Rattle.sieve_check.specs.declared.names.Tag.{Tag}
+use Rattle.sieve_check.specs.declared.names.Tag.TheVariants.{Order}
+use Rattle.sieve_check.specs.declared.names.Capability.{Capability}
+use Rattle.sieve_check.specs.declared.names.Capability.TheVariants.{FileInto, Variables, Mime, ForEveryPart, Depot, OctetComparator, CasemapComparator}
 
 -- the texts are equal but for the case of ASCII letters
 abbrev pub is_word : List ℕ → List ℕ → Bool
@@ -36,19 +38,21 @@ test_named name =
     if is_word name (codes "size") then Some Size else
     None
 
--- the order that a tag of size names, if it names one
-abbrev pub order_tagged : List ℕ → Option Order
-order_tagged name =
-    if is_word name (codes "over") then Some Over else
-    if is_word name (codes "under") then Some Under else
+-- the tag of that name, if it is known
+abbrev pub tag_named : List ℕ → Option Tag
+tag_named name =
+    if is_word name (codes "over") then Some (Order Over) else
+    if is_word name (codes "under") then Some (Order Under) else
     None
 
--- what can be required
-abbrev pub capabilities : List (List ℕ)
-capabilities =
-    codes "fileinto" ∷ codes "variables" ∷ codes "mime" ∷ codes "foreverypart" ∷ codes "vnd.depot"
-    ∷ codes "comparator-i;octet" ∷ codes "comparator-i;ascii-casemap" ∷ []
-
--- the octets are those of a capability
-abbrev pub is_capability : List ℕ → Bool
-is_capability octets = list_any (λ capability. bytes_eq octets capability) capabilities
+-- the capability of that name, if it is known; capabilities are taken as they are written
+abbrev pub capability_named : List ℕ → Option Capability
+capability_named name =
+    if bytes_eq name (codes "fileinto") then Some FileInto else
+    if bytes_eq name (codes "variables") then Some Variables else
+    if bytes_eq name (codes "mime") then Some Mime else
+    if bytes_eq name (codes "foreverypart") then Some ForEveryPart else
+    if bytes_eq name (codes "vnd.depot") then Some Depot else
+    if bytes_eq name (codes "comparator-i;octet") then Some OctetComparator else
+    if bytes_eq name (codes "comparator-i;ascii-casemap") then Some CasemapComparator else
+    None

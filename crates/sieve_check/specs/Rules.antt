@@ -1,22 +1,31 @@
 -- What is wrong with the commands and tests of a script, and which fault is named.
-use Rattle.std.specs.Prelude.{ℕ, Bool, true, false, ◌&&◌, not, nat_lt, List, [], ◌∷◌, ◌++◌, length, flat_map, Option, Some, None, is_some, option_map}
+use Rattle.std.specs.Prelude.{ℕ, Bool, true, false, ◌&&◌, not, nat_lt, if◌then◌else◌, List, [], ◌∷◌, ◌++◌, map, length, flat_map, Option, Some, None, is_some, option_map}
 use Rattle.std.specs.List.{list_any}
 use Rattle.std.specs.Option.{option_or}
 use Rattle.octets.specs.Limits.{max_string}
 use Rattle.sieve_parser.specs.Tree.{ArgumentTree, text, text_list, amount, label, InvocationTree, invocation, TestsTree, no_test, one_test, test_list, MoreTests, last, next, CommandTree, simple, block, CommandsTree, no_command, command}
-use Rattle.sieve_check.specs.declared.context.Context.{Context}
+use Rattle.sieve_parser.specs.View.{argument_tree}
+use Rattle.sieve_parser.specs.declared.tree.Head.{Head}
 use Rattle.sieve_check.specs.declared.error.CheckError.{CheckError}
+use Rattle.sieve_check.specs.declared.error.CheckError.TheVariants as refused
+use Rattle.sieve_check.specs.declared.error.Fault.{Fault}
+use Rattle.sieve_check.specs.declared.error.Fault.TheVariants.{UnknownCommand, MissingCapability, UnknownCapability, BadArguments, Limit}
+use Rattle.sieve_check.specs.declared.names.Capability.{Capability}
 use Rattle.sieve_check.specs.declared.names.CommandName.{CommandName}
 use Rattle.sieve_check.specs.declared.names.CommandName.TheVariants.{Require, If, Elsif, Else, Stop, Keep, Discard}
 use Rattle.sieve_check.specs.declared.names.TestName.{TestName}
 use Rattle.sieve_check.specs.declared.names.TestName.TheVariants.{Constant, Not, AllOf, AnyOf, Size}
-use Rattle.sieve_check.specs.Names.{command_named, test_named, order_tagged, is_capability}
-use Rattle.sieve_check.specs.Refusals.{Fault, UnknownCommand, MissingCapability, UnknownCapability, BadArguments, Limit, refusal}
-
--- how a command ends
-pub data Ending : Type 0 where
-  semicolon : Ending
-  braces : Ending
+use Rattle.sieve_check.specs.declared.rules.StringFault.{StringFault}
+use Rattle.sieve_check.specs.declared.rules.StringFault.TheVariants.{Unknown, Long}
+use Rattle.sieve_check.specs.declared.signature.Tests.{Tests}
+use Rattle.sieve_check.specs.declared.signature.Tests.TheVariants.{Nothing, One, Bracketed}
+use Rattle.sieve_check.specs.declared.signature.Ending.{Ending}
+use Rattle.sieve_check.specs.declared.signature.Ending.TheVariants.{Semicolon, Block}
+use Rattle.sieve_check.specs.declared.signature.Signature.{Signature}
+use Rattle.sieve_check.specs.declared.surroundings.Surroundings.{Surroundings}
+use Rattle.sieve_check.specs.Names.{capability_named, command_named, test_named}
+use Rattle.sieve_check.specs.Signatures.{command_signature, ending_of, test_signature, reading}
+use Rattle.sieve_check.specs.Surroundings.{at_start, following, in_block, lacks}
 
 -- the strings of arguments, with those in brackets
 abbrev pub strings_in : ArgumentTree → List (List ℕ)
@@ -28,138 +37,148 @@ strings_in (label name) = []
 abbrev pub strings_of : List ArgumentTree → List (List ℕ)
 strings_of args = flat_map strings_in args
 
--- the capability that a command or test needs: none, for those that have come, and so what was required needn't be kept
-abbrev pub command_needs : CommandName → Option (List ℕ)
-command_needs name = None
+abbrev pub arguments_of : Head → List ArgumentTree
+arguments_of head = map argument_tree head.arguments.items
 
-abbrev pub test_needs : TestName → Option (List ℕ)
-test_needs name = None
+-- the capability that a command or test needs: none, for those that have come
+abbrev pub command_needs : CommandName → Option Capability
+command_needs Require = None
+command_needs If = None
+command_needs Elsif = None
+command_needs Else = None
+command_needs Stop = None
+command_needs Keep = None
+command_needs Discard = None
 
--- the arguments that each command takes, the tests after them, and its end
-abbrev pub is_command_well_formed : CommandName → List ArgumentTree → TestsTree → Ending → Bool
-is_command_well_formed Require (text s ∷ []) no_test semicolon = true
-is_command_well_formed Require (text_list s ss ∷ []) no_test semicolon = true
-is_command_well_formed If [] (one_test t) braces = true
-is_command_well_formed Elsif [] (one_test t) braces = true
-is_command_well_formed Else [] no_test braces = true
-is_command_well_formed Stop [] no_test semicolon = true
-is_command_well_formed Keep [] no_test semicolon = true
-is_command_well_formed Discard [] no_test semicolon = true
-is_command_well_formed _ _ _ _ = false
-
--- the arguments that each test takes, and the tests after them
-abbrev pub is_test_well_formed : TestName → List ArgumentTree → TestsTree → Bool
-is_test_well_formed (Constant b) [] no_test = true
-is_test_well_formed Not [] (one_test t) = true
-is_test_well_formed AllOf [] (test_list t ts) = true
-is_test_well_formed AnyOf [] (test_list t ts) = true
-is_test_well_formed Size (label tag ∷ amount n ∷ []) no_test = is_some (order_tagged tag)
-is_test_well_formed _ _ _ = false
+abbrev pub test_needs : TestName → Option Capability
+test_needs (Constant b) = None
+test_needs Not = None
+test_needs AllOf = None
+test_needs AnyOf = None
+test_needs Size = None
 
 -- where each command may stand: a require at the top level after nothing else, an elsif and an else directly after an if or elsif
-abbrev pub may_stand : Context → CommandName → Bool
-may_stand context Require = context.takes_require
-may_stand context Elsif = context.after_if
-may_stand context Else = context.after_if
-may_stand context _ = true
+abbrev pub may_stand : Surroundings → CommandName → Bool
+may_stand s Require = s.takes_require
+may_stand s If = true
+may_stand s Elsif = s.after_if
+may_stand s Else = s.after_if
+may_stand s Stop = true
+may_stand s Keep = true
+may_stand s Discard = true
+
+-- what may be wrong with a string: it is no capability, or longer than the limit
+abbrev pub string_has : StringFault → List ℕ → Bool
+string_has Unknown s = not (is_some (capability_named s))
+string_has Long s = nat_lt max_string (length s)
 
 -- a require names something else than a capability, wherever it stands and however it is written
 abbrev pub has_unknown_capability : CommandName → List ArgumentTree → Bool
-has_unknown_capability Require args = list_any (λ s. not (is_capability s)) (strings_of args)
+has_unknown_capability Require args = list_any (string_has Unknown) (strings_of args)
 has_unknown_capability _ args = false
 
 -- a string is longer than the limit
 abbrev pub has_long_string : List ArgumentTree → Bool
-has_long_string args = list_any (λ s. nat_lt max_string (length s)) (strings_of args)
+has_long_string args = list_any (string_has Long) (strings_of args)
 
--- of faults in the order of their numbers, the first that is there
-abbrev pub least : List (Bool × Fault) → Option Fault
-least [] = None
-least ((true, fault) ∷ others) = Some fault
-least ((false, fault) ∷ others) = least others
+abbrev pub same_tests : Tests → Tests → Bool
+same_tests Nothing Nothing = true
+same_tests One One = true
+same_tests Bracketed Bracketed = true
+same_tests _ _ = false
+
+abbrev pub same_ending : Ending → Ending → Bool
+same_ending Semicolon Semicolon = true
+same_ending Block Block = true
+same_ending _ _ = false
+
+-- the tests are those of the signature, and the arguments can be read by it
+abbrev pub is_well_formed : Signature → List ArgumentTree → Tests → Bool
+is_well_formed signature args tests = same_tests signature.tests tests && is_some (reading signature args)
+
+-- the fault of least number of a command that is known by that name
+abbrev pub known_command_fault : Surroundings → CommandName → List ArgumentTree → Tests → Ending → Option Fault
+known_command_fault s name args tests ending =
+    if lacks s (command_needs name) then Some MissingCapability
+    else if has_unknown_capability name args then Some UnknownCapability
+    else if not (may_stand s name && (same_ending (ending_of name) ending && is_well_formed (command_signature name) args tests)) then Some BadArguments
+    else if has_long_string args then Some Limit
+    else None
+
+-- the fault of least number of a test that is known by that name
+abbrev pub known_test_fault : Surroundings → TestName → List ArgumentTree → Tests → Option Fault
+known_test_fault s name args tests =
+    if lacks s (test_needs name) then Some MissingCapability
+    else if not (is_well_formed (test_signature name) args tests) then Some BadArguments
+    else if has_long_string args then Some Limit
+    else None
 
 -- the fault of a command or test, by what its name is known as, if it is known
-abbrev pub fault_by_name : {Name : Type 0} → (Name → List (Bool × Fault)) → Option Name → Option Fault
-fault_by_name faults None = Some UnknownCommand
-fault_by_name faults (Some name) = least (faults name)
-
--- the faults that a known command can have, in its context
-abbrev pub command_faults : Context → CommandName → List ArgumentTree → TestsTree → Ending → List (Bool × Fault)
-command_faults context name args tests ending =
-    (is_some (command_needs name), MissingCapability)
-    ∷ (has_unknown_capability name args, UnknownCapability)
-    ∷ (not (may_stand context name && is_command_well_formed name args tests ending), BadArguments)
-    ∷ (has_long_string args, Limit) ∷ []
-
--- the faults that a known test can have
-abbrev pub test_faults : TestName → List ArgumentTree → TestsTree → List (Bool × Fault)
-test_faults name args tests =
-    (is_some (test_needs name), MissingCapability)
-    ∷ (not (is_test_well_formed name args tests), BadArguments)
-    ∷ (has_long_string args, Limit) ∷ []
-
--- the fault of a command in its context
-abbrev pub command_fault : Context → List ℕ → List ArgumentTree → TestsTree → Ending → Option Fault
-command_fault context name args tests ending = fault_by_name (λ known. command_faults context known args tests ending) (command_named name)
-
--- the fault of a test
-abbrev pub test_fault : List ℕ → List ArgumentTree → TestsTree → Option Fault
-test_fault name args tests = fault_by_name (λ known. test_faults known args tests) (test_named name)
+abbrev pub fault_by_name : {Name : Type 0} → (Name → Option Fault) → Option Name → Option Fault
+fault_by_name fault None = Some UnknownCommand
+fault_by_name fault (Some name) = fault name
 
 -- a visited command or test: the number of its identifier's token, and its fault, if it has one
 pub record Visit : Type 0 where
   pub token : ℕ
   pub fault : Option Fault
 
+abbrev pub command_visit : Surroundings → ℕ → List ℕ → List ArgumentTree → Tests → Ending → Visit
+command_visit s token name args tests ending = record { token = token; fault = fault_by_name (λ known. known_command_fault s known args tests ending) (command_named name) }
+
+abbrev pub test_visit : Surroundings → ℕ → List ℕ → List ArgumentTree → Tests → Visit
+test_visit s token name args tests = record { token = token; fault = fault_by_name (λ known. known_test_fault s known args tests) (test_named name) }
+
+abbrev pub kind_of : TestsTree → Tests
+kind_of no_test = Nothing
+kind_of (one_test t) = One
+kind_of (test_list t ts) = Bracketed
+
 abbrev mutual
   -- the visits of a test, before those of its own tests
-  pub test_visits : InvocationTree → List Visit
-  test_visits (invocation n name args tests) = (let v : Visit = record { token = n; fault = test_fault name args tests } in v) ∷ tests_visits tests
+  pub test_visits : Surroundings → InvocationTree → List Visit
+  test_visits s (invocation token name args tests) = test_visit s token name args (kind_of tests) ∷ tests_visits s tests
 
   -- the visits of tests, in order
-  pub tests_visits : TestsTree → List Visit
-  tests_visits no_test = []
-  tests_visits (one_test t) = test_visits t
-  tests_visits (test_list t ts) = test_visits t ++ more_visits ts
+  pub tests_visits : Surroundings → TestsTree → List Visit
+  tests_visits s no_test = []
+  tests_visits s (one_test t) = test_visits s t
+  tests_visits s (test_list t ts) = test_visits s t ++ more_visits s ts
 
-  pub more_visits : MoreTests → List Visit
-  more_visits last = []
-  more_visits (next t ts) = test_visits t ++ more_visits ts
+  pub more_visits : Surroundings → MoreTests → List Visit
+  more_visits s last = []
+  more_visits s (next t ts) = test_visits s t ++ more_visits s ts
 
 -- a command itself, and then its tests
-abbrev pub head_visits : Context → InvocationTree → Ending → List Visit
-head_visits context (invocation n name args tests) ending =
-    (let v : Visit = record { token = n; fault = command_fault context name args tests ending } in v) ∷ tests_visits tests
+abbrev pub head_visits : Surroundings → InvocationTree → Ending → List Visit
+head_visits s (invocation token name args tests) ending = command_visit s token name args (kind_of tests) ending ∷ tests_visits s tests
 
--- before the first command of a script
-abbrev pub at_start : Context
-at_start = record { takes_require = true; after_if = false }
+abbrev pub invocation_of : CommandTree → InvocationTree
+invocation_of (simple i) = i
+invocation_of (block i cs) = i
 
--- before the first command of a block
-abbrev pub in_block : Context
-in_block = record { takes_require = false; after_if = false }
-
--- after a command that is known by that name
-abbrev pub following : Context → Option CommandName → Context
-following context (Some Require) = record { takes_require = context.takes_require; after_if = false }
-following context (Some If) = record { takes_require = false; after_if = true }
-following context (Some Elsif) = record { takes_require = false; after_if = true }
-following context _ = record { takes_require = false; after_if = false }
-
-abbrev pub name_of : CommandTree → Option CommandName
-name_of (simple (invocation n name args tests)) = command_named name
-name_of (block (invocation n name args tests) cs) = command_named name
+-- after a command
+abbrev pub after_invocation : Surroundings → InvocationTree → Surroundings
+after_invocation s (invocation token name args tests) = following s (command_named name) (strings_of args)
 
 abbrev mutual
   -- the visits of a command: itself, its tests, its block
-  pub command_visits : Context → CommandTree → List Visit
-  command_visits context (simple i) = head_visits context i semicolon
-  command_visits context (block i cs) = head_visits context i braces ++ commands_visits in_block cs
+  pub command_visits : Surroundings → CommandTree → List Visit
+  command_visits s (simple i) = head_visits s i Semicolon
+  command_visits s (block i cs) = head_visits s i Block ++ commands_visits (in_block s) cs
 
   -- the visits of commands, in order
-  pub commands_visits : Context → CommandsTree → List Visit
-  commands_visits context no_command = []
-  commands_visits context (command c cs) = command_visits context c ++ commands_visits (following context (name_of c)) cs
+  pub commands_visits : Surroundings → CommandsTree → List Visit
+  commands_visits s no_command = []
+  commands_visits s (command c cs) = command_visits s c ++ commands_visits (after_invocation s (invocation_of c)) cs
+
+-- a fault as the refusal that names it, with the place of the command or test
+abbrev pub refusal : ℕ → Fault → CheckError
+refusal place UnknownCommand = refused.UnknownCommand place
+refusal place MissingCapability = refused.MissingCapability place
+refusal place UnknownCapability = refused.UnknownCapability place
+refusal place BadArguments = refused.BadArguments place
+refusal place Limit = refused.Limit place
 
 -- what a visit is refused as, where there is a fault
 abbrev pub refusal_of : Visit → Option CheckError

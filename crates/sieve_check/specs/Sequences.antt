@@ -1,11 +1,21 @@
--- How commands are put together.
-use Rattle.std.specs.Prelude.{◌≡◌, Bool, true, false, List, [], ◌∷◌, map}
+-- How commands are put together, one after another.
+use Rattle.std.specs.Prelude.{◌≡◌, Bool, true, false, if◌then◌else◌, List, [], ◌∷◌, map, Option, Some, None, option_map}
 use Rattle.sieve_check.specs.declared.sequence.Part.{Part}
 use Rattle.sieve_check.specs.declared.sequence.Part.TheVariants.{Nothing, Action, First, Next, Last}
 use Rattle.sieve_check.specs.declared.sequence.Sequence.{Sequence}
 use Rattle.sieve_check.specs.declared.typed.Branch.{Branch}
-use Rattle.sieve_check.specs.Typed.{CommandForm, choice, CommandForms, command, BranchForms, no_branch, otherwise, branch}
+use Rattle.sieve_check.specs.Signatures.{◌>>=◌}
+use Rattle.sieve_check.specs.FormOf.{PartForm, nothing, action, first, next_branch, last, Forms, closed, put}
+use Rattle.sieve_check.specs.Typed.{CommandForm, choice, CommandForms, command, BranchForms, no_branch}
 use Rattle.sieve_check.specs.TypedView.{test_form, command_form, commands_form, branch_forms}
+
+-- the code's part as a form
+abbrev pub part_form : Part → PartForm
+part_form Nothing = nothing
+part_form (Action c) = action (command_form c)
+part_form (First b) = first (test_form b.test) (commands_form b.block.items)
+part_form (Next b) = next_branch (test_form b.test) (commands_form b.block.items)
+part_form (Last block) = last (commands_form block.items)
 
 -- commands before others
 abbrev pub onto : List CommandForm → CommandForms → CommandForms
@@ -29,25 +39,16 @@ has_branch (b ∷ bs) = true
 abbrev pub is_open : Sequence → Bool
 is_open s = has_branch s.branches.items
 
+-- all commands, with those that are still to come: these go on with branches where a choice is open
+abbrev pub finished_by : Sequence → Forms → Option CommandForms
+finished_by s rest = if is_open s then Some (joined s rest.branches rest.commands) else option_map (λ others. joined s no_branch others) (closed rest)
+
 -- the last branch was added to the choice, if there was one
 pub record Closed (old : Sequence) (last : BranchForms) (new : Sequence) : Type 0 where
-  pub closed : new.branches.items ≡ []
+  pub none : new.branches.items ≡ []
   pub same : (others : CommandForms) → joined new no_branch others ≡ joined old last others
 
--- a command was added, and no branch may be
-pub record Added (old : Sequence) (added : CommandForms → CommandForms) (new : Sequence) : Type 0 where
-  pub closed : is_open new ≡ false
-  pub same : (others : CommandForms) → joined new no_branch others ≡ joined old no_branch (added others)
-
--- what a command adds was added
-abbrev pub Pushed : Sequence → Part → Sequence → Type 0
-Pushed old Nothing new = Added old (λ others. others) new
-Pushed old (Action c) new = Added old (λ others. command (command_form c) others) new
-Pushed old (First b) new =
-    (is_open new ≡ true)
-    × ((more : BranchForms) (others : CommandForms) → joined new more others ≡ joined old no_branch (command (choice (branch (test_form b.test) (commands_form b.block.items) more)) others))
-Pushed old (Next b) new =
-    is_open old ≡ true
-    → (is_open new ≡ true) × ((more : BranchForms) (others : CommandForms) → joined new more others ≡ joined old (branch (test_form b.test) (commands_form b.block.items) more) others)
-Pushed old (Last block) new =
-    (is_open new ≡ false) × ((others : CommandForms) → joined new no_branch others ≡ joined old (otherwise (commands_form block.items)) others)
+-- what a command adds was added, or it can't be
+abbrev pub Pushed : Sequence → Part → Bool → Sequence → Type 0
+Pushed old part true new = (rest : Forms) → (put (part_form part) rest >>= finished_by old) ≡ finished_by new rest
+Pushed old part false new = (rest : Forms) → (put (part_form part) rest >>= finished_by old) ≡ None

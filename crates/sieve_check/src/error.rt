@@ -28,6 +28,34 @@ pub enum CheckError {
     Limit { place: usize },
 }
 
+/// What is wrong with a command or test, in the order in which it is named.
+#[derive(Clone, Copy, Debug, PartialEq, Eq)]
+pub enum Fault {
+    UnknownCommand,
+    MissingCapability,
+    UnknownCapability,
+    BadArguments,
+    Limit,
+}
+
+impl CheckError {
+    ghost use Rattle.std.specs.Prelude.{◌≡◌};
+    ghost use Rattle.sieve_check.specs.Rules.{refusal};
+
+    // The fault of the command or test whose identifier is that token.
+    pub(crate) fn of(fault: Fault, place: usize) -> CheckError
+        ensures { result ≡ refusal place fault }
+    {
+        match fault {
+            Fault::UnknownCommand => CheckError::UnknownCommand { place },
+            Fault::MissingCapability => CheckError::MissingCapability { place },
+            Fault::UnknownCapability => CheckError::UnknownCapability { place },
+            Fault::BadArguments => CheckError::BadArguments { place },
+            Fault::Limit => CheckError::Limit { place },
+        }
+    }
+}
+
 impl From<AllocError> for CheckError {
     ghost from_gives = { λ _ e. e ≡ Memory };
 

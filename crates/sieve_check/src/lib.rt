@@ -1,19 +1,20 @@
 //! The static rules of Sieve scripts, and the typed form of those that keep them (RFC 5228).
 //!
 //! [`check`] gives a script as [`Checked`], or names the fault that `specs/Rules` says. What a script means, and
-//! its code, go by its typed form alone (`specs/Typed`); `specs/FormOf` says how it is written. `laws` says that a
-//! script has one typed form at most, and one where nothing is wrong with it.
+//! its code, go by its typed form alone (`specs/Typed`), which `specs/FormOf` reads off the tree. What each command and
+//! test takes is a table in `specs/Signatures`. `laws` says that a script has a typed form where nothing is wrong with it.
 #![tactic(auto)]
 
 mod checked;
 mod checker;
-mod context;
 mod error;
-mod head;
+mod forming;
 pub mod laws;
 mod names;
+mod rules;
 mod sequence;
-mod test;
+mod signature;
+mod surroundings;
 mod typed;
 
 pub use checked::Checked;

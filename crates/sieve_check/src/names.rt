@@ -1,6 +1,6 @@
-// What commands, tests and capabilities are called.
+// What commands, tests, tags and capabilities are called. ASCII case is ignored but in capabilities.
 ghost use Rattle.std.specs.Prelude.{◌≡◌};
-ghost use Rattle.sieve_check.specs.Names.{command_named, is_capability, is_word, order_tagged, test_named};
+ghost use Rattle.sieve_check.specs.Names.{capability_named, command_named, is_word, tag_named, test_named};
 
 use crate::typed::Order;
 use octets::equal_ignoring_case;
@@ -37,6 +37,32 @@ pub enum TestName {
     AnyOf,
     /// `size` (RFC 5228, section 5.9).
     Size,
+}
+
+/// The tags that are known, by the group of which at most one may stand.
+#[derive(Clone, Copy, Debug, PartialEq, Eq)]
+pub enum Tag {
+    /// `:over` and `:under` (RFC 5228, section 5.9).
+    Order(Order),
+}
+
+/// The capabilities that can be required.
+#[derive(Clone, Copy, Debug, PartialEq, Eq)]
+pub enum Capability {
+    /// `fileinto` (RFC 5228, section 4.1).
+    FileInto,
+    /// `variables` (RFC 5229).
+    Variables,
+    /// `mime` (RFC 5703, section 4).
+    Mime,
+    /// `foreverypart` (RFC 5703, section 3).
+    ForEveryPart,
+    /// `vnd.depot`, of our own.
+    Depot,
+    /// `comparator-i;octet` (RFC 5228, section 2.7.3), which is always there.
+    OctetComparator,
+    /// `comparator-i;ascii-casemap` (RFC 5228, section 2.7.3), which is always there.
+    CasemapComparator,
 }
 
 // Whether the name is the word but for the case of ASCII letters.
@@ -90,28 +116,38 @@ pub fn test_named(name: &[u8]) -> Option<TestName>
     }
 }
 
-/// The order that a tag of `size` names, if it names one.
-pub fn order_tagged(name: &[u8]) -> Option<Order>
-    ensures { result ≡ order_tagged name.now }
+/// The tag of that name, if it is known.
+pub fn tag_named(name: &[u8]) -> Option<Tag>
+    ensures { result ≡ tag_named name.now }
 {
     if is_word(name, b"over") {
-        Some(Order::Over)
+        Some(Tag::Order(Order::Over))
     } else if is_word(name, b"under") {
-        Some(Order::Under)
+        Some(Tag::Order(Order::Under))
     } else {
         None
     }
 }
 
-/// Whether the octets are those of a capability.
-pub fn is_capability(name: &[u8]) -> bool
-    ensures { result ≡ is_capability name.now }
+/// The capability of that name, if it is known; its octets are compared as they are.
+pub fn capability_named(name: &[u8]) -> Option<Capability>
+    ensures { result ≡ capability_named name.now }
 {
-    name == b"fileinto".as_slice()
-        || name == b"variables".as_slice()
-        || name == b"mime".as_slice()
-        || name == b"foreverypart".as_slice()
-        || name == b"vnd.depot".as_slice()
-        || name == b"comparator-i;octet".as_slice()
-        || name == b"comparator-i;ascii-casemap".as_slice()
+    if name == b"fileinto".as_slice() {
+        Some(Capability::FileInto)
+    } else if name == b"variables".as_slice() {
+        Some(Capability::Variables)
+    } else if name == b"mime".as_slice() {
+        Some(Capability::Mime)
+    } else if name == b"foreverypart".as_slice() {
+        Some(Capability::ForEveryPart)
+    } else if name == b"vnd.depot".as_slice() {
+        Some(Capability::Depot)
+    } else if name == b"comparator-i;octet".as_slice() {
+        Some(Capability::OctetComparator)
+    } else if name == b"comparator-i;ascii-casemap".as_slice() {
+        Some(Capability::CasemapComparator)
+    } else {
+        None
+    }
 }

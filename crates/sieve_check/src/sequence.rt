@@ -59,28 +59,35 @@ impl Sequence {
         Ok(())
     }
 
-    /// Adds what a command adds.
-    pub fn push(&mut self, alloc: Global, part: Part) -> Result<(), AllocError>
-        ensures { OnOk result (Pushed self.old part self.new) }
+    /// Adds what a command adds. Says whether it could: a further branch can be added to an open choice alone.
+    pub fn push(&mut self, alloc: Global, part: Part) -> Result<bool, AllocError>
+        ensures { IfOk result (λ fits. Pushed self.old part fits self.new) }
     {
+        let is_open = !self.branches.is_empty();
         match part {
-            Part::Nothing => self.close(alloc, None),
+            Part::Nothing => self.close(alloc, None)?,
             Part::Action(command) => {
                 self.close(alloc, None)?;
                 self.commands.push(command)?;
-                Ok(())
             }
             Part::First(branch) => {
                 self.close(alloc, None)?;
                 self.branches.push(branch)?;
-                Ok(())
             }
             Part::Next(branch) => {
+                if !is_open {
+                    return Ok(false);
+                }
                 self.branches.push(branch)?;
-                Ok(())
             }
-            Part::Last(block) => self.close(alloc, Some(block)),
+            Part::Last(block) => {
+                if !is_open {
+                    return Ok(false);
+                }
+                self.close(alloc, Some(block))?;
+            }
         }
+        Ok(true)
     }
 
     /// The commands.

@@ -1,0 +1,31 @@
+-- What the functions answer that make the typed form.
+use Rattle.std.specs.Prelude.{Option}
+use Rattle.sieve_parser.specs.declared.tree.Head.{Head}
+use Rattle.sieve_check.specs.declared.forming.Junction.{Junction}
+use Rattle.sieve_check.specs.declared.forming.Junction.TheVariants.{All, Any}
+use Rattle.sieve_check.specs.declared.forming.Opening.{Opening}
+use Rattle.sieve_check.specs.declared.forming.Opening.TheVariants.{First, Next}
+use Rattle.sieve_check.specs.Names.{command_named, test_named}
+use Rattle.sieve_check.specs.Rules.{arguments_of}
+use Rattle.sieve_check.specs.Signatures.{◌>>=◌, reading, command_signature, test_signature}
+use Rattle.sieve_check.specs.FormOf.{InnerForms, test_of, PartForm, first, next_branch, simple_of, block_of}
+use Rattle.sieve_check.specs.Typed.{TestForm, all_of, any_of, TestForms, CommandForms}
+
+-- the test of a head, with the tests behind it
+abbrev pub head_test : Head → InnerForms → Option TestForm
+head_test head inner = test_named head.name >>= λ name. reading (test_signature name) (arguments_of head) >>= λ read. test_of name read inner
+
+-- the command of a head, which ends in a semicolon, and which ends in a block
+abbrev pub head_simple : Head → InnerForms → Option PartForm
+head_simple head inner = command_named head.name >>= λ name. reading (command_signature name) (arguments_of head) >>= λ read. simple_of name inner
+
+abbrev pub head_block : Head → InnerForms → CommandForms → Option PartForm
+head_block head inner body = command_named head.name >>= λ name. reading (command_signature name) (arguments_of head) >>= λ read. block_of name inner body
+
+abbrev pub joined_by : Junction → TestForm → TestForms → TestForm
+joined_by All f fs = all_of f fs
+joined_by Any f fs = any_of f fs
+
+abbrev pub opened_by : Opening → TestForm → CommandForms → PartForm
+opened_by First f body = first f body
+opened_by Next f body = next_branch f body

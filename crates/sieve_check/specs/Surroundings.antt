@@ -1,0 +1,66 @@
+-- What surrounds a command or test: what was required before it, and where it stands.
+use Rattle.std.specs.Prelude.{ℕ, Bool, true, false, not, List, [], ◌∷◌, Option, Some, None}
+use Rattle.sieve_check.specs.declared.names.Capability.{Capability}
+use Rattle.sieve_check.specs.declared.names.Capability.TheVariants.{FileInto, Variables, Mime, ForEveryPart, Depot, OctetComparator, CasemapComparator}
+use Rattle.sieve_check.specs.declared.names.CommandName.{CommandName}
+use Rattle.sieve_check.specs.declared.names.CommandName.TheVariants.{Require, If, Elsif}
+use Rattle.sieve_check.specs.declared.surroundings.Capabilities.{Capabilities}
+use Rattle.sieve_check.specs.declared.surroundings.Surroundings.{Surroundings}
+use Rattle.sieve_check.specs.Names.{capability_named}
+
+-- the capability was required; the comparators are always there
+abbrev pub has_capability : Capability → Capabilities → Bool
+has_capability FileInto all = all.file_into
+has_capability Variables all = all.variables
+has_capability Mime all = all.mime
+has_capability ForEveryPart all = all.for_every_part
+has_capability Depot all = all.depot
+has_capability OctetComparator all = true
+has_capability CasemapComparator all = true
+
+-- the capability is needed and isn't there
+abbrev pub lacks : Surroundings → Option Capability → Bool
+lacks s None = false
+lacks s (Some capability) = not (has_capability capability s.required)
+
+-- one more capability
+abbrev pub with_capability : Capability → Capabilities → Capabilities
+with_capability FileInto all = record all { file_into = true }
+with_capability Variables all = record all { variables = true }
+with_capability Mime all = record all { mime = true }
+with_capability ForEveryPart all = record all { for_every_part = true }
+with_capability Depot all = record all { depot = true }
+with_capability OctetComparator all = all
+with_capability CasemapComparator all = all
+
+abbrev pub with_known : Option Capability → Capabilities → Capabilities
+with_known None all = all
+with_known (Some capability) all = with_capability capability all
+
+-- the capability of that name, too
+abbrev pub with_required : List ℕ → Capabilities → Capabilities
+with_required name all = with_known (capability_named name) all
+
+-- those of the names, too
+abbrev pub requiring : List (List ℕ) → Capabilities → Capabilities
+requiring [] all = all
+requiring (name ∷ names) all = requiring names (with_required name all)
+
+-- before the first command of a script
+abbrev pub at_start : Surroundings
+at_start = record {
+  required = record { file_into = false; variables = false; mime = false; for_every_part = false; depot = false };
+  takes_require = true;
+  after_if = false;
+}
+
+-- before the first command of a block
+abbrev pub in_block : Surroundings → Surroundings
+in_block s = record s { takes_require = false; after_if = false }
+
+-- after a command that is known by that name, and has these strings
+abbrev pub following : Surroundings → Option CommandName → List (List ℕ) → Surroundings
+following s (Some Require) strings = record s { required = requiring strings s.required; after_if = false }
+following s (Some If) strings = record s { takes_require = false; after_if = true }
+following s (Some Elsif) strings = record s { takes_require = false; after_if = true }
+following s _ strings = record s { takes_require = false; after_if = false }

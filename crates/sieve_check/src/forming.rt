@@ -1,0 +1,267 @@
+// The typed form of scripts. Nothing is answered where something isn't written as it has to be.
+ghost use Rattle.std.specs.Prelude.{◌≡◌, IfOk, map, option_map, Some, None, if◌then◌else◌};
+ghost use Rattle.sieve_parser.specs.View.{argument_tree, command_tree, commands_tree, invocation_tree, more_tests_of};
+ghost use Rattle.sieve_check.specs.FormOf.{none, one, bracketed, block_part, form_of, more_forms_of, number_in, part_of, simple_part, test_form_of};
+ghost use Rattle.sieve_check.specs.Forming.{head_block, head_simple, head_test, joined_by, opened_by};
+ghost use Rattle.sieve_check.specs.Sequences.{part_form};
+ghost use Rattle.sieve_check.specs.Typed.{CommandForms, TestForm, TestForms, negation};
+ghost use Rattle.sieve_check.specs.TypedView.{commands_form, test_form, tests_of};
+
+use crate::names::{CommandName, TestName, command_named, test_named};
+use crate::sequence::{Part, Sequence};
+use crate::signature::{command_signature, test_signature};
+use crate::typed::{Branch, Command, Test};
+use sieve_parser::{Argument, Command as Tree, Head, Invocation};
+use std::alloc::{AllocError, Global};
+
+// The number that the arguments are.
+fn number_in(arguments: &[Argument]) -> Option<u64>
+    ensures { result ≡ number_in (map argument_tree arguments.now) }
+{
+    match arguments {
+        [Argument::Number(number)] => Some(*number),
+        _ => None,
+    }
+}
+
+// A test after whose arguments no test stands.
+fn plain_test(head: &Head) -> Option<Test>
+    ensures { option_map test_form result ≡ head_test head.now none }
+{
+    let name = test_named(head.name.as_slice())?;
+    let reading = test_signature(name).read(&head.arguments)?;
+    match name {
+        TestName::Constant(value) => Some(Test::Constant(value)),
+        TestName::Size => {
+            let order = reading.tags.order?;
+            Some(Test::Size(order, number_in(reading.positional)?))
+        }
+        TestName::Not | TestName::AllOf | TestName::AnyOf => None,
+    }
+}
+
+// Whether this is a test that turns the one behind it around.
+fn negates(head: &Head) -> bool
+    ensures { (f : TestForm) → head_test head.now (one f) ≡ (if result then Some (negation f) else None) }
+{
+    match test_named(head.name.as_slice()) {
+        Some(name) => {
+            name == TestName::Not && test_signature(name).read(&head.arguments).is_some()
+        }
+        None => false,
+    }
+}
+
+/// How a test of tests in round brackets combines them.
+#[derive(Clone, Copy, Debug, PartialEq, Eq)]
+pub enum Junction {
+    All,
+    Any,
+}
+
+// How the tests in round brackets behind this are combined.
+fn combining(head: &Head) -> Option<Junction>
+    ensures { (f : TestForm) (fs : TestForms) → head_test head.now (bracketed f fs) ≡ option_map (λ j. joined_by j f fs) result }
+{
+    let name = test_named(head.name.as_slice())?;
+    test_signature(name).read(&head.arguments)?;
+    match name {
+        TestName::AllOf => Some(Junction::All),
+        TestName::AnyOf => Some(Junction::Any),
+        TestName::Constant(_) | TestName::Not | TestName::Size => None,
+    }
+}
+
+// The test that turns around the one behind it.
+fn negated(alloc: Global, head: &Head, inner: Test) -> Result<Option<Test>, AllocError>
+    ensures { IfOk result (λ t. option_map test_form t ≡ head_test head.now (one (test_form inner))) }
+{
+    if negates(head) {
+        Ok(Some(Test::Not(Box::new(alloc, inner)?)))
+    } else {
+        Ok(None)
+    }
+}
+
+// The test of the tests in round brackets behind it.
+fn combined(
+    alloc: Global,
+    head: &Head,
+    first: Test,
+    others: Vec<Test>,
+) -> Result<Option<Test>, AllocError>
+    ensures { IfOk result (λ t. option_map test_form t ≡ head_test head.now (bracketed (test_form first) (tests_of (map test_form others.items)))) }
+{
+    let first = Box::new(alloc, first)?;
+    match combining(head) {
+        Some(Junction::All) => Ok(Some(Test::AllOf(first, others))),
+        Some(Junction::Any) => Ok(Some(Test::AnyOf(first, others))),
+        None => Ok(None),
+    }
+}
+
+// A test with the tests behind it.
+#[cycle(tests)]
+fn test(alloc: Global, invocation: &Invocation) -> Result<Option<Test>, AllocError>
+    ensures { IfOk result (λ t. option_map test_form t ≡ test_form_of (invocation_tree invocation.now)) }
+{
+    match invocation {
+        Invocation::Plain(head) => Ok(plain_test(head)),
+        Invocation::WithTest(head, inner) => match test(alloc, inner)? {
+            Some(inner) => negated(alloc, head, inner),
+            None => Ok(None),
+        },
+        Invocation::WithTests(head, first, others) => {
+            let Some(first) = test(alloc, first)? else {
+                return Ok(None);
+            };
+            match tests(alloc, others)? {
+                Some(others) => combined(alloc, head, first, others),
+                None => Ok(None),
+            }
+        }
+    }
+}
+
+// The tests of a list after its first.
+#[cycle(tests)]
+fn tests(alloc: Global, list: &[Invocation]) -> Result<Option<Vec<Test>>, AllocError>
+    ensures { IfOk result (λ ts. option_map (λ ts. tests_of (map test_form ts.items)) ts ≡ more_forms_of (more_tests_of (map invocation_tree list.now))) }
+{
+    let mut tests = Vec::new(alloc);
+    'list: for invocation in list {
+        let Some(test) = test(alloc, invocation)? else {
+            return Ok(None);
+        };
+        tests.push(test)?;
+    }
+    Ok(Some(tests))
+}
+
+// A command that ends in a semicolon, and after whose arguments no test stands.
+fn plain_part(head: &Head) -> Option<Part>
+    ensures { option_map part_form result ≡ head_simple head.now none }
+{
+    let name = command_named(head.name.as_slice())?;
+    command_signature(name).read(&head.arguments)?;
+    match name {
+        CommandName::Require => Some(Part::Nothing),
+        CommandName::Stop => Some(Part::Action(Command::Stop)),
+        CommandName::Keep => Some(Part::Action(Command::Keep)),
+        CommandName::Discard => Some(Part::Action(Command::Discard)),
+        CommandName::If | CommandName::Elsif | CommandName::Else => None,
+    }
+}
+
+/// Which branch of a choice a command opens.
+#[derive(Clone, Copy, Debug, PartialEq, Eq)]
+pub enum Opening {
+    /// That of an `if`.
+    First,
+    /// That of an `elsif`.
+    Next,
+}
+
+// Which branch this opens, with one test and a block behind it.
+fn opened(head: &Head) -> Option<Opening>
+    ensures { (f : TestForm) (body : CommandForms) → head_block head.now (one f) body ≡ option_map (λ o. opened_by o f body) result }
+{
+    let name = command_named(head.name.as_slice())?;
+    command_signature(name).read(&head.arguments)?;
+    match name {
+        CommandName::If => Some(Opening::First),
+        CommandName::Elsif => Some(Opening::Next),
+        CommandName::Require
+        | CommandName::Else
+        | CommandName::Stop
+        | CommandName::Keep
+        | CommandName::Discard => None,
+    }
+}
+
+// What this adds, with a test and a block of these commands behind it.
+fn branch_part(head: &Head, test: Test, block: Vec<Command>) -> Option<Part>
+    ensures { option_map part_form result ≡ head_block head.now (one (test_form test)) (commands_form block.items) }
+{
+    let branch = Branch { test, block };
+    match opened(head)? {
+        Opening::First => Some(Part::First(branch)),
+        Opening::Next => Some(Part::Next(branch)),
+    }
+}
+
+// What this adds, with a block of these commands behind it.
+fn last_part(head: &Head, block: Vec<Command>) -> Option<Part>
+    ensures { option_map part_form result ≡ head_block head.now none (commands_form block.items) }
+{
+    let name = command_named(head.name.as_slice())?;
+    command_signature(name).read(&head.arguments)?;
+    match name {
+        CommandName::Else => Some(Part::Last(block)),
+        CommandName::Require
+        | CommandName::If
+        | CommandName::Elsif
+        | CommandName::Stop
+        | CommandName::Keep
+        | CommandName::Discard => None,
+    }
+}
+
+// A command with a block of these commands, as a part of the commands around it.
+fn block_part(
+    alloc: Global,
+    invocation: &Invocation,
+    body: Vec<Command>,
+) -> Result<Option<Part>, AllocError>
+    ensures { IfOk result (λ part. option_map part_form part ≡ block_part (invocation_tree invocation.now) (commands_form body.items)) }
+{
+    match invocation {
+        Invocation::Plain(head) => Ok(last_part(head, body)),
+        Invocation::WithTest(head, guard) => match test(alloc, guard)? {
+            Some(test) => Ok(branch_part(head, test, body)),
+            None => Ok(None),
+        },
+        Invocation::WithTests(_, _, _) => Ok(None),
+    }
+}
+
+// A command without a block, as a part of the commands around it.
+fn simple_part(invocation: &Invocation) -> Option<Part>
+    ensures { option_map part_form result ≡ simple_part (invocation_tree invocation.now) }
+{
+    match invocation {
+        Invocation::Plain(head) => plain_part(head),
+        Invocation::WithTest(_, _) | Invocation::WithTests(_, _, _) => None,
+    }
+}
+
+// A command, as a part of the commands around it.
+#[cycle(commands)]
+fn part(alloc: Global, tree: &Tree) -> Result<Option<Part>, AllocError>
+    ensures { IfOk result (λ part. option_map part_form part ≡ part_of (command_tree tree.now)) }
+{
+    match tree {
+        Tree::Simple(invocation) => Ok(simple_part(invocation)),
+        Tree::Block(invocation, block) => match commands(alloc, block)? {
+            Some(body) => block_part(alloc, invocation, body),
+            None => Ok(None),
+        },
+    }
+}
+
+/// The commands of a script or of a block. An error comes only where memory was refused.
+#[cycle(commands)]
+pub fn commands(alloc: Global, trees: &[Tree]) -> Result<Option<Vec<Command>>, AllocError>
+    ensures { IfOk result (λ cs. option_map (λ cs. commands_form cs.items) cs ≡ form_of (commands_tree trees.now)) }
+{
+    let mut sequence = Sequence::new(alloc);
+    'trees: for tree in trees {
+        let Some(part) = part(alloc, tree)? else {
+            return Ok(None);
+        };
+        if !sequence.push(alloc, part)? {
+            return Ok(None);
+        }
+    }
+    Ok(Some(sequence.finish(alloc)?))
+}

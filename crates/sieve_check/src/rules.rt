@@ -1,0 +1,308 @@
+// The static rules: what is wrong with commands and tests (RFC 5228, section 8.2, and each command's own section).
+ghost use Rattle.std.specs.Prelude.{◌≡◌, map, option_map};
+ghost use Rattle.sieve_parser.specs.Tree.{TestsTree};
+ghost use Rattle.sieve_parser.specs.View.{command_tree, commands_tree, head_tree, invocation_tree, more_tests_of};
+ghost use Rattle.sieve_check.specs.Rules.{after_invocation, arguments_of, command_needs, command_visit, command_visits, commands_visits, first_fault, head_visits, invocation_of, is_well_formed, known_command_fault, known_test_fault, may_stand, more_visits, refusal, refusal_of, test_needs, test_visit, test_visits};
+ghost use Rattle.sieve_check.specs.Refusing.{Refuses};
+
+use crate::error::{CheckError, Fault};
+use crate::names::{
+    Capability, CommandName, TestName, capability_named, command_named, test_named,
+};
+use crate::signature::{Ending, Signature, Tests, command_signature, ending_of, test_signature};
+use crate::surroundings::Surroundings;
+use octets::Octets;
+use sieve_parser::{Argument, Command, Head, Invocation};
+
+/// The most octets of a string.
+const MAX_STRING: usize = 16_384;
+
+// The capability that a command needs: none of those that there are.
+fn command_needs(name: CommandName) -> Option<Capability>
+    ensures { result ≡ command_needs name }
+{
+    match name {
+        CommandName::Require
+        | CommandName::If
+        | CommandName::Elsif
+        | CommandName::Else
+        | CommandName::Stop
+        | CommandName::Keep
+        | CommandName::Discard => None,
+    }
+}
+
+// The capability that a test needs: none of those that there are.
+fn test_needs(name: TestName) -> Option<Capability>
+    ensures { result ≡ test_needs name }
+{
+    match name {
+        TestName::Constant(_)
+        | TestName::Not
+        | TestName::AllOf
+        | TestName::AnyOf
+        | TestName::Size => None,
+    }
+}
+
+// What may be wrong with a string.
+#[derive(Clone, Copy, Debug, PartialEq, Eq)]
+enum StringFault {
+    /// It is no capability.
+    Unknown,
+    /// It has more octets than the limit.
+    Long,
+}
+
+impl StringFault {
+    ghost use Rattle.std.specs.Prelude.{◌≡◌, map};
+    ghost use Rattle.std.specs.List.{list_any};
+    ghost use Rattle.sieve_parser.specs.View.{argument_tree};
+    ghost use Rattle.sieve_check.specs.Rules.{string_has, strings_in, strings_of};
+
+    // Whether this is wrong with the string.
+    fn is_in(self, string: &Octets) -> bool
+        ensures { result ≡ string_has self string.now }
+    {
+        match self {
+            StringFault::Unknown => capability_named(string.as_slice()).is_none(),
+            StringFault::Long => string.len() > MAX_STRING,
+        }
+    }
+
+    // Whether this is wrong with one of the strings.
+    fn is_in_one(self, strings: &[Octets]) -> bool
+        ensures { result ≡ list_any (string_has self) strings.now }
+    {
+        for string in strings {
+            if self.is_in(string) {
+                return true;
+            }
+        }
+        false
+    }
+
+    // Whether this is wrong with a string of the argument.
+    fn is_in_argument(self, argument: &Argument) -> bool
+        ensures { result ≡ list_any (string_has self) (strings_in (argument_tree argument.now)) }
+    {
+        match argument {
+            Argument::Text(string) => self.is_in(string),
+            Argument::TextList(first, others) => self.is_in(first) || self.is_in_one(others),
+            Argument::Number(_) | Argument::Tag(_) => false,
+        }
+    }
+
+    // Whether this is wrong with a string of the arguments.
+    fn is_in_some(self, arguments: &[Argument]) -> bool
+        ensures { result ≡ list_any (string_has self) (strings_of (map argument_tree arguments.now)) }
+    {
+        for argument in arguments {
+            if self.is_in_argument(argument) {
+                return true;
+            }
+        }
+        false
+    }
+}
+
+// Whether arguments and tests are what the signature says.
+fn is_well_formed(signature: Signature, head: &Head, tests: Tests) -> bool
+    ensures { result ≡ is_well_formed signature (arguments_of head.now) tests }
+{
+    signature.tests == tests && signature.read(&head.arguments).is_some()
+}
+
+// Whether the command may stand there.
+fn may_stand(name: CommandName, surroundings: Surroundings) -> bool
+    ensures { result ≡ may_stand surroundings name }
+{
+    match name {
+        CommandName::Require => surroundings.takes_require,
+        CommandName::Elsif | CommandName::Else => surroundings.after_if,
+        CommandName::If | CommandName::Stop | CommandName::Keep | CommandName::Discard => true,
+    }
+}
+
+// What is wrong with a command that is known by that name.
+fn known_command_fault(
+    surroundings: Surroundings,
+    name: CommandName,
+    head: &Head,
+    tests: Tests,
+    ending: Ending,
+) -> Option<Fault>
+    ensures { result ≡ known_command_fault surroundings name (arguments_of head.now) tests ending }
+{
+    if surroundings.lacks(command_needs(name)) {
+        Some(Fault::MissingCapability)
+    } else if name == CommandName::Require && StringFault::Unknown.is_in_some(&head.arguments) {
+        Some(Fault::UnknownCapability)
+    } else if !may_stand(name, surroundings)
+        || ending_of(name) != ending
+        || !is_well_formed(command_signature(name), head, tests)
+    {
+        Some(Fault::BadArguments)
+    } else if StringFault::Long.is_in_some(&head.arguments) {
+        Some(Fault::Limit)
+    } else {
+        None
+    }
+}
+
+// What is wrong with a test that is known by that name.
+fn known_test_fault(
+    surroundings: Surroundings,
+    name: TestName,
+    head: &Head,
+    tests: Tests,
+) -> Option<Fault>
+    ensures { result ≡ known_test_fault surroundings name (arguments_of head.now) tests }
+{
+    if surroundings.lacks(test_needs(name)) {
+        Some(Fault::MissingCapability)
+    } else if !is_well_formed(test_signature(name), head, tests) {
+        Some(Fault::BadArguments)
+    } else if StringFault::Long.is_in_some(&head.arguments) {
+        Some(Fault::Limit)
+    } else {
+        None
+    }
+}
+
+// Nothing, where no fault was found; else the fault as the refusal that names it, at the head's identifier.
+fn unless(head: &Head, fault: Option<Fault>) -> Result<(), CheckError>
+    ensures { Refuses (option_map (refusal head.now.token) fault) result }
+{
+    match fault {
+        Some(fault) => Err(CheckError::of(fault, head.token)),
+        None => Ok(()),
+    }
+}
+
+// Nothing, where nothing is wrong with a command, apart from its tests and its block.
+fn command_alone(
+    surroundings: Surroundings,
+    head: &Head,
+    tests: Tests,
+    ending: Ending,
+) -> Result<(), CheckError>
+    ensures { Refuses (refusal_of (command_visit surroundings head.now.token head.now.name (arguments_of head.now) tests ending)) result }
+{
+    let fault = match command_named(head.name.as_slice()) {
+        Some(name) => known_command_fault(surroundings, name, head, tests, ending),
+        None => Some(Fault::UnknownCommand),
+    };
+    unless(head, fault)
+}
+
+// Nothing, where nothing is wrong with a test, apart from its own tests.
+fn test_alone(surroundings: Surroundings, head: &Head, tests: Tests) -> Result<(), CheckError>
+    ensures { Refuses (refusal_of (test_visit surroundings head.now.token head.now.name (arguments_of head.now) tests)) result }
+{
+    let fault = match test_named(head.name.as_slice()) {
+        Some(name) => known_test_fault(surroundings, name, head, tests),
+        None => Some(Fault::UnknownCommand),
+    };
+    unless(head, fault)
+}
+
+// Nothing, where nothing is wrong with a test and its own tests.
+#[cycle(tests)]
+fn test(surroundings: Surroundings, invocation: &Invocation) -> Result<(), CheckError>
+    ensures { Refuses (first_fault (test_visits surroundings (invocation_tree invocation.now))) result }
+{
+    match invocation {
+        Invocation::Plain(head) => test_alone(surroundings, head, Tests::Nothing),
+        Invocation::WithTest(head, inner) => {
+            test_alone(surroundings, head, Tests::One)?;
+            test(surroundings, inner)
+        }
+        Invocation::WithTests(head, first, others) => {
+            test_alone(surroundings, head, Tests::Bracketed)?;
+            test(surroundings, first)?;
+            tests(surroundings, others)
+        }
+    }
+}
+
+// The same of the tests of a list after its first.
+#[cycle(tests)]
+fn tests(surroundings: Surroundings, list: &[Invocation]) -> Result<(), CheckError>
+    ensures { Refuses (first_fault (more_visits surroundings (more_tests_of (map invocation_tree list.now)))) result }
+{
+    'list: for invocation in list {
+        test(surroundings, invocation)?;
+    }
+    Ok(())
+}
+
+// Nothing, where nothing is wrong with a command and its tests, apart from its block.
+fn head(
+    surroundings: Surroundings,
+    invocation: &Invocation,
+    ending: Ending,
+) -> Result<(), CheckError>
+    ensures { Refuses (first_fault (head_visits surroundings (invocation_tree invocation.now) ending)) result }
+{
+    match invocation {
+        Invocation::Plain(head) => command_alone(surroundings, head, Tests::Nothing, ending),
+        Invocation::WithTest(head, inner) => {
+            command_alone(surroundings, head, Tests::One, ending)?;
+            test(surroundings, inner)
+        }
+        Invocation::WithTests(head, first, others) => {
+            command_alone(surroundings, head, Tests::Bracketed, ending)?;
+            test(surroundings, first)?;
+            tests(surroundings, others)
+        }
+    }
+}
+
+// Nothing, where nothing is wrong with a command and what stands below it.
+#[cycle(commands)]
+fn command(surroundings: Surroundings, tree: &Command) -> Result<(), CheckError>
+    ensures { Refuses (first_fault (command_visits surroundings (command_tree tree.now))) result }
+{
+    match tree {
+        Command::Simple(invocation) => head(surroundings, invocation, Ending::Semicolon),
+        Command::Block(invocation, block) => {
+            head(surroundings, invocation, Ending::Block)?;
+            commands(surroundings.in_block(), block)
+        }
+    }
+}
+
+// What an invocation begins with.
+fn head_in(invocation: &Invocation) -> &Head
+    ensures { (tests : TestsTree) × (invocation_tree invocation.now ≡ head_tree result.now tests) }
+{
+    match invocation {
+        Invocation::Plain(head) => head,
+        Invocation::WithTest(head, _) => head,
+        Invocation::WithTests(head, _, _) => head,
+    }
+}
+
+// What surrounds the command after this one.
+fn after(surroundings: Surroundings, command: &Command) -> Surroundings
+    ensures { result ≡ after_invocation surroundings (invocation_of (command_tree command.now)) }
+{
+    match command {
+        Command::Simple(invocation) => surroundings.following(head_in(invocation)),
+        Command::Block(invocation, _) => surroundings.following(head_in(invocation)),
+    }
+}
+
+/// Nothing, where nothing is wrong with the commands of a script or block; else the fault that is named.
+#[cycle(commands)]
+pub fn commands(surroundings: Surroundings, trees: &[Command]) -> Result<(), CheckError>
+    ensures { Refuses (first_fault (commands_visits surroundings (commands_tree trees.now))) result }
+{
+    let mut around = surroundings;
+    'trees: for tree in trees {
+        command(around, tree)?;
+        around = after(around, tree);
+    }
+    Ok(())
+}
