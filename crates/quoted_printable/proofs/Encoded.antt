@@ -132,7 +132,7 @@ run_some (octet ∷ rest) some =
     let within : length (token_of octet (is_none rest)) ≤ 75 = omega arith in
     rw (le-leb (length (token_of octet (is_none rest))) 75 within) (omega arith)
 
-line_some : (octets : List ℕ) → 0 < length octets → 0 < tokens_of_line (tokens_of octets)
+pub line_some : (octets : List ℕ) → 0 < length octets → 0 < tokens_of_line (tokens_of octets)
 line_some octets some =
     let count = length-tokens_of octets in
     elim (cases_Bool (is_last_line (tokens_of octets))) [
@@ -142,12 +142,12 @@ line_some octets some =
 
 -- ---- the lines one after another
 
-tokens_drop : (n : ℕ) (octets : List ℕ) → drop n (tokens_of octets) ≡ tokens_of (drop n octets)
+pub tokens_drop : (n : ℕ) (octets : List ℕ) → drop n (tokens_of octets) ≡ tokens_of (drop n octets)
 tokens_drop zero octets = refl
 tokens_drop (suc n) [] = refl
 tokens_drop (suc n) (octet ∷ rest) = tokens_drop n rest
 
-in_lines_none : (n : ℕ) → in_lines n [] ≡ []
+pub in_lines_none : (n : ℕ) → in_lines n [] ≡ []
 in_lines_none zero = refl
 in_lines_none (suc n) = in_lines_none n
 
@@ -194,3 +194,7 @@ run_ended octets room taken end e =
 pub prefix_kept : (at end : ℕ) (old new more : List ℕ) → at ≤ end → at ≤ length old → take end new ≡ take at old ++ more → take at new ≡ take at old
 prefix_kept at end old new more low within e =
     sym (take-take at end new low) ∙ ap (take at) e ∙ take_at (take at old) more at (length-take-le at old within)
+
+pub first_and_rest : (octets : List ℕ) → encoding_of octets ≡ first_line (tokens_of octets) ++ encoding_of (drop (tokens_of_line (tokens_of octets)) octets)
+first_and_rest [] = encoding_of-none ∙ sym encoding_of-none
+first_and_rest (octet ∷ rest) = next_line (octet ∷ rest) (omega arith)

@@ -5,6 +5,7 @@
 
 mod decode;
 mod encode;
+pub mod laws;
 
 pub use decode::decode_qp;
 pub use encode::{encode_qp, encode_qp_line};
