@@ -1,14 +1,18 @@
 // Texts written.
-ghost use Rattle.std.specs.Prelude.{◌≡◌, ◌++◌, ◌+◌, ◌≤◌, ◌<◌, IfOk, OnErr, OnOk, length, take};
+ghost use Rattle.std.specs.Prelude.{◌≡◌, ◌++◌, ◌+◌, ◌≤◌, ◌<◌, false, true, ℕ, IfOk, OnErr, OnOk, length, slice_index, take};
 ghost use Rattle.quoted_printable.specs.QuotedPrintable.{encoding_of, first_line, tokens_of, tokens_of_line, token_of, joined, run_of, is_literal, soft_break, stands};
 
+use crate::lanes::standing_len;
 use std::alloc::{AllocError, Global};
 
 /// The octets of a line without its break; where a soft break follows, its `=` is one of them.
 const LINE_OCTETS: usize = 76;
 
-/// Room for a line with its soft break.
-const LINE_ROOM: usize = 80;
+/// How many octets are looked at together.
+const LANES: usize = 32;
+
+/// Room for a line, and for as many octets as are written together at its end.
+const LINE_ROOM: usize = 112;
 
 const DIGITS: &[u8; 16] = b"0123456789ABCDEF";
 
@@ -76,8 +80,11 @@ fn fill(line: &mut [u8; LINE_ROOM], octets: &[u8], room: usize) -> (usize, usize
     let mut taken = 0;
     let mut len = 0;
     'tokens: while taken < octets.len() {
-        let is_last = taken + 1 == octets.len();
-        let end = put_token(line, len, octets[taken], is_last);
+        let (_, rest) = octets.split_at(taken);
+        let run = put_run(line, len, rest, room);
+        len += run;
+        taken += run;
+        let end = put_token(line, len, octets[taken], taken + 1 == octets.len());
         if end > room {
             break;
         }
@@ -85,6 +92,26 @@ fn fill(line: &mut [u8; LINE_ROOM], octets: &[u8], room: usize) -> (usize, usize
         taken += 1;
     }
     (taken, len)
+}
+
+// Writes the octets from the first on that stand as they are at a place of the line, at most 32 and as many as there is
+// room for, and gives how many they are; none of the last 32 of all.
+#[inline(always)]
+fn put_run(line: &mut [u8; LINE_ROOM], at: usize, octets: &[u8], room: usize) -> usize
+    requires { (at ≤ room) × (room ≤ 76) }
+    ensures within { at + result ≤ room }
+    ensures fewer { 0 < length octets.now → result < length octets.now }
+    ensures stand { (i : ℕ) → i < result → stands (slice_index octets.now i) false ≡ true }
+    ensures copied { take (at + result) line.new ≡ take at line.old ++ take result octets.now }
+{
+    let Some((block, after)) = octets.split_first_chunk::<LANES>() else {
+        return 0;
+    };
+    if after.is_empty() || !stands(block[0], false) {
+        return 0;
+    }
+    line[at..at + LANES].copy_from_slice(block);
+    standing_len(block).min(room - at)
 }
 
 // Writes a token at a place of the line, and gives where it ends.

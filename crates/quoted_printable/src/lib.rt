@@ -5,6 +5,7 @@
 
 mod decode;
 mod encode;
+mod lanes;
 pub mod laws;
 
 pub use decode::decode_qp;
