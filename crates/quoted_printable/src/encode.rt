@@ -2,7 +2,7 @@
 ghost use Rattle.std.specs.Prelude.{◌≡◌, ◌++◌, ◌+◌, ◌≤◌, ◌<◌, false, true, ℕ, IfOk, OnErr, OnOk, length, slice_index, take};
 ghost use Rattle.quoted_printable.specs.QuotedPrintable.{encoding_of, first_line, tokens_of, tokens_of_line, token_of, joined, run_of, is_literal, soft_break, stands};
 
-use crate::lanes::standing_len;
+use crate::lanes::{standing_count, standing_len};
 use std::alloc::{AllocError, Global};
 
 /// The octets of a line without its break; where a soft break follows, its `=` is one of them.
@@ -161,7 +161,13 @@ fn is_literal(octet: u8) -> bool
 
 // Room for the text of octets: all tokens, and a soft break for each 73 octets of them, the fewest that a line has.
 fn text_room(octets: &[u8]) -> usize {
-    let escaped = octets.iter().filter(|octet| !is_literal(**octet)).count();
-    let tokens = octets.len().saturating_add(escaped.saturating_mul(2));
+    let mut tokens = octets.len();
+    let mut rest = octets;
+    'rooms: while let Some((block, after)) = rest.split_first_chunk::<LANES>() {
+        tokens = tokens.saturating_add((LANES - standing_count(block)) * 2);
+        rest = after;
+    }
+    let escaped = rest.iter().filter(|octet| !is_literal(**octet)).count();
+    tokens = tokens.saturating_add(escaped.saturating_mul(2));
     tokens.saturating_add((tokens / 73 + 1).saturating_mul(3))
 }
