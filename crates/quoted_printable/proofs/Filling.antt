@@ -1,11 +1,12 @@
 -- A line while it is written.
-use Rattle.std.proofs.Common.{◌≡◌, ◌≢◌, ℕ, ◌-◌, ◌+◌, ◌<◌, ◌≤◌, ◌==◌, Bool, true, false, List, [], ◌∷◌, ◌++◌, zero, suc, refl, sym, ◌∙◌, ap, arith, length, take, drop, get_or, zero-add}
-use Rattle.std.proofs.lemmas.Bool.{le-leb}
+use Rattle.std.proofs.Common.{◌≡◌, ◌≢◌, ℕ, ◌-◌, ◌+◌, ◌<◌, ◌≤◌, ◌==◌, Bool, true, false, List, [], ◌∷◌, ◌++◌, zero, suc, inl, inr, refl, sym, ◌∙◌, ap, arith, length, take, drop, get_or, zero-add}
+use Rattle.std.proofs.lemmas.Bool.{cases_Bool, le-leb, true≢false}
 use Rattle.std.proofs.lemmas.List.{append_assoc, length-append, length-drop, length-take-le, take-append-le, take-take, take_at, drop-drop}
 use Rattle.std.proofs.lemmas.Grind.{flat_map-append}
 use Rattle.std.proofs.Math.Seq.{take-append-add}
+use Rattle.octets.specs.Blank.{is_blank}
 use borrow.Rule.Slice.PartMut.{put_mid, post_of}
-use Rattle.quoted_printable.specs.QuotedPrintable.{is_none, joined, run_of, stands, token_of, tokens_of}
+use Rattle.quoted_printable.specs.QuotedPrintable.{escape_of, is_literal, is_none, joined, run_of, stands, token_of, tokens_of}
 use Rattle.quoted_printable.proofs.Encoded.{prefix_kept, run_ended, run_goes, run_stops, take_here, token_here, tokens_drop}
 
 -- so many tokens stand in so many octets of the line, and go on as the longest run does
@@ -59,6 +60,16 @@ filled_stops octets room line new taken len end filled small lt ends puts over =
 -- the run ends with the tokens
 pub filled_ended : (octets : List ℕ) (room : ℕ) (line : List ℕ) (taken len : ℕ) → IsFilled octets room line taken len → length octets ≤ taken → taken ≡ run_of room (tokens_of octets)
 filled_ended octets room line taken len filled end = sym (run_ended octets (room - len) taken end filled.run)
+
+-- an octet that doesn't stand before others stands nowhere
+pub written_here : (octet : ℕ) (b : Bool) → stands octet false ≡ false → token_of octet b ≡ escape_of octet
+written_here octet b e = elim (cases_Bool (is_literal octet)) [
+  | inl literal ↦ absurd (true≢false (sym (rw literal refl) ∙ e))
+  | inr other ↦ elim (cases_Bool (is_blank octet)) [
+    | inl blank ↦ absurd (true≢false (sym (rw (other, blank) refl) ∙ e))
+    | inr neither ↦ rw (other, neither) refl
+  ]
+]
 
 -- ---- octets that stand as they are
 

@@ -62,10 +62,13 @@ is_literal octet = (nat_le 33 octet && nat_le octet 126) && not (octet == equals
 abbrev pub stands : ℕ → Bool → Bool
 stands octet is_last = is_literal octet || (is_blank octet && not is_last)
 
--- an octet as it is, or as `=` and two digits
+-- `=` and the two digits of an octet
+abbrev pub escape_of : ℕ → List ℕ
+escape_of octet = equals ∷ hex_of (octet / 16) ∷ hex_of (octet % 16) ∷ []
+
+-- an octet as it is, or with digits
 abbrev pub token_of : ℕ → Bool → List ℕ
-token_of octet is_last =
-    if stands octet is_last then octet ∷ [] else equals ∷ hex_of (octet / 16) ∷ hex_of (octet % 16) ∷ []
+token_of octet is_last = if stands octet is_last then octet ∷ [] else escape_of octet
 
 abbrev pub is_none : List ℕ → Bool
 is_none [] = true

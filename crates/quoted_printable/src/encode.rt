@@ -1,6 +1,6 @@
 // Texts written.
 ghost use Rattle.std.specs.Prelude.{◌≡◌, ◌++◌, ◌+◌, ◌≤◌, ◌<◌, false, true, ℕ, IfOk, OnErr, OnOk, length, slice_index, take};
-ghost use Rattle.quoted_printable.specs.QuotedPrintable.{encoding_of, first_line, tokens_of, tokens_of_line, token_of, joined, run_of, is_literal, soft_break, stands};
+ghost use Rattle.quoted_printable.specs.QuotedPrintable.{encoding_of, escape_of, first_line, tokens_of, tokens_of_line, token_of, joined, run_of, is_literal, soft_break, stands};
 
 use crate::lanes::{standing_count, standing_len};
 use std::alloc::{AllocError, Global};
@@ -80,6 +80,16 @@ fn fill(line: &mut [u8; LINE_ROOM], octets: &[u8], room: usize) -> (usize, usize
     let mut taken = 0;
     let mut len = 0;
     'tokens: while taken < octets.len() {
+        let octet = octets[taken];
+        if !stands(octet, false) {
+            let end = put_escape(line, len, octet);
+            if end > room {
+                break;
+            }
+            len = end;
+            taken += 1;
+            continue;
+        }
         let (_, rest) = octets.split_at(taken);
         let run = put_run(line, len, rest, room);
         len += run;
@@ -107,7 +117,7 @@ fn put_run(line: &mut [u8; LINE_ROOM], at: usize, octets: &[u8], room: usize) ->
     let Some((block, after)) = octets.split_first_chunk::<LANES>() else {
         return 0;
     };
-    if after.is_empty() || !stands(block[0], false) {
+    if after.is_empty() {
         return 0;
     }
     line[at..at + LANES].copy_from_slice(block);
@@ -125,6 +135,16 @@ fn put_token(line: &mut [u8; LINE_ROOM], at: usize, octet: u8, is_last: bool) ->
         line[at] = octet;
         return at + 1;
     }
+    put_escape(line, at, octet)
+}
+
+// Writes `=` and two digits at a place of the line, and gives where they end.
+#[inline(always)]
+fn put_escape(line: &mut [u8; LINE_ROOM], at: usize, octet: u8) -> usize
+    requires { at ≤ 76 }
+    ensures end { result ≡ at + 3 }
+    ensures digits { take result line.new ≡ take at line.old ++ escape_of octet }
+{
     line[at] = b'=';
     line[at + 1] = DIGITS[(octet / 16) as usize];
     line[at + 2] = DIGITS[(octet % 16) as usize];
