@@ -12,6 +12,7 @@ fn foobar_and_back(rt: HostRuntime) {
         (Encoding::Base32, "MZXW6YTBOI======"),
         (Encoding::Base32Hex, "CPNMUOJ1E8======"),
         (Encoding::Base16, "666F6F626172"),
+        (Encoding::Qp, "foobar"),
     ] {
         let written = encode(alloc, encoding, b"foobar").expect(&rt, NO_MEMORY);
         assert!(rt; written.as_slice() == text.as_bytes(), "{text}");
@@ -69,6 +70,8 @@ fn texts_in_another_form(rt: HostRuntime) {
         (Encoding::Base64Mime, "Zg", "f"),
         (Encoding::Base64Mime, "Z", ""),
         (Encoding::Base64Mime, "!", ""),
+        (Encoding::Qp, "a=3Db \t\r\nc=\r\nd=4", "a=b\r\ncd=4"),
+        (Encoding::Qp, "a =\nb=zz=", "a b=zz"),
     ] {
         let read = decode(alloc, encoding, text.as_bytes()).expect(&rt, NO_MEMORY);
         assert!(rt; read.as_slice() == octets.as_bytes(), "{text}");

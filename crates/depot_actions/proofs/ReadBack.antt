@@ -6,12 +6,13 @@ use Rattle.base64.proofs.EngineFacts.{decode_of-encode_of}
 use Rattle.hex.specs.Hex as hex
 use Rattle.hex.proofs.HexLemmas.{decode_of-encode_upper}
 use Rattle.lanes_base64_mime.proofs.Lines.{law}
+use Rattle.quoted_printable.proofs.ReadBack.{law as reads_back}
 use Rattle.octet_lanes.specs.Encoding.{IsOctets}
 use Rattle.octet_lanes.specs.declared.alphabet.Alphabet.TheVariants as alphabet
 use Rattle.octet_lanes.proofs.ReadBack.{spelled_by_one}
 use Rattle.depot_actions.specs.Texts.{Reads, text_of}
 use Rattle.depot_actions.specs.declared.encoding.Encoding.{Encoding}
-use Rattle.depot_actions.specs.declared.encoding.Encoding.TheVariants.{Raw, Base64, Base64Mime, Base32, Base32Hex, Base16}
+use Rattle.depot_actions.specs.declared.encoding.Encoding.TheVariants.{Raw, Base64, Base64Mime, Base32, Base32Hex, Base16, Qp}
 use Rattle.depot_actions.proofs.Hexadecimal.{decoded_is_written}
 use Rattle.depot_actions.proofs.Readings.{octets_are_bytes}
 
@@ -25,6 +26,7 @@ at_most_one Base64 text x y small other e f =
     (ap (decode_of standard) e ∙ decode_of-encode_of standard x refl (octets_are_bytes x small))
     (ap (decode_of standard) f ∙ decode_of-encode_of standard y refl (octets_are_bytes y other))
 at_most_one Base64Mime text x y small other e f = e ∙ sym f
+at_most_one Qp text x y small other e f = e ∙ sym f
 at_most_one Base32 text x y small other e f = spelled_by_one alphabet.Base32 text x y small other e f
 at_most_one Base32Hex text x y small other e f = spelled_by_one alphabet.Base32Hex text x y small other e f
 at_most_one Base16 text x y small other e f =
@@ -36,6 +38,7 @@ pub written_is_read : (encoding : Encoding) (octets : List ℕ) → IsOctets oct
 written_is_read Raw octets small = refl
 written_is_read Base64 octets small = refl
 written_is_read Base64Mime octets small = sym (law octets small)
+written_is_read Qp octets small = sym (reads_back octets small)
 written_is_read Base32 octets small = refl
 written_is_read Base32Hex octets small = refl
 written_is_read Base16 octets small =

@@ -1,4 +1,4 @@
--- Octets as texts (RFC 4648; RFC 2045, section 6.8), and texts as octets.
+-- Octets as texts (RFC 4648; RFC 2045, sections 6.7 and 6.8), and texts as octets.
 use Rattle.std.specs.Prelude.{◌≡◌, ℕ, List}
 use Rattle.base64.specs.Engines.{standard}
 use Rattle.base64.specs.GeneralPurpose.{encode_of}
@@ -7,8 +7,9 @@ use Rattle.lanes_base64_mime.specs.MimeBase64.{mime_decoding_of, mime_encoding_o
 use Rattle.octet_lanes.specs.Encoding.{encoding_of}
 use Rattle.octet_lanes.specs.declared.alphabet.Alphabet.TheVariants as alphabet
 use Rattle.octets.specs.Ascii.{uppercase_of}
+use Rattle.quoted_printable.specs.QuotedPrintable as qp
 use Rattle.depot_actions.specs.declared.encoding.Encoding.{Encoding}
-use Rattle.depot_actions.specs.declared.encoding.Encoding.TheVariants.{Raw, Base64, Base64Mime, Base32, Base32Hex, Base16}
+use Rattle.depot_actions.specs.declared.encoding.Encoding.TheVariants.{Raw, Base64, Base64Mime, Base32, Base32Hex, Base16, Qp}
 
 -- the text of octets
 abbrev pub text_of : Encoding → List ℕ → List ℕ
@@ -18,10 +19,12 @@ text_of Base64Mime octets = mime_encoding_of octets
 text_of Base32 octets = encoding_of alphabet.Base32 octets
 text_of Base32Hex octets = encoding_of alphabet.Base32Hex octets
 text_of Base16 octets = encode_upper octets
+text_of Qp octets = qp.encoding_of octets
 
--- A text reads as octets: in MIME base64 by their bits, whatever stands between them; in base16 where it is their
--- text but for the case of letters; else where it is their text.
+-- A text reads as octets: in MIME base64 by their bits, whatever stands between them; in quoted-printable line by line; in
+-- base16 where it is their text but for the case of letters; else where it is their text.
 abbrev pub Reads : Encoding → List ℕ → List ℕ → Type 0
 Reads Base64Mime text octets = octets ≡ mime_decoding_of text
 Reads Base16 text octets = uppercase_of text ≡ text_of Base16 octets
+Reads Qp text octets = octets ≡ qp.decoding_of text
 Reads encoding text octets = text ≡ text_of encoding octets

@@ -8,6 +8,7 @@ use crate::error::DecodeError;
 use base64::engine::general_purpose::STANDARD;
 use lanes_base32::{decode32, decode32hex, encode32, encode32hex};
 use lanes_base64_mime::{decode_mime, encode_mime};
+use quoted_printable::{decode_qp, encode_qp};
 use std::alloc::{AllocError, Global};
 
 /// How octets are written as a text.
@@ -25,6 +26,8 @@ pub enum Encoding {
     Base32Hex,
     /// Two hexadecimal digits an octet, written in upper case and read in either (RFC 4648, section 8).
     Base16,
+    /// Quoted-printable (RFC 2045, section 6.7). Any text is read.
+    Qp,
 }
 
 /// The text of `octets`.
@@ -42,6 +45,7 @@ pub fn encode(alloc: Global, encoding: Encoding, octets: &[u8]) -> Result<Vec<u8
         Encoding::Base32 => encode32(alloc, octets),
         Encoding::Base32Hex => encode32hex(alloc, octets),
         Encoding::Base16 => Ok(hex::encode_upper(alloc, octets)?.into_bytes()),
+        Encoding::Qp => encode_qp(alloc, octets),
     }
 }
 
@@ -49,9 +53,9 @@ pub fn encode(alloc: Global, encoding: Encoding, octets: &[u8]) -> Result<Vec<u8
 ///
 /// # Errors
 ///
-/// `NotCanonical` where the text reads as no octets. That can't be of raw octets, nor of MIME base64, whose
-/// reader passes over what is no symbol; the other encodings read what `encode` writes and nothing else, base16
-/// also in lower case. `Memory` where an allocation was refused.
+/// `NotCanonical` where the text reads as no octets. That can't be of raw octets, of MIME base64, whose reader
+/// passes over what is no symbol, nor of quoted-printable, which has a reading of any text; the other encodings
+/// read what `encode` writes and nothing else, base16 also in lower case. `Memory` where an allocation was refused.
 pub fn decode(alloc: Global, encoding: Encoding, text: &[u8]) -> Result<Vec<u8>, DecodeError>
     ensures read { IfOk result (λ octets. Reads encoding text.now octets.items) }
     ensures octets { IfOk result (λ octets. IsOctets octets.items) }
@@ -74,6 +78,7 @@ fn read(alloc: Global, encoding: Encoding, text: &[u8]) -> Result<Vec<u8>, Decod
         Encoding::Base32 => Ok(decode32(alloc, text)?),
         Encoding::Base32Hex => Ok(decode32hex(alloc, text)?),
         Encoding::Base16 => Ok(hex::decode(alloc, text)?),
+        Encoding::Qp => Ok(decode_qp(alloc, text)?),
     }
 }
 

@@ -5,7 +5,7 @@ use Rattle.std.specs.Str.{bytes_eq}
 use Rattle.clap.specs.Words.{App, Row, Rule, Text, first_of, new_app, new_rule, with_rule, with_subcommand}
 use Rattle.clap.specs.declared.builder.value_parser.ValueParser.TheVariants as parsers
 use Rattle.depot_actions.specs.declared.encoding.Encoding.{Encoding}
-use Rattle.depot_actions.specs.declared.encoding.Encoding.TheVariants.{Raw, Base64, Base64Mime, Base32, Base32Hex, Base16}
+use Rattle.depot_actions.specs.declared.encoding.Encoding.TheVariants.{Raw, Base64, Base64Mime, Base32, Base32Hex, Base16, Qp}
 use Rattle.depot_cli.specs.declared.line.CommandLine.{CommandLine}
 use Rattle.depot_cli.specs.declared.line.CommandLine.TheVariants.{NoWords, Check, Compile, Verify, Run, Eval, Encode, Decode}
 
@@ -35,7 +35,7 @@ run_app = with_rule (with_rule (new_app (codes "run")) (required_rule (codes "PR
 
 -- the names of the encodings
 abbrev pub encoding_names : List Text
-encoding_names = codes "raw" ∷ codes "base64" ∷ codes "base64-mime" ∷ codes "base32" ∷ codes "base32hex" ∷ codes "base16" ∷ []
+encoding_names = codes "raw" ∷ codes "base64" ∷ codes "base64-mime" ∷ codes "base32" ∷ codes "base32hex" ∷ codes "base16" ∷ codes "qp" ∷ []
 
 -- texts, wherever they are kept
 abbrev pub Texts : Type 0
@@ -89,6 +89,7 @@ encoding_named name =
     else if bytes_eq name (codes "base32") then Base32
     else if bytes_eq name (codes "base32hex") then Base32Hex
     else if bytes_eq name (codes "base16") then Base16
+    else if bytes_eq name (codes "qp") then Qp
     else Raw
 
 -- the matches are those of the command of this name

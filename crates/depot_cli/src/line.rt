@@ -38,6 +38,7 @@ const ENCODINGS: &[&str] = &[
     "base32",
     "base32hex",
     "base16",
+    "qp",
 ];
 
 /// What stands at the end of the help.
@@ -107,6 +108,7 @@ fn encoding_named(name: &str) -> Encoding
         "base32" => Encoding::Base32,
         "base32hex" => Encoding::Base32Hex,
         "base16" => Encoding::Base16,
+        "qp" => Encoding::Qp,
         _ => Encoding::Raw,
     }
 }

@@ -1,0 +1,7 @@
+pub mod Decoded
+pub mod Encoded
+mod Examples
+pub mod Filling
+pub mod Heads
+pub mod Lengths
+pub mod ReadBack

@@ -1,0 +1,29 @@
+use Rattle.std.proofs.Common.{◌≡◌, ◌++◌, ◌<◌, ◌≢◌, ℕ, length, take, drop, get_or, sym, ap, ◌∙◌, arith}
+use Rattle.std.proofs.lemmas.Bool.{eq-eqb}
+use Rattle.std.proofs.lemmas.List.{append_assoc}
+use Rattle.quoted_printable.specs.QuotedPrintable.{unescaped}
+use Rattle.quoted_printable.proofs.Decoded.{ok_then, unescaped-past, unescaped-none}
+use Rattle.quoted_printable.proofs.decode.append_unescaped.Goals as goal
+
+pub escapes-preserved : goal.escapes-preserved
+escapes-preserved c =
+    let rest = c.escapes.rest.now in
+    let out = c.escapes.out.items in
+    let place = c.in-Some.place in
+    let first = c.in-Some.ensures in
+    let none : (k : ℕ) → k < place → get_or rest k 0 ≢ 61 = λ k lt e. first.0.before k (omega arith) lt (eq-eqb _ _ e) in
+    let within : place < length rest = first.0.high in
+    let appended = c.in_ok-extend_from_slice.ensures.items ∙ ap (λ l. out ++ l) c.split_at.ensures.front in
+    c.in_ok-rest.ensures.octets
+    ∙ (λ i. appended i ++ unescaped (c.split_at.ensures.back i))
+    ∙ append_assoc out (take place rest) (unescaped (drop place rest))
+    ∙ ap (λ l. out ++ l) (sym (unescaped-past place rest (omega arith) none))
+    ∙ c.escapes.invariant
+
+pub returns : goal.returns
+returns c =
+    let rest = c.escapes.rest.now in
+    let out = c.escapes.out.items in
+    let none : (k : ℕ) → k < length rest → get_or rest k 0 ≢ 61 = λ k lt e. c.in_default.ensures k (omega arith) lt (eq-eqb _ _ e) in
+    ok_then c.extend_from_slice-2.result c.extend_from_slice-2.new.self.items out rest c.extend_from_slice-2.ensures.items (λ e.
+    e ∙ ap (λ l. out ++ l) (sym (unescaped-none rest none)) ∙ c.escapes.invariant)

@@ -1,0 +1,117 @@
+// Texts read.
+ghost use Rattle.std.specs.Prelude.{◌≡◌, ◌++◌, ◌*◌, ◌+◌, ◌<◌, ◌&&◌, true, IfOk, OnOk, IsTrue, SomeIff, length, slice_index};
+ghost use Rattle.std.specs.Char.{digit_value};
+ghost use Rattle.text_lines.specs.Lines.{text_line};
+ghost use Rattle.quoted_printable.specs.QuotedPrintable.{decoded_line, decoding_of, ends_in_equals, is_hex, unescaped};
+
+use memchr::memchr;
+use octets::trim_trailing_blanks;
+use std::alloc::{AllocError, Global};
+use text_lines::Lines;
+
+const EQUALS: u8 = b'=';
+
+/// The octets of a quoted-printable text; any text is read.
+///
+/// SP and TAB at the end of a line or of the text are deleted. Then `=` with two hexadecimal digits of either case is the
+/// octet of that value, `=` at the end of a line goes together with the line's break, and any other `=` is literal. All
+/// else stays as it stands, line breaks too.
+///
+/// # Errors
+///
+/// Memory ran out.
+pub fn decode_qp(alloc: Global, text: &[u8]) -> Result<Vec<u8>, AllocError>
+    ensures { IfOk result (λ octets. octets.items ≡ decoding_of text.now) }
+{
+    let mut out = Vec::with_capacity(alloc, text.len())?;
+    append_decoding(text, &mut out)?;
+    Ok(out)
+}
+
+// Appends the octets of a text.
+#[tactic(auto, unfolding(crate::specs::QuotedPrintable::decoding_of))]
+fn append_decoding(text: &[u8], out: &mut Vec<u8>) -> Result<(), AllocError>
+    ensures { OnOk result (out.new.items ≡ out.old.items ++ decoding_of text.now) }
+{
+    let mut lines = Lines::new(text);
+    'lines: while let Some(line) = lines.next() {
+        append_line(&text[line.start..line.end], &text[line.end..line.stop], out)?;
+    }
+    Ok(())
+}
+
+// Appends what a line stands for.
+#[inline]
+fn append_line(content: &[u8], line_break: &[u8], out: &mut Vec<u8>) -> Result<(), AllocError>
+    ensures { OnOk result (out.new.items ≡ out.old.items ++ decoded_line record { content = content.now; break = line_break.now }) }
+{
+    let kept = trim_trailing_blanks(content);
+    if ends_in_equals(kept) {
+        let (before, _) = kept.split_at(kept.len() - 1);
+        return append_unescaped(before, out);
+    }
+    append_unescaped(kept, out)?;
+    out.extend_from_slice(line_break)
+}
+
+// Whether the last octet is `=`.
+#[tactic(auto, using(crate::proofs::Decoded::ends_by_last))]
+#[inline]
+fn ends_in_equals(text: &[u8]) -> bool
+    ensures equals { result ≡ ends_in_equals text.now }
+    ensures some { IsTrue result → 0 < length text.now }
+{
+    text.len() > 0 && text[text.len() - 1] == EQUALS
+}
+
+// Appends octets whose escapes are decoded.
+#[inline]
+fn append_unescaped(text: &[u8], out: &mut Vec<u8>) -> Result<(), AllocError>
+    ensures { OnOk result (out.new.items ≡ out.old.items ++ unescaped text.now) }
+{
+    let mut rest = text;
+    'escapes: while let Some(place) = memchr(EQUALS, rest) {
+        let (before, escape) = rest.split_at(place);
+        out.extend_from_slice(before)?;
+        rest = append_escape(escape, out)?;
+    }
+    out.extend_from_slice(rest)
+}
+
+// Appends the octet that an escape stands for, or the `=` where it is literal, and gives what follows it.
+#[inline]
+fn append_escape<'a>(text: &'a [u8], out: &mut Vec<u8>) -> Result<&'a [u8], AllocError>
+    requires some { 0 < length text.now }
+    requires equals { slice_index text.now 0 ≡ 61 }
+    ensures octets { IfOk result (λ rest. out.new.items ++ unescaped rest.now ≡ out.old.items ++ unescaped text.now) }
+    ensures shorter { IfOk result (λ rest. length rest.now < length text.now) }
+{
+    if text.len() >= 3 {
+        if let Some(octet) = octet_of(text[1], text[2]) {
+            out.push(octet)?;
+            let (_, after) = text.split_at(3);
+            return Ok(after);
+        }
+    }
+    out.push(EQUALS)?;
+    let (_, after) = text.split_at(1);
+    Ok(after)
+}
+
+// The octet whose value two hexadecimal digits write.
+#[inline]
+fn octet_of(high: u8, low: u8) -> Option<u8>
+    ensures { SomeIff result ((is_hex high && is_hex low) ≡ true) (digit_value high * 16 + digit_value low) }
+{
+    let high = hex_value(high)?;
+    let low = hex_value(low)?;
+    Some(high * 16 + low)
+}
+
+#[inline]
+fn hex_value(octet: u8) -> Option<u8>
+    ensures { SomeIff result (is_hex octet ≡ true) (digit_value octet) }
+{
+    let digit = char::from(octet).to_digit(16)?;
+    Some(digit as u8)
+}

@@ -1,0 +1,70 @@
+// Octets that stand as they are, found 32 at a time.
+ghost use Rattle.std.specs.Prelude.{◌≡◌, ◌<◌, ◌≤◌, false, true, ℕ, map, slice_index, if◌then◌else◌};
+ghost use Rattle.std.specs.Simd.Lanes.{zip2};
+ghost use Rattle.octet_lanes.specs.Lanes.{added, if_equal, if_from};
+ghost use Rattle.quoted_printable.specs.QuotedPrintable.{stands};
+
+use std::simd::prelude::*;
+
+/// How many of the octets before the first one that is written with digits; SP and TAB stand, as where others follow.
+#[inline(always)]
+pub(crate) fn standing_len(octets: &[u8; 32]) -> usize
+    ensures few { result ≤ 32 }
+    ensures stand { (i : ℕ) → i < result → stands (slice_index octets.now i) false ≡ true }
+{
+    let written = standing_lanes(u8x32::from_array(*octets))
+        .simd_eq(u8x32::splat(0))
+        .to_bitmask();
+    if written == 0 {
+        return 32;
+    }
+    written.trailing_zeros() as usize
+}
+
+/// How many of the octets stand as they are.
+#[inline(always)]
+pub(crate) fn standing_count(octets: &[u8; 32]) -> usize
+    ensures { result ≤ 32 }
+{
+    let written = standing_lanes(u8x32::from_array(*octets))
+        .simd_eq(u8x32::splat(0))
+        .to_bitmask();
+    32 - (written.count_ones() as usize).min(32)
+}
+
+// 1 in the lane of each octet that stands, and 0 in the others. 255 is 1 less, in the low 8 bits.
+#[inline(always)]
+fn standing_lanes(lanes: u8x32) -> u8x32
+    ensures { result ≡ map (λ octet. if stands octet false then 1 else 0) lanes }
+{
+    let graphic = plus(where_from(lanes, 33, 1), where_from(lanes, 127, 255));
+    let blank = plus(where_equal(lanes, b' ', 1), where_equal(lanes, b'\t', 1));
+    plus(plus(graphic, where_equal(lanes, b'=', 255)), blank)
+}
+
+#[inline(always)]
+fn plus(a: u8x32, b: u8x32) -> u8x32
+    ensures { result ≡ zip2 added a b }
+{
+    a + b
+}
+
+// `number` in the lanes from `n` on, and 0 in the others.
+#[inline(always)]
+fn where_from(lanes: u8x32, n: u8, number: u8) -> u8x32
+    ensures { result ≡ map (if_from n number) lanes }
+{
+    lanes
+        .simd_ge(u8x32::splat(n))
+        .select(u8x32::splat(number), u8x32::splat(0))
+}
+
+// `number` in the lanes that are `n`, and 0 in the others.
+#[inline(always)]
+fn where_equal(lanes: u8x32, n: u8, number: u8) -> u8x32
+    ensures { result ≡ map (if_equal n number) lanes }
+{
+    lanes
+        .simd_eq(u8x32::splat(n))
+        .select(u8x32::splat(number), u8x32::splat(0))
+}
