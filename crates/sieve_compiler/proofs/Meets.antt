@@ -1,6 +1,5 @@
 -- The run of a script's code does what the script means.
-use Rattle.std.proofs.Common.{◌≡◌, ℕ, zero, suc, ◌+◌, ◌<◌, Bool, true, false, not, ◌&&◌, ◌||◌, List, [], ◌∷◌, ◌++◌, Some, slice_get, refl, sym, ap, subst, ◌∙◌, arith, if◌then◌else◌}
-use Rattle.std.proofs.Math.Bool.{and-true, or-false}
+use Rattle.std.proofs.Common.{◌≡◌, ℕ, zero, suc, ◌+◌, ◌<◌, Bool, true, false, not, List, [], ◌∷◌, ◌++◌, Some, None, slice_get, refl, sym, ap, subst, ◌∙◌, arith, if◌then◌else◌}
 use Rattle.std.proofs.lemmas.Bool.{lt-ltb}
 use Rattle.bytecode_format.specs.declared.instruction.Instruction.{Instruction}
 use Rattle.bytecode_format.specs.declared.operation.Operation.TheVariants.{Halt, Jump, Keep, Discard}
@@ -11,7 +10,7 @@ use Rattle.mime_decode.specs.Mail.{Mail, size_of}
 use Rattle.sieve_check.specs.declared.typed.Order.{Order}
 use Rattle.sieve_check.specs.declared.typed.Order.TheVariants.{Over, Under}
 use Rattle.sieve_check.specs.Typed.{TestForm, constant, negation, all_of, any_of, size, TestForms, no_test, test, CommandForm, keep, discard, stop, choice, CommandForms, no_command, command, BranchForms, no_branch, otherwise, branch}
-use Rattle.sieve_meaning.specs.Meaning.{Effects, no_effects, Ending, normal, stopped, effects_of, followed_by, is_size, holds, all_hold, any_holds, command_does, commands_do, choice_does, meaning}
+use Rattle.sieve_meaning.specs.Meaning.{Effects, no_effects, Verdict, verdict, Ending, normal, stopped, broken, effects_of, followed_by, is_size, test_does, all_do, any_do, command_does, commands_do, choice_does, meaning}
 use Rattle.sieve_vm.specs.State.{truth, State, Turn, goes, ends, start}
 use Rattle.sieve_vm.specs.Machine.{is_sound_jump, step, turn_at}
 use Rattle.sieve_vm.specs.Runs.{Run}
@@ -32,10 +31,10 @@ lands false false target following = target
 lands true false target following = following
 lands false true target following = following
 
--- the value of a list of tests, from that of the one before the rest
-abbrev value : Mail → Bool → Bool → TestForms → Bool
-value mail false v ts = v && all_hold mail ts
-value mail true v ts = v || any_holds mail ts
+-- what a list of tests comes to, from the value of the one before the rest
+abbrev listed : Mail → Bool → Bool → Effects → TestForms → Verdict
+listed mail false v e ts = if v then all_do mail None ts e else verdict false e
+listed mail true v e ts = if v then verdict true e else any_do mail None ts e
 
 aim_lands : (deciding asked : Bool) (t : TestForm) (ts : TestForms) (following target : ℕ) → aim_of deciding asked (test t ts) following target ≡ lands deciding asked target following
 aim_lands true true t ts following target = refl
@@ -127,68 +126,76 @@ module _ (script : CommandForms) (mail : Mail) where
 
   -- a test goes to its target where it is as asked, and on after its code where it isn't
   mutual
-    test_run : (t : TestForm) (p : ℕ) (asked : Bool) (target : ℕ) (e : Effects) → Stands all p (test_code table p t asked target) → Has table (test_numbers t) → Comes p e (lands (holds mail t) asked target (p + test_length t)) e
+    test_run : (t : TestForm) (p : ℕ) (asked : Bool) (target : ℕ) (e : Effects) → Stands all p (test_code table p t asked target) → Has table (test_numbers t)
+        → Comes p e (lands (test_does mail None t e).value asked target (p + test_length t)) (test_does mail None t e).effects
     test_run (constant b) p asked target e h known = λ c.
         simple_run p c (push_bool b) b asked target e h (bool_step p c b e (stands_first all p (push_bool b) (jump_if asked target ∷ []) h))
     test_run (size order n) p asked target e h known = λ c.
         simple_run p c (push_size order (place_in table n)) (is_size order n (size_of mail)) asked target e h (size_step p c order n e known (stands_first all p (push_size order (place_in table n)) (jump_if asked target ∷ []) h))
     test_run (negation t) p asked target e h known =
-        subst (λ q. Comes p e q e) (turned (holds mail t) asked target (p + test_length t)) (test_run t p (not asked) target e h known)
+        let v = test_does mail None t e in
+        subst (λ q. Comes p e q v.effects) (turned (test_does mail None t e).value asked target (p + test_length t)) (test_run t p (not asked) target e h known)
     test_run (all_of t ts) p asked target e h known =
         let following = p + (test_length t + tests_length ts) in
         let same : (p + test_length t) + tests_length ts ≡ following = omega arith in
         let first = test_run t p _ _ e (stands_left all p _ _ h) (has_left table (test_numbers t) (tests_numbers ts) known) in
         let there = stands_right all p (test_length t) _ _ (test_code_length table t p _ _) h in
-        let rest = tests_run ts (p + test_length t) false asked following target (holds mail t) e there (has_right table (test_numbers t) (tests_numbers ts) known) same in
-        comes_then p _ _ e e e first rest
+        let rest = tests_run ts (p + test_length t) false asked following target (test_does mail None t e).value (test_does mail None t e).effects there (has_right table (test_numbers t) (tests_numbers ts) known) same in
+        comes_then p _ _ e (test_does mail None t e).effects (listed mail false (test_does mail None t e).value (test_does mail None t e).effects ts).effects first rest
     test_run (any_of t ts) p asked target e h known =
         let following = p + (test_length t + tests_length ts) in
         let same : (p + test_length t) + tests_length ts ≡ following = omega arith in
         let first = test_run t p _ _ e (stands_left all p _ _ h) (has_left table (test_numbers t) (tests_numbers ts) known) in
         let there = stands_right all p (test_length t) _ _ (test_code_length table t p _ _) h in
-        let rest = tests_run ts (p + test_length t) true asked following target (holds mail t) e there (has_right table (test_numbers t) (tests_numbers ts) known) same in
-        comes_then p _ _ e e e first rest
+        let rest = tests_run ts (p + test_length t) true asked following target (test_does mail None t e).value (test_does mail None t e).effects there (has_right table (test_numbers t) (tests_numbers ts) known) same in
+        comes_then p _ _ e (test_does mail None t e).effects (listed mail true (test_does mail None t e).value (test_does mail None t e).effects ts).effects first rest
 
-    -- from where the test before the rest has gone, by its value v
+    -- from where the test before the rest has gone, by its value v and the effects by then
     tests_run : (ts : TestForms) (p : ℕ) (deciding asked : Bool) (following target : ℕ) (v : Bool) (e : Effects) → Stands all p (tests_code table p ts deciding asked following target) → Has table (tests_numbers ts) → p + tests_length ts ≡ following
-        → Comes (lands v (asked_of deciding asked ts) (aim_of deciding asked ts following target) p) e (lands (value mail deciding v ts) asked target following) e
-    tests_run no_test p false asked following target v e h known done = comes_here _ _ e (let here : p ≡ following = omega (arith, done) in rw (here, and-true v) refl)
-    tests_run no_test p true asked following target v e h known done = comes_here _ _ e (let here : p ≡ following = omega (arith, done) in rw (here, or-false v) refl)
+        → Comes (lands v (asked_of deciding asked ts) (aim_of deciding asked ts following target) p) e (lands (listed mail deciding v e ts).value asked target following) (listed mail deciding v e ts).effects
+    tests_run no_test p false asked following target true e h known done = comes_here _ _ e (let here : p ≡ following = omega (arith, done) in rw here refl)
+    tests_run no_test p false asked following target false e h known done = comes_here _ _ e (let here : p ≡ following = omega (arith, done) in rw here refl)
+    tests_run no_test p true asked following target true e h known done = comes_here _ _ e (let here : p ≡ following = omega (arith, done) in rw here refl)
+    tests_run no_test p true asked following target false e h known done = comes_here _ _ e (let here : p ≡ following = omega (arith, done) in rw here refl)
     tests_run (test t ts) p false asked following target false e h known done = comes_here _ _ e (aim_lands false asked t ts following target)
     tests_run (test t ts) p true asked following target true e h known done = comes_here _ _ e (aim_lands true asked t ts following target)
     tests_run (test t ts) p false asked following target true e h known done =
         let same : (p + test_length t) + tests_length ts ≡ following = omega (arith, done) in
         let first = test_run t p _ _ e (stands_left all p _ _ h) (has_left table (test_numbers t) (tests_numbers ts) known) in
         let there = stands_right all p (test_length t) _ _ (test_code_length table t p _ _) h in
-        let rest = tests_run ts (p + test_length t) false asked following target (holds mail t) e there (has_right table (test_numbers t) (tests_numbers ts) known) same in
-        comes_then p _ _ e e e first rest
+        let rest = tests_run ts (p + test_length t) false asked following target (test_does mail None t e).value (test_does mail None t e).effects there (has_right table (test_numbers t) (tests_numbers ts) known) same in
+        comes_then p _ _ e (test_does mail None t e).effects (listed mail false (test_does mail None t e).value (test_does mail None t e).effects ts).effects first rest
     tests_run (test t ts) p true asked following target false e h known done =
         let same : (p + test_length t) + tests_length ts ≡ following = omega (arith, done) in
         let first = test_run t p _ _ e (stands_left all p _ _ h) (has_left table (test_numbers t) (tests_numbers ts) known) in
         let there = stands_right all p (test_length t) _ _ (test_code_length table t p _ _) h in
-        let rest = tests_run ts (p + test_length t) true asked following target (holds mail t) e there (has_right table (test_numbers t) (tests_numbers ts) known) same in
-        comes_then p _ _ e e e first rest
+        let rest = tests_run ts (p + test_length t) true asked following target (test_does mail None t e).value (test_does mail None t e).effects there (has_right table (test_numbers t) (tests_numbers ts) known) same in
+        comes_then p _ _ e (test_does mail None t e).effects (listed mail true (test_does mail None t e).value (test_does mail None t e).effects ts).effects first rest
 
   -- where commands lead that begin at a place, by how they end
   abbrev Arrives : Ending → ℕ → ℕ → Effects → Type 0
   Arrives (normal f) p q e = Comes p e q f
+  Arrives (broken n f) p q e = ⊥
   Arrives (stopped f) p q e = (r : ℕ) × Comes p e r f × (slice_get all r ≡ Some (plain Halt))
 
   arrives_after : (x : Ending) (p q r : ℕ) (e f : Effects) → Comes p e q f → Arrives x q r f → Arrives x p r e
   arrives_after (normal g) p q r e f h k = comes_then p q r e f g h k
+  arrives_after (broken n g) p q r e f h k = absurd k
   arrives_after (stopped g) p q r e f h k = (k.0, comes_then p q k.0 e f g h k.1, k.2)
 
   arrives_then : (x : Ending) (next : Effects → Ending) (p q r : ℕ) (e : Effects) → Arrives x p q e → ((f : Effects) → Arrives (next f) q r f) → Arrives (followed_by x next) p r e
   arrives_then (normal f) next p q r e h k = arrives_after (next f) p q r e f h (k f)
+  arrives_then (broken n f) next p q r e h k = absurd h
   arrives_then (stopped f) next p q r e h k = h
 
   arrives_at : (x : Ending) (p q r : ℕ) (e : Effects) → ((f : Effects) → Comes q f r f) → Arrives x p q e → Arrives x p r e
   arrives_at (normal f) p q r e go h = comes_then p q r e f f h (go f)
+  arrives_at (broken n f) p q r e go h = absurd h
   arrives_at (stopped f) p q r e go h = h
 
-  keep_run : (p : ℕ) (e : Effects) → slice_get all p ≡ Some (plain Keep) → Comes p e (p + 1) (record { actions = e.actions ++ action.Keep ∷ []; implicit_keep = false })
+  keep_run : (p : ℕ) (e : Effects) → slice_get all p ≡ Some (plain Keep) → Comes p e (p + 1) (record e { actions = e.actions ++ action.Keep ∷ []; implicit_keep = false })
   keep_run p e here c =
-      let f : Effects = record { actions = e.actions ++ action.Keep ∷ []; implicit_keep = false } in
+      let f : Effects = record e { actions = e.actions ++ action.Keep ∷ []; implicit_keep = false } in
       let same : suc p ≡ p + 1 = omega arith in
       let step_here : Goes (at p e c) (at (suc p) f (c + 1)) = step_at (at p e c) (plain Keep) _ here refl in
       (c + 1, one_step (at p e c) (at (p + 1) f (c + 1)) (subst (λ n. Goes (at p e c) (at n f (c + 1))) same step_here))
@@ -206,29 +213,29 @@ module _ (script : CommandForms) (mail : Mail) where
   leave_run (branch t cs bs) p end e h done = λ c. (c + 1, one_step (at p e c) (at end e (c + 1)) (jump_step p c end e (stands_first all p _ [] h) (omega (arith, done))))
 
   -- the branch that the test decides for
-  decided : (b : Bool) (x y : Ending) (p block next end : ℕ) (e : Effects) → Comes p e (lands b false next block) e → Arrives x block end e → Arrives y next end e → Arrives (if b then x else y) p end e
-  decided true x y p block next end e go h k = arrives_after x p block end e e go h
-  decided false x y p block next end e go h k = arrives_after y p next end e e go k
+  decided : (b : Bool) (x y : Ending) (p block next end : ℕ) (e f : Effects) → Comes p e (lands b false next block) f → Arrives x block end f → Arrives y next end f → Arrives (if b then x else y) p end e
+  decided true x y p block next end e f go h k = arrives_after x p block end e f go h
+  decided false x y p block next end e f go h k = arrives_after y p next end e f go k
 
   mutual
-    command_run : (c : CommandForm) (p : ℕ) (e : Effects) → Stands all p (command_code table p c) → Has table (command_numbers c) → Arrives (command_does mail c e) p (p + command_length c) e
+    command_run : (c : CommandForm) (p : ℕ) (e : Effects) → Stands all p (command_code table p c) → Has table (command_numbers c) → Arrives (command_does mail None c e) p (p + command_length c) e
     command_run keep p e h known = keep_run p e (stands_first all p _ [] h)
     command_run discard p e h known = discard_run p e (stands_first all p _ [] h)
     command_run stop p e h known = (p, comes_here p p e refl, stands_first all p _ [] h)
     command_run (choice bs) p e h known = branches_run bs p (p + branches_length bs) e h known refl
 
-    commands_run : (cs : CommandForms) (p : ℕ) (e : Effects) → Stands all p (commands_code table p cs) → Has table (commands_numbers cs) → Arrives (commands_do mail cs e) p (p + commands_length cs) e
+    commands_run : (cs : CommandForms) (p : ℕ) (e : Effects) → Stands all p (commands_code table p cs) → Has table (commands_numbers cs) → Arrives (commands_do mail None cs e) p (p + commands_length cs) e
     commands_run no_command p e h known = let same : p ≡ p + 0 = omega arith in comes_here p (p + 0) e same
     commands_run (command c cs) p e h known =
         let same : p + command_length c + commands_length cs ≡ p + (command_length c + commands_length cs) = omega arith in
         let first = command_run c p e (stands_left all p _ _ h) (has_left table (command_numbers c) (commands_numbers cs) known) in
         let there = stands_right all p (command_length c) _ _ (command_code_length table c p) h in
-        arrives_then (command_does mail c e) (λ f. commands_do mail cs f) p (p + command_length c) _ e first
-        (λ f. subst (λ q. Arrives (commands_do mail cs f) (p + command_length c) q f) same (commands_run cs (p + command_length c) f there (has_right table (command_numbers c) (commands_numbers cs) known)))
+        arrives_then (command_does mail None c e) (λ f. commands_do mail None cs f) p (p + command_length c) _ e first
+        (λ f. subst (λ q. Arrives (commands_do mail None cs f) (p + command_length c) q f) same (commands_run cs (p + command_length c) f there (has_right table (command_numbers c) (commands_numbers cs) known)))
 
-    branches_run : (bs : BranchForms) (p end : ℕ) (e : Effects) → Stands all p (branches_code table p bs end) → Has table (branches_numbers bs) → p + branches_length bs ≡ end → Arrives (choice_does mail bs e) p end e
+    branches_run : (bs : BranchForms) (p end : ℕ) (e : Effects) → Stands all p (branches_code table p bs end) → Has table (branches_numbers bs) → p + branches_length bs ≡ end → Arrives (choice_does mail None bs e) p end e
     branches_run no_branch p end e h known done = let same : p ≡ end = omega (arith, done) in comes_here p end e same
-    branches_run (otherwise cs) p end e h known done = subst (λ q. Arrives (commands_do mail cs e) p q e) done (commands_run cs p e h known)
+    branches_run (otherwise cs) p end e h known done = subst (λ q. Arrives (commands_do mail None cs e) p q e) done (commands_run cs p e h known)
     branches_run (branch t cs bs) p end e h known done =
         let block = p + test_length t in
         let leave = block + commands_length cs in
@@ -237,10 +244,11 @@ module _ (script : CommandForms) (mail : Mail) where
         let numbers = has_left table (test_numbers t ++ commands_numbers cs) (branches_numbers bs) known in
         let parts = branch_parts_of all table t cs bs p end h in
         let tested = test_run t p false next e parts.test (has_left table (test_numbers t) (commands_numbers cs) numbers) in
-        let inner = commands_run cs block e parts.block (has_right table (test_numbers t) (commands_numbers cs) numbers) in
-        let taken = arrives_at (commands_do mail cs e) block leave end e (λ f. leave_run bs leave end f parts.leave same) inner in
-        let others = branches_run bs next end e parts.rest (has_right table (test_numbers t ++ commands_numbers cs) (branches_numbers bs) known) same in
-        decided (holds mail t) (commands_do mail cs e) (choice_does mail bs e) p block next end e tested taken others
+        let f = (test_does mail None t e).effects in
+        let inner = commands_run cs block f parts.block (has_right table (test_numbers t) (commands_numbers cs) numbers) in
+        let taken = arrives_at (commands_do mail None cs f) block leave end f (λ g. leave_run bs leave end g parts.leave same) inner in
+        let others = branches_run bs next end f parts.rest (has_right table (test_numbers t ++ commands_numbers cs) (branches_numbers bs) known) same in
+        decided (test_does mail None t e).value (commands_do mail None cs f) (choice_does mail None bs f) p block next end e f tested taken others
 
   halted : (p : ℕ) (e : Effects) (c : ℕ) → slice_get all p ≡ Some (plain Halt) → step code mail (at p e c) ≡ ends (at p e (c + 1))
   halted p e c here = step_at (at p e c) (plain Halt) _ here refl
@@ -259,8 +267,9 @@ module _ (script : CommandForms) (mail : Mail) where
 
   outcome : (x : Ending) → Arrives x 0 (0 + commands_length script) no_effects → (charged : ℕ) × IsOutcome code mail (final_actions (effects_of x).actions (effects_of x).implicit_keep) charged
   outcome (normal f) h = let same : 0 + commands_length script ≡ commands_length script = omega arith in ends_with (0 + commands_length script) f h (ap (slice_get all) same ∙ halt_at script)
+  outcome (broken n f) h = absurd h
   outcome (stopped f) h = ends_with h.0 f h.1 h.2
 
   -- the run of the code ends with the final actions of the meaning
   pub code_means : (charged : ℕ) × IsOutcome code mail (meaning mail script) charged
-  code_means = outcome (commands_do mail script no_effects) (commands_run script 0 no_effects (plain Halt ∷ [], refl) (distinct_has (commands_numbers script)))
+  code_means = outcome (commands_do mail None script no_effects) (commands_run script 0 no_effects (plain Halt ∷ [], refl) (distinct_has (commands_numbers script)))

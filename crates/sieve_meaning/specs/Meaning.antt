@@ -1,5 +1,5 @@
 -- What a script means.
-use Rattle.std.specs.Prelude.{ℕ, Bool, true, false, ◌&&◌, ◌||◌, not, nat_lt, List, [], ◌∷◌, ◌++◌, if◌then◌else◌}
+use Rattle.std.specs.Prelude.{ℕ, Bool, true, false, not, nat_lt, List, [], ◌∷◌, ◌++◌, replicate, Option, None, if◌then◌else◌}
 use Rattle.bytecode_format.specs.declared.action.Action.{Action}
 use Rattle.bytecode_format.specs.declared.action.Action.TheVariants.{Keep}
 use Rattle.bytecode_format.specs.Actions.{final_actions}
@@ -8,73 +8,103 @@ use Rattle.sieve_check.specs.declared.typed.Order.{Order}
 use Rattle.sieve_check.specs.declared.typed.Order.TheVariants.{Over, Under}
 use Rattle.sieve_check.specs.Typed.{TestForm, constant, negation, all_of, any_of, size, TestForms, no_test, test, CommandForm, keep, discard, stop, choice, CommandForms, no_command, command, BranchForms, no_branch, otherwise, branch}
 
--- what a script has done so far
+-- what a script has done so far: the values of variables by their names in lower case, the captures of the last match that set
+-- them, the actions, and whether the implicit keep stands
 pub record Effects : Type 0 where
+  pub variables : List ℕ → List ℕ
+  pub captures : List (List ℕ)
   pub actions : List Action
   pub implicit_keep : Bool
 
--- nothing yet: the implicit keep stands
+-- nothing yet: variables and captures are empty, and the implicit keep stands
 abbrev pub no_effects : Effects
-no_effects = record { actions = []; implicit_keep = true }
+no_effects = record { variables = λ name. []; captures = replicate 10 []; actions = []; implicit_keep = true }
 
--- how commands end, and what was done by then
+-- a test's truth value, and what was done by then
+pub record Verdict : Type 0 where
+  pub value : Bool
+  pub effects : Effects
+
+abbrev pub verdict : Bool → Effects → Verdict
+verdict value effects = record { value = value; effects = effects }
+
+abbrev pub turned : Verdict → Verdict
+turned v = verdict (not v.value) v.effects
+
+-- the tests after one, which are made only where it doesn't decide: a false one decides that not all are true, a true one that any is
+abbrev pub and_then : Verdict → (Effects → Verdict) → Verdict
+and_then v next = if v.value then next v.effects else verdict false v.effects
+
+abbrev pub or_else : Verdict → (Effects → Verdict) → Verdict
+or_else v next = if v.value then verdict true v.effects else next v.effects
+
+-- how commands end, and what was done by then: on to the next, or the script is stopped, or so many loops are left at once
 pub data Ending : Type 0 where
   normal : Effects → Ending
   stopped : Effects → Ending
+  broken : ℕ → Effects → Ending
 
 -- what was done by then
 abbrev pub effects_of : Ending → Effects
 effects_of (normal effects) = effects
 effects_of (stopped effects) = effects
+effects_of (broken loops effects) = effects
 
--- on with the next, unless the script was stopped
+-- on with the next, where the commands before it end so
 abbrev pub followed_by : Ending → (Effects → Ending) → Ending
 followed_by (normal effects) next = next effects
 followed_by (stopped effects) next = stopped effects
+followed_by (broken loops effects) next = broken loops effects
 
 -- whether the message is over or under a number of octets (RFC 5228, section 5.9)
 abbrev pub is_size : Order → ℕ → ℕ → Bool
 is_size Over number octets = nat_lt number octets
 is_size Under number octets = nat_lt octets number
 
+-- Below, the current part is that of the innermost loop, none outside of loops.
+
 abbrev mutual
-  -- whether a test is true (RFC 5228, section 5)
-  pub holds : Mail → TestForm → Bool
-  holds mail (constant b) = b
-  holds mail (negation t) = not (holds mail t)
-  holds mail (all_of t ts) = holds mail t && all_hold mail ts
-  holds mail (any_of t ts) = holds mail t || any_holds mail ts
-  holds mail (size order number) = is_size order number (size_of mail)
+  -- what a test comes to (RFC 5228, section 5)
+  pub test_does : Mail → Option ℕ → TestForm → Effects → Verdict
+  test_does mail part (constant b) effects = verdict b effects
+  test_does mail part (negation t) effects = turned (test_does mail part t effects)
+  test_does mail part (all_of t ts) effects = and_then (test_does mail part t effects) (λ e. all_do mail part ts e)
+  test_does mail part (any_of t ts) effects = or_else (test_does mail part t effects) (λ e. any_do mail part ts e)
+  test_does mail part (size order number) effects = verdict (is_size order number (size_of mail)) effects
 
-  pub all_hold : Mail → TestForms → Bool
-  all_hold mail no_test = true
-  all_hold mail (test t ts) = holds mail t && all_hold mail ts
+  -- whether all tests are true, from left to right up to the first that isn't
+  pub all_do : Mail → Option ℕ → TestForms → Effects → Verdict
+  all_do mail part no_test effects = verdict true effects
+  all_do mail part (test t ts) effects = and_then (test_does mail part t effects) (λ e. all_do mail part ts e)
 
-  pub any_holds : Mail → TestForms → Bool
-  any_holds mail no_test = false
-  any_holds mail (test t ts) = holds mail t || any_holds mail ts
+  -- whether any is true, up to the first that is
+  pub any_do : Mail → Option ℕ → TestForms → Effects → Verdict
+  any_do mail part no_test effects = verdict false effects
+  any_do mail part (test t ts) effects = or_else (test_does mail part t effects) (λ e. any_do mail part ts e)
 
 abbrev mutual
   -- what a command does (RFC 5228, sections 3 and 4)
-  pub command_does : Mail → CommandForm → Effects → Ending
-  command_does mail keep effects = normal (record { actions = effects.actions ++ Keep ∷ []; implicit_keep = false })
-  command_does mail discard effects = normal (record effects { implicit_keep = false })
-  command_does mail stop effects = stopped effects
-  command_does mail (choice branches) effects = choice_does mail branches effects
+  pub command_does : Mail → Option ℕ → CommandForm → Effects → Ending
+  command_does mail part keep effects = normal (record effects { actions = effects.actions ++ Keep ∷ []; implicit_keep = false })
+  command_does mail part discard effects = normal (record effects { implicit_keep = false })
+  command_does mail part stop effects = stopped effects
+  command_does mail part (choice branches) effects = choice_does mail part branches effects
 
   -- what commands do, one after the other
-  pub commands_do : Mail → CommandForms → Effects → Ending
-  commands_do mail no_command effects = normal effects
-  commands_do mail (command c cs) effects = followed_by (command_does mail c effects) (λ e. commands_do mail cs e)
+  pub commands_do : Mail → Option ℕ → CommandForms → Effects → Ending
+  commands_do mail part no_command effects = normal effects
+  commands_do mail part (command c cs) effects = followed_by (command_does mail part c effects) (λ e. commands_do mail part cs e)
 
   -- the block of the first branch whose test is true, else that of the else, if there is one
-  pub choice_does : Mail → BranchForms → Effects → Ending
-  choice_does mail no_branch effects = normal effects
-  choice_does mail (otherwise cs) effects = commands_do mail cs effects
-  choice_does mail (branch t cs bs) effects = if holds mail t then commands_do mail cs effects else choice_does mail bs effects
+  pub choice_does : Mail → Option ℕ → BranchForms → Effects → Ending
+  choice_does mail part no_branch effects = normal effects
+  choice_does mail part (otherwise cs) effects = commands_do mail part cs effects
+  choice_does mail part (branch t cs bs) effects =
+      let v = test_does mail part t effects in
+      if v.value then commands_do mail part cs v.effects else choice_does mail part bs v.effects
 
 -- the final actions of a script on a message
 abbrev pub meaning : Mail → CommandForms → List Action
 meaning mail script =
-    let effects = effects_of (commands_do mail script no_effects) in
+    let effects = effects_of (commands_do mail None script no_effects) in
     final_actions effects.actions effects.implicit_keep

@@ -22,7 +22,7 @@ pub enum Flow {
 }
 
 impl Evaluator {
-    ghost use Rattle.std.specs.Prelude.{◌≡◌, ◌∷◌, [], ◌++◌, false, map, IfOk, OnOk, Option};
+    ghost use Rattle.std.specs.Prelude.{◌≡◌, ◌∷◌, [], ◌++◌, false, map, IfOk, OnOk, None};
     ghost use Rattle.sieve_check.specs.TypedView.{command_form, commands_form};
     ghost use Rattle.sieve_meaning.specs.Meaning.{Effects, no_effects, command_does, commands_do};
     ghost use Rattle.sieve_meaning.specs.Evaluation.{StandsFor, StandsAt};
@@ -39,7 +39,7 @@ impl Evaluator {
 
     // Lists Keep, and takes the implicit keep away.
     fn keep(&mut self) -> Result<(), AllocError>
-        ensures { (e : Effects) → StandsFor e self.old → OnOk result (StandsFor (record { actions = e.actions ++ Action.Keep ∷ []; implicit_keep = false }) self.new) }
+        ensures { (e : Effects) → StandsFor e self.old → OnOk result (StandsFor (record e { actions = e.actions ++ Action.Keep ∷ []; implicit_keep = false }) self.new) }
     {
         self.actions.push(Action::Keep)?;
         self.implicit_keep = false;
@@ -49,7 +49,7 @@ impl Evaluator {
     /// Does what a command does.
     #[cycle(commands)]
     fn command(&mut self, command: &Command, message: &Message<'_>) -> Result<Flow, AllocError>
-        ensures { (e : Effects) → StandsFor e self.old → IfOk result (λ flow. StandsAt (command_does message.now (command_form command.now) e) flow self.new) }
+        ensures { (e : Effects) → StandsFor e self.old → IfOk result (λ flow. StandsAt (command_does message.now None (command_form command.now) e) flow self.new) }
     {
         match command {
             Command::Keep => self.keep()?,
@@ -76,7 +76,7 @@ impl Evaluator {
         commands: &[Command],
         message: &Message<'_>,
     ) -> Result<Flow, AllocError>
-        ensures { (e : Effects) → StandsFor e self.old → IfOk result (λ flow. StandsAt (commands_do message.now (commands_form commands.now) e) flow self.new) }
+        ensures { (e : Effects) → StandsFor e self.old → IfOk result (λ flow. StandsAt (commands_do message.now None (commands_form commands.now) e) flow self.new) }
     {
         'commands: for command in commands {
             match self.command(command, message)? {

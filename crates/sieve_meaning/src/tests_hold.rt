@@ -1,15 +1,15 @@
 // Whether tests are true.
-ghost use Rattle.std.specs.Prelude.{◌≡◌, map};
+ghost use Rattle.std.specs.Prelude.{◌≡◌, map, None};
 ghost use Rattle.sieve_check.specs.TypedView.{test_form, tests_of};
-ghost use Rattle.sieve_meaning.specs.Meaning.{holds, all_hold, any_holds, is_size};
+ghost use Rattle.sieve_meaning.specs.Meaning.{Effects, verdict, test_does, all_do, any_do, is_size};
 
 use mime_decode::Message;
 use sieve_check::{Order, Test};
 
-/// Whether the test is true of the message.
+/// Whether the test is true of the message. It has no other effect.
 #[cycle(tests)]
 pub fn is_true(test: &Test, message: &Message<'_>) -> bool
-    ensures { result ≡ holds message.now (test_form test.now) }
+    ensures { (e : Effects) → test_does message.now None (test_form test.now) e ≡ verdict result e }
 {
     match test {
         Test::Constant(value) => *value,
@@ -23,7 +23,7 @@ pub fn is_true(test: &Test, message: &Message<'_>) -> bool
 // Whether all tests are true, up to the first that isn't.
 #[cycle(tests)]
 fn all_true(list: &[Test], message: &Message<'_>) -> bool
-    ensures { result ≡ all_hold message.now (tests_of (map test_form list.now)) }
+    ensures { (e : Effects) → all_do message.now None (tests_of (map test_form list.now)) e ≡ verdict result e }
 {
     'list: for test in list {
         if !is_true(test, message) {
@@ -36,7 +36,7 @@ fn all_true(list: &[Test], message: &Message<'_>) -> bool
 // Whether a test is true, up to the first that is.
 #[cycle(tests)]
 fn any_true(list: &[Test], message: &Message<'_>) -> bool
-    ensures { result ≡ any_holds message.now (tests_of (map test_form list.now)) }
+    ensures { (e : Effects) → any_do message.now None (tests_of (map test_form list.now)) e ≡ verdict result e }
 {
     'list: for test in list {
         if is_true(test, message) {

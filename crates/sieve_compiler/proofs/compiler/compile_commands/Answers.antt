@@ -1,4 +1,4 @@
-use Rattle.std.proofs.Common.{◌≡◌, ℕ, ◌<◌, ◌≤◌, ◌^◌, List, [], ◌∷◌, ◌++◌, length, All, Result, Ok, Err, IfErr, IsOk, refl, sym, ap, subst, ◌∙◌, arith}
+use Rattle.std.proofs.Common.{◌≡◌, ℕ, ◌<◌, ◌^◌, List, [], ◌∷◌, ◌++◌, length, All, Result, Ok, Err, IfErr, IsOk, refl, sym, ap, subst, ◌∙◌, arith}
 use Rattle.bytecode_format.specs.declared.error.FormatError.{FormatError}
 use Rattle.bytecode_format.specs.declared.error.FormatError.TheVariants.{Spelling}
 use Rattle.bytecode_format.specs.declared.instruction.Instruction.{Instruction}
