@@ -1,12 +1,12 @@
 -- A line while it is written.
-use Rattle.std.proofs.Common.{◌≡◌, ◌≢◌, ℕ, ◌-◌, ◌+◌, ◌<◌, ◌≤◌, ◌==◌, Bool, true, false, List, [], ◌∷◌, ◌++◌, zero, suc, inl, inr, refl, sym, ◌∙◌, ap, arith, length, take, drop, get_or, zero-add}
+use Rattle.std.proofs.Common.{◌≡◌, ℕ, ◌-◌, ◌+◌, ◌<◌, ◌≤◌, ◌==◌, Bool, true, false, List, [], ◌∷◌, ◌++◌, zero, suc, inl, inr, refl, sym, ◌∙◌, ap, arith, length, take, drop, get_or, zero-add}
 use Rattle.std.proofs.lemmas.Bool.{cases_Bool, le-leb, true≢false}
-use Rattle.std.proofs.lemmas.List.{append_assoc, length-append, length-drop, length-take-le, take-append-le, take-take, take_at, drop-drop}
+use Rattle.std.proofs.lemmas.List.{length-drop, length-take-le, take-append-le, take-take, drop-drop}
 use Rattle.std.proofs.lemmas.Grind.{flat_map-append}
 use Rattle.std.proofs.Math.Seq.{take-append-add}
 use Rattle.octets.specs.Blank.{is_blank}
 use borrow.Rule.Slice.PartMut.{put_mid, post_of}
-use Rattle.quoted_printable.specs.QuotedPrintable.{escape_of, is_literal, is_none, joined, run_of, stands, token_of, tokens_of}
+use Rattle.quoted_printable.specs.QuotedPrintable.{escape_of, is_literal, joined, run_of, stands, token_of, tokens_of}
 use Rattle.quoted_printable.proofs.Encoded.{prefix_kept, run_ended, run_goes, run_stops, take_here, token_here, tokens_drop}
 
 -- so many tokens stand in so many octets of the line, and go on as the longest run does
@@ -53,7 +53,7 @@ filled_stops octets room line new taken len end filled small lt ends puts over =
     let few = filled.few in
     let long = filled.long in (
       sym (run_stops room len taken (run_of room tokens) token (drop (taken + 1) tokens)
-      (filled.run ∙ ap (λ l. taken + run_of (room - len) l) (token_here taken octets lt)) few (omega (arith, over, ends))),
+          (filled.run ∙ ap (λ l. taken + run_of (room - len) l) (token_here taken octets lt)) few (omega (arith, over, ends))),
       prefix_kept len end line new token (omega arith) (omega arith) puts ∙ filled.written,
     )
 

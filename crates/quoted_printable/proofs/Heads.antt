@@ -1,10 +1,10 @@
 -- What a text's first octets stand for, whatever follows them.
-use Rattle.std.proofs.Common.{◌≡◌, ◌≢◌, ℕ, ◌-◌, ◌+◌, ◌*◌, ◌<◌, ◌≤◌, ◌==◌, ◌&&◌, ◌||◌, Bool, true, false, cond, List, [], ◌∷◌, ◌++◌, zero, suc, inl, inr, ◌⊎◌, refl, sym, ◌∙◌, ap, arith, length, take, drop, reverse}
+use Rattle.std.proofs.Common.{◌≡◌, ◌≢◌, ℕ, ◌-◌, ◌+◌, ◌*◌, ◌==◌, true, false, List, [], ◌∷◌, ◌++◌, suc, inl, inr, refl, sym, ◌∙◌, ap, arith, length, reverse}
 use Rattle.std.specs.Char.{digit_value}
 use Rattle.std.specs.List.{flat_map}
 use Rattle.std.specs.Prelude.{if◌then◌else◌}
-use Rattle.std.proofs.lemmas.Bool.{ne_eqb, eq-eqb, eqb-true, cases_Bool, true≢false}
-use Rattle.std.proofs.lemmas.List.{reverse-append, append_assoc}
+use Rattle.std.proofs.lemmas.Bool.{ne_eqb, eqb-true, cases_Bool, true≢false}
+use Rattle.std.proofs.lemmas.List.{reverse-append}
 use Rattle.octets.specs.Blank.{is_blank, without_leading_blanks, without_trailing_blanks}
 use Rattle.text_lines.specs.Lines.{TextLine, lines_of, is_first_of_break, onto_content}
 use Rattle.text_lines.proofs.FirstLine.{lines_feed, lines_other, no_break_of}
@@ -195,16 +195,16 @@ decoded-escape high low text h l =
     ∙ ap (onto_content 61) (lines_other high (low ∷ text) first.no_feed (no_break_of high (low ∷ text) first.no_return)
     ∙ ap (onto_content high) (lines_other low text second.no_feed (no_break_of low text second.no_return))) in
     ap (flat_map decoded_line) lines ∙ onto_escape high low (lines_of text) h l second.no_blank first.no_blank where
-  onto_escape : (high low : ℕ) (lines : List TextLine) → is_hex high ≡ true → is_hex low ≡ true → is_blank low ≡ false → is_blank high ≡ false
-      → flat_map decoded_line (onto_content 61 (onto_content high (onto_content low lines))) ≡ (digit_value high * 16 + digit_value low) ∷ flat_map decoded_line lines
-  onto_escape high low [] h l b a =
-      let kept : without_trailing_blanks (61 ∷ high ∷ low ∷ []) ≡ 61 ∷ high ∷ low ∷ [] =
-      trailing_kept 61 (high ∷ low ∷ []) refl ∙ ap (λ l. 61 ∷ l) (trailing_kept high (low ∷ []) a ∙ ap (λ l. high ∷ l) (trailing_kept low [] b)) in
-      rw kept (ap (λ l. l ++ []) (ended_escape high low [] [] h l))
-  onto_escape high low (line ∷ lines) h l b a =
-      let kept : without_trailing_blanks (61 ∷ high ∷ low ∷ line.content) ≡ 61 ∷ high ∷ low ∷ without_trailing_blanks line.content =
-      trailing_kept 61 (high ∷ low ∷ line.content) refl ∙ ap (λ l. 61 ∷ l) (trailing_kept high (low ∷ line.content) a ∙ ap (λ l. high ∷ l) (trailing_kept low line.content b)) in
-      rw kept (ap (λ l. l ++ flat_map decoded_line lines) (ended_escape high low (without_trailing_blanks line.content) line.break h l))
+      onto_escape : (high low : ℕ) (lines : List TextLine) → is_hex high ≡ true → is_hex low ≡ true → is_blank low ≡ false → is_blank high ≡ false
+          → flat_map decoded_line (onto_content 61 (onto_content high (onto_content low lines))) ≡ (digit_value high * 16 + digit_value low) ∷ flat_map decoded_line lines
+      onto_escape high low [] h l b a =
+          let kept : without_trailing_blanks (61 ∷ high ∷ low ∷ []) ≡ 61 ∷ high ∷ low ∷ [] =
+          trailing_kept 61 (high ∷ low ∷ []) refl ∙ ap (λ l. 61 ∷ l) (trailing_kept high (low ∷ []) a ∙ ap (λ l. high ∷ l) (trailing_kept low [] b)) in
+          rw kept (ap (λ l. l ++ []) (ended_escape high low [] [] h l))
+      onto_escape high low (line ∷ lines) h l b a =
+          let kept : without_trailing_blanks (61 ∷ high ∷ low ∷ line.content) ≡ 61 ∷ high ∷ low ∷ without_trailing_blanks line.content =
+          trailing_kept 61 (high ∷ low ∷ line.content) refl ∙ ap (λ l. 61 ∷ l) (trailing_kept high (low ∷ line.content) a ∙ ap (λ l. high ∷ l) (trailing_kept low line.content b)) in
+          rw kept (ap (λ l. l ++ flat_map decoded_line lines) (ended_escape high low (without_trailing_blanks line.content) line.break h l))
 
 pub decoded-soft : (text : List ℕ) → decoding_of (61 ∷ 13 ∷ 10 ∷ text) ≡ decoding_of text
 unfolding decoding_of

@@ -1,5 +1,5 @@
 -- How long what a text stands for is.
-use Rattle.std.proofs.Common.{◌≡◌, ℕ, ◌-◌, ◌+◌, ◌≤◌, Bool, true, false, cond, List, [], ◌∷◌, ◌++◌, zero, suc, inl, inr, refl, sym, ◌∙◌, ap, arith, length, take, min, reverse}
+use Rattle.std.proofs.Common.{ℕ, ◌-◌, ◌+◌, ◌≤◌, List, [], ◌∷◌, inl, inr, ap, arith, length, reverse}
 use Rattle.std.specs.List.{flat_map}
 use Rattle.std.proofs.lemmas.Bool.{cases_Bool}
 use Rattle.std.proofs.lemmas.List.{length-append, length-reverse, length-take}
@@ -47,8 +47,15 @@ lines_length (line ∷ lines) =
     let more = lines_length lines in
     let kept = without_trailing_blanks line.content in
     let less = ended_length kept line.break in
-    omega (arith, more, less, trailing_length line.content, length-append (ended kept line.break) (flat_map decoded_line lines),
-    length-append (line_octets line) (octets_of lines), length-append line.content line.break)
+    omega (
+      arith,
+      more,
+      less,
+      trailing_length line.content,
+      length-append (ended kept line.break) (flat_map decoded_line lines),
+      length-append (line_octets line) (octets_of lines),
+      length-append line.content line.break,
+    )
 
 pub no_longer : (text : List ℕ) → length (decoding_of text) ≤ length text
 unfolding decoding_of

@@ -7,7 +7,7 @@ use Rattle.quoted_printable.proofs.decode.append_decoding.Given as goal
 abbrev pub invariant-lines : goal.invariant-lines
 invariant-lines l = record {
   same : l.lines.text ≡ l.text;
-  done : l.out.items ++ flat_map decoded_line (lines_left l.lines) ≡ l.initial.out.items ++ decoding_of l.text
+  done : l.out.items ++ flat_map decoded_line (lines_left l.lines) ≡ l.initial.out.items ++ decoding_of l.text;
 }
 
 abbrev pub decreases-lines : goal.decreases-lines

@@ -1,4 +1,4 @@
-use Rattle.std.proofs.Common.{◌≡◌, ◌++◌, ◌<◌, ℕ, length, take, drop, sym, ap, ◌∙◌, arith, eqb, eqb-true, false, []}
+use Rattle.std.proofs.Common.{◌≡◌, ◌++◌, ◌<◌, ℕ, length, drop, sym, ap, ◌∙◌, arith, eqb, eqb-true, false, []}
 use Rattle.std.proofs.lemmas.Bool.{eqb-false}
 use Rattle.std.proofs.lemmas.List.{append_assoc, append-nil, nil_from_length}
 use Rattle.quoted_printable.specs.QuotedPrintable.{encoding_of, first_line, tokens_of, tokens_of_line}

@@ -1,5 +1,5 @@
-use Rattle.std.proofs.Common.{◌≡◌, ◌≢◌, ◌++◌, ◌≤◌, List, ℕ, length, take, sym, ap, ◌∙◌, arith}
-use Rattle.quoted_printable.specs.QuotedPrintable.{first_line, joined, run_of, soft_break, tokens_of, tokens_of_line}
+use Rattle.std.proofs.Common.{◌≢◌, ◌++◌, length, ap, ◌∙◌, arith}
+use Rattle.quoted_printable.specs.QuotedPrintable.{run_of, tokens_of}
 use Rattle.quoted_printable.proofs.Encoded.{last_line, line_goes_on, long_line, run_some}
 use Rattle.quoted_printable.proofs.encode.encode_qp_line.Goals as goal
 use Rattle.quoted_printable.proofs.encode.encode_qp_line.Goals.{then-octets-le-LINE_OCTETS+else-taken-octets, else-octets-le-LINE_OCTETS}

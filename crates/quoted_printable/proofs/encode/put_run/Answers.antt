@@ -1,4 +1,4 @@
-use Rattle.std.proofs.Common.{◌≡◌, ◌<◌, ◌≤◌, ◌+◌, ℕ, false, true, length, take, get_or, sym, ap, ◌∙◌, arith}
+use Rattle.std.proofs.Common.{◌<◌, false, length, get_or, sym, ap, ◌∙◌, arith}
 use Rattle.std.proofs.lemmas.List.{get_or-take, length-take-le}
 use Rattle.quoted_printable.specs.QuotedPrintable.{stands}
 use Rattle.quoted_printable.proofs.Filling.{over_middle}
@@ -18,6 +18,6 @@ returns-clause-copied c =
     let long = c.standing_len.ensures.few in
     let line = c.told-line in
     let block = c.copy_from_slice.ensures.after ∙ c.in-Some.ensures.cases.0 in
-    over_middle c.args.at c.min.result c.args.line.now c.args.octets.now c.copy_from_slice.new.self (omega arith) 
+    over_middle c.args.at c.min.result c.args.line.now c.args.octets.now c.copy_from_slice.new.self (omega arith)
     (ap length block ∙ length-take-le 32 c.args.octets.now (omega (arith, c.in-Some.ensures.cases.2)))
     (omega arith) block
