@@ -1,0 +1,4 @@
+pub mod Children
+pub mod Delimiters
+mod Examples
+pub mod Fields

@@ -1,0 +1,4 @@
+pub mod PartTree
+pub mod Refusals
+-- what private functions of the reader are about
+pub mod Reading

@@ -1,0 +1,20 @@
+//! The parts of a mail message (RFC 2046, section 5).
+#![tactic(auto)]
+
+mod delimiter;
+mod error;
+mod media;
+mod part;
+mod split;
+mod stretch;
+
+pub use error::TreeError;
+
+/// The most octets of a message.
+pub const MAX_MESSAGE: usize = 67_108_864;
+
+/// The most parts of a message.
+pub const MAX_PARTS: usize = 4096;
+
+/// The greatest depth of a part, the message's own being 1.
+pub const MAX_DEPTH: usize = 32;
