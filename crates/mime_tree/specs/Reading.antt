@@ -1,11 +1,16 @@
-use Rattle.std.specs.Prelude.{◌≡◌, ℕ, ◌+◌, ◌≤◌, List, [], ◌∷◌, length, slice_range, Option, MatchOption}
+use Rattle.std.specs.Prelude.{◌≡◌, ℕ, zero, suc, ◌+◌, ◌≤◌, List, [], ◌∷◌, length, slice_range, flat_map, Option, MatchOption}
+use Rattle.octets.specs.Limits.{max_message}
 use Rattle.text_lines.specs.Unread.{Unread}
 use Rattle.text_lines.specs.Lines.{lines_left}
-use Rattle.mime_tree.specs.PartTree.{Stretch, child_at, child_octets, further_children, text_plain, message_rfc822}
+use Rattle.mime_tree.specs.PartTree.{Stretch, child_at, child_octets, further_children, text_plain, message_rfc822, Part, children_of, default_below, parts_of}
 use Rattle.mime_params.specs.declared.media.MediaType.{MediaType}
 use Rattle.mime_tree.specs.declared.split.Ending.{Ending}
 use Rattle.mime_tree.specs.declared.media.DefaultType.{DefaultType}
 use Rattle.mime_tree.specs.declared.media.DefaultType.TheVariants.{Text, Message}
+
+-- a stretch of a message that isn't too large
+abbrev pub IsInMessage : Stretch → Type 0
+IsInMessage stretch = stretch.place + length stretch.octets ≤ max_message
 
 -- the children from the one on that begins with the first line that wasn't given yet, of a text that begins at a place
 abbrev pub children_left : List ℕ → ℕ → Unread → List Stretch
@@ -35,3 +40,8 @@ pub record IsChildEnd (boundary text : List ℕ) (start : ℕ) (old : Unread) (e
 abbrev pub default_media : DefaultType → MediaType
 default_media Text = text_plain
 default_media Message = message_rfc822
+
+-- the parts below a part, where so many levels of parts may be below it
+abbrev pub parts_below : ℕ → Part → List Part
+parts_below zero part = []
+parts_below (suc levels) part = flat_map (parts_of levels (default_below part.media)) (children_of part)

@@ -2,7 +2,7 @@
 ghost use Rattle.std.specs.Prelude.{◌≡◌, [], IfOk, IfErr, codes};
 ghost use Rattle.std.specs.Option.{option_map};
 ghost use Rattle.std.specs.Cow.{cow_slice_items};
-ghost use Rattle.mime_tree.specs.PartTree.{first_value, text_plain, is_word, media_or, encoding_or_7bit};
+ghost use Rattle.mime_tree.specs.PartTree.{first_value, is_plain, is_word, media_or, encoding_or_7bit};
 ghost use Rattle.mime_tree.specs.Reading.{default_media};
 
 use crate::error::TreeError;
@@ -87,4 +87,14 @@ pub(crate) fn is_word(name: &[u8], word: &[u8]) -> bool
     ensures { result ≡ is_word name.now word.now }
 {
     equal_ignoring_case(name, word)
+}
+
+/// Whether the body stands as it is written, so that it may have parts.
+pub(crate) fn is_plain(encoding: TransferEncoding) -> bool
+    ensures { result ≡ is_plain encoding }
+{
+    matches!(
+        encoding,
+        TransferEncoding::SevenBit | TransferEncoding::EightBit | TransferEncoding::Binary
+    )
 }

@@ -1,17 +1,15 @@
 // A part of a message.
 ghost use Rattle.std.specs.Prelude.{◌≡◌, ◌+◌, ◌≤◌, length, IfOk, IfErr};
-ghost use Rattle.octets.specs.Limits.{max_message};
-ghost use Rattle.mime_tree.specs.PartTree.{Stretch, body_of, part_at, is_plain, default_below, children_of};
+ghost use Rattle.mime_tree.specs.PartTree.{body_of, part_at, default_below, children_of};
 ghost use Rattle.mime_tree.specs.Refusals.{IsRefusedFor};
 ghost use Rattle.mime_tree.specs.Reading.{default_media};
 
 use crate::error::TreeError;
-use crate::media::{DefaultType, encoding_of, is_word, media_of};
-use crate::split::multipart_children;
+use crate::media::{DefaultType, encoding_of, is_plain, is_word, media_of};
+use crate::split::children_in;
 use crate::stretch::Stretch;
 use header_fields::Header;
-use mime_params::{MediaType, TransferEncoding, param};
-use octets::trim_trailing_blanks;
+use mime_params::{MediaType, TransferEncoding};
 use std::alloc::Global;
 use std::marker::Model;
 
@@ -36,10 +34,10 @@ impl<'a> Model for Part<'a> {
 
     ghost view = { λ p. record { depth = p.depth; below = p.below; place = p.place; raw = p.raw.now; header = p.header; media = p.media; encoding = p.encoding } };
 
-    ghost use Rattle.std.specs.Prelude.{◌+◌, ◌≤◌, length};
-    ghost use Rattle.octets.specs.Limits.{max_message};
+    ghost use Rattle.std.specs.Prelude.{◌≤◌, length};
+    ghost use Rattle.mime_tree.specs.Reading.{IsInMessage};
 
-    ghost invariant = { λ p. (p.header.body_start ≤ length p.raw.now) × (p.place + length p.raw.now ≤ max_message) };
+    ghost invariant = { λ p. (p.header.body_start ≤ length p.raw.now) × IsInMessage (record { place = p.place; octets = p.raw.now }) };
 }
 
 impl<'a> Part<'a> {
@@ -47,7 +45,6 @@ impl<'a> Part<'a> {
     ///
     /// `Memory` comes only where memory was refused.
     pub(crate) fn read(alloc: Global, depth: usize, default: DefaultType, stretch: &Stretch<'a>) -> Result<Part<'a>, TreeError>
-        requires fits { stretch.now.place + length stretch.now.octets ≤ max_message }
         ensures part { IfOk result (λ part. part ≡ part_at depth (default_media default) stretch.now) }
         ensures refused { IfErr result (λ e. e ≡ TreeError.Memory) }
     {
@@ -85,6 +82,32 @@ impl<'a> Part<'a> {
         ensures { self.new ≡ record self.old { below = below } }
     {
         self.below = below;
+    }
+
+    /// Its children, where so many levels of parts may be below it.
+    ///
+    /// `TooManyParts` comes only where they are more than [`MAX_PARTS`](crate::MAX_PARTS), and `Memory` only where memory was
+    /// refused.
+    pub(crate) fn children(&self, alloc: Global) -> Result<Vec<Stretch<'a>>, TreeError>
+        ensures children { IfOk result (λ children. children.items ≡ children_of self.now) }
+        ensures refused { IfErr result (λ e. IsRefusedFor e (length (children_of self.now))) }
+    {
+        if !is_plain(self.encoding) {
+            return Ok(Vec::new(alloc));
+        }
+        let start = self.header.body_start();
+        children_in(alloc, &self.media, self.place + start, &self.raw[start..])
+    }
+
+    /// The media type of a child of it that has no Content-Type.
+    pub(crate) fn default_below(&self) -> DefaultType
+        ensures { default_media result ≡ default_below self.now.media }
+    {
+        if is_word(self.media.main.as_slice(), b"multipart") && is_word(self.media.sub.as_slice(), b"digest") {
+            DefaultType::Message
+        } else {
+            DefaultType::Text
+        }
     }
 
     /// Its octets.

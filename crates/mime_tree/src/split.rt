@@ -1,15 +1,18 @@
 // The children of a multipart.
 ghost use Rattle.std.specs.Prelude.{◌≡◌, ◌+◌, ◌<◌, ◌≤◌, length, slice_range, IfOk, IfErr};
-ghost use Rattle.octets.specs.Limits.{max_message, max_parts};
+ghost use Rattle.std.specs.Option.{option_copied};
 ghost use Rattle.text_lines.specs.Lines.{lines_of, lines_left};
-ghost use Rattle.mime_tree.specs.PartTree.{multipart_children, further_children, child_octets};
-ghost use Rattle.mime_tree.specs.Reading.{GivesChild, IsChildEnd};
+ghost use Rattle.mime_tree.specs.PartTree.{multipart_children, further_children, child_octets, children_between, children_in};
+ghost use Rattle.mime_tree.specs.Reading.{GivesChild, IsChildEnd, IsInMessage};
 ghost use Rattle.mime_tree.specs.Refusals.{IsRefusedFor};
 
 use crate::delimiter::{is_closing, is_delimiter};
 use crate::error::TreeError;
+use crate::media::is_word;
 use crate::stretch::Stretch;
 use crate::MAX_PARTS;
+use mime_params::{MediaType, param};
+use octets::trim_trailing_blanks;
 use std::alloc::Global;
 use text_lines::Lines;
 
@@ -64,7 +67,7 @@ fn child_end(text: &[u8], boundary: &[u8], lines: &mut Lines, start: usize) -> E
 ///
 /// `TooManyParts` comes only where they are more than [`MAX_PARTS`], and `Memory` only where memory was refused.
 pub(crate) fn multipart_children<'a>(alloc: Global, place: usize, body: &'a [u8], boundary: &[u8]) -> Result<Vec<Stretch<'a>>, TreeError>
-    requires fits { place + length body.now ≤ max_message }
+    requires within { IsInMessage (record { place = place; octets = body.now }) }
     ensures children { IfOk result (λ children. children.items ≡ multipart_children boundary.now place (lines_of body.now)) }
     ensures refused { IfErr result (λ e. IsRefusedFor e (length (multipart_children boundary.now place (lines_of body.now)))) }
 {
@@ -80,4 +83,38 @@ pub(crate) fn multipart_children<'a>(alloc: Global, place: usize, body: &'a [u8]
         next = child.next;
     }
     Ok(children)
+}
+
+/// The children of a body of this media type, which begins at this place of the message.
+///
+/// The refusals are those of a multipart.
+pub(crate) fn children_in<'a>(alloc: Global, media: &MediaType, place: usize, body: &'a [u8]) -> Result<Vec<Stretch<'a>>, TreeError>
+    requires within { IsInMessage (record { place = place; octets = body.now }) }
+    ensures children { IfOk result (λ children. children.items ≡ children_in media.now (record { place = place; octets = body.now })) }
+    ensures refused { IfErr result (λ e. IsRefusedFor e (length (children_in media.now (record { place = place; octets = body.now })))) }
+{
+    if is_word(media.main.as_slice(), b"multipart") {
+        return children_between(alloc, param(&media.params, b"boundary"), place, body);
+    }
+    let mut children = Vec::new(alloc);
+    if is_word(media.main.as_slice(), b"message") && is_word(media.sub.as_slice(), b"rfc822") {
+        children.push(Stretch::new(place, body))?;
+    }
+    Ok(children)
+}
+
+// The children of a multipart's body: none where it has no boundary, or an empty one.
+fn children_between<'a>(alloc: Global, value: Option<&[u8]>, place: usize, body: &'a [u8]) -> Result<Vec<Stretch<'a>>, TreeError>
+    requires within { IsInMessage (record { place = place; octets = body.now }) }
+    ensures children { IfOk result (λ children. children.items ≡ children_between (option_copied value.entry) (record { place = place; octets = body.now })) }
+    ensures refused { IfErr result (λ e. IsRefusedFor e (length (children_between (option_copied value.entry) (record { place = place; octets = body.now })))) }
+{
+    let Some(value) = value else {
+        return Ok(Vec::new(alloc));
+    };
+    let boundary = trim_trailing_blanks(value);
+    if boundary.is_empty() {
+        return Ok(Vec::new(alloc));
+    }
+    multipart_children(alloc, place, body, boundary)
 }

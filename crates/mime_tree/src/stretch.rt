@@ -14,13 +14,19 @@ impl<'a> Model for Stretch<'a> {
     ghost Value = { Stretch };
 
     ghost view = { λ s. record { place = s.place; octets = s.octets.now } };
+
+    ghost use Rattle.mime_tree.specs.Reading.{IsInMessage};
+
+    ghost invariant = { λ s. IsInMessage (record { place = s.place; octets = s.octets.now }) };
 }
 
 impl<'a> Stretch<'a> {
     ghost use Rattle.std.specs.Prelude.{◌≡◌};
+    ghost use Rattle.mime_tree.specs.Reading.{IsInMessage};
 
     // The stretch of these octets, which begin at this place.
     pub(crate) fn new(place: usize, octets: &'a [u8]) -> Stretch<'a>
+        requires { IsInMessage (record { place = place; octets = octets.now }) }
         ensures { result ≡ record { place = place; octets = octets.now } }
     {
         Stretch { place, octets }
@@ -35,7 +41,8 @@ impl<'a> Stretch<'a> {
 
     // Its octets.
     pub(crate) fn octets(&self) -> &'a [u8]
-        ensures { result.now ≡ self.now.octets }
+        ensures octets { result.now ≡ self.now.octets }
+        ensures within { IsInMessage self.now }
     {
         self.octets
     }
