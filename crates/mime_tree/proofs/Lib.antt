@@ -1,3 +1,4 @@
+pub mod Below
 pub mod Children
 pub mod Delimiters
 mod Examples

@@ -1,8 +1,8 @@
-use Rattle.std.specs.Prelude.{◌≡◌, ℕ, zero, suc, ◌+◌, ◌≤◌, List, [], ◌∷◌, length, slice_range, flat_map, Option, MatchOption}
+use Rattle.std.specs.Prelude.{◌≡◌, ℕ, zero, suc, ◌+◌, ◌≤◌, List, [], ◌∷◌, ◌++◌, length, take, drop, slice_range, flat_map, Option, MatchOption}
 use Rattle.octets.specs.Limits.{max_message}
 use Rattle.text_lines.specs.Unread.{Unread}
 use Rattle.text_lines.specs.Lines.{lines_left}
-use Rattle.mime_tree.specs.PartTree.{Stretch, child_at, child_octets, further_children, text_plain, message_rfc822, Part, children_of, default_below, parts_of}
+use Rattle.mime_tree.specs.PartTree.{Stretch, child_at, child_octets, further_children, text_plain, message_rfc822, Part, children_of, default_below, with_below, parts_of}
 use Rattle.mime_params.specs.declared.media.MediaType.{MediaType}
 use Rattle.mime_tree.specs.declared.split.Ending.{Ending}
 use Rattle.mime_tree.specs.declared.media.DefaultType.{DefaultType}
@@ -45,3 +45,12 @@ default_media Message = message_rfc822
 abbrev pub parts_below : ℕ → Part → List Part
 parts_below zero part = []
 parts_below (suc levels) part = flat_map (parts_of levels (default_below part.media)) (children_of part)
+
+-- the first of these parts has the others below it
+abbrev pub first_with_below : List Part → List Part
+first_with_below [] = []
+first_with_below (part ∷ parts) = with_below part parts
+
+-- the part at a place has those after it below it
+abbrev pub with_below_at : ℕ → List Part → List Part
+with_below_at at parts = take at parts ++ first_with_below (drop at parts)

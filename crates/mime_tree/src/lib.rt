@@ -7,6 +7,7 @@ mod media;
 mod part;
 mod split;
 mod stretch;
+mod tree;
 
 pub use error::TreeError;
 
