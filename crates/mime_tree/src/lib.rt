@@ -10,6 +10,7 @@ mod stretch;
 mod tree;
 
 pub use error::TreeError;
+pub use tree::Tree;
 
 /// The most octets of a message.
 pub const MAX_MESSAGE: usize = 67_108_864;
