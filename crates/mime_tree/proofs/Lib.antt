@@ -3,3 +3,5 @@ pub mod Children
 pub mod Delimiters
 mod Examples
 pub mod Fields
+pub mod Places
+pub mod Ranges

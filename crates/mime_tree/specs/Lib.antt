@@ -1,4 +1,6 @@
 pub mod PartTree
 pub mod Refusals
+-- where parts stand
+pub mod Order
 -- what private functions of the reader are about
 pub mod Reading

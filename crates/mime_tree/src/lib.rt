@@ -3,6 +3,7 @@
 
 mod delimiter;
 mod error;
+pub mod laws;
 mod media;
 mod part;
 mod split;
