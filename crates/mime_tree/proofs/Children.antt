@@ -1,5 +1,5 @@
 -- The children of a multipart, line by line.
-use Rattle.std.proofs.Common.{◌≡◌, ℕ, ◌+◌, ◌-◌, ◌<◌, ◌≤◌, true, false, List, [], ◌∷◌, ◌++◌, refl, sym, ◌∙◌, ap, arith, length, drop, inl, inr, if◌then◌else◌, Option, Some, None, MatchOption, add-zero}
+use Rattle.std.proofs.Common.{◌≡◌, ℕ, ◌+◌, ◌-◌, ◌<◌, ◌≤◌, true, false, List, [], ◌∷◌, ◌++◌, refl, sym, ◌∙◌, ap, arith, length, inl, inr, if◌then◌else◌, Option, Some, None, MatchOption, add-zero}
 use Rattle.std.specs.List.{slice_range}
 use Rattle.std.proofs.lemmas.Bool.{cases_Bool}
 use Rattle.std.proofs.lemmas.List.{append_assoc, append-nil}
@@ -99,10 +99,10 @@ octets_more boundary text line old new start end read low going other =
     rw (read.left, other, going) (elim (cases_Bool (first_ends_child boundary (lines_left new))) [
       | inl ends ↦ rw ends content
       | inr more ↦ rw more (regroup (slice_range text start old.place) (slice_range text line.start line.end) (slice_range text line.end line.stop)
-      (child_octets boundary (lines_left new)) _ _ content whole)
+          (child_octets boundary (lines_left new)) _ _ content whole)
     ]) where
-  regroup : (a b c d ab abc : List ℕ) → a ++ b ≡ ab → ab ++ c ≡ abc → a ++ ((b ++ c) ++ d) ≡ abc ++ d
-  regroup a b c d ab abc e f = sym (append_assoc a (b ++ c) d) ∙ ap (λ x. x ++ d) (sym (append_assoc a b c) ∙ ap (λ x. x ++ c) e ∙ f)
+      regroup : (a b c d ab abc : List ℕ) → a ++ b ≡ ab → ab ++ c ≡ abc → a ++ ((b ++ c) ++ d) ≡ abc ++ d
+      regroup a b c d ab abc e f = sym (append_assoc a (b ++ c) d) ∙ ap (λ x. x ++ d) (sym (append_assoc a b c) ∙ ap (λ x. x ++ c) e ∙ f)
 
 pub octets_end : (boundary text : List ℕ) (line : Line) (old new : Unread) (start end : ℕ) → Read text line old new
     → ends_child boundary (slice_range text line.start line.end) ≡ true → octets_open boundary text start end old ≡ slice_range text start end

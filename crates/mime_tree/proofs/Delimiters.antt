@@ -1,7 +1,7 @@
 -- The lines that stand between the parts of a multipart.
-use Rattle.std.proofs.Common.{◌≡◌, ◌≢◌, ℕ, Bool, true, false, List, [], ◌∷◌, ◌++◌, refl, sym, ◌∙◌, ap, reverse, length, take, drop, codes, inl, inr, Decides}
+use Rattle.std.proofs.Common.{◌≡◌, ◌≢◌, ℕ, false, List, [], ◌∷◌, ◌++◌, refl, sym, ◌∙◌, ap, reverse, length, drop, codes, inl, inr, Decides}
 use Rattle.std.specs.Prelude.{bytes_eq}
-use Rattle.std.proofs.lemmas.Bool.{cases_Bool, true≢false}
+use Rattle.std.proofs.lemmas.Bool.{cases_Bool}
 use Rattle.std.proofs.lemmas.Bool.Decides.{same_from_decides}
 use Rattle.std.proofs.lemmas.Slice.Eq.{bytes_eq-Decides}
 use Rattle.std.proofs.lemmas.List.{reverse-append, append_cancel_right, take-append-drop}
@@ -27,9 +27,9 @@ trimmed_after octet text other =
 pub no_delimiter : (boundary line : List ℕ) → ((rest : List ℕ) → line ≢ 45 ∷ 45 ∷ rest) → false ≡ is_delimiter boundary line
 no_delimiter boundary line none = elim (cases_Bool (is_delimiter boundary line)) [
   | inl is ↦ absurd (
-    let n = length (without_trailing_blanks line) in
-    let same = trailing_taken line ∙ (bytes_eq-Decides (without_trailing_blanks line) (45 ∷ 45 ∷ boundary)).0 is in
-    none (boundary ++ drop n line) (sym (take-append-drop n line) ∙ ap (λ t. t ++ drop n line) same))
+      let n = length (without_trailing_blanks line) in
+      let same = trailing_taken line ∙ (bytes_eq-Decides (without_trailing_blanks line) (45 ∷ 45 ∷ boundary)).0 is in
+      none (boundary ++ drop n line) (sym (take-append-drop n line) ∙ ap (λ t. t ++ drop n line) same))
   | inr other ↦ sym other
 ]
 

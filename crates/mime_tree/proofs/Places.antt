@@ -1,9 +1,9 @@
 -- Where the parts of a message stand.
-use Rattle.std.proofs.Common.{◌≡◌, ◌≢◌, ℕ, ◌+◌, ◌-◌, ◌<◌, ◌≤◌, zero, suc, List, [], ◌∷◌, ◌++◌, Some, refl, sym, ◌∙◌, ap, subst, arith, length, take, drop, inl, inr}
+use Rattle.std.proofs.Common.{◌≡◌, ℕ, ◌+◌, ◌-◌, ◌<◌, ◌≤◌, zero, suc, List, [], ◌∷◌, ◌++◌, Some, refl, sym, ◌∙◌, ap, subst, arith, length, inl, inr}
 use Rattle.std.specs.Prelude.{slice_get, slice_range}
 use Rattle.std.specs.List.{flat_map}
 use Rattle.std.proofs.lemmas.Bool.{cases_lt}
-use Rattle.std.proofs.lemmas.List.{append_assoc, length-append, length-drop}
+use Rattle.std.proofs.lemmas.List.{length-append, length-drop}
 use Rattle.std.proofs.lemmas.List.Sums.{sum_by-cons}
 use Rattle.std.proofs.Math.Seq.{take-append_seam, drop-append_seam}
 use Rattle.octets.specs.Limits.{max_depth}
@@ -37,9 +37,11 @@ pub parts_apart : (levels : ℕ) (default : MediaType) (stretch : Stretch) → A
 unfolding parts_of
 parts_apart zero default stretch = (omega arith, omega (arith, body_start_within stretch.octets))
 parts_apart (suc levels) default stretch =
-    let part = part_at (max_depth - suc levels) default stretch in
-    (omega arith, forest_apart (parts_of levels (default_below part.media)) (parts_apart levels (default_below part.media)) (raw_stretch part)
-      (stretch.place + body_start_of stretch.octets) (stretch.place + length stretch.octets) (children_of part) (children_stand part (body_start_within stretch.octets)))
+    let part = part_at (max_depth - suc levels) default stretch in (
+      omega arith,
+      forest_apart (parts_of levels (default_below part.media)) (parts_apart levels (default_below part.media)) (raw_stretch part)
+          (stretch.place + body_start_of stretch.octets) (stretch.place + length stretch.octets) (children_of part) (children_stand part (body_start_within stretch.octets)),
+    )
 
 -- ---- each part
 
@@ -57,9 +59,10 @@ AllFit whole (part ∷ parts) = Fits whole part × AllFit whole parts
 fit_larger : (whole stretch : Stretch) (parts : List Part) → IsIn whole stretch → AllFit stretch parts → AllFit whole parts
 fit_larger whole stretch [] inside fit = tt
 fit_larger whole stretch (part ∷ parts) inside fit =
-    let one = fit.0 in
-    (record { inside = in_through whole stretch (raw_stretch part) inside one.inside; header = one.header; fields = one.fields; deep = one.deep; not_too_deep = one.not_too_deep },
-      fit_larger whole stretch parts inside fit.1)
+    let one = fit.0 in (
+      record { inside = in_through whole stretch (raw_stretch part) inside one.inside; header = one.header; fields = one.fields; deep = one.deep; not_too_deep = one.not_too_deep },
+      fit_larger whole stretch parts inside fit.1,
+    )
 
 fit_append : (whole : Stretch) (parts others : List Part) → AllFit whole parts → AllFit whole others → AllFit whole (parts ++ others)
 fit_append whole [] others fit later = later
@@ -77,10 +80,11 @@ unfolding parts_of
 parts_fit zero lt default stretch =
     (record { inside = in_itself stretch; header = body_start_within stretch.octets; fields = values_fit stretch.octets; deep = omega arith; not_too_deep = omega arith }, tt)
 parts_fit (suc levels) lt default stretch =
-    let part = part_at (max_depth - suc levels) default stretch in
-    (record { inside = in_itself stretch; header = body_start_within stretch.octets; fields = values_fit stretch.octets; deep = omega arith; not_too_deep = omega arith },
+    let part = part_at (max_depth - suc levels) default stretch in (
+      record { inside = in_itself stretch; header = body_start_within stretch.octets; fields = values_fit stretch.octets; deep = omega arith; not_too_deep = omega arith },
       forest_fit (parts_of levels (default_below part.media)) (parts_fit levels (omega arith) (default_below part.media)) (raw_stretch part)
-      (stretch.place + body_start_of stretch.octets) (stretch.place + length stretch.octets) (children_of part) (children_stand part (body_start_within stretch.octets)))
+          (stretch.place + body_start_of stretch.octets) (stretch.place + length stretch.octets) (children_of part) (children_stand part (body_start_within stretch.octets)),
+    )
 
 fit_at : (whole : Stretch) (parts : List Part) (place : ℕ) (part : Part) → AllFit whole parts → slice_get parts place ≡ Some part → Fits whole part
 fit_at whole [] place part fit is = absurd (cc)
@@ -137,17 +141,17 @@ nests_below part parts nest zero first is =
       within = omega arith;
       inner = λ other inside after upto here. inner_of other inside after upto here below;
     } where
-  inner_of : (other : ℕ) (inside : Part) → 0 < other → other ≤ 0 + first.below → slice_get (with_below part parts) other ≡ Some inside → length parts ≡ first.below → other + inside.below ≤ 0 + first.below
-  inner_of zero inside after upto here below = absurd (omega arith)
-  inner_of (suc other) inside after upto here below = omega (arith, (nest other inside here).within)
+      inner_of : (other : ℕ) (inside : Part) → 0 < other → other ≤ 0 + first.below → slice_get (with_below part parts) other ≡ Some inside → length parts ≡ first.below → other + inside.below ≤ 0 + first.below
+      inner_of zero inside after upto here below = absurd (omega arith)
+      inner_of (suc other) inside after upto here below = omega (arith, (nest other inside here).within)
 nests_below part parts nest (suc place) found is =
     let one = nest place found is in record {
       within = omega (arith, one.within);
       inner = λ other inside after upto here. inner_of other inside after upto here;
     } where
-  inner_of : (other : ℕ) (inside : Part) → suc place < other → other ≤ suc place + found.below → slice_get (with_below part parts) other ≡ Some inside → other + inside.below ≤ suc place + found.below
-  inner_of zero inside after upto here = absurd (omega arith)
-  inner_of (suc other) inside after upto here = omega (arith, (nest place found is).inner other inside (omega arith) (omega arith) here)
+      inner_of : (other : ℕ) (inside : Part) → suc place < other → other ≤ suc place + found.below → slice_get (with_below part parts) other ≡ Some inside → other + inside.below ≤ suc place + found.below
+      inner_of zero inside after upto here = absurd (omega arith)
+      inner_of (suc other) inside after upto here = omega (arith, (nest place found is).inner other inside (omega arith) (omega arith) here)
 
 pub parts_nest : (levels : ℕ) (default : MediaType) (stretch : Stretch) → AllNest (parts_of levels default stretch)
 unfolding parts_of

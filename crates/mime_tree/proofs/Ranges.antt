@@ -1,5 +1,5 @@
 -- Where the children of a part stand.
-use Rattle.std.proofs.Common.{◌≡◌, ℕ, ◌+◌, ◌-◌, ◌<◌, ◌≤◌, true, false, List, [], ◌∷◌, ◌++◌, Option, Some, None, refl, sym, ◌∙◌, ap, arith, length, take, drop, inl, inr, ◌==◌, ◌&&◌, subst, if◌then◌else◌, length-take, codes}
+use Rattle.std.proofs.Common.{◌≡◌, ℕ, ◌+◌, ◌≤◌, List, [], ◌∷◌, ◌++◌, Option, Some, None, refl, sym, ◌∙◌, ap, arith, length, take, drop, inl, inr, ◌==◌, ◌&&◌, subst, if◌then◌else◌, length-take, codes}
 use Rattle.std.proofs.lemmas.Bool.{cases_Bool}
 use Rattle.std.proofs.lemmas.List.{append_assoc, append-nil, length-append, length-drop, take-append-drop}
 use Rattle.octets.specs.Blank.{without_trailing_blanks}
@@ -9,7 +9,7 @@ use Rattle.header_fields.specs.Header.{line_length}
 use Rattle.mime_params.specs.declared.media.MediaType.{MediaType}
 use Rattle.mime_params.specs.MediaValue.{value_named}
 use Rattle.mime_tree.specs.PartTree.{Part, Stretch, is_word, is_plain, is_delimiter, is_closing, ends_child, first_ends_child, child_octets, further_children, multipart_children, children_between, children_in, children_of, body_stretch}
-use Rattle.mime_tree.proofs.Children.{closing_ends, delimiter_ends}
+use Rattle.mime_tree.proofs.Children.{closing_ends}
 
 -- a stretch within another
 pub record IsIn (whole stretch : Stretch) : Type 0 where
@@ -113,7 +113,7 @@ multipart_in boundary place (line ∷ lines) =
         in_larger whole (stretch_of after lines) _ _ (further_children boundary after lines) (after_first place line lines) (further_in boundary after lines),
       )
       | inr other ↦ rw (other, ← end) (in_between whole after _ place (multipart_children boundary after lines) (omega arith)
-        (in_larger whole (stretch_of after lines) _ _ (multipart_children boundary after lines) (after_first place line lines) (multipart_in boundary after lines)))
+          (in_larger whole (stretch_of after lines) _ _ (multipart_children boundary after lines) (after_first place line lines) (multipart_in boundary after lines)))
     ]
 
 -- ---- the children of a part
@@ -125,8 +125,8 @@ between_in (Some value) body =
     elim (cases_Bool (length boundary == 0)) [
       | inl empty ↦ rw empty (omega arith)
       | inr some ↦ rw some (
-        let P : List ℕ → Type 0 = λ octets. AreIn (record { place = body.place; octets = octets }) body.place (body.place + length octets) (multipart_children boundary body.place (lines_of body.octets)) in
-        subst P (octets_of-lines_of body.octets) (multipart_in boundary body.place (lines_of body.octets)))
+          let P : List ℕ → Type 0 = λ octets. AreIn (record { place = body.place; octets = octets }) body.place (body.place + length octets) (multipart_children boundary body.place (lines_of body.octets)) in
+          subst P (octets_of-lines_of body.octets) (multipart_in boundary body.place (lines_of body.octets)))
     ]
 
 none_in : (body : Stretch) → AreIn body body.place (body.place + length body.octets) []

@@ -8,9 +8,9 @@ use Rattle.mime_tree.specs.declared.split.Ending.{Ending}
 use Rattle.mime_tree.specs.declared.media.DefaultType.{DefaultType}
 use Rattle.mime_tree.specs.declared.media.DefaultType.TheVariants.{Text, Message}
 
--- a stretch of a message that isn't too large
-abbrev pub IsInMessage : Stretch → Type 0
-IsInMessage stretch = stretch.place + length stretch.octets ≤ max_message
+-- a stretch of a message that is small enough
+abbrev pub IsWithinLimit : Stretch → Type 0
+IsWithinLimit stretch = stretch.place + length stretch.octets ≤ max_message
 
 -- the children from the one on that begins with the first line that wasn't given yet, of a text that begins at a place
 abbrev pub children_left : List ℕ → ℕ → Unread → List Stretch

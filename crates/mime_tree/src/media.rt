@@ -46,7 +46,11 @@ fn without_params(alloc: Global, main: &[u8], sub: &[u8]) -> Result<MediaType, A
 
 /// The media type that the fields of a header give: that of the first Content-Type, which is `text/plain` where it has no
 /// reading (RFC 2045, section 5.2).
-pub(crate) fn media_of(alloc: Global, fields: &[Field], default: DefaultType) -> Result<MediaType, TreeError>
+pub(crate) fn media_of(
+    alloc: Global,
+    fields: &[Field],
+    default: DefaultType,
+) -> Result<MediaType, TreeError>
     ensures media { IfOk result (λ media. media ≡ media_or (default_media default) (first_value (codes "Content-Type") fields.now)) }
     ensures refused { IfErr result (λ e. e ≡ TreeError.Memory) }
 {
@@ -71,7 +75,11 @@ pub(crate) fn encoding_of(alloc: Global, fields: &[Field]) -> Result<TransferEnc
 }
 
 // The value of the first field of this name.
-fn first_value<'a>(alloc: Global, fields: &[Field<'a>], name: &[u8]) -> Result<Option<CowSlice<'a, u8>>, HeaderError>
+fn first_value<'a>(
+    alloc: Global,
+    fields: &[Field<'a>],
+    name: &[u8],
+) -> Result<Option<CowSlice<'a, u8>>, HeaderError>
     ensures { IfOk result (λ value. option_map cow_slice_items value ≡ first_value name.now fields.now) }
 {
     for field in fields {

@@ -35,16 +35,21 @@ impl<'a> Model for Part<'a> {
     ghost view = { λ p. record { depth = p.depth; below = p.below; place = p.place; raw = p.raw.now; header = p.header; media = p.media; encoding = p.encoding } };
 
     ghost use Rattle.std.specs.Prelude.{◌≤◌, length};
-    ghost use Rattle.mime_tree.specs.Reading.{IsInMessage};
+    ghost use Rattle.mime_tree.specs.Reading.{IsWithinLimit};
 
-    ghost invariant = { λ p. (p.header.body_start ≤ length p.raw.now) × IsInMessage (record { place = p.place; octets = p.raw.now }) };
+    ghost invariant = { λ p. (p.header.body_start ≤ length p.raw.now) × IsWithinLimit (record { place = p.place; octets = p.raw.now }) };
 }
 
 impl<'a> Part<'a> {
     /// The part of this depth that a stretch is, without those below it.
     ///
     /// `Memory` comes only where memory was refused.
-    pub(crate) fn read(alloc: Global, depth: usize, default: DefaultType, stretch: &Stretch<'a>) -> Result<Part<'a>, TreeError>
+    pub(crate) fn read(
+        alloc: Global,
+        depth: usize,
+        default: DefaultType,
+        stretch: &Stretch<'a>,
+    ) -> Result<Part<'a>, TreeError>
         ensures part { IfOk result (λ part. part ≡ part_at depth (default_media default) stretch.now) }
         ensures refused { IfErr result (λ e. e ≡ TreeError.Memory) }
     {
@@ -103,7 +108,9 @@ impl<'a> Part<'a> {
     pub(crate) fn default_below(&self) -> DefaultType
         ensures { default_media result ≡ default_below self.now.media }
     {
-        if is_word(self.media.main.as_slice(), b"multipart") && is_word(self.media.sub.as_slice(), b"digest") {
+        if is_word(self.media.main.as_slice(), b"multipart")
+            && is_word(self.media.sub.as_slice(), b"digest")
+        {
             DefaultType::Message
         } else {
             DefaultType::Text

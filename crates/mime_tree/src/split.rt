@@ -3,14 +3,14 @@ ghost use Rattle.std.specs.Prelude.{◌≡◌, ◌+◌, ◌<◌, ◌≤◌, leng
 ghost use Rattle.std.specs.Option.{option_copied};
 ghost use Rattle.text_lines.specs.Lines.{lines_of, lines_left};
 ghost use Rattle.mime_tree.specs.PartTree.{multipart_children, further_children, child_octets, children_between, children_in};
-ghost use Rattle.mime_tree.specs.Reading.{GivesChild, IsChildEnd, IsInMessage};
+ghost use Rattle.mime_tree.specs.Reading.{GivesChild, IsChildEnd, IsWithinLimit};
 ghost use Rattle.mime_tree.specs.Refusals.{IsRefusedFor};
 
+use crate::MAX_PARTS;
 use crate::delimiter::{is_closing, is_delimiter};
 use crate::error::TreeError;
 use crate::media::is_word;
 use crate::stretch::Stretch;
-use crate::MAX_PARTS;
 use mime_params::{MediaType, param};
 use octets::trim_trailing_blanks;
 use std::alloc::Global;
@@ -66,8 +66,13 @@ fn child_end(text: &[u8], boundary: &[u8], lines: &mut Lines, start: usize) -> E
 /// The children of a multipart with this boundary, whose body begins at this place of the message.
 ///
 /// `TooManyParts` comes only where they are more than [`MAX_PARTS`], and `Memory` only where memory was refused.
-pub(crate) fn multipart_children<'a>(alloc: Global, place: usize, body: &'a [u8], boundary: &[u8]) -> Result<Vec<Stretch<'a>>, TreeError>
-    requires within { IsInMessage (record { place = place; octets = body.now }) }
+pub(crate) fn multipart_children<'a>(
+    alloc: Global,
+    place: usize,
+    body: &'a [u8],
+    boundary: &[u8],
+) -> Result<Vec<Stretch<'a>>, TreeError>
+    requires within { IsWithinLimit (record { place = place; octets = body.now }) }
     ensures children { IfOk result (λ children. children.items ≡ multipart_children boundary.now place (lines_of body.now)) }
     ensures refused { IfErr result (λ e. IsRefusedFor e (length (multipart_children boundary.now place (lines_of body.now)))) }
 {
@@ -88,8 +93,13 @@ pub(crate) fn multipart_children<'a>(alloc: Global, place: usize, body: &'a [u8]
 /// The children of a body of this media type, which begins at this place of the message.
 ///
 /// The refusals are those of a multipart.
-pub(crate) fn children_in<'a>(alloc: Global, media: &MediaType, place: usize, body: &'a [u8]) -> Result<Vec<Stretch<'a>>, TreeError>
-    requires within { IsInMessage (record { place = place; octets = body.now }) }
+pub(crate) fn children_in<'a>(
+    alloc: Global,
+    media: &MediaType,
+    place: usize,
+    body: &'a [u8],
+) -> Result<Vec<Stretch<'a>>, TreeError>
+    requires within { IsWithinLimit (record { place = place; octets = body.now }) }
     ensures children { IfOk result (λ children. children.items ≡ children_in media.now (record { place = place; octets = body.now })) }
     ensures refused { IfErr result (λ e. IsRefusedFor e (length (children_in media.now (record { place = place; octets = body.now })))) }
 {
@@ -104,8 +114,13 @@ pub(crate) fn children_in<'a>(alloc: Global, media: &MediaType, place: usize, bo
 }
 
 // The children of a multipart's body: none where it has no boundary, or an empty one.
-fn children_between<'a>(alloc: Global, value: Option<&[u8]>, place: usize, body: &'a [u8]) -> Result<Vec<Stretch<'a>>, TreeError>
-    requires within { IsInMessage (record { place = place; octets = body.now }) }
+fn children_between<'a>(
+    alloc: Global,
+    value: Option<&[u8]>,
+    place: usize,
+    body: &'a [u8],
+) -> Result<Vec<Stretch<'a>>, TreeError>
+    requires within { IsWithinLimit (record { place = place; octets = body.now }) }
     ensures children { IfOk result (λ children. children.items ≡ children_between (option_copied value.entry) (record { place = place; octets = body.now })) }
     ensures refused { IfErr result (λ e. IsRefusedFor e (length (children_between (option_copied value.entry) (record { place = place; octets = body.now })))) }
 {

@@ -15,18 +15,18 @@ impl<'a> Model for Stretch<'a> {
 
     ghost view = { λ s. record { place = s.place; octets = s.octets.now } };
 
-    ghost use Rattle.mime_tree.specs.Reading.{IsInMessage};
+    ghost use Rattle.mime_tree.specs.Reading.{IsWithinLimit};
 
-    ghost invariant = { λ s. IsInMessage (record { place = s.place; octets = s.octets.now }) };
+    ghost invariant = { λ s. IsWithinLimit (record { place = s.place; octets = s.octets.now }) };
 }
 
 impl<'a> Stretch<'a> {
     ghost use Rattle.std.specs.Prelude.{◌≡◌};
-    ghost use Rattle.mime_tree.specs.Reading.{IsInMessage};
+    ghost use Rattle.mime_tree.specs.Reading.{IsWithinLimit};
 
     // The stretch of these octets, which begin at this place.
     pub(crate) fn new(place: usize, octets: &'a [u8]) -> Stretch<'a>
-        requires { IsInMessage (record { place = place; octets = octets.now }) }
+        requires { IsWithinLimit (record { place = place; octets = octets.now }) }
         ensures { result ≡ record { place = place; octets = octets.now } }
     {
         Stretch { place, octets }
@@ -42,7 +42,7 @@ impl<'a> Stretch<'a> {
     // Its octets.
     pub(crate) fn octets(&self) -> &'a [u8]
         ensures octets { result.now ≡ self.now.octets }
-        ensures within { IsInMessage self.now }
+        ensures within { IsWithinLimit self.now }
     {
         self.octets
     }

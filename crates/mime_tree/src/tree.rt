@@ -124,14 +124,26 @@ fn message_parts<'a>(alloc: Global, octets: &'a [u8]) -> Result<Vec<Part<'a>>, T
     ensures refused { IfErr result (λ e. IsRefusedFor e (length (tree_of octets.now))) }
 {
     let mut parts = Vec::new(alloc);
-    read_parts(alloc, MAX_DEPTH - 1, DefaultType::Text, &Stretch::new(0, octets), &mut parts)?;
+    read_parts(
+        alloc,
+        MAX_DEPTH - 1,
+        DefaultType::Text,
+        &Stretch::new(0, octets),
+        &mut parts,
+    )?;
     parts.shrink_to_fit();
     Ok(parts)
 }
 
 // Appends the parts of a stretch, where so many levels of parts may be below it.
 #[cycle(parts)]
-fn read_parts<'a>(alloc: Global, levels: usize, default: DefaultType, stretch: &Stretch<'a>, parts: &mut Vec<Part<'a>>) -> Result<(), TreeError>
+fn read_parts<'a>(
+    alloc: Global,
+    levels: usize,
+    default: DefaultType,
+    stretch: &Stretch<'a>,
+    parts: &mut Vec<Part<'a>>,
+) -> Result<(), TreeError>
     requires levels { levels < max_depth }
     requires few { vec_len parts.old ≤ max_parts }
     ensures read { OnOk result (parts.new.items ≡ parts.old.items ++ parts_of levels (default_media default) stretch.now) }
@@ -157,7 +169,13 @@ fn read_parts<'a>(alloc: Global, levels: usize, default: DefaultType, stretch: &
 
 // Appends the parts of each of these stretches.
 #[cycle(parts)]
-fn read_children<'a>(alloc: Global, levels: usize, default: DefaultType, children: &[Stretch<'a>], parts: &mut Vec<Part<'a>>) -> Result<(), TreeError>
+fn read_children<'a>(
+    alloc: Global,
+    levels: usize,
+    default: DefaultType,
+    children: &[Stretch<'a>],
+    parts: &mut Vec<Part<'a>>,
+) -> Result<(), TreeError>
     requires levels { levels < max_depth }
     requires few { vec_len parts.old ≤ max_parts }
     ensures read { OnOk result (parts.new.items ≡ parts.old.items ++ flat_map (parts_of levels (default_media default)) children.now) }

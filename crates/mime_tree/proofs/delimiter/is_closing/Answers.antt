@@ -1,4 +1,4 @@
-use Rattle.std.proofs.Common.{◌∙◌, ap, codes, ◌++◌, sym}
+use Rattle.std.proofs.Common.{◌∙◌, codes, ◌++◌, sym}
 use Rattle.std.proofs.lemmas.Slice.Eq.{strip_suffix_is}
 use Rattle.std.proofs.lemmas.Bool.Decides.{Decides-eqb}
 use Rattle.mime_tree.proofs.Delimiters.{no_delimiter, closing_after, not_closing_after}

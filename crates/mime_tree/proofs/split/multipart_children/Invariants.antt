@@ -1,4 +1,4 @@
-use Rattle.std.proofs.Common.{◌≡◌, ◌+◌, ◌-◌, ◌≤◌, ◌++◌, length, vec_len, MatchOption}
+use Rattle.std.proofs.Common.{◌≡◌, ◌-◌, ◌≤◌, vec_len, MatchOption}
 use Rattle.octets.specs.Limits.{max_parts}
 use Rattle.text_lines.specs.Lines.{lines_of}
 use Rattle.mime_tree.specs.PartTree.{multipart_children}

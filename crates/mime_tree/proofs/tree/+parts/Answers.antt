@@ -1,9 +1,9 @@
-use Rattle.std.proofs.Common.{◌≡◌, ◌≢◌, ◌+◌, ◌-◌, ◌<◌, ◌≤◌, ◌++◌, ◌∷◌, [], ◌∙◌, sym, ap, arith, length, take, flat_map, vec_len}
+use Rattle.std.proofs.Common.{◌+◌, ◌-◌, ◌≤◌, ◌++◌, ◌∙◌, sym, ap, arith, length, take, flat_map}
 use Rattle.std.proofs.lemmas.Result.{err_from_is_err_and}
 use Rattle.std.proofs.lemmas.List.{length-append}
 use Rattle.std.proofs.lemmas.List.Folds.{length-flat_map-take}
 use Rattle.mime_tree.specs.PartTree.{parts_of, children_of}
-use Rattle.mime_tree.specs.Reading.{default_media, with_below_at}
+use Rattle.mime_tree.specs.Reading.{default_media}
 use Rattle.mime_tree.proofs.Below.{parts_alone, parts_made, some_part, children_fewer, parts_read, refused_more, length-with_below_at}
 use Rattle.mime_tree.proofs.tree.+parts.Goals as goal
 
