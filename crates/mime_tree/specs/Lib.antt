@@ -1,4 +1,5 @@
 pub mod PartTree
+pub mod Readable
 pub mod Refusals
 -- where parts stand
 pub mod Order

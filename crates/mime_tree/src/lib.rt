@@ -1,4 +1,7 @@
-//! The parts of a mail message (RFC 2046, section 5).
+//! The parts of a mail message (RFC 2046, section 5; RFC 2045, sections 5 and 6).
+//!
+//! [`Tree::read`] reads any octets that aren't too many and have no more parts than may be. What the parts of a message are
+//! stands in `specs/PartTree`, and where they stand in it in `specs/Order` and the laws.
 #![tactic(auto)]
 
 mod delimiter;

@@ -3,7 +3,8 @@ ghost use Rattle.std.specs.Prelude.{◌≡◌, ◌+◌, ◌-◌, ◌<◌, ◌≤
 ghost use Rattle.std.specs.List.{HoldsAt};
 ghost use Rattle.octets.specs.Limits.{max_depth, max_message, max_parts};
 ghost use Rattle.mime_tree.specs.PartTree.{parts_of, tree_of, body_of};
-ghost use Rattle.mime_tree.specs.Refusals.{IsReadable, IsRefusedFor, IsTree, IsTreeRefusal};
+ghost use Rattle.mime_tree.specs.Readable.{IsReadable, IsTree};
+ghost use Rattle.mime_tree.specs.Refusals.{IsRefusedFor, IsTreeRefusal};
 ghost use Rattle.mime_tree.specs.Reading.{default_media, with_below_at};
 
 use crate::error::TreeError;
@@ -27,7 +28,7 @@ pub struct Tree<'a> {
 impl<'a> Model for Tree<'a> {
     ghost use Rattle.std.specs.Prelude.{List};
     ghost use Rattle.mime_tree.specs.PartTree.{Part};
-    ghost use Rattle.mime_tree.specs.Refusals.{IsTree};
+    ghost use Rattle.mime_tree.specs.Readable.{IsTree};
 
     ghost Value = { List Part };
 
@@ -167,7 +168,7 @@ fn read_parts<'a>(
     Ok(())
 }
 
-// Appends the parts of each of these stretches.
+// Appends the parts of each of these stretches, where so many levels of parts may be below it.
 #[cycle(parts)]
 fn read_children<'a>(
     alloc: Global,
