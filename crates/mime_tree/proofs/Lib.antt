@@ -1,0 +1,7 @@
+pub mod Below
+pub mod Children
+pub mod Delimiters
+mod Examples
+pub mod Fields
+pub mod Places
+pub mod Ranges

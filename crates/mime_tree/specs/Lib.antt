@@ -1,0 +1,7 @@
+pub mod PartTree
+pub mod Readable
+pub mod Refusals
+-- where parts stand
+pub mod Order
+-- what private functions of the reader are about
+pub mod Reading

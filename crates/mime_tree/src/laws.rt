@@ -1,0 +1,29 @@
+// The laws of the tree: where the parts of a message stand.
+ghost use Rattle.std.specs.Prelude.{◌≡◌, ◌≤◌, ℕ, List, length, slice_get, Some};
+ghost use Rattle.mime_tree.specs.PartTree.{Part, tree_of};
+ghost use Rattle.mime_tree.specs.Order.{AreApart, IsInMessage, IsWhole, Nests, parts_extent};
+
+/// The headers of different parts are disjoint.
+pub fn headers_are_apart()
+    ensures { (octets : List ℕ) → AreApart 0 (length octets) (tree_of octets) }
+{}
+
+/// The fields of all parts, each with a colon and one octet for its name, are at most as many octets as the message.
+pub fn fields_fit_into_the_message()
+    ensures { (octets : List ℕ) → parts_extent (tree_of octets) ≤ length octets }
+{}
+
+/// The first part is the message, and all others are below it.
+pub fn first_part_is_the_message()
+    ensures { (octets : List ℕ) (part : Part) → slice_get (tree_of octets) 0 ≡ Some part → IsWhole octets (tree_of octets) part }
+{}
+
+/// The parts below a part come right after it, and below one of those are none but they.
+pub fn parts_nest()
+    ensures { (octets : List ℕ) (place : ℕ) (part : Part) → slice_get (tree_of octets) place ≡ Some part → Nests (tree_of octets) place part }
+{}
+
+/// Each part is a stretch of the message, where it says that it begins; its body is no longer than it, and it isn't too deep.
+pub fn parts_stand_in_the_message()
+    ensures { (octets : List ℕ) (place : ℕ) (part : Part) → slice_get (tree_of octets) place ≡ Some part → IsInMessage octets part }
+{}

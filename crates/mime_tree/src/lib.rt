@@ -1,0 +1,26 @@
+//! The parts of a mail message (RFC 2046, section 5; RFC 2045, sections 5 and 6).
+//!
+//! [`Tree::read`] reads any octets that aren't too many and have no more parts than may be. What the parts of a message are
+//! stands in `specs/PartTree`, and where they stand in it in `specs/Order` and the laws.
+#![tactic(auto)]
+
+mod delimiter;
+mod error;
+pub mod laws;
+mod media;
+mod part;
+mod split;
+mod stretch;
+mod tree;
+
+pub use error::TreeError;
+pub use tree::Tree;
+
+/// The most octets of a message.
+pub const MAX_MESSAGE: usize = 67_108_864;
+
+/// The most parts of a message.
+pub const MAX_PARTS: usize = 4096;
+
+/// The greatest depth of a part, the message's own being 1.
+pub const MAX_DEPTH: usize = 32;

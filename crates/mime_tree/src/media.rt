@@ -1,0 +1,108 @@
+// The media type and the encoding of a part, by its header.
+ghost use Rattle.std.specs.Prelude.{◌≡◌, [], IfOk, IfErr, codes};
+ghost use Rattle.std.specs.Option.{option_map};
+ghost use Rattle.std.specs.Cow.{cow_slice_items};
+ghost use Rattle.mime_tree.specs.PartTree.{first_value, is_plain, is_word, media_or, encoding_or_7bit};
+ghost use Rattle.mime_tree.specs.Reading.{default_media};
+
+use crate::error::TreeError;
+use header_fields::{Field, HeaderError, name_is, unfold};
+use mime_params::{MediaType, Params, TransferEncoding, read_type};
+use octets::{Octets, equal_ignoring_case};
+use std::alloc::{AllocError, Global};
+use std::borrow::CowSlice;
+
+/// The media type of a part that has no Content-Type.
+#[derive(Clone, Copy, Debug)]
+pub(crate) enum DefaultType {
+    /// `text/plain`.
+    Text,
+    /// `message/rfc822`, directly inside multipart/digest.
+    Message,
+}
+
+impl DefaultType {
+    // The media type.
+    fn media(self, alloc: Global) -> Result<MediaType, AllocError>
+        ensures { IfOk result (λ media. media ≡ default_media self) }
+    {
+        match self {
+            DefaultType::Text => without_params(alloc, b"text", b"plain"),
+            DefaultType::Message => without_params(alloc, b"message", b"rfc822"),
+        }
+    }
+}
+
+// A media type without parameters.
+fn without_params(alloc: Global, main: &[u8], sub: &[u8]) -> Result<MediaType, AllocError>
+    ensures { IfOk result (λ media. media ≡ record { main = main.now; sub = sub.now; params = [] }) }
+{
+    Ok(MediaType {
+        main: Octets::from_vec(main.to_vec(alloc)?),
+        sub: Octets::from_vec(sub.to_vec(alloc)?),
+        params: Params::none(alloc),
+    })
+}
+
+/// The media type that the fields of a header give: that of the first Content-Type, which is `text/plain` where it has no
+/// reading (RFC 2045, section 5.2).
+pub(crate) fn media_of(
+    alloc: Global,
+    fields: &[Field],
+    default: DefaultType,
+) -> Result<MediaType, TreeError>
+    ensures media { IfOk result (λ media. media ≡ media_or (default_media default) (first_value (codes "Content-Type") fields.now)) }
+    ensures refused { IfErr result (λ e. e ≡ TreeError.Memory) }
+{
+    let Some(value) = first_value(alloc, fields, b"Content-Type")? else {
+        return Ok(default.media(alloc)?);
+    };
+    match read_type(alloc, value.as_slice())? {
+        Some(media) => Ok(media),
+        None => Ok(DefaultType::Text.media(alloc)?),
+    }
+}
+
+/// The encoding that the fields of a header give: that of the first Content-Transfer-Encoding, or 7bit (RFC 2045, section 6.1).
+pub(crate) fn encoding_of(alloc: Global, fields: &[Field]) -> Result<TransferEncoding, TreeError>
+    ensures encoding { IfOk result (λ encoding. encoding ≡ encoding_or_7bit (first_value (codes "Content-Transfer-Encoding") fields.now)) }
+    ensures refused { IfErr result (λ e. e ≡ TreeError.Memory) }
+{
+    match first_value(alloc, fields, b"Content-Transfer-Encoding")? {
+        Some(value) => Ok(TransferEncoding::of(value.as_slice())),
+        None => Ok(TransferEncoding::SevenBit),
+    }
+}
+
+// The value of the first field of this name.
+fn first_value<'a>(
+    alloc: Global,
+    fields: &[Field<'a>],
+    name: &[u8],
+) -> Result<Option<CowSlice<'a, u8>>, HeaderError>
+    ensures { IfOk result (λ value. option_map cow_slice_items value ≡ first_value name.now fields.now) }
+{
+    for field in fields {
+        if name_is(field, name) {
+            return Ok(Some(unfold(alloc, field)?));
+        }
+    }
+    Ok(None)
+}
+
+/// Whether a name is this word, but for ASCII case.
+pub(crate) fn is_word(name: &[u8], word: &[u8]) -> bool
+    ensures { result ≡ is_word name.now word.now }
+{
+    equal_ignoring_case(name, word)
+}
+
+/// Whether the body stands as it is written, so that it may have parts.
+pub(crate) fn is_plain(encoding: TransferEncoding) -> bool
+    ensures { result ≡ is_plain encoding }
+{
+    matches!(
+        encoding,
+        TransferEncoding::SevenBit | TransferEncoding::EightBit | TransferEncoding::Binary
+    )
+}

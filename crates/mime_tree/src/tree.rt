@@ -1,0 +1,200 @@
+// The tree of a message's parts.
+ghost use Rattle.std.specs.Prelude.{◌≡◌, ◌+◌, ◌-◌, ◌<◌, ◌≤◌, ◌++◌, length, flat_map, vec_len, IfOk, IfErr, OnOk};
+ghost use Rattle.std.specs.List.{HoldsAt};
+ghost use Rattle.octets.specs.Limits.{max_depth, max_message, max_parts};
+ghost use Rattle.mime_tree.specs.PartTree.{parts_of, tree_of, body_of};
+ghost use Rattle.mime_tree.specs.Readable.{IsReadable, IsTree};
+ghost use Rattle.mime_tree.specs.Refusals.{IsRefusedFor, IsTreeRefusal};
+ghost use Rattle.mime_tree.specs.Reading.{default_media, with_below_at};
+
+use crate::error::TreeError;
+use crate::media::DefaultType;
+use crate::part::Part;
+use crate::stretch::Stretch;
+use crate::{MAX_DEPTH, MAX_MESSAGE, MAX_PARTS};
+use header_fields::Header;
+use mime_params::{MediaType, TransferEncoding};
+use std::alloc::Global;
+use std::marker::Model;
+
+/// The tree of a message's parts (RFC 2046, section 5), over octets that are lent: nothing is copied.
+///
+/// Parts are numbered from 0, each before those below it. A contract sees the list of the definition's parts.
+#[derive(Debug, Drop)]
+pub struct Tree<'a> {
+    parts: Vec<Part<'a>>,
+}
+
+impl<'a> Model for Tree<'a> {
+    ghost use Rattle.std.specs.Prelude.{List};
+    ghost use Rattle.mime_tree.specs.PartTree.{Part};
+    ghost use Rattle.mime_tree.specs.Readable.{IsTree};
+
+    ghost Value = { List Part };
+
+    ghost view = { λ t. t.parts.items };
+
+    ghost invariant = { λ t. IsTree t.parts.items };
+}
+
+impl<'a> Tree<'a> {
+    /// The tree of the message that the octets are.
+    ///
+    /// [`TreeError::MessageTooLarge`] comes exactly where they are more than [`MAX_MESSAGE`], [`TreeError::TooManyParts`] where
+    /// they aren't and the parts are more than [`MAX_PARTS`]. [`TreeError::Memory`] comes only where memory was refused.
+    pub fn read(alloc: Global, octets: &'a [u8]) -> Result<Tree<'a>, TreeError>
+        ensures read { IfOk result (λ tree. IsReadable octets.now × (tree ≡ tree_of octets.now)) }
+        ensures refused { IfErr result (λ e. IsTreeRefusal octets.now e) }
+    {
+        if octets.len() > MAX_MESSAGE {
+            return Err(TreeError::MessageTooLarge);
+        }
+        let parts = message_parts(alloc, octets)?;
+        Ok(Tree { parts })
+    }
+
+    /// The number of its parts: 1 to [`MAX_PARTS`].
+    pub fn parts(&self) -> usize
+        ensures parts { result ≡ length self.now }
+        ensures tree { IsTree self.now }
+    {
+        self.parts.len()
+    }
+
+    /// How many parts are below a part: they are those right after it.
+    pub fn below(&self, part: usize) -> usize
+        requires { part < length self.now }
+        ensures { HoldsAt (λ p. result ≡ p.below) self.now part }
+    {
+        self.parts[part].below()
+    }
+
+    /// The depth of a part, from 1 to [`MAX_DEPTH`]; that of the message itself is 1.
+    pub fn depth(&self, part: usize) -> usize
+        requires { part < length self.now }
+        ensures { HoldsAt (λ p. result ≡ p.depth) self.now part }
+    {
+        self.parts[part].depth()
+    }
+
+    /// The header of a part.
+    pub fn header(&self, part: usize) -> &Header<'a>
+        requires { part < length self.now }
+        ensures { HoldsAt (λ p. result.now ≡ p.header) self.now part }
+    {
+        self.parts[part].header()
+    }
+
+    /// The octets of a part, its header included.
+    pub fn raw(&self, part: usize) -> &'a [u8]
+        requires { part < length self.now }
+        ensures { HoldsAt (λ p. result.now ≡ p.raw) self.now part }
+    {
+        self.parts[part].raw()
+    }
+
+    /// The octets of a part after its header, as they are encoded.
+    pub fn body(&self, part: usize) -> &'a [u8]
+        requires { part < length self.now }
+        ensures { HoldsAt (λ p. result.now ≡ body_of p) self.now part }
+    {
+        self.parts[part].body()
+    }
+
+    /// The media type of a part: that of its first Content-Type, or its default (RFC 2045, section 5.2).
+    pub fn media(&self, part: usize) -> &MediaType
+        requires { part < length self.now }
+        ensures { HoldsAt (λ p. result.now ≡ p.media) self.now part }
+    {
+        self.parts[part].media()
+    }
+
+    /// How the body of a part is encoded: by its first Content-Transfer-Encoding, or 7bit (RFC 2045, section 6.1).
+    pub fn encoding(&self, part: usize) -> TransferEncoding
+        requires { part < length self.now }
+        ensures { HoldsAt (λ p. result ≡ p.encoding) self.now part }
+    {
+        self.parts[part].encoding()
+    }
+}
+
+// The parts of a message.
+fn message_parts<'a>(alloc: Global, octets: &'a [u8]) -> Result<Vec<Part<'a>>, TreeError>
+    requires { length octets.now ≤ max_message }
+    ensures parts { IfOk result (λ parts. (parts.items ≡ tree_of octets.now) × (length parts.items ≤ max_parts)) }
+    ensures refused { IfErr result (λ e. IsRefusedFor e (length (tree_of octets.now))) }
+{
+    let mut parts = Vec::new(alloc);
+    read_parts(
+        alloc,
+        MAX_DEPTH - 1,
+        DefaultType::Text,
+        &Stretch::new(0, octets),
+        &mut parts,
+    )?;
+    parts.shrink_to_fit();
+    Ok(parts)
+}
+
+// Appends the parts of a stretch, where so many levels of parts may be below it.
+#[cycle(parts)]
+fn read_parts<'a>(
+    alloc: Global,
+    levels: usize,
+    default: DefaultType,
+    stretch: &Stretch<'a>,
+    parts: &mut Vec<Part<'a>>,
+) -> Result<(), TreeError>
+    requires levels { levels < max_depth }
+    requires few { vec_len parts.old ≤ max_parts }
+    ensures read { OnOk result (parts.new.items ≡ parts.old.items ++ parts_of levels (default_media default) stretch.now) }
+    ensures few { OnOk result (vec_len parts.new ≤ max_parts) }
+    ensures refused { IfErr result (λ e. IsRefusedFor e (vec_len parts.old + length (parts_of levels (default_media default) stretch.now))) }
+{
+    let at = parts.len();
+    if at == MAX_PARTS {
+        return Err(TreeError::TooManyParts);
+    }
+    let part = Part::read(alloc, MAX_DEPTH - levels, default, stretch)?;
+    if levels == 0 {
+        parts.push(part)?;
+        return Ok(());
+    }
+    let children = part.children(alloc)?;
+    let default = part.default_below();
+    parts.push(part)?;
+    read_children(alloc, levels - 1, default, &children, parts)?;
+    set_below(parts, at);
+    Ok(())
+}
+
+// Appends the parts of each of these stretches, where so many levels of parts may be below it.
+#[cycle(parts)]
+fn read_children<'a>(
+    alloc: Global,
+    levels: usize,
+    default: DefaultType,
+    children: &[Stretch<'a>],
+    parts: &mut Vec<Part<'a>>,
+) -> Result<(), TreeError>
+    requires levels { levels < max_depth }
+    requires few { vec_len parts.old ≤ max_parts }
+    ensures read { OnOk result (parts.new.items ≡ parts.old.items ++ flat_map (parts_of levels (default_media default)) children.now) }
+    ensures few { OnOk result (vec_len parts.new ≤ max_parts) }
+    ensures refused { IfErr result (λ e. IsRefusedFor e (vec_len parts.old + length (flat_map (parts_of levels (default_media default)) children.now))) }
+{
+    for child in children {
+        read_parts(alloc, levels, default, child, parts)?;
+    }
+    Ok(())
+}
+
+// Says of the part at this place that those after it are below it.
+fn set_below(parts: &mut Vec<Part>, at: usize)
+    requires { at < vec_len parts.old }
+    ensures { parts.new.items ≡ with_below_at at parts.old.items }
+{
+    let below = parts.len() - at - 1;
+    let part = &mut parts[at];
+    part.set_below(below);
+}
