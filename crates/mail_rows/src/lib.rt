@@ -12,4 +12,8 @@ mod lines;
 #[cfg(test)]
 mod media;
 #[cfg(test)]
+mod quoted;
+#[cfg(test)]
 mod repeated;
+#[cfg(test)]
+mod tree;
