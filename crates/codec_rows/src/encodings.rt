@@ -1,4 +1,4 @@
-use depot_actions::{DecodeError, Encoding, decode, encode};
+use depot_actions::{Refusal, Encoding, decode, encode};
 
 const NO_MEMORY: &str = "memory ran out";
 
@@ -53,7 +53,7 @@ fn texts_that_read_as_nothing(rt: HostRuntime) {
         assert!(rt;
             matches!(
                 &decode(alloc, encoding, text.as_bytes()),
-                Err(DecodeError::NotCanonical)
+                Err(Refusal::NotCanonical)
             ),
             "{text}"
         );

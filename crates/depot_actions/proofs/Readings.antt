@@ -1,5 +1,5 @@
 -- Texts that read as no octets.
-use Rattle.std.proofs.Common.{◌≡◌, ℕ, ◌<◌, ◌⊎◌, inl, inr, zero, suc, List, [], ◌∷◌, Ok, Err, sym, ◌∙◌, arith}
+use Rattle.std.proofs.Common.{◌≡◌, ℕ, ◌<◌, ◌⊎◌, inl, inr, zero, suc, List, [], ◌∷◌, Ok, Err, sym, subst, ◌∙◌, arith}
 use Rattle.std.specs.Prelude.{◌↔◌}
 use Rattle.std.proofs.lemmas.List.Elements.{All-head, All-tail}
 use Rattle.base64.specs.Engines.{standard}
@@ -10,10 +10,9 @@ use Rattle.hex.specs.Hex as hex_text
 use Rattle.hex.specs.declared.error.FromHexError.{FromHexError}
 use Rattle.hex.specs.declared.error.FromHexError.TheVariants as hex
 use Rattle.octet_lanes.specs.Encoding.{IsOctets}
-use Rattle.depot_actions.specs.Causes.{of_base16, of_base64}
-use Rattle.depot_actions.specs.Texts.{Reads}
+use Rattle.refusals.specs.Causes.{of_base16, of_base64}
+use Rattle.depot_actions.specs.Texts.{IsUnread, Reads}
 use Rattle.depot_actions.specs.declared.encoding.Encoding.TheVariants.{Base64, Base16}
-use Rattle.depot_actions.specs.declared.error.DecodeError.TheVariants.{NotCanonical}
 use Rattle.depot_actions.proofs.Hexadecimal.{written_decodes}
 
 pub octets_are_bytes : (octets : List ℕ) → IsOctets octets → IsBytes octets
@@ -24,14 +23,18 @@ octets_are_bytes (x ∷ octets) h (suc i) = octets_are_bytes octets (All-tail (�
 -- a text that `base64` refuses reads as nothing
 pub refused_base64 : (text : List ℕ) (error : DecodeAllocError) → IsDecodeFailure standard text error
     → ((octets : List ℕ) → IsBytes octets → (decode_of standard text ≡ Ok octets) ↔ (text ≡ encode_of standard octets))
-    → of_base64 error ≡ NotCanonical → (octets : List ℕ) → IsOctets octets → Reads Base64 text octets → ⊥
-refused_base64 text base64.OutOfMemory fails strict e octets small reads = cc e
-refused_base64 text (base64.DecodeError error) fails strict e octets small reads =
+    → IsUnread Base64 text (of_base64 error)
+refused_base64 text base64.OutOfMemory fails strict = tt
+refused_base64 text (base64.DecodeError error) fails strict = λ octets small reads.
     cc (sym ((strict octets (octets_are_bytes octets small)).1 reads) ∙ fails)
 
 -- a text that `hex` refuses reads as nothing
-pub refused_base16 : (text : List ℕ) (error : FromHexError) → (error ≡ hex.OutOfMemory) ⊎ (hex_text.decode_of text ≡ Err error)
-    → of_base16 error ≡ NotCanonical → (octets : List ℕ) → IsOctets octets → Reads Base16 text octets → ⊥
-refused_base16 text error (inl memory) e octets small reads = cc (rw memory at e)
-refused_base16 text error (inr fails) e octets small reads =
-    cc (sym (written_decodes text octets (octets_are_bytes octets small) reads).1 ∙ fails)
+unread : (text : List ℕ) (error : FromHexError) → hex_text.decode_of text ≡ Err error → (octets : List ℕ) → IsOctets octets → Reads Base16 text octets → ⊥
+unread text error fails octets small reads = cc (sym (written_decodes text octets (octets_are_bytes octets small) reads).1 ∙ fails)
+
+pub refused_base16 : (text : List ℕ) (error : FromHexError) → (error ≡ hex.OutOfMemory) ⊎ (hex_text.decode_of text ≡ Err error) → IsUnread Base16 text (of_base16 error)
+refused_base16 text error (inl memory) = subst (λ e. IsUnread Base16 text (of_base16 e)) (sym memory) tt
+refused_base16 text hex.OutOfMemory (inr fails) = tt
+refused_base16 text (hex.InvalidHexCharacter c place) (inr fails) = unread text (hex.InvalidHexCharacter c place) fails
+refused_base16 text hex.OddLength (inr fails) = unread text hex.OddLength fails
+refused_base16 text hex.InvalidStringLength (inr fails) = unread text hex.InvalidStringLength fails

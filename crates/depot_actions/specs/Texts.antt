@@ -4,10 +4,12 @@ use Rattle.base64.specs.Engines.{standard}
 use Rattle.base64.specs.GeneralPurpose.{encode_of}
 use Rattle.hex.specs.Hex.{encode_upper}
 use Rattle.lanes_base64_mime.specs.MimeBase64.{mime_decoding_of, mime_encoding_of}
-use Rattle.octet_lanes.specs.Encoding.{encoding_of}
+use Rattle.octet_lanes.specs.Encoding.{IsOctets, encoding_of}
 use Rattle.octet_lanes.specs.declared.alphabet.Alphabet.TheVariants as alphabet
 use Rattle.octets.specs.Ascii.{uppercase_of}
 use Rattle.quoted_printable.specs.QuotedPrintable as qp
+use Rattle.refusals.specs.declared.refusal.Refusal.{Refusal}
+use Rattle.refusals.specs.declared.refusal.Refusal.TheVariants.{Memory, NotCanonical}
 use Rattle.depot_actions.specs.declared.encoding.Encoding.{Encoding}
 use Rattle.depot_actions.specs.declared.encoding.Encoding.TheVariants.{Raw, Base64, Base64Mime, Base32, Base32Hex, Base16, Qp}
 
@@ -28,3 +30,9 @@ Reads Base64Mime text octets = octets ≡ mime_decoding_of text
 Reads Base16 text octets = uppercase_of text ≡ text_of Base16 octets
 Reads Qp text octets = octets ≡ qp.decoding_of text
 Reads encoding text octets = text ≡ text_of encoding octets
+
+-- why a text isn't decoded: memory was refused, or it reads as no octets
+abbrev pub IsUnread : Encoding → List ℕ → Refusal → Type 0
+IsUnread encoding text Memory = Unit {0}
+IsUnread encoding text NotCanonical = (octets : List ℕ) → IsOctets octets → Reads encoding text octets → ⊥
+IsUnread encoding text _ = ⊥

@@ -1,14 +1,13 @@
 // Octets as texts, and texts as octets.
-ghost use Rattle.std.specs.Prelude.{◌≡◌, ℕ, List, IfOk, IfErr};
+ghost use Rattle.std.specs.Prelude.{◌≡◌, IfOk, IfErr};
 ghost use Rattle.octet_lanes.specs.Encoding.{IsOctets};
-ghost use Rattle.depot_actions.specs.Texts.{Reads, text_of};
-ghost use Rattle.depot_actions.specs.declared.error.DecodeError.TheVariants.{NotCanonical};
+ghost use Rattle.depot_actions.specs.Texts.{IsUnread, Reads, text_of};
 
-use crate::error::DecodeError;
 use base64::engine::general_purpose::STANDARD;
 use lanes_base32::{decode32, decode32hex, encode32, encode32hex};
 use lanes_base64_mime::{decode_mime, encode_mime};
 use quoted_printable::{decode_qp, encode_qp};
+use refusals::Refusal;
 use std::alloc::{AllocError, Global};
 
 /// How octets are written as a text.
@@ -56,10 +55,10 @@ pub fn encode(alloc: Global, encoding: Encoding, octets: &[u8]) -> Result<Vec<u8
 /// `NotCanonical` where the text reads as no octets. That can't be of raw octets, of MIME base64, whose reader
 /// passes over what is no symbol, nor of quoted-printable, which has a reading of any text; the other encodings
 /// read what `encode` writes and nothing else, base16 also in lower case. `Memory` where an allocation was refused.
-pub fn decode(alloc: Global, encoding: Encoding, text: &[u8]) -> Result<Vec<u8>, DecodeError>
+pub fn decode(alloc: Global, encoding: Encoding, text: &[u8]) -> Result<Vec<u8>, Refusal>
     ensures read { IfOk result (λ octets. Reads encoding text.now octets.items) }
     ensures octets { IfOk result (λ octets. IsOctets octets.items) }
-    ensures refused { IfErr result (λ e. e ≡ NotCanonical → (octets : List ℕ) → IsOctets octets → Reads encoding text.now octets → ⊥) }
+    ensures refused { IfErr result (λ e. IsUnread encoding text.now e) }
 {
     let octets = read(alloc, encoding, text)?;
     know_octets(&octets);
@@ -67,9 +66,9 @@ pub fn decode(alloc: Global, encoding: Encoding, text: &[u8]) -> Result<Vec<u8>,
 }
 
 // The octets that a text reads as.
-fn read(alloc: Global, encoding: Encoding, text: &[u8]) -> Result<Vec<u8>, DecodeError>
+fn read(alloc: Global, encoding: Encoding, text: &[u8]) -> Result<Vec<u8>, Refusal>
     ensures octets { IfOk result (λ octets. Reads encoding text.now octets.items) }
-    ensures refused { IfErr result (λ e. e ≡ NotCanonical → (octets : List ℕ) → IsOctets octets → Reads encoding text.now octets → ⊥) }
+    ensures refused { IfErr result (λ e. IsUnread encoding text.now e) }
 {
     match encoding {
         Encoding::Raw => Ok(text.to_vec(alloc)?),

@@ -8,10 +8,9 @@
 #![tactic(auto)]
 
 mod encoding;
-mod error;
 pub mod laws;
 mod sink;
 
 pub use encoding::{Encoding, decode, encode};
-pub use error::DecodeError;
+pub use refusals::Refusal;
 pub use sink::{DeviceFailed, MAX_TRIES, OfWrite, Sink};

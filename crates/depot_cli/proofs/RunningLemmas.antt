@@ -7,7 +7,7 @@ use Rattle.depot_cli.specs.Jobs.{HasAnswered, HasRefused, HasStopped, HasTold, W
 use Rattle.depot_cli.specs.Host.{HostState, Origin}
 use Rattle.depot_cli.specs.Running.{HasExplained, HasOutcome, HasRead, HasRun, HaveRead, IsNoLine, KeepsOthers, refused, usage}
 use Rattle.depot_cli.specs.Words.{IsDepot}
-use Rattle.depot_cli.specs.declared.error.Refusal.TheVariants.{Memory}
+use Rattle.refusals.specs.declared.refusal.Refusal.TheVariants.{Memory}
 use Rattle.depot_cli.specs.declared.job.Job.{Job}
 
 -- one was read, and two were

@@ -3,8 +3,8 @@ use Rattle.std.specs.Prelude.{◌≡◌, ◌⊎◌, ℕ, List, [], ◌∷◌, �
 use Rattle.std.specs.Option.{option_map}
 use Rattle.depot_actions.specs.Device.{Output, counted}
 use Rattle.depot_cli.specs.Supply.{Supply}
-use Rattle.depot_cli.specs.declared.error.Refusal.{Refusal}
-use Rattle.depot_cli.specs.declared.error.Refusal.TheVariants.{Memory, Read, Write}
+use Rattle.refusals.specs.declared.refusal.Refusal.{Refusal}
+use Rattle.refusals.specs.declared.refusal.Refusal.TheVariants.{Memory, Read, Write}
 use Rattle.depot_cli.specs.declared.host.Input.{Input}
 use Rattle.depot_cli.specs.declared.host.Input.TheVariants.{Standard, File}
 

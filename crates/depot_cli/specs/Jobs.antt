@@ -2,7 +2,7 @@
 use Rattle.std.specs.Prelude.{◌≡◌, ◌⊎◌, ℕ, List, length}
 use Rattle.octet_lanes.specs.Encoding.{IsOctets}
 use Rattle.depot_actions.specs.Device.{HasBroken, HasTaken, Output}
-use Rattle.depot_actions.specs.Texts.{Reads, text_of}
+use Rattle.depot_actions.specs.Texts.{IsUnread, Reads, text_of}
 use Rattle.depot_actions.specs.declared.encoding.Encoding.{Encoding}
 use Rattle.bytecode_cost.specs.Text.{budget_text}
 use Rattle.bytecode_format.specs.declared.action.Action.{Action}
@@ -14,9 +14,8 @@ use Rattle.sieve_engine.specs.Evaluation.{IsCompiled, IsEvaluation, IsEvaluation
 use Rattle.sieve_engine.specs.Execution.{IsChecked, IsExecution, IsProgramRefusal, IsRefusal}
 use Rattle.depot_cli.specs.Host.{HasMade, HasNotMade, HostState}
 use Rattle.depot_cli.specs.Printed.{line, ok_text, refusal_line, report_text, wrote_text}
-use Rattle.depot_cli.specs.Refusals.{IsEngineRefusal}
-use Rattle.depot_cli.specs.declared.error.Refusal.{Refusal}
-use Rattle.depot_cli.specs.declared.error.Refusal.TheVariants as refusals
+use Rattle.refusals.specs.declared.refusal.Refusal.{Refusal}
+use Rattle.refusals.specs.declared.refusal.Refusal.TheVariants as refusals
 use Rattle.depot_cli.specs.declared.job.Job.{Job}
 use Rattle.depot_cli.specs.declared.job.Job.TheVariants.{Check, Compile, Verify, Run, Eval, Encode, Decode}
 
@@ -34,21 +33,15 @@ IsAnswer (Eval script message) text old new =
 IsAnswer (Encode encoding octets) text old new = (text ≡ text_of encoding octets.now) × (new ≡ old)
 IsAnswer (Decode encoding text) octets old new = IsOctets octets × Reads encoding text.now octets × (new ≡ old)
 
--- why a text isn't decoded: memory was refused, or it reads as no octets
-abbrev pub IsUnread : Encoding → List ℕ → Refusal → Type 0
-IsUnread encoding text refusals.Memory = Unit {0}
-IsUnread encoding text refusals.NotCanonical = (octets : List ℕ) → IsOctets octets → Reads encoding text octets → ⊥
-IsUnread encoding text _ = ⊥
-
 -- The first refusal of a job's octets, of which the host isn't asked anything; or the job's file could not be made.
 abbrev pub IsJobRefusal : Job → Refusal → HostState → HostState → Type 0
-IsJobRefusal (Check script) refusal old new = IsEngineRefusal (IsScriptRefusal script.now) refusal × (new ≡ old)
+IsJobRefusal (Check script) refusal old new = IsScriptRefusal script.now refusal × (new ≡ old)
 IsJobRefusal (Compile script name out) refusal old new =
-    (IsEngineRefusal (IsScriptRefusal script.now) refusal × (new ≡ old))
+    (IsScriptRefusal script.now refusal × (new ≡ old))
     ⊎ ((code : Code) × IsCompiled script.now code × HasNotMade refusal out.now name.now old new)
-IsJobRefusal (Verify program) refusal old new = IsEngineRefusal (IsProgramRefusal program.now) refusal × (new ≡ old)
-IsJobRefusal (Run program message) refusal old new = IsEngineRefusal (IsRefusal program.now message.now) refusal × (new ≡ old)
-IsJobRefusal (Eval script message) refusal old new = IsEngineRefusal (IsEvaluationRefusal script.now message.now) refusal × (new ≡ old)
+IsJobRefusal (Verify program) refusal old new = IsProgramRefusal program.now refusal × (new ≡ old)
+IsJobRefusal (Run program message) refusal old new = IsRefusal program.now message.now refusal × (new ≡ old)
+IsJobRefusal (Eval script message) refusal old new = IsEvaluationRefusal script.now message.now refusal × (new ≡ old)
 IsJobRefusal (Encode encoding octets) refusal old new = (refusal ≡ refusals.Memory) × (new ≡ old)
 IsJobRefusal (Decode encoding text) refusal old new = IsUnread encoding text.now refusal × (new ≡ old)
 

@@ -3,7 +3,6 @@ pub mod Supply
 pub mod LimitedReading
 pub mod Host
 pub mod Printed
-pub mod Refusals
 pub mod Jobs
 pub mod Words
 pub mod Running

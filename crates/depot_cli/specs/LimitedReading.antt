@@ -1,8 +1,8 @@
 -- Why limited reading gives up, and what it took until then.
 use Rattle.std.specs.Prelude.{◌≡◌, ℕ, ◌+◌, ◌≤◌, List, length}
 use Rattle.depot_cli.specs.Supply.{HasGiven, HasStoppedGiving, Supply}
-use Rattle.depot_cli.specs.declared.error.Refusal.{Refusal}
-use Rattle.depot_cli.specs.declared.error.Refusal.TheVariants.{Memory, MessageTooLarge, Read}
+use Rattle.refusals.specs.declared.refusal.Refusal.{Refusal}
+use Rattle.refusals.specs.declared.refusal.Refusal.TheVariants.{Memory, MessageTooLarge, Read}
 
 -- no more octets came than the limit, and memory was refused or a call failed; or one octet more came
 abbrev pub HasGivenUp : Refusal → ℕ → Supply → Supply → Type 0

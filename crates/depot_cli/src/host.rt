@@ -2,9 +2,9 @@
 ghost use Rattle.std.specs.Prelude.{◌≡◌, suc, IfErr, IfOk, OnErr, OnOk};
 ghost use Rattle.depot_cli.specs.Host.{HasKept, HasNotMade, HasNotOpened, HostState, IsFreshOutput, IsFreshSupply, makes, opens, origin_of, with_call, with_faults, with_supply};
 
-use crate::error::Refusal;
 use crate::source::Source;
 use depot_actions::{DeviceFailed, Sink};
+use refusals::Refusal;
 use std::alloc::Global;
 
 /// What gives octets to a command.

@@ -9,15 +9,14 @@ ghost use Rattle.sieve_engine.specs.Execution.{IsChecked, IsProgramRefusal};
 ghost use Rattle.depot_actions.specs.Device.{HasBroken, HasTaken};
 ghost use Rattle.depot_cli.specs.Jobs.{HasAnswered, HasRefused, HasStopped, HasTold, IsAnswer, IsJobRefusal, world};
 ghost use Rattle.depot_cli.specs.Pieces.{lines_text};
-ghost use Rattle.depot_cli.specs.Refusals.{IsEngineRefusal};
 
-use crate::error::Refusal;
 use crate::gathering::put;
 use crate::host::Host;
 use crate::making::make_file;
 use crate::piece::Piece;
 use crate::printing::{put_line, put_pieces, put_refusal, put_report};
 use depot_actions::{DeviceFailed, Encoding, Sink, decode, encode};
+use refusals::Refusal;
 use sieve_engine::{Report, check_program, check_script, compile_script, evaluate, execute};
 use std::alloc::Global;
 
@@ -151,7 +150,7 @@ fn carry_out<H: Host>(alloc: Global, job: Job<'_>, host: &mut H) -> Result<Lines
 // The octets of a script's program.
 fn program_octets(alloc: Global, script: &[u8]) -> Result<Vec<u8>, Refusal>
     ensures compiled { IfOk result (λ octets. (code : Code) × IsCompiled script.now code × (octets.items ≡ spelling code)) }
-    ensures refused { IfErr result (λ refusal. IsEngineRefusal (IsScriptRefusal script.now) refusal) }
+    ensures refused { IfErr result (λ refusal. IsScriptRefusal script.now refusal) }
 {
     let program = compile_script(alloc, script)?;
     Ok(program.write(alloc)?)
@@ -160,7 +159,7 @@ fn program_octets(alloc: Global, script: &[u8]) -> Result<Vec<u8>, Refusal>
 // The text of an accepted program's budget.
 fn budget_line(alloc: Global, program: &[u8]) -> Result<String, Refusal>
     ensures accepted { IfOk result (λ text. (code : Code) × IsChecked program.now code × (string_bytes text ≡ budget_text (budget_of code))) }
-    ensures refused { IfErr result (λ refusal. IsEngineRefusal (IsProgramRefusal program.now) refusal) }
+    ensures refused { IfErr result (λ refusal. IsProgramRefusal program.now refusal) }
 {
     let verified = check_program(alloc, program)?;
     Ok(format!(in alloc; "{}", verified.budget())?)

@@ -7,7 +7,6 @@
 //! a sink that failed has got is a prefix of the text.
 #![tactic(auto)]
 
-mod error;
 mod gathering;
 mod host;
 mod job;
@@ -21,11 +20,11 @@ mod running;
 mod source;
 mod system;
 
-pub use error::Refusal;
 pub use host::{Host, Input};
 pub use job::{Job, answer, tell};
 pub use line::{CommandLine, line_of};
 pub use reading::read_limited;
+pub use refusals::Refusal;
 pub use running::{explain, run};
 pub use source::{OfRead, Source};
 pub use system::System;

@@ -2,10 +2,10 @@
 ghost use Rattle.std.specs.Prelude.{IfErr, OnOk};
 ghost use Rattle.depot_cli.specs.Host.{HasMade, HasNotMade};
 
-use crate::error::Refusal;
 use crate::gathering::put;
 use crate::host::Host;
 use depot_actions::DeviceFailed;
+use refusals::Refusal;
 use std::alloc::Global;
 
 /// Makes the file of a name from these octets, unless it is the script's own file.

@@ -8,12 +8,12 @@ ghost use Rattle.depot_cli.specs.Pieces.{piece_text, pieces_text};
 ghost use Rattle.depot_cli.specs.Printed.{action_text, actions_text, charge_text, escaped, escaped_octet, line as line_of, quoted, refusal_line, report_text, shown};
 ghost use Rattle.depot_cli.specs.Printed as Printed;
 
-use crate::error::Refusal;
 use crate::gathering::{Line, gather, send};
 use crate::piece::{Piece, Setting};
 use bytecode_format::Action;
 use depot_actions::{DeviceFailed, Sink};
 use itoa::Buffer;
+use refusals::Refusal;
 use sieve_engine::Report;
 
 /// Writes the line that pieces make.

@@ -3,9 +3,9 @@ ghost use Rattle.std.specs.Prelude.{◌≡◌, ◌+◌, ◌<◌, ◌≤◌, drop
 ghost use Rattle.depot_cli.specs.LimitedReading.{HasGivenUp};
 ghost use Rattle.depot_cli.specs.Supply.{HasEnded, HasFailedToGive, HasGiven};
 
-use crate::error::Refusal;
 use crate::source::Source;
 use depot_actions::DeviceFailed;
+use refusals::Refusal;
 use std::alloc::{AllocError, Global};
 
 /// How many octets are asked for at a time.

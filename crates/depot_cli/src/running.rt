@@ -3,10 +3,9 @@ ghost use Rattle.std.specs.Prelude.{◌≡◌, ◌≤◌, ◌⊎◌, List, ℕ, 
 ghost use Rattle.bytecode_format.specs.Spelling.{spelling};
 ghost use Rattle.depot_cli.specs.Host.{HostState, origin_of};
 ghost use Rattle.depot_cli.specs.Jobs.{HasTold, world};
-ghost use Rattle.depot_cli.specs.declared.error.Refusal.TheVariants.{Memory};
+ghost use Rattle.refusals.specs.declared.refusal.Refusal.TheVariants.{Memory};
 ghost use Rattle.depot_cli.specs.Running.{HasExplained, HasNotRead, HasNotWorked, HasRead, HasRun, HasWorked, HaveNotRead, HaveRead, IsJobOf, input, keeping_code, origins_in, origins_of, refused, usage};
 
-use crate::error::Refusal;
 use crate::host::{Host, Input};
 use crate::job::{Job, answer, tell};
 use crate::line::{CommandLine, line_of};
@@ -16,6 +15,7 @@ use clap::Error;
 use clap::error::ErrorKind;
 use depot_actions::Sink;
 use mime_decode::MAX_MESSAGE;
+use refusals::Refusal;
 use std::alloc::Global;
 
 /// The status where the words aren't those of a command, or ask for help.

@@ -1,13 +1,13 @@
 // The system as a host.
 ghost use Rattle.std.specs.Prelude.{◌≡◌, ◌⊎◌};
 ghost use Rattle.depot_actions.specs.Device.{counted};
-ghost use Rattle.depot_cli.specs.declared.error.Refusal.TheVariants.{Memory};
+ghost use Rattle.refusals.specs.declared.refusal.Refusal.TheVariants.{Memory};
 
-use crate::error::Refusal;
 use crate::host::{Host, Input};
 use crate::new_file::{NewFile, begin, discard, persist};
 use crate::source::OfRead;
 use depot_actions::DeviceFailed;
+use refusals::Refusal;
 use std::alloc::Global;
 use std::fs::Files;
 use std::io::{ErrorKind, Read};

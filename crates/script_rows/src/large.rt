@@ -3,7 +3,7 @@ use crate::repeated::repeated;
 use mime_decode::Message;
 use sieve_check::{CheckError, check};
 use sieve_compiler::compile;
-use sieve_engine::{EngineError, check_script, compile_script, evaluate};
+use sieve_engine::{Refusal, check_script, compile_script, evaluate};
 use sieve_meaning::plain_eval;
 use sieve_parser::{ParseError, parse};
 use std::alloc::Global;
@@ -13,13 +13,13 @@ use std::test::Fail;
 fn refused(alloc: Global, script: &[u8]) -> (u8, usize) {
     match check_script(alloc, script) {
         Ok(_) => (0, 0),
-        Err(EngineError::Lexical { place }) => (11, place),
-        Err(EngineError::ScriptTooLong) => (12, 0),
-        Err(EngineError::Syntax { place }) => (13, place),
-        Err(EngineError::TooDeep { place }) => (14, place),
-        Err(EngineError::UnknownCommand { place }) => (15, place),
-        Err(EngineError::UnknownCapability { place }) => (17, place),
-        Err(EngineError::BadArguments { place }) => (18, place),
+        Err(Refusal::Lexical { place }) => (11, place),
+        Err(Refusal::ScriptTooLong) => (12, 0),
+        Err(Refusal::Syntax { place }) => (13, place),
+        Err(Refusal::TooDeep { place }) => (14, place),
+        Err(Refusal::UnknownCommand { place }) => (15, place),
+        Err(Refusal::UnknownCapability { place }) => (17, place),
+        Err(Refusal::BadArguments { place }) => (18, place),
         Err(_) => (1, 0),
     }
 }

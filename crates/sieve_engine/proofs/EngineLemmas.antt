@@ -2,7 +2,7 @@
 use Rattle.std.proofs.Common.{◌≡◌, ◌≢◌, ℕ, ◌^◌, ◌≤◌, List, Some, length, sym, ap, subst, ◌∙◌, arith}
 use Rattle.bytecode_format.specs.declared.action.Action.{Action}
 use Rattle.bytecode_format.specs.Code.{Code}
-use Rattle.bytecode_verifier.specs.declared.error.Refusal.{Refusal}
+use Rattle.bytecode_verifier.specs.declared.error.Refusal.{Refusal as BrokenRule}
 use Rattle.bytecode_verifier.specs.declared.error.Refusal.TheVariants.{Memory, Index, Form, End, Loop, Jump, NoPart, Stack}
 use Rattle.bytecode_verifier.specs.Acceptance.{refusal_of}
 use Rattle.mime_decode.specs.Mail.{Mail, IsReadable, mail_of}
@@ -14,13 +14,13 @@ use Rattle.sieve_vm.specs.Runs.{RunEnds}
 use Rattle.sieve_vm.proofs.Bounds.{ends_within, one_end_from}
 use Rattle.bytecode_format.specs.Actions.{final_actions}
 use Rattle.bytecode_verifier.specs.Acceptance.{IsAccepted}
-use Rattle.sieve_engine.specs.Refusals.{of_verifier}
+use Rattle.refusals.specs.Causes.{of_verifier}
 use Rattle.sieve_engine.specs.Execution.{Spells, IsProgramRefusal, IsReport}
 use Rattle.sieve_engine.specs.Evaluation.{IsCompiled, IsEvaluation, IsEvaluationRefusal, IsScriptRefusal}
-use Rattle.sieve_engine.specs.declared.error.EngineError.{EngineError}
-use Rattle.sieve_engine.specs.declared.error.EngineError.TheVariants as engine
+use Rattle.refusals.specs.declared.refusal.Refusal.{Refusal}
+use Rattle.refusals.specs.declared.refusal.Refusal.TheVariants as engine
 
-pub refused_by_verifier : (octets : List ℕ) (code : Code) → Spells octets code → (r : Refusal) → (r ≢ Memory → refusal_of code ≡ Some r) → IsProgramRefusal octets (of_verifier r)
+pub refused_by_verifier : (octets : List ℕ) (code : Code) → Spells octets code → (r : BrokenRule) → (r ≢ Memory → refusal_of code ≡ Some r) → IsProgramRefusal octets (of_verifier r)
 refused_by_verifier octets code spells Memory h = tt
 refused_by_verifier octets code spells (Index p) h = (code, spells, h (λ e. absurd cc))
 refused_by_verifier octets code spells (Form p) h = (code, spells, h (λ e. absurd cc))
@@ -57,7 +57,7 @@ evaluated script message code actions charged limit compiled report =
     }
 
 -- a refusal of the script is one of the script and the message
-pub refused_script : (script message : List ℕ) (e : EngineError) → IsScriptRefusal script e → IsEvaluationRefusal script message e
+pub refused_script : (script message : List ℕ) (e : Refusal) → IsScriptRefusal script e → IsEvaluationRefusal script message e
 refused_script script message engine.Memory h = h
 refused_script script message engine.MessageTooLarge h = absurd h
 refused_script script message (engine.Lexical place) h = h

@@ -17,8 +17,8 @@ use Rattle.sieve_check.specs.Typed.{CommandForms}
 use Rattle.sieve_meaning.specs.Meaning.{meaning}
 use Rattle.sieve_vm.specs.Ending.{IsOutcome}
 use Rattle.sieve_compiler.specs.Coding.{code_of}
-use Rattle.sieve_engine.specs.declared.error.EngineError.{EngineError}
-use Rattle.sieve_engine.specs.declared.error.EngineError.TheVariants.{Memory, MessageTooLarge, Lexical, ScriptTooLong, Syntax, TooDeep, UnknownCommand, MissingCapability, UnknownCapability, BadArguments, Limit}
+use Rattle.refusals.specs.declared.refusal.Refusal.{Refusal}
+use Rattle.refusals.specs.declared.refusal.Refusal.TheVariants.{Memory, MessageTooLarge, Lexical, ScriptTooLong, Syntax, TooDeep, UnknownCommand, MissingCapability, UnknownCapability, BadArguments, Limit}
 use Rattle.sieve_engine.specs.Execution.{IsReport}
 
 -- the octets are a script without faults, of this typed form
@@ -33,7 +33,7 @@ abbrev pub IsFaulty : List ℕ → CheckError → Type 0
 IsFaulty octets fault = (tree : CommandsTree) × IsParsed octets tree × (fault_of tree ≡ Some fault)
 
 -- the first refusal of octets as a script; Memory has no cause in them
-abbrev pub IsScriptRefusal : List ℕ → EngineError → Type 0
+abbrev pub IsScriptRefusal : List ℕ → Refusal → Type 0
 IsScriptRefusal octets Memory = Unit {0}
 IsScriptRefusal octets (Lexical place) = IsParseRefusal octets (parser.Lexical place)
 IsScriptRefusal octets ScriptTooLong = IsParseRefusal octets parser.ScriptTooLong
@@ -47,7 +47,7 @@ IsScriptRefusal octets (Limit place) = IsFaulty octets (checker.Limit place)
 IsScriptRefusal octets _ = ⊥
 
 -- the first refusal of a script and a message, the script's first
-abbrev pub IsEvaluationRefusal : List ℕ → List ℕ → EngineError → Type 0
+abbrev pub IsEvaluationRefusal : List ℕ → List ℕ → Refusal → Type 0
 IsEvaluationRefusal script message MessageTooLarge = IsMessageRefusal message mail.MessageTooLarge × ((form : CommandForms) × IsScript script form)
 IsEvaluationRefusal script message error = IsScriptRefusal script error
 

@@ -4,7 +4,7 @@ use Rattle.bytecode_format.specs.declared.action.Action.{Action}
 use Rattle.bytecode_format.specs.Code.{Code}
 use Rattle.bytecode_format.specs.Spelling.{IsProgram, spelling}
 use Rattle.bytecode_cost.specs.Sums.{budget_at}
-use Rattle.bytecode_verifier.specs.declared.error.Refusal.{Refusal}
+use Rattle.bytecode_verifier.specs.declared.error.Refusal.{Refusal as BrokenRule}
 use Rattle.bytecode_verifier.specs.declared.error.Refusal.TheVariants as verifier
 use Rattle.bytecode_verifier.specs.Acceptance.{IsAccepted, refusal_of}
 use Rattle.bytecode_verifier.specs.Budget.{budget_of}
@@ -12,8 +12,8 @@ use Rattle.mime_decode.specs.Mail.{IsReadable, mail_of, size_of}
 use Rattle.mime_decode.specs.Refusals.{IsMessageRefusal}
 use Rattle.mime_decode.specs.declared.error.MessageError.TheVariants as mail
 use Rattle.sieve_vm.specs.Ending.{IsOutcome}
-use Rattle.sieve_engine.specs.declared.error.EngineError.{EngineError}
-use Rattle.sieve_engine.specs.declared.error.EngineError.TheVariants.{Memory, MessageTooLarge, Spelling, Index, Form, End, Loop, Jump, NoPart, Stack}
+use Rattle.refusals.specs.declared.refusal.Refusal.{Refusal}
+use Rattle.refusals.specs.declared.refusal.Refusal.TheVariants.{Memory, MessageTooLarge, Spelling, Index, Form, End, Loop, Jump, NoPart, Stack}
 
 -- the octets spell this program
 pub record Spells (octets : List ℕ) (code : Code) : Type 0 where
@@ -26,11 +26,11 @@ pub record IsChecked (octets : List ℕ) (code : Code) : Type 0 where
   pub accepted : IsAccepted code
 
 -- the octets spell a program that the verifier refuses so
-abbrev pub IsRefusedBy : List ℕ → Refusal → Type 0
+abbrev pub IsRefusedBy : List ℕ → BrokenRule → Type 0
 IsRefusedBy octets refusal = (code : Code) × Spells octets code × (refusal_of code ≡ Some refusal)
 
 -- the first refusal of octets as a program; Memory has no cause in them
-abbrev pub IsProgramRefusal : List ℕ → EngineError → Type 0
+abbrev pub IsProgramRefusal : List ℕ → Refusal → Type 0
 IsProgramRefusal octets Memory = Unit {0}
 IsProgramRefusal octets Spelling = (code : Code) → Spells octets code → ⊥
 IsProgramRefusal octets (Index place) = IsRefusedBy octets (verifier.Index place)
@@ -43,7 +43,7 @@ IsProgramRefusal octets (Stack place) = IsRefusedBy octets (verifier.Stack place
 IsProgramRefusal octets _ = ⊥
 
 -- the first refusal of a program and a message, the program's first
-abbrev pub IsRefusal : List ℕ → List ℕ → EngineError → Type 0
+abbrev pub IsRefusal : List ℕ → List ℕ → Refusal → Type 0
 IsRefusal program message MessageTooLarge = IsMessageRefusal message mail.MessageTooLarge × ((code : Code) × IsChecked program code)
 IsRefusal program message error = IsProgramRefusal program error
 

@@ -1,3 +1,2 @@
-pub mod Refusals
 pub mod Execution
 pub mod Evaluation

@@ -5,10 +5,10 @@ ghost use Rattle.sieve_check.specs.TypedView.{commands_form};
 ghost use Rattle.sieve_parser.specs.Scripts.{IsParsed};
 ghost use Rattle.sieve_parser.specs.View.{commands_tree};
 
-use crate::error::EngineError;
 use crate::execution::{Report, run_on};
 use bytecode_format::Program;
 use bytecode_verifier::verify;
+use refusals::Refusal;
 use sieve_check::{Checked, check};
 use sieve_compiler::compile;
 use sieve_parser::parse;
@@ -17,8 +17,8 @@ use std::alloc::Global;
 /// The script that the octets are, with its typed form.
 ///
 /// Else the first refusal of the script: of its length, then its tokens, its grammar and its rules.
-/// [`EngineError::Memory`] comes only where an allocation was refused.
-pub fn check_script(alloc: Global, script: &[u8]) -> Result<Checked, EngineError>
+/// [`Refusal::Memory`] comes only where an allocation was refused.
+pub fn check_script(alloc: Global, script: &[u8]) -> Result<Checked, Refusal>
     ensures checked { IfOk result (λ checked. IsScript script.now (commands_form checked.commands)) }
     ensures script { IfOk result (λ checked. IsParsed script.now (commands_tree checked.script)) }
     ensures refused { IfErr result (λ e. IsScriptRefusal script.now e) }
@@ -31,7 +31,7 @@ pub fn check_script(alloc: Global, script: &[u8]) -> Result<Checked, EngineError
 /// ends with the final actions of the script's meaning.
 ///
 /// Else the first refusal of the script, as [`check_script`] gives it.
-pub fn compile_script(alloc: Global, script: &[u8]) -> Result<Program, EngineError>
+pub fn compile_script(alloc: Global, script: &[u8]) -> Result<Program, Refusal>
     ensures compiled { IfOk result (λ program. IsCompiled script.now program) }
     ensures refused { IfErr result (λ e. IsScriptRefusal script.now e) }
 {
@@ -43,7 +43,7 @@ pub fn compile_script(alloc: Global, script: &[u8]) -> Result<Program, EngineErr
 ///
 /// The answer is the first refusal of the script, then of the message; else the final actions of the script's
 /// meaning on the message, with the charge and the limit of its code's run.
-pub fn evaluate(alloc: Global, script: &[u8], message: &[u8]) -> Result<Report, EngineError>
+pub fn evaluate(alloc: Global, script: &[u8], message: &[u8]) -> Result<Report, Refusal>
     ensures evaluated { IfOk result (λ report. IsEvaluation script.now message.now report.outcome.actions.items report.outcome.charged report.limit) }
     ensures refused { IfErr result (λ e. IsEvaluationRefusal script.now message.now e) }
 {
@@ -51,6 +51,6 @@ pub fn evaluate(alloc: Global, script: &[u8], message: &[u8]) -> Result<Report, 
     match verify(alloc, program) {
         Ok(verified) => run_on(alloc, &verified, message),
         // An accepted program is refused for want of memory alone.
-        Err(_) => Err(EngineError::Memory),
+        Err(_) => Err(Refusal::Memory),
     }
 }

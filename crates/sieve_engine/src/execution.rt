@@ -3,14 +3,14 @@ ghost use Rattle.std.specs.Prelude.{IfOk, IfErr};
 ghost use Rattle.std.specs.Prelude.{◌≡◌, ◌⊎◌};
 ghost use Rattle.mime_decode.specs.Refusals.{IsMessageRefusal};
 ghost use Rattle.mime_decode.specs.declared.error.MessageError.TheVariants as mail;
-ghost use Rattle.sieve_engine.specs.declared.error.EngineError.TheVariants.{Memory, MessageTooLarge};
+ghost use Rattle.refusals.specs.declared.refusal.Refusal.TheVariants.{Memory, MessageTooLarge};
 ghost use Rattle.bytecode_verifier.specs.Acceptance.{IsAccepted};
 ghost use Rattle.sieve_engine.specs.Execution.{IsChecked, IsProgramRefusal, IsExecution, IsRefusal, IsReport};
 
-use crate::error::EngineError;
 use bytecode_format::Program;
 use bytecode_verifier::{Verified, verify};
 use mime_decode::Message;
+use refusals::Refusal;
 use sieve_vm::{Outcome, run};
 use std::alloc::Global;
 
@@ -25,16 +25,16 @@ pub struct Report {
 
 /// The program that the octets spell, if it is accepted.
 ///
-/// Else the first refusal: [`EngineError::Spelling`] exactly where they spell no program, then the
-/// verifier's. [`EngineError::Memory`] comes only where an allocation was refused.
-pub fn check_program(alloc: Global, program: &[u8]) -> Result<Verified, EngineError>
+/// Else the first refusal: [`Refusal::Spelling`] exactly where they spell no program, then the
+/// verifier's. [`Refusal::Memory`] comes only where an allocation was refused.
+pub fn check_program(alloc: Global, program: &[u8]) -> Result<Verified, Refusal>
     ensures checked { IfOk result (λ verified. IsChecked program.now verified) }
     ensures refused { IfErr result (λ e. IsProgramRefusal program.now e) }
 {
     let program = Program::read(alloc, program)?;
     match verify(alloc, program) {
         Ok(verified) => Ok(verified),
-        Err((_program, refusal)) => Err(EngineError::from(refusal)),
+        Err((_program, refusal)) => Err(Refusal::from(refusal)),
     }
 }
 
@@ -42,7 +42,7 @@ pub fn check_program(alloc: Global, program: &[u8]) -> Result<Verified, EngineEr
 ///
 /// The answer is the first refusal of the program, then of the message; else the outcome of the one
 /// run that the definitions give, and the limit that it stays within.
-pub fn execute(alloc: Global, program: &[u8], message: &[u8]) -> Result<Report, EngineError>
+pub fn execute(alloc: Global, program: &[u8], message: &[u8]) -> Result<Report, Refusal>
     ensures executed { IfOk result (λ report. IsExecution program.now message.now report.outcome.actions.items report.outcome.charged report.limit) }
     ensures refused { IfErr result (λ e. IsRefusal program.now message.now e) }
 {
@@ -55,7 +55,7 @@ pub(crate) fn run_on(
     alloc: Global,
     verified: &Verified,
     message: &[u8],
-) -> Result<Report, EngineError>
+) -> Result<Report, Refusal>
     requires { IsAccepted verified.now }
     ensures reported { IfOk result (λ report. IsReport verified.now message.now report.outcome.actions.items report.outcome.charged report.limit) }
     ensures refused { IfErr result (λ e. (e ≡ Memory) ⊎ ((e ≡ MessageTooLarge) × IsMessageRefusal message.now mail.MessageTooLarge)) }

@@ -10,10 +10,9 @@
 //! any octets up to the limit; *compiled* is `code_of` of sieve_compiler, and the *meaning* `meaning` of sieve_meaning.
 #![tactic(auto)]
 
-mod error;
 mod evaluation;
 mod execution;
 
-pub use error::EngineError;
 pub use evaluation::{check_script, compile_script, evaluate};
 pub use execution::{Report, check_program, execute};
+pub use refusals::Refusal;

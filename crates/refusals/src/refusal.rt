@@ -1,62 +1,102 @@
-// Why a job has no answer.
+// Why an answer is refused.
 ghost use Rattle.std.specs.Prelude.{◌≡◌};
-ghost use Rattle.depot_cli.specs.declared.error.Refusal.TheVariants.{Memory};
+ghost use Rattle.refusals.specs.declared.refusal.Refusal.TheVariants.{Memory};
 
-use depot_actions::DecodeError;
-use sieve_engine::EngineError;
 use std::alloc::{AllocError, AllocFailed};
+use thiserror::Error;
 
-/// Why a job has no answer. Its line has the refusal's number and name, and its place where it has one.
-#[derive(Debug, Drop)]
+/// Why an answer is refused. Its line has the refusal's number and name, and its place where it has one.
+#[derive(Debug, Drop, PartialEq, Eq, Error)]
 pub enum Refusal {
     /// An allocation was refused.
+    #[error("refused 1 Memory")]
     Memory,
-    /// A file or a message has more octets than the limit.
+    /// A message, or a file, has more octets than the limit.
+    #[error("refused 2 MessageTooLarge")]
     MessageTooLarge,
+    /// A message has more parts than the limit.
+    #[error("refused 3 TooManyParts")]
+    TooManyParts,
     /// A text isn't one of its encoding.
+    #[error("refused 10 NotCanonical")]
     NotCanonical,
     /// At an octet of a script begins neither a token nor white space nor a comment.
+    #[error("refused 11 Lexical at {place}")]
     Lexical { place: usize },
     /// A script has more octets than the limit.
+    #[error("refused 12 ScriptTooLong")]
     ScriptTooLong,
     /// With this token the tokens of a script begin none; the end counts as a token.
+    #[error("refused 13 Syntax at {place}")]
     Syntax { place: usize },
     /// This token is the brace or test name that would be nested too deep.
+    #[error("refused 14 TooDeep at {place}")]
     TooDeep { place: usize },
     /// A command or test of this name isn't known. The place of this and the next four is a token.
+    #[error("refused 15 UnknownCommand at {place}")]
     UnknownCommand { place: usize },
     /// The command or test needs a capability that wasn't required.
+    #[error("refused 16 MissingCapability at {place}")]
     MissingCapability { place: usize },
     /// `require` names a capability that isn't known.
+    #[error("refused 17 UnknownCapability at {place}")]
     UnknownCapability { place: usize },
-    /// The command or test stands at a wrong place, or with other arguments than it takes.
+    /// The command or test stands at a wrong place, or with other arguments, tests or another end than it takes.
+    #[error("refused 18 BadArguments at {place}")]
     BadArguments { place: usize },
     /// A string of the command or test has more octets than the limit.
+    #[error("refused 19 Limit at {place}")]
     Limit { place: usize },
     /// The octets of a program spell none.
+    #[error("refused 20 Spelling")]
     Spelling,
-    /// An instruction has an index of what isn't there.
+    /// An instruction has an index of what isn't there. The place of this and the next six is an instruction.
+    #[error("refused 21 Index at {place}")]
     Index { place: usize },
     /// No operation, a field out of its range, or a field that isn't named and not 0.
+    #[error("refused 22 Form at {place}")]
     Form { place: usize },
     /// The last instruction doesn't end the run.
+    #[error("refused 23 End at {place}")]
     End { place: usize },
     /// A loop without its other end, too many open loops, or a break of more than there are.
+    #[error("refused 24 Loop at {place}")]
     Loop { place: usize },
     /// A jump that isn't forward, or to a place that is none or has other open loops.
+    #[error("refused 25 Jump at {place}")]
     Jump { place: usize },
     /// An operation on the current part where no loop is open.
+    #[error("refused 26 NoPart at {place}")]
     NoPart { place: usize },
     /// An entry of the stack is missing, of the wrong kind, too many, or left where none may be.
+    #[error("refused 27 Stack at {place}")]
     Stack { place: usize },
+    /// A user has no entry of that number.
+    #[error("refused 40 NoSuchEntry")]
+    NoSuchEntry,
+    /// The numbers that are left for a user's entries don't suffice.
+    #[error("refused 41 NumberFull")]
+    NumberFull,
+    /// Another content has the same digest, and other octets.
+    #[error("refused 42 Collision")]
+    Collision,
+    /// The database refused or failed, or a stored program can't be read any more.
+    #[error("refused 43 Database")]
+    Database,
+    /// A name isn't that of a user.
+    #[error("refused 44 UserName")]
+    UserName,
     /// A file couldn't be made or written, or standard output failed.
+    #[error("refused 45 Write")]
     Write,
     /// A file or standard input couldn't be read.
+    #[error("refused 46 Read")]
     Read,
 }
 
 impl Refusal {
-    ghost use Rattle.depot_cli.specs.Printed.{number_of, name_of, place_of};
+    ghost use Rattle.std.specs.Prelude.{◌≡◌};
+    ghost use Rattle.refusals.specs.Lines.{number_of, name_of, place_of};
 
     /// Its number.
     pub fn number(&self) -> u8
@@ -65,6 +105,7 @@ impl Refusal {
         match self {
             Refusal::Memory => 1,
             Refusal::MessageTooLarge => 2,
+            Refusal::TooManyParts => 3,
             Refusal::NotCanonical => 10,
             Refusal::Lexical { .. } => 11,
             Refusal::ScriptTooLong => 12,
@@ -83,6 +124,11 @@ impl Refusal {
             Refusal::Jump { .. } => 25,
             Refusal::NoPart { .. } => 26,
             Refusal::Stack { .. } => 27,
+            Refusal::NoSuchEntry => 40,
+            Refusal::NumberFull => 41,
+            Refusal::Collision => 42,
+            Refusal::Database => 43,
+            Refusal::UserName => 44,
             Refusal::Write => 45,
             Refusal::Read => 46,
         }
@@ -95,6 +141,7 @@ impl Refusal {
         match self {
             Refusal::Memory => "Memory",
             Refusal::MessageTooLarge => "MessageTooLarge",
+            Refusal::TooManyParts => "TooManyParts",
             Refusal::NotCanonical => "NotCanonical",
             Refusal::Lexical { .. } => "Lexical",
             Refusal::ScriptTooLong => "ScriptTooLong",
@@ -113,12 +160,17 @@ impl Refusal {
             Refusal::Jump { .. } => "Jump",
             Refusal::NoPart { .. } => "NoPart",
             Refusal::Stack { .. } => "Stack",
+            Refusal::NoSuchEntry => "NoSuchEntry",
+            Refusal::NumberFull => "NumberFull",
+            Refusal::Collision => "Collision",
+            Refusal::Database => "Database",
+            Refusal::UserName => "UserName",
             Refusal::Write => "Write",
             Refusal::Read => "Read",
         }
     }
 
-    /// The place that it names: that of an octet, a token or an instruction.
+    /// The place that it names, counted from 0: that of an octet, a token or an instruction.
     pub fn place(&self) -> Option<usize>
         ensures { result ≡ place_of self.now }
     {
@@ -140,54 +192,17 @@ impl Refusal {
             | Refusal::Stack { place } => Some(*place),
             Refusal::Memory
             | Refusal::MessageTooLarge
+            | Refusal::TooManyParts
             | Refusal::NotCanonical
             | Refusal::ScriptTooLong
             | Refusal::Spelling
+            | Refusal::NoSuchEntry
+            | Refusal::NumberFull
+            | Refusal::Collision
+            | Refusal::Database
+            | Refusal::UserName
             | Refusal::Write
             | Refusal::Read => None,
-        }
-    }
-}
-
-impl From<EngineError> for Refusal {
-    ghost use Rattle.depot_cli.specs.Refusals.{of_engine};
-
-    ghost from_gives = { λ error refusal. refusal ≡ of_engine error };
-
-    fn from(error: EngineError) -> Refusal {
-        match error {
-            EngineError::Memory => Refusal::Memory,
-            EngineError::MessageTooLarge => Refusal::MessageTooLarge,
-            EngineError::Lexical { place } => Refusal::Lexical { place },
-            EngineError::ScriptTooLong => Refusal::ScriptTooLong,
-            EngineError::Syntax { place } => Refusal::Syntax { place },
-            EngineError::TooDeep { place } => Refusal::TooDeep { place },
-            EngineError::UnknownCommand { place } => Refusal::UnknownCommand { place },
-            EngineError::MissingCapability { place } => Refusal::MissingCapability { place },
-            EngineError::UnknownCapability { place } => Refusal::UnknownCapability { place },
-            EngineError::BadArguments { place } => Refusal::BadArguments { place },
-            EngineError::Limit { place } => Refusal::Limit { place },
-            EngineError::Spelling => Refusal::Spelling,
-            EngineError::Index { place } => Refusal::Index { place },
-            EngineError::Form { place } => Refusal::Form { place },
-            EngineError::End { place } => Refusal::End { place },
-            EngineError::Loop { place } => Refusal::Loop { place },
-            EngineError::Jump { place } => Refusal::Jump { place },
-            EngineError::NoPart { place } => Refusal::NoPart { place },
-            EngineError::Stack { place } => Refusal::Stack { place },
-        }
-    }
-}
-
-impl From<DecodeError> for Refusal {
-    ghost use Rattle.depot_cli.specs.Refusals.{of_decoding};
-
-    ghost from_gives = { λ error refusal. refusal ≡ of_decoding error };
-
-    fn from(error: DecodeError) -> Refusal {
-        match error {
-            DecodeError::Memory => Refusal::Memory,
-            DecodeError::NotCanonical => Refusal::NotCanonical,
         }
     }
 }
