@@ -1,4 +1,4 @@
-use depot_actions::{Refusal, Encoding, decode, encode};
+use depot_actions::{Encoding, Refusal, decode, encode};
 
 const NO_MEMORY: &str = "memory ran out";
 
