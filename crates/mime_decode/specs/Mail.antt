@@ -1,11 +1,13 @@
 -- What filters know of a message.
-use Rattle.std.specs.Prelude.{◌≡◌, ℕ, ◌+◌, ◌<◌, ◌≤◌, List, [], ◌∷◌, length, slice_get, Some, codes}
-use Rattle.std.specs.List.{sum_by}
+use Rattle.std.specs.Prelude.{◌≡◌, ℕ, ◌+◌, ◌<◌, ◌≤◌, List, length, map, slice_get, sum_by, Some}
 use Rattle.octets.specs.Limits.{max_message, max_parts}
 use Rattle.header_fields.specs.Fields.{Field}
+use Rattle.header_fields.specs.Extent.{fields_extent}
 use Rattle.mime_params.specs.declared.media.MediaType.{MediaType}
 use Rattle.mime_params.specs.declared.encoding.TransferEncoding.{TransferEncoding}
-use Rattle.mime_params.specs.declared.encoding.TransferEncoding.TheVariants.{SevenBit}
+use Rattle.mime_tree.specs.PartTree as tree
+use Rattle.mime_tree.specs.Readable as readable
+use Rattle.mime_decode.specs.Content.{content_of}
 
 -- a part: its depth, counted from 1; the number of parts below it; its header's fields; its media type; how its body is encoded;
 -- its octets, those after its header, and what these stand for
@@ -28,10 +30,7 @@ pub record Mail : Type 0 where
 abbrev pub size_of : Mail → ℕ
 size_of mail = length mail.octets
 
--- how many octets fields take at least: each its value, a colon, and one more for its name
-abbrev pub fields_extent : List Field → ℕ
-fields_extent fields = sum_by (λ (f : Field). length f.value + 2) fields
-
+-- how many octets the fields of all parts take at least
 abbrev pub parts_extent : List Part → ℕ
 parts_extent parts = sum_by (λ (p : Part). fields_extent p.fields) parts
 
@@ -54,24 +53,24 @@ pub record IsMail (mail : Mail) : Type 0 where
   pub within : (place : ℕ) (part : Part) → slice_get mail.parts place ≡ Some part → IsWithin mail part
   pub fields : parts_extent mail.parts ≤ size_of mail
 
--- the one part of a message whose header isn't read
-abbrev pub lone_part : List ℕ → Part
-lone_part octets =
+-- a part of the tree, as filters know it
+abbrev pub part_of : tree.Part → Part
+part_of part =
     record {
-      depth = 1;
-      below = 0;
-      fields = [];
-      media = record { main = codes "text"; sub = codes "plain"; params = [] };
-      encoding = SevenBit;
-      raw = octets;
-      body = octets;
-      content = octets;
+      depth = part.depth;
+      below = part.below;
+      fields = part.header.fields;
+      media = part.media;
+      encoding = part.encoding;
+      raw = part.raw;
+      body = tree.body_of part;
+      content = content_of part.encoding (tree.body_of part);
     }
 
 -- the mail that octets are
 unfoldable pub mail_of : List ℕ → Mail
-mail_of octets = record { octets = octets; parts = lone_part octets ∷ [] }
+mail_of octets = record { octets = octets; parts = map part_of (tree.tree_of octets) }
 
--- octets that can be read as a message
+-- octets that can be read as a message: they and their parts are few enough
 abbrev pub IsReadable : List ℕ → Type 0
-IsReadable octets = length octets ≤ max_message
+IsReadable octets = readable.IsReadable octets

@@ -2,6 +2,7 @@
 ghost use Rattle.std.specs.Prelude.{◌≡◌};
 ghost use Rattle.mime_decode.specs.declared.error.MessageError.TheVariants.{Memory};
 
+use mime_tree::TreeError;
 use std::alloc::{AllocError, AllocFailed};
 use thiserror::Error;
 
@@ -14,6 +15,9 @@ pub enum MessageError {
     /// More octets than [`MAX_MESSAGE`](crate::MAX_MESSAGE).
     #[error("refused 2 MessageTooLarge")]
     MessageTooLarge,
+    /// More parts than [`MAX_PARTS`](crate::MAX_PARTS).
+    #[error("refused 3 TooManyParts")]
+    TooManyParts,
 }
 
 impl From<AllocError> for MessageError {
@@ -29,5 +33,19 @@ impl<T: Drop> From<AllocFailed<T>> for MessageError {
 
     fn from(_refused: AllocFailed<T>) -> MessageError {
         MessageError::Memory
+    }
+}
+
+impl From<TreeError> for MessageError {
+    ghost use Rattle.mime_decode.specs.Refusals.{of_tree};
+
+    ghost from_gives = { λ t e. e ≡ of_tree t };
+
+    fn from(refused: TreeError) -> MessageError {
+        match refused {
+            TreeError::Memory => MessageError::Memory,
+            TreeError::MessageTooLarge => MessageError::MessageTooLarge,
+            TreeError::TooManyParts => MessageError::TooManyParts,
+        }
     }
 }

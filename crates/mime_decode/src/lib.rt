@@ -1,12 +1,16 @@
 //! Mail messages as filters see them.
 //!
-//! A [`Message`] is read from any octets that aren't too many. A contract sees it as the record
-//! `Mail` (`specs/Mail`), of which `IsMail` holds: that is all that the machine and the meaning of
-//! scripts know of a message.
+//! A [`Message`] is read from any octets that aren't too many and have no more parts than may be. A contract sees it as
+//! the record `Mail` (`specs/Mail`), of which `IsMail` holds: that is all that the machine and the meaning of scripts know
+//! of a message. What the body of a part stands for is in `specs/Content`, and which parts and values tests look at in
+//! `specs/Scope`.
 #![tactic(auto)]
 
+mod content;
 mod error;
+pub mod laws;
 mod message;
 
 pub use error::MessageError;
-pub use message::{MAX_MESSAGE, Message};
+pub use message::Message;
+pub use mime_tree::{MAX_MESSAGE, MAX_PARTS};

@@ -1,50 +1,67 @@
 // A message that was read.
-ghost use Rattle.std.specs.Prelude.{◌≡◌, length, IfOk, IfErr};
+ghost use Rattle.std.specs.Prelude.{◌≡◌, ◌<◌, length, false, IfOk, IfErr, IsOk};
+ghost use Rattle.std.specs.List.{HoldsAt};
+ghost use Rattle.std.specs.Cow.{cow_slice_items, IsBorrowedSlice};
+ghost use Rattle.mime_tree.specs.PartTree.{tree_of};
+ghost use Rattle.mime_decode.specs.Content.{digest_of, is_decoded};
 ghost use Rattle.mime_decode.specs.Mail.{IsMail, IsReadable, mail_of, size_of};
 ghost use Rattle.mime_decode.specs.Refusals.{IsMessageRefusal};
 
+use crate::content::decoded;
 use crate::error::MessageError;
-use std::alloc::Global;
+use hex::encode_to_slice;
+use mime_params::TransferEncoding;
+use mime_tree::Tree;
+use sha2::{Digest, Sha256};
+use std::alloc::{AllocError, Global};
+use std::borrow::CowSlice;
 use std::marker::Model;
 
-/// The most octets of a message.
-pub const MAX_MESSAGE: usize = 67_108_864;
-
-/// A message, over octets that are lent: nothing is copied.
+/// A message, over octets that are lent: nothing is copied, and nothing is decoded before it is asked for.
+///
+/// A contract sees the mail of the definition.
 #[derive(Debug, Drop)]
 pub struct Message<'a> {
     octets: &'a [u8],
+    tree: Tree<'a>,
 }
 
 impl<'a> Model for Message<'a> {
+    ghost use Rattle.std.specs.Prelude.{◌≡◌};
+    ghost use Rattle.mime_tree.specs.PartTree.{tree_of};
     ghost use Rattle.mime_decode.specs.Mail.{Mail, IsReadable, mail_of};
 
     ghost Value = { Mail };
 
     ghost view = { λ m. mail_of m.octets.now };
 
-    ghost invariant = { λ m. IsReadable m.octets.now };
+    ghost invariant = { λ m. IsReadable m.octets.now × (m.tree ≡ tree_of m.octets.now) };
 }
 
 impl<'a> Message<'a> {
     /// The message that the octets are.
     ///
-    /// `MessageTooLarge` comes exactly where they are more than [`MAX_MESSAGE`], and no other error
-    /// comes but for want of memory.
-    #[tactic(auto, using(crate::proofs::MailLemmas::is_mail))]
-    pub fn read(_alloc: Global, octets: &'a [u8]) -> Result<Message<'a>, MessageError>
+    /// [`MessageError::MessageTooLarge`] comes exactly where they are more than [`MAX_MESSAGE`](crate::MAX_MESSAGE),
+    /// [`MessageError::TooManyParts`] where they aren't and the parts are more than [`MAX_PARTS`](crate::MAX_PARTS).
+    /// [`MessageError::Memory`] comes only where memory was refused.
+    pub fn read(alloc: Global, octets: &'a [u8]) -> Result<Message<'a>, MessageError>
         ensures read { IfOk result (λ m. IsReadable octets.now × (m ≡ mail_of octets.now)) }
         ensures mail { IfOk result (λ m. IsMail m) }
         ensures refused { IfErr result (λ e. IsMessageRefusal octets.now e) }
     {
-        if octets.len() > MAX_MESSAGE {
-            return Err(MessageError::MessageTooLarge);
-        }
-        Ok(Message { octets })
+        let tree = Tree::read(alloc, octets)?;
+        Ok(Message { octets, tree })
     }
 
-    /// The number of its octets, at most [`MAX_MESSAGE`].
-    #[tactic(auto, using(crate::proofs::MailLemmas::is_mail, crate::proofs::MailLemmas::size_is))]
+    /// The tree of its parts.
+    pub fn tree(&self) -> &Tree<'a>
+        ensures tree { result.now ≡ tree_of self.now.octets }
+        ensures mail { self.now ≡ mail_of self.now.octets }
+    {
+        &self.tree
+    }
+
+    /// The number of its octets, at most [`MAX_MESSAGE`](crate::MAX_MESSAGE).
     pub fn size(&self) -> usize
         ensures value { result ≡ size_of self.now }
         ensures mail { IsMail self.now }
@@ -52,13 +69,51 @@ impl<'a> Message<'a> {
         self.octets.len()
     }
 
-    /// The number of its parts: 1 to 4,096.
-    #[tactic(auto, using(crate::proofs::MailLemmas::is_mail, crate::proofs::MailLemmas::one_part))]
+    /// The number of its parts: 1 to [`MAX_PARTS`](crate::MAX_PARTS).
     pub fn parts(&self) -> usize
         ensures value { result ≡ length self.now.parts }
         ensures mail { IsMail self.now }
     {
-        let _octets = self.octets;
-        1
+        self.tree.parts()
+    }
+
+    /// How the body of a part is encoded (RFC 2045, section 6.1).
+    pub fn encoding(&self, part: usize) -> TransferEncoding
+        requires { part < length self.now.parts }
+        ensures { HoldsAt (λ p. result ≡ p.encoding) self.now.parts part }
+    {
+        self.tree.encoding(part)
+    }
+
+    /// The content of a part: what its body stands for in its encoding (RFC 2045, section 6).
+    ///
+    /// A body that isn't in base64 or quoted-printable is lent, and takes no memory.
+    ///
+    /// # Errors
+    ///
+    /// An allocation was refused.
+    pub fn content(&self, alloc: Global, part: usize) -> Result<CowSlice<'a, u8>, AllocError>
+        requires { part < length self.now.parts }
+        ensures content { HoldsAt (λ p. IfOk result (λ content. cow_slice_items content ≡ p.content)) self.now.parts part }
+        ensures lent { HoldsAt (λ p. is_decoded p.encoding ≡ false → IfOk result (λ content. IsBorrowedSlice content)) self.now.parts part }
+        ensures told { HoldsAt (λ p. is_decoded p.encoding ≡ false → IsOk result) self.now.parts part }
+    {
+        decoded(alloc, self.tree.encoding(part), self.tree.body(part))
+    }
+
+    /// The digest of a part's content: its SHA-256 in hexadecimal digits of lower case (FIPS 180-4; RFC 4648, section 8).
+    ///
+    /// # Errors
+    ///
+    /// An allocation was refused; where the body isn't decoded, none is made.
+    pub fn digest(&self, alloc: Global, part: usize) -> Result<[u8; 64], AllocError>
+        requires { part < length self.now.parts }
+        ensures digest { HoldsAt (λ p. IfOk result (λ digest. digest ≡ digest_of p.content)) self.now.parts part }
+        ensures told { HoldsAt (λ p. is_decoded p.encoding ≡ false → IsOk result) self.now.parts part }
+    {
+        let content = self.content(alloc, part)?;
+        let mut digits = [0; 64];
+        encode_to_slice(Sha256::digest(content.as_slice()), &mut digits).unwrap();
+        Ok(digits)
     }
 }

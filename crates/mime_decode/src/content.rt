@@ -1,0 +1,30 @@
+// What the body of a part stands for.
+ghost use Rattle.std.specs.Prelude.{◌≡◌, false, IfOk, IsOk};
+ghost use Rattle.std.specs.Cow.{cow_slice_items, IsBorrowedSlice};
+ghost use Rattle.mime_decode.specs.Content.{content_of, is_decoded};
+
+use lanes_base64_mime::decode_mime;
+use mime_params::TransferEncoding;
+use quoted_printable::decode_qp;
+use std::alloc::{AllocError, Global};
+use std::borrow::CowSlice;
+
+/// The octets that a body in this encoding stands for. One that isn't decoded is lent, and takes no memory.
+pub(crate) fn decoded<'a>(
+    alloc: Global,
+    encoding: TransferEncoding,
+    body: &'a [u8],
+) -> Result<CowSlice<'a, u8>, AllocError>
+    ensures content { IfOk result (λ content. cow_slice_items content ≡ content_of encoding body.now) }
+    ensures lent { is_decoded encoding ≡ false → IfOk result (λ content. IsBorrowedSlice content) }
+    ensures told { is_decoded encoding ≡ false → IsOk result }
+{
+    match encoding {
+        TransferEncoding::Base64 => Ok(CowSlice::Owned(decode_mime(alloc, body)?)),
+        TransferEncoding::QuotedPrintable => Ok(CowSlice::Owned(decode_qp(alloc, body)?)),
+        TransferEncoding::SevenBit
+        | TransferEncoding::EightBit
+        | TransferEncoding::Binary
+        | TransferEncoding::Unknown => Ok(CowSlice::Borrowed(body)),
+    }
+}

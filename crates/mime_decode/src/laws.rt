@@ -1,0 +1,15 @@
+//! What holds of the definitions alone.
+ghost use Rattle.std.specs.Prelude.{◌≤◌, ℕ, List, length};
+ghost use Rattle.mime_params.specs.declared.encoding.TransferEncoding.{TransferEncoding};
+ghost use Rattle.mime_decode.specs.Content.{content_of};
+ghost use Rattle.mime_decode.specs.Mail.{IsMail, IsReadable, mail_of};
+
+/// In no encoding does a body stand for more octets than it has.
+pub fn content_is_no_longer_than_its_body()
+    ensures { (encoding : TransferEncoding) (body : List ℕ) → length (content_of encoding body) ≤ length body }
+{}
+
+/// Whatever can be read is a mail.
+pub fn what_is_read_is_a_mail()
+    ensures { (octets : List ℕ) → IsReadable octets → IsMail (mail_of octets) }
+{}
