@@ -16,7 +16,7 @@ use Rattle.sieve_check.specs.declared.error.CheckError.TheVariants as checker
 use Rattle.sieve_parser.specs.declared.error.ParseError.{ParseError}
 use Rattle.sieve_parser.specs.declared.error.ParseError.TheVariants as parser
 use Rattle.refusals.specs.declared.refusal.Refusal.{Refusal}
-use Rattle.refusals.specs.declared.refusal.Refusal.TheVariants.{Memory, MessageTooLarge, NotCanonical, Lexical, ScriptTooLong, Syntax, TooDeep, UnknownCommand, MissingCapability, UnknownCapability, BadArguments, Limit, Spelling, Index, Form, End, Loop, Jump, NoPart, Stack}
+use Rattle.refusals.specs.declared.refusal.Refusal.TheVariants.{Memory, MessageTooLarge, TooManyParts, NotCanonical, Lexical, ScriptTooLong, Syntax, TooDeep, UnknownCommand, MissingCapability, UnknownCapability, BadArguments, Limit, Spelling, Index, Form, End, Loop, Jump, NoPart, Stack}
 
 -- an error of the parser
 abbrev pub of_parser : ParseError → Refusal
@@ -55,6 +55,7 @@ of_verifier (verifier.Stack place) = Stack place
 abbrev pub of_message : MessageError → Refusal
 of_message message.Memory = Memory
 of_message message.MessageTooLarge = MessageTooLarge
+of_message message.TooManyParts = TooManyParts
 
 -- of base32 and base32hex
 abbrev pub of_base32 : Base32Refusal → Refusal

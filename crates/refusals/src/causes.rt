@@ -88,6 +88,7 @@ impl From<MessageError> for Refusal {
         match cause {
             MessageError::Memory => Refusal::Memory,
             MessageError::MessageTooLarge => Refusal::MessageTooLarge,
+            MessageError::TooManyParts => Refusal::TooManyParts,
         }
     }
 }

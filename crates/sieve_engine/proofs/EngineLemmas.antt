@@ -15,8 +15,9 @@ use Rattle.sieve_vm.proofs.Bounds.{ends_within, one_end_from}
 use Rattle.bytecode_format.specs.Actions.{final_actions}
 use Rattle.bytecode_verifier.specs.Acceptance.{IsAccepted}
 use Rattle.refusals.specs.Causes.{of_verifier}
-use Rattle.sieve_engine.specs.Execution.{Spells, IsProgramRefusal, IsReport}
-use Rattle.sieve_engine.specs.Evaluation.{IsCompiled, IsEvaluation, IsEvaluationRefusal, IsScriptRefusal}
+use Rattle.sieve_engine.specs.Execution.{Spells, IsChecked, IsProgramRefusal, IsRefusal, IsReport, IsUnread}
+use Rattle.sieve_engine.specs.Evaluation.{IsCompiled, IsEvaluation, IsEvaluationRefusal, IsScript, IsScriptRefusal}
+use Rattle.sieve_check.specs.Typed.{CommandForms}
 use Rattle.refusals.specs.declared.refusal.Refusal.{Refusal}
 use Rattle.refusals.specs.declared.refusal.Refusal.TheVariants as engine
 
@@ -60,6 +61,7 @@ evaluated script message code actions charged limit compiled report =
 pub refused_script : (script message : List ℕ) (e : Refusal) → IsScriptRefusal script e → IsEvaluationRefusal script message e
 refused_script script message engine.Memory h = h
 refused_script script message engine.MessageTooLarge h = absurd h
+refused_script script message engine.TooManyParts h = absurd h
 refused_script script message (engine.Lexical place) h = h
 refused_script script message engine.ScriptTooLong h = h
 refused_script script message (engine.Syntax place) h = h
@@ -70,3 +72,17 @@ refused_script script message (engine.UnknownCapability place) h = h
 refused_script script message (engine.BadArguments place) h = h
 refused_script script message (engine.Limit place) h = h
 refused_script script message _ h = absurd h
+
+-- a message that isn't read, after a script that is one
+pub unread_after_script : (script message : List ℕ) (form : CommandForms) (e : Refusal) → IsScript script form → IsUnread message e → IsEvaluationRefusal script message e
+unread_after_script script message form engine.Memory is h = tt
+unread_after_script script message form engine.MessageTooLarge is h = (h, form, is)
+unread_after_script script message form engine.TooManyParts is h = (h, form, is)
+unread_after_script script message form _ is h = absurd h
+
+-- and after a program that is accepted
+pub unread_after_program : (program message : List ℕ) (code : Code) (e : Refusal) → IsChecked program code → IsUnread message e → IsRefusal program message e
+unread_after_program program message code engine.Memory is h = tt
+unread_after_program program message code engine.MessageTooLarge is h = (h, code, is)
+unread_after_program program message code engine.TooManyParts is h = (h, code, is)
+unread_after_program program message code _ is h = absurd h

@@ -18,7 +18,7 @@ use Rattle.sieve_meaning.specs.Meaning.{meaning}
 use Rattle.sieve_vm.specs.Ending.{IsOutcome}
 use Rattle.sieve_compiler.specs.Coding.{code_of}
 use Rattle.refusals.specs.declared.refusal.Refusal.{Refusal}
-use Rattle.refusals.specs.declared.refusal.Refusal.TheVariants.{Memory, MessageTooLarge, Lexical, ScriptTooLong, Syntax, TooDeep, UnknownCommand, MissingCapability, UnknownCapability, BadArguments, Limit}
+use Rattle.refusals.specs.declared.refusal.Refusal.TheVariants.{Memory, MessageTooLarge, TooManyParts, Lexical, ScriptTooLong, Syntax, TooDeep, UnknownCommand, MissingCapability, UnknownCapability, BadArguments, Limit}
 use Rattle.sieve_engine.specs.Execution.{IsReport}
 
 -- the octets are a script without faults, of this typed form
@@ -49,6 +49,7 @@ IsScriptRefusal octets _ = ⊥
 -- the first refusal of a script and a message, the script's first
 abbrev pub IsEvaluationRefusal : List ℕ → List ℕ → Refusal → Type 0
 IsEvaluationRefusal script message MessageTooLarge = IsMessageRefusal message mail.MessageTooLarge × ((form : CommandForms) × IsScript script form)
+IsEvaluationRefusal script message TooManyParts = IsMessageRefusal message mail.TooManyParts × ((form : CommandForms) × IsScript script form)
 IsEvaluationRefusal script message error = IsScriptRefusal script error
 
 -- the program is the script's code, is accepted, and on every message its run ends with the final actions of the script's meaning

@@ -13,7 +13,7 @@ use Rattle.mime_decode.specs.Refusals.{IsMessageRefusal}
 use Rattle.mime_decode.specs.declared.error.MessageError.TheVariants as mail
 use Rattle.sieve_vm.specs.Ending.{IsOutcome}
 use Rattle.refusals.specs.declared.refusal.Refusal.{Refusal}
-use Rattle.refusals.specs.declared.refusal.Refusal.TheVariants.{Memory, MessageTooLarge, Spelling, Index, Form, End, Loop, Jump, NoPart, Stack}
+use Rattle.refusals.specs.declared.refusal.Refusal.TheVariants.{Memory, MessageTooLarge, TooManyParts, Spelling, Index, Form, End, Loop, Jump, NoPart, Stack}
 
 -- the octets spell this program
 pub record Spells (octets : List ℕ) (code : Code) : Type 0 where
@@ -45,7 +45,15 @@ IsProgramRefusal octets _ = ⊥
 -- the first refusal of a program and a message, the program's first
 abbrev pub IsRefusal : List ℕ → List ℕ → Refusal → Type 0
 IsRefusal program message MessageTooLarge = IsMessageRefusal message mail.MessageTooLarge × ((code : Code) × IsChecked program code)
+IsRefusal program message TooManyParts = IsMessageRefusal message mail.TooManyParts × ((code : Code) × IsChecked program code)
 IsRefusal program message error = IsProgramRefusal program error
+
+-- why a message isn't read
+abbrev pub IsUnread : List ℕ → Refusal → Type 0
+IsUnread message Memory = Unit {0}
+IsUnread message MessageTooLarge = IsMessageRefusal message mail.MessageTooLarge
+IsUnread message TooManyParts = IsMessageRefusal message mail.TooManyParts
+IsUnread message _ = ⊥
 
 -- the message is read, and the program's run on it comes to these actions and this charge, within this limit
 pub record IsReport (code : Code) (message : List ℕ) (actions : List Action) (charged limit : ℕ) : Type 0 where

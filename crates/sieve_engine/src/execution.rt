@@ -1,11 +1,7 @@
 // Running bytecode that anyone may hand in.
 ghost use Rattle.std.specs.Prelude.{IfOk, IfErr};
-ghost use Rattle.std.specs.Prelude.{◌≡◌, ◌⊎◌};
-ghost use Rattle.mime_decode.specs.Refusals.{IsMessageRefusal};
-ghost use Rattle.mime_decode.specs.declared.error.MessageError.TheVariants as mail;
-ghost use Rattle.refusals.specs.declared.refusal.Refusal.TheVariants.{Memory, MessageTooLarge};
 ghost use Rattle.bytecode_verifier.specs.Acceptance.{IsAccepted};
-ghost use Rattle.sieve_engine.specs.Execution.{IsChecked, IsProgramRefusal, IsExecution, IsRefusal, IsReport};
+ghost use Rattle.sieve_engine.specs.Execution.{IsChecked, IsProgramRefusal, IsExecution, IsRefusal, IsReport, IsUnread};
 
 use bytecode_format::Program;
 use bytecode_verifier::{Verified, verify};
@@ -58,7 +54,7 @@ pub(crate) fn run_on(
 ) -> Result<Report, Refusal>
     requires { IsAccepted verified.now }
     ensures reported { IfOk result (λ report. IsReport verified.now message.now report.outcome.actions.items report.outcome.charged report.limit) }
-    ensures refused { IfErr result (λ e. (e ≡ Memory) ⊎ ((e ≡ MessageTooLarge) × IsMessageRefusal message.now mail.MessageTooLarge)) }
+    ensures refused { IfErr result (λ e. IsUnread message.now e) }
 {
     let message = Message::read(alloc, message)?;
     let outcome = run(alloc, verified, &message)?;
