@@ -1,12 +1,12 @@
 -- A content is no longer than its body.
-use Rattle.std.proofs.Common.{◌≡◌, ℕ, zero, suc, ◌+◌, ◌*◌, ◌/◌, ◌≤◌, List, length, map, take, drop, refl, ap, arith}
+use Rattle.std.proofs.Common.{◌≡◌, ℕ, zero, suc, ◌+◌, ◌*◌, ◌/◌, ◌≤◌, List, length, map, drop, refl, ap, arith}
 use Rattle.std.specs.Prelude.{◌==◌, not}
 use Rattle.std.specs.List.{position_or_len}
 use Rattle.std.proofs.lemmas.List.{length-map, length-take}
 use Rattle.std.proofs.lemmas.List.Sums.{length-filter, count_by-le-length}
 use Rattle.mime_params.specs.declared.encoding.TransferEncoding.{TransferEncoding}
 use Rattle.mime_params.specs.declared.encoding.TransferEncoding.TheVariants.{SevenBit, EightBit, Binary, QuotedPrintable, Base64, Unknown}
-use Rattle.octet_lanes.specs.Encoding.{all_bits, before_padding, class_of, cut, decoding_of, first_pieces, number_of, octets_of, padding, stray, values_among, values_of, whole}
+use Rattle.octet_lanes.specs.Encoding.{all_bits, before_padding, class_of, cut, decoding_of, first_pieces, number_of, octets_of, padding, stray, values_of, whole}
 use Rattle.octet_lanes.specs.declared.alphabet.Alphabet.TheVariants as alphabet
 use Rattle.octet_lanes.proofs.Bits.{length-all_bits}
 use Rattle.lanes_base64_mime.specs.MimeBase64.{mime_decoding_of}

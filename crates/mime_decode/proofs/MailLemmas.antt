@@ -6,7 +6,6 @@ use Rattle.std.specs.Option.{option_map}
 use Rattle.std.proofs.lemmas.List.{length-map}
 use Rattle.std.proofs.lemmas.List.Sums.{sum_by-cons}
 use Rattle.std.proofs.lemmas.Option.{slice_get-map}
-use Rattle.octets.specs.Limits.{max_message, max_parts}
 use Rattle.header_fields.specs.Extent.{fields_extent}
 use Rattle.mime_tree.specs.PartTree as tree
 use Rattle.mime_tree.specs.Order as order
@@ -53,10 +52,10 @@ nests_as parts place part nests =
     record {
       within = omega (arith, nests.within, number);
       inner = λ other inside after before here.
-        let from = from_tree parts other inside here in
-        let stays = nests.inner other from.part_in after before from.here in
-        let below : from.part_in.below ≡ inside.below = ap (λ (p : Part). p.below) from.same in
-        omega (arith, stays, below);
+          let from = from_tree parts other inside here in
+          let stays = nests.inner other from.part_in after before from.here in
+          let below : from.part_in.below ≡ inside.below = ap (λ (p : Part). p.below) from.same in
+          omega (arith, stays, below);
     }
 
 mail_nests : (octets : List ℕ) (place : ℕ) (part : Part) → slice_get (mail_of octets).parts place ≡ Some part → Nests (mail_of octets).parts place part

@@ -2,3 +2,5 @@
 pub mod Content
 pub mod Mail
 pub mod Refusals
+-- where tests look, and what they select there
+pub mod Scope

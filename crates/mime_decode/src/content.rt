@@ -1,11 +1,13 @@
-// What the body of a part stands for.
+// What the body of a part stands for, and its digest.
 ghost use Rattle.std.specs.Prelude.{◌≡◌, false, IfOk, IsOk};
 ghost use Rattle.std.specs.Cow.{cow_slice_items, IsBorrowedSlice};
-ghost use Rattle.mime_decode.specs.Content.{content_of, is_decoded};
+ghost use Rattle.mime_decode.specs.Content.{content_of, digest_of, is_decoded};
 
+use hex::encode_to_slice;
 use lanes_base64_mime::decode_mime;
 use mime_params::TransferEncoding;
 use quoted_printable::decode_qp;
+use sha2::{Digest, Sha256};
 use std::alloc::{AllocError, Global};
 use std::borrow::CowSlice;
 
@@ -27,4 +29,15 @@ pub(crate) fn decoded<'a>(
         | TransferEncoding::Binary
         | TransferEncoding::Unknown => Ok(CowSlice::Borrowed(body)),
     }
+}
+
+/// The digest of octets: their SHA-256 in hexadecimal digits of lower case (FIPS 180-4; RFC 4648, section 8).
+///
+/// It takes no memory. Whoever has a part's content gets by it what [`Message::digest`](crate::Message::digest) gives.
+pub fn digest_of(octets: &[u8]) -> [u8; 64]
+    ensures { result ≡ digest_of octets.now }
+{
+    let mut digits = [0; 64];
+    encode_to_slice(Sha256::digest(octets), &mut digits).unwrap();
+    digits
 }

@@ -11,6 +11,7 @@ mod error;
 pub mod laws;
 mod message;
 
+pub use content::digest_of;
 pub use error::MessageError;
 pub use message::Message;
 pub use mime_tree::{MAX_MESSAGE, MAX_PARTS};

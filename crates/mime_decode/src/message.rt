@@ -7,12 +7,10 @@ ghost use Rattle.mime_decode.specs.Content.{digest_of, is_decoded};
 ghost use Rattle.mime_decode.specs.Mail.{IsMail, IsReadable, mail_of, size_of};
 ghost use Rattle.mime_decode.specs.Refusals.{IsMessageRefusal};
 
-use crate::content::decoded;
+use crate::content::{decoded, digest_of};
 use crate::error::MessageError;
-use hex::encode_to_slice;
 use mime_params::TransferEncoding;
 use mime_tree::Tree;
-use sha2::{Digest, Sha256};
 use std::alloc::{AllocError, Global};
 use std::borrow::CowSlice;
 use std::marker::Model;
@@ -112,8 +110,6 @@ impl<'a> Message<'a> {
         ensures told { HoldsAt (λ p. is_decoded p.encoding ≡ false → IsOk result) self.now.parts part }
     {
         let content = self.content(alloc, part)?;
-        let mut digits = [0; 64];
-        encode_to_slice(Sha256::digest(content.as_slice()), &mut digits).unwrap();
-        Ok(digits)
+        Ok(digest_of(content.as_slice()))
     }
 }

@@ -1,4 +1,4 @@
-use Rattle.std.proofs.Common.{◌≡◌, false, IfOk, IsOk, sym, ◌∙◌, arith}
+use Rattle.std.proofs.Common.{◌≡◌, false, IfOk, IsOk, sym, arith}
 use Rattle.std.specs.Cow.{cow_slice_items, IsBorrowedSlice}
 use Rattle.mime_decode.specs.Content.{is_decoded}
 use Rattle.mime_decode.specs.Mail.{Part}
@@ -14,17 +14,17 @@ body-requires c = let number = holds_number (record { readable = c.self.invarian
 pub returns-clause-content : goal.returns-clause-content
 returns-clause-content c =
     holds_at (λ (p : Part). IfOk c.decoded.result (λ content. cow_slice_items content ≡ p.content)) c.args.part
-      (record { readable = c.self.invariant.0; tree_is = c.self.invariant.1; mail_is = c.self.view_is }) c.requires
-      (λ d. let encoding = c.encoding.ensures d in let body = c.body.ensures d in rw (sym encoding, sym body) c.decoded.ensures.content)
+    (record { readable = c.self.invariant.0; tree_is = c.self.invariant.1; mail_is = c.self.view_is }) c.requires
+    (λ d. let encoding = c.encoding.ensures d in let body = c.body.ensures d in rw (sym encoding, sym body) c.decoded.ensures.content)
 
 pub returns-clause-lent : goal.returns-clause-lent
 returns-clause-lent c =
     holds_at (λ (p : Part). is_decoded p.encoding ≡ false → IfOk c.decoded.result (λ content. IsBorrowedSlice content)) c.args.part
-      (record { readable = c.self.invariant.0; tree_is = c.self.invariant.1; mail_is = c.self.view_is }) c.requires
-      (λ d. let encoding = c.encoding.ensures d in rw (sym encoding) c.decoded.ensures.lent)
+    (record { readable = c.self.invariant.0; tree_is = c.self.invariant.1; mail_is = c.self.view_is }) c.requires
+    (λ d. let encoding = c.encoding.ensures d in rw (sym encoding) c.decoded.ensures.lent)
 
 pub returns-clause-told : goal.returns-clause-told
 returns-clause-told c =
     holds_at (λ (p : Part). is_decoded p.encoding ≡ false → IsOk c.decoded.result) c.args.part
-      (record { readable = c.self.invariant.0; tree_is = c.self.invariant.1; mail_is = c.self.view_is }) c.requires
-      (λ d. let encoding = c.encoding.ensures d in rw (sym encoding) c.decoded.ensures.told)
+    (record { readable = c.self.invariant.0; tree_is = c.self.invariant.1; mail_is = c.self.view_is }) c.requires
+    (λ d. let encoding = c.encoding.ensures d in rw (sym encoding) c.decoded.ensures.told)

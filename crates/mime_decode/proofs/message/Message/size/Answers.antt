@@ -1,4 +1,4 @@
-use Rattle.std.proofs.Common.{ap, ◌∙◌}
+use Rattle.std.proofs.Common.{ap}
 use Rattle.std.specs.Prelude.{length}
 use Rattle.mime_decode.proofs.MailLemmas.{holds_octets, holds_mail}
 use Rattle.mime_decode.proofs.message.Message.size.Goals as goal
