@@ -4,7 +4,6 @@ pub mod Table
 pub mod Sound
 pub mod Accepted
 pub mod Meets
-pub mod TableLemmas
 pub mod Walks
 pub mod NumberingLemmas
 pub mod PuttingLemmas
