@@ -25,7 +25,7 @@ use Rattle.sieve_compiler.specs.Lengths.{commands_length}
 use Rattle.sieve_compiler.specs.Coding.{plain, commands_code, code_of}
 use Rattle.sieve_compiler.proofs.Standing.{Stands, stands_right, stands_first}
 use Rattle.sieve_compiler.proofs.CodeLengths.{commands_code_length}
-use Rattle.sieve_compiler.proofs.Table.{tables_have}
+use Rattle.sieve_compiler.proofs.Known.{tables_have}
 use Rattle.sieve_compiler.proofs.Sound.{pushes, takes, is_emitted, follows_push, IsSound, AreSound, sound_both, plain_sound, commands_end, commands_sound}
 
 sound_at : (all : List Instruction) (tables : Tables) (last place : ℕ) (piece : List Instruction) (k : ℕ) (i : Instruction) → AreSound all tables last place piece → slice_get piece k ≡ Some i → IsSound all tables last (place + k) i

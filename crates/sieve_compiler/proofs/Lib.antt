@@ -1,6 +1,6 @@
 pub mod Standing
 pub mod CodeLengths
-pub mod Table
+pub mod Known
 pub mod Sound
 pub mod Accepted
 pub mod Meets

@@ -21,7 +21,7 @@ use Rattle.sieve_compiler.specs.Numbers.{test_numbers, tests_numbers, command_nu
 use Rattle.sieve_compiler.specs.Coding.{plain, instruction, jump_if, push_bool, push_size, asked_of, aim_of, test_code, tests_code, leave_code, command_code, commands_code, branches_code, code_of}
 use Rattle.sieve_compiler.proofs.Standing.{Stands, stands_first, stands_next, stands_left, stands_right}
 use Rattle.sieve_compiler.proofs.CodeLengths.{test_code_length, command_code_length}
-use Rattle.sieve_compiler.proofs.Table.{Has, has_left, has_right, has_itself, found, tables_have}
+use Rattle.sieve_compiler.proofs.Known.{Has, has_left, has_right, has_itself, found, tables_have}
 use Rattle.sieve_compiler.proofs.Sound.{branch_parts_of}
 use Rattle.sieve_compiler.proofs.Accepted.{halt_at, sound, loopless}
 

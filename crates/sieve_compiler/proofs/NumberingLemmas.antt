@@ -10,7 +10,7 @@ use Rattle.sieve_check.specs.declared.typed.Command.TheVariants.{If}
 use Rattle.sieve_check.specs.Typed.{BranchForms}
 use Rattle.sieve_check.specs.TypedView.{test_form, tests_of, command_form, commands_form, branch_forms, else_form}
 use Rattle.sieve_compiler.specs.Numbers.{test_numbers, tests_numbers, command_numbers, commands_numbers, branches_numbers}
-use Rattle.sieve_compiler.specs.Table.{with_numbers}
+use Rattle.sieve_compiler.specs.Growing.{with_numbers}
 use Rattle.sieve_compiler.proofs.Walks.{all_form, any_form, first_test, first_command, first_branch, no_branch_left, if_form}
 
 -- numbers after others

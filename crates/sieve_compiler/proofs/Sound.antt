@@ -15,7 +15,7 @@ use Rattle.sieve_compiler.specs.Numbers.{test_numbers, tests_numbers, command_nu
 use Rattle.sieve_compiler.specs.Coding.{plain, instruction, jump_if, push_bool, push_size, aim_of, test_code, tests_code, leave_code, command_code, commands_code, branches_code}
 use Rattle.sieve_compiler.proofs.Standing.{Stands, stands_first, stands_next, stands_left, stands_right}
 use Rattle.sieve_compiler.proofs.CodeLengths.{length_two, test_code_length, leave_code_length, command_code_length, commands_code_length}
-use Rattle.sieve_compiler.proofs.Table.{Has, has_left, has_right, has_itself, found}
+use Rattle.sieve_compiler.proofs.Known.{Has, has_left, has_right, has_itself, found}
 
 -- the operation leaves a truth value
 abbrev pub pushes : Option Operation → Bool

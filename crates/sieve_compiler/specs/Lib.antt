@@ -3,5 +3,5 @@ pub mod Numbers
 pub mod Tables
 pub mod Coding
 -- how the compiler goes; nothing public rests on these
-pub mod Table
+pub mod Growing
 pub mod Putting

@@ -10,7 +10,7 @@ impl Numbers {
     ghost use Rattle.octets.specs.Once.{each_once};
     ghost use Rattle.sieve_check.specs.TypedView.{test_form, tests_of, command_form, commands_form};
     ghost use Rattle.sieve_compiler.specs.Numbers.{test_numbers, tests_numbers, command_numbers, commands_numbers};
-    ghost use Rattle.sieve_compiler.specs.Table.{with_numbers};
+    ghost use Rattle.sieve_compiler.specs.Growing.{with_numbers};
 
     /// The different numbers of a script, in the order of their first use.
     ///

@@ -19,7 +19,7 @@ impl Model for Numbers {
     ghost use Rattle.std.specs.Prelude.{◌≡◌, ℕ, List};
     ghost use Rattle.std.specs.BTreeMap.{get};
     ghost use Rattle.std.specs.Ordering.{nat_cmp};
-    ghost use Rattle.sieve_compiler.specs.Table.{found_in};
+    ghost use Rattle.sieve_compiler.specs.Growing.{found_in};
 
     ghost Value = { List ℕ };
 
@@ -31,7 +31,7 @@ impl Model for Numbers {
 impl Numbers {
     ghost use Rattle.std.specs.Prelude.{nat_eq};
     ghost use Rattle.octets.specs.Once.{place_in};
-    ghost use Rattle.sieve_compiler.specs.Table.{with_number};
+    ghost use Rattle.sieve_compiler.specs.Growing.{with_number};
 
     /// No number. Takes no memory.
     pub fn new(alloc: Global) -> Numbers

@@ -4,7 +4,7 @@ use Rattle.std.proofs.lemmas.Bool.Decides.{nat_tests}
 use Rattle.std.proofs.lemmas.Cmp.{nat_eq_equiv}
 use Rattle.octets.specs.Once.{is_listed}
 use Rattle.octets.proofs.Once.{found_listed, found_insert, listed_kept, unlisted_added}
-use Rattle.sieve_compiler.specs.Table.{with_number}
+use Rattle.sieve_compiler.specs.Growing.{with_number}
 use Rattle.sieve_compiler.proofs.numbers.Numbers.add.Goals as goal
 
 -- equal numbers, by their order

@@ -3,7 +3,7 @@ use Rattle.std.proofs.lemmas.Cmp.{nat_eq_equiv}
 use Rattle.octets.proofs.Once.{all_added}
 use Rattle.sieve_check.specs.TypedView.{commands_form}
 use Rattle.sieve_compiler.specs.Numbers.{commands_numbers}
-use Rattle.sieve_compiler.specs.Table.{with_numbers}
+use Rattle.sieve_compiler.specs.Growing.{with_numbers}
 use Rattle.sieve_compiler.proofs.numbers.Numbers.of_script.Goals as goal
 
 pub returns : goal.returns
