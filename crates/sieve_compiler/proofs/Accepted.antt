@@ -20,23 +20,23 @@ use Rattle.bytecode_verifier.specs.Shape.{Entries, is_target, shape_after, shape
 use Rattle.bytecode_verifier.proofs.Ends.{nowhere, past_stack}
 use Rattle.bytecode_verifier.proofs.Loopless.{needs_no_part, misses_no_loop, no_loops}
 use Rattle.sieve_check.specs.Typed.{CommandForms}
+use Rattle.sieve_compiler.specs.Tables.{Tables, tables_of}
 use Rattle.sieve_compiler.specs.Lengths.{commands_length}
-use Rattle.sieve_compiler.specs.Numbers.{commands_numbers}
 use Rattle.sieve_compiler.specs.Coding.{plain, commands_code, code_of}
 use Rattle.sieve_compiler.proofs.Standing.{Stands, stands_right, stands_first}
 use Rattle.sieve_compiler.proofs.CodeLengths.{commands_code_length}
-use Rattle.sieve_compiler.proofs.Table.{distinct_has}
+use Rattle.sieve_compiler.proofs.Known.{tables_have}
 use Rattle.sieve_compiler.proofs.Sound.{pushes, takes, is_emitted, follows_push, IsSound, AreSound, sound_both, plain_sound, commands_end, commands_sound}
 
-sound_at : (all : List Instruction) (table : List ℕ) (last place : ℕ) (piece : List Instruction) (k : ℕ) (i : Instruction) → AreSound all table last place piece → slice_get piece k ≡ Some i → IsSound all table last (place + k) i
-sound_at all table last place [] k i h e = absurd (cc)
-sound_at all table last place (j ∷ piece) zero i h e =
+sound_at : (all : List Instruction) (tables : Tables) (last place : ℕ) (piece : List Instruction) (k : ℕ) (i : Instruction) → AreSound all tables last place piece → slice_get piece k ≡ Some i → IsSound all tables last (place + k) i
+sound_at all tables last place [] k i h e = absurd (cc)
+sound_at all tables last place (j ∷ piece) zero i h e =
     let same : j ≡ i = cc in
     let here : place ≡ place + 0 = omega arith in
-    subst (λ p. IsSound all table last p i) here (subst (λ x. IsSound all table last place x) same h.0)
-sound_at all table last place (j ∷ piece) (suc k) i h e =
+    subst (λ p. IsSound all tables last p i) here (subst (λ x. IsSound all tables last place x) same h.0)
+sound_at all tables last place (j ∷ piece) (suc k) i h e =
     let here : suc place + k ≡ place + suc k = omega arith in
-    subst (λ p. IsSound all table last p i) here (sound_at all table last (suc place) piece k i h.1 e)
+    subst (λ p. IsSound all tables last p i) here (sound_at all tables last (suc place) piece k i h.1 e)
 
 index_kept : (code : Code) (o : Option Operation) (i : Instruction) → (o ≡ Some Size → i.c < length code.numbers) → misses_index code (option_and_then (row_of code.version) o) i ≡ false
 index_kept code None i h = refl
@@ -94,10 +94,10 @@ goes_on : (before after : Option Entries) (entries : Entries) → after ≡ Some
 goes_on before after entries e = rw e (and-false (is_some before))
 
 -- no jump leads to where a truth value is left
-no_target : (all : List Instruction) (table : List ℕ) (last from : ℕ) (piece : List Instruction) (place : ℕ) → AreSound all table last from piece → follows_push all place ≡ true → is_target 1 piece place ≡ false
-no_target all table last from [] place h left_there = refl
-no_target all table last from (i ∷ piece) place h left_there =
-    let rest = no_target all table last (suc from) piece place h.1 left_there in
+no_target : (all : List Instruction) (tables : Tables) (last from : ℕ) (piece : List Instruction) (place : ℕ) → AreSound all tables last from piece → follows_push all place ≡ true → is_target 1 piece place ≡ false
+no_target all tables last from [] place h left_there = refl
+no_target all tables last from (i ∷ piece) place h left_there =
+    let rest = no_target all tables last (suc from) piece place h.1 left_there in
     elim (cases_Bool (is_jump (row_named 1 i.op))) [
       | inl jump ↦
           let elsewhere : (i.c ≡ place → ⊥) = (λ (same : i.c ≡ place). let both : false ≡ true = sym (h.0.jump jump).between ∙ ap (follows_push all) same ∙ left_there in absurd (cc)) in
@@ -112,35 +112,38 @@ module _ (script : CommandForms) where
   abbrev all : List Instruction
   all = code.instructions
 
+  abbrev tables : Tables
+  tables = tables_of script
+
   abbrev last : ℕ
   last = commands_length script
 
   abbrev body : List Instruction
-  body = commands_code code.numbers 0 script
+  body = commands_code tables 0 script
 
   body_stands : Stands all 0 body
   body_stands = (plain Halt ∷ [], refl)
 
   body_ends : follows_push all last ≡ false
-  body_ends = let same : 0 + last ≡ last = omega arith in subst (λ p. follows_push all p ≡ false) same (commands_end all code.numbers last script 0 body_stands refl)
+  body_ends = let same : 0 + last ≡ last = omega arith in subst (λ p. follows_push all p ≡ false) same (commands_end all tables last script 0 body_stands refl)
 
   halt_stands : Stands all (0 + last) (plain Halt ∷ [])
-  halt_stands = stands_right all 0 last body (plain Halt ∷ []) (commands_code_length code.numbers script 0) ([], sym (append-nil all))
+  halt_stands = stands_right all 0 last body (plain Halt ∷ []) (commands_code_length tables script 0) ([], sym (append-nil all))
 
   pub halt_at : slice_get all last ≡ Some (plain Halt)
   halt_at = let same : 0 + last ≡ last = omega arith in subst (λ p. slice_get all p ≡ Some (plain Halt)) same (stands_first all (0 + last) (plain Halt) [] halt_stands)
 
   pub code_length : length all ≡ suc last
-  code_length = let sum = length-append body (plain Halt ∷ []) in let own = commands_code_length code.numbers script 0 in omega (arith, sum, own)
+  code_length = let sum = length-append body (plain Halt ∷ []) in let own = commands_code_length tables script 0 in omega (arith, sum, own)
 
-  all_sound : AreSound all code.numbers last 0 all
+  all_sound : AreSound all tables last 0 all
   all_sound =
       let le : 0 + last ≤ last = omega arith in
-      let halt = plain_sound all code.numbers last (0 + last) Halt refl refl refl (λ e. absurd (cc)) refl refl (commands_end all code.numbers last script 0 body_stands refl) in
-      sound_both all code.numbers last body (plain Halt ∷ []) 0 last (commands_code_length code.numbers script 0) (commands_sound all code.numbers last script 0 body_stands (distinct_has (commands_numbers script)) refl le) (halt, tt)
+      let halt = plain_sound all tables last (0 + last) Halt refl refl refl (λ e. absurd (cc)) refl refl (commands_end all tables last script 0 body_stands refl) in
+      sound_both all tables last body (plain Halt ∷ []) 0 last (commands_code_length tables script 0) (commands_sound all tables last script 0 body_stands (tables_have script) refl le) (halt, tt)
 
-  pub sound : (place : ℕ) (i : Instruction) → slice_get all place ≡ Some i → IsSound all code.numbers last place i
-  sound place i e = let same : 0 + place ≡ place = omega arith in subst (λ p. IsSound all code.numbers last p i) same (sound_at all code.numbers last 0 all place i all_sound e)
+  pub sound : (place : ℕ) (i : Instruction) → slice_get all place ≡ Some i → IsSound all tables last place i
+  sound place i e = let same : 0 + place ≡ place = omega arith in subst (λ p. IsSound all tables last p i) same (sound_at all tables last 0 all place i all_sound e)
 
   shape_known : (place : ℕ) → place ≤ length all → shape_at code place ≡ Some (left (follows_push all place))
   shape_known zero le = refl
@@ -151,7 +154,7 @@ module _ (script : CommandForms) where
       let s = sound place i here in
       let free : (is_target 1 all place && takes (operation_of i.op)) ≡ false =
       elim (cases_Bool (takes (operation_of i.op))) [
-        | inl taken ↦ rw (no_target all code.numbers last 0 all place all_sound (s.stack ∙ taken)) refl
+        | inl taken ↦ rw (no_target all tables last 0 all place all_sound (s.stack ∙ taken)) refl
         | inr none ↦ rw none (and-false (is_target 1 all place))
       ] in
       let kept = shape_kept code (is_target 1 all place) (operation_of i.op) i s.emitted free in

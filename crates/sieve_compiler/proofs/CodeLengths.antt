@@ -2,22 +2,23 @@
 use Rattle.std.proofs.Common.{◌≡◌, ℕ, ◌+◌, Bool, false, List, ◌++◌, refl, arith, length}
 use Rattle.std.proofs.lemmas.List.{length-append}
 use Rattle.sieve_check.specs.Typed.{TestForm, constant, negation, all_of, any_of, size, TestForms, no_test, test, CommandForm, keep, discard, stop, choice, CommandForms, no_command, command, BranchForms, no_branch, otherwise, branch}
+use Rattle.sieve_compiler.specs.Tables.{Tables}
 use Rattle.sieve_compiler.specs.Lengths.{test_length, tests_length, leave_length, command_length, commands_length, branches_length}
 use Rattle.sieve_compiler.specs.Coding.{test_code, tests_code, leave_code, command_code, commands_code, branches_code}
 
 pub length_two : {A : Type 0} (a b : List A) (m n : ℕ) → length a ≡ m → length b ≡ n → length (a ++ b) ≡ m + n
 length_two a b m n e f = let all = length-append a b in omega (arith, all, e, f)
 
-module _ (table : List ℕ) where
+module _ (tables : Tables) where
   mutual
-    pub test_code_length : (t : TestForm) (place : ℕ) (asked : Bool) (target : ℕ) → length (test_code table place t asked target) ≡ test_length t
+    pub test_code_length : (t : TestForm) (place : ℕ) (asked : Bool) (target : ℕ) → length (test_code tables place t asked target) ≡ test_length t
     test_code_length (constant b) place asked target = refl
     test_code_length (negation t) place asked target = test_code_length t place _ target
     test_code_length (all_of t ts) place asked target = length_two _ _ _ _ (test_code_length t place _ _) (tests_code_length ts (place + test_length t) _ _ _ target)
     test_code_length (any_of t ts) place asked target = length_two _ _ _ _ (test_code_length t place _ _) (tests_code_length ts (place + test_length t) _ _ _ target)
     test_code_length (size order number) place asked target = refl
 
-    pub tests_code_length : (ts : TestForms) (place : ℕ) (deciding asked : Bool) (following target : ℕ) → length (tests_code table place ts deciding asked following target) ≡ tests_length ts
+    pub tests_code_length : (ts : TestForms) (place : ℕ) (deciding asked : Bool) (following target : ℕ) → length (tests_code tables place ts deciding asked following target) ≡ tests_length ts
     tests_code_length no_test place deciding asked following target = refl
     tests_code_length (test t ts) place deciding asked following target = length_two _ _ _ _ (test_code_length t place _ _) (tests_code_length ts (place + test_length t) deciding asked following target)
 
@@ -27,26 +28,26 @@ module _ (table : List ℕ) where
   leave_code_length (branch t cs bs) end = refl
 
   mutual
-    pub command_code_length : (c : CommandForm) (place : ℕ) → length (command_code table place c) ≡ command_length c
+    pub command_code_length : (c : CommandForm) (place : ℕ) → length (command_code tables place c) ≡ command_length c
     command_code_length keep place = refl
     command_code_length discard place = refl
     command_code_length stop place = refl
     command_code_length (choice bs) place = branches_code_length bs place _
 
-    pub commands_code_length : (cs : CommandForms) (place : ℕ) → length (commands_code table place cs) ≡ commands_length cs
+    pub commands_code_length : (cs : CommandForms) (place : ℕ) → length (commands_code tables place cs) ≡ commands_length cs
     commands_code_length no_command place = refl
     commands_code_length (command c cs) place = length_two _ _ _ _ (command_code_length c place) (commands_code_length cs (place + command_length c))
 
-    pub branches_code_length : (bs : BranchForms) (place end : ℕ) → length (branches_code table place bs end) ≡ branches_length bs
+    pub branches_code_length : (bs : BranchForms) (place end : ℕ) → length (branches_code tables place bs end) ≡ branches_length bs
     branches_code_length no_branch place end = refl
     branches_code_length (otherwise cs) place end = commands_code_length cs place
     branches_code_length (branch t cs bs) place end =
         let block = place + test_length t in
         let next = block + commands_length cs + leave_length bs in
-        let a = test_code table place t false next in
-        let b = commands_code table block cs in
+        let a = test_code tables place t false next in
+        let b = commands_code tables block cs in
         let c = leave_code bs end in
-        let d = branches_code table next bs end in
+        let d = branches_code tables next bs end in
         let lab : length (a ++ b) ≡ test_length t + commands_length cs = length_two a b _ _ (test_code_length t place false next) (commands_code_length cs block) in
         let labc : length (a ++ b ++ c) ≡ test_length t + commands_length cs + leave_length bs = length_two (a ++ b) c _ _ lab (leave_code_length bs end) in
         length_two (a ++ b ++ c) d _ _ labc (branches_code_length bs next end)

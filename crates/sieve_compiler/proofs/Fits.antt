@@ -1,8 +1,7 @@
 -- The code of a script of at most 65,536 tokens is within the limits of a program.
-use Rattle.std.proofs.Common.{◌≡◌, ℕ, ◌+◌, ◌-◌, ◌<◌, ◌≤◌, ◌^◌, ◌==◌, Bool, true, false, not, List, [], ◌∷◌, ◌++◌, length, filter, All, refl, arith}
+use Rattle.std.proofs.Common.{◌≡◌, ℕ, ◌+◌, ◌-◌, ◌<◌, ◌≤◌, ◌^◌, nat_eq, Bool, true, false, not, [], ◌∷◌, ◌++◌, length, All, refl, arith}
 use Rattle.std.proofs.lemmas.List.{length-append}
-use Rattle.std.proofs.lemmas.List.Sums.{length-filter, count_by-le-length}
-use Rattle.std.proofs.lemmas.List.Elements.{All-nil, All-cons, All-head, All-tail, All-append, All-filter}
+use Rattle.std.proofs.lemmas.List.Elements.{All-nil, All-cons, All-append}
 use Rattle.bytecode_format.specs.declared.instruction.Instruction.{Instruction}
 use Rattle.bytecode_format.specs.declared.operation.Operation.{Operation}
 use Rattle.bytecode_format.specs.declared.operation.Operation.TheVariants.{Halt, Bool as BoolOp, Jump, JumpIfTrue, JumpIfFalse, Size, Keep, Discard}
@@ -14,10 +13,11 @@ use Rattle.sieve_check.specs.declared.typed.Order.TheVariants.{Over, Under}
 use Rattle.sieve_check.specs.Typed.{TestForm, constant, negation, all_of, any_of, size, TestForms, no_test, test, CommandForm, keep, discard, stop, choice, CommandForms, no_command, command, BranchForms, no_branch, otherwise, branch}
 use Rattle.sieve_check.specs.Bounded.{IsBounded}
 use Rattle.sieve_check.specs.Extent.{test_extent, tests_extent, command_extent, commands_extent, branches_extent}
+use Rattle.sieve_compiler.specs.Tables.{Tables, tables_of, place_of_number}
 use Rattle.sieve_compiler.specs.Lengths.{test_length, tests_length, leave_length, command_length, commands_length, branches_length}
-use Rattle.sieve_compiler.specs.Numbers.{test_numbers, tests_numbers, command_numbers, commands_numbers, branches_numbers, distinct, table_of, place_in}
+use Rattle.sieve_compiler.specs.Numbers.{test_numbers, tests_numbers, command_numbers, commands_numbers, branches_numbers}
 use Rattle.sieve_compiler.specs.Coding.{instruction, plain, jump_if, push_bool, push_size, asked_of, aim_of, test_code, tests_code, leave_code, command_code, commands_code, branches_code, code_of}
-use Rattle.sieve_compiler.proofs.TableLemmas.{place_within}
+use Rattle.octets.proofs.Once.{place_within, each_once_within, each_once_all}
 use Rattle.sieve_compiler.proofs.CodeLengths.{commands_code_length}
 
 -- ---- lengths
@@ -86,23 +86,9 @@ mutual
   branches_use (otherwise cs) = commands_use cs
   branches_use (branch t cs bs) = omega (arith, length-append (test_numbers t ++ commands_numbers cs) (branches_numbers bs), length-append (test_numbers t) (commands_numbers cs), test_uses t, commands_use cs, branches_use bs)
 
-fewer : (ns : List ℕ) → length (distinct ns) ≤ length ns
-fewer [] = omega arith
-fewer (n ∷ ns) =
-    let others : length (filter (λ m. not (m == n)) (distinct ns)) ≤ length (distinct ns) = filtered (λ m. not (m == n)) (distinct ns) in
-    omega (arith, others, fewer ns)
-  where
-    filtered : (p : ℕ → Bool) (xs : List ℕ) → length (filter p xs) ≤ length xs
-    filtered p xs = omega (arith, length-filter p xs, count_by-le-length p xs)
-
 -- the table has at most as many numbers as the commands have instructions
-pub table_within : (cs : CommandForms) → length (table_of cs) ≤ commands_length cs
-table_within cs = omega (arith, fewer (commands_numbers cs), commands_use cs)
-
--- what holds of each number of the commands holds of each in the table
-pub all_distinct : (P : ℕ → Type 0) (ns : List ℕ) → All P ns → All P (distinct ns)
-all_distinct P [] all = all
-all_distinct P (n ∷ ns) all = All-cons P n (filter (λ m. not (m == n)) (distinct ns)) (All-head P n ns all) (All-filter (λ m. not (m == n)) P (distinct ns) (all_distinct P ns (All-tail P n ns all)))
+pub table_within : (cs : CommandForms) → length (tables_of cs).numbers ≤ commands_length cs
+table_within cs = omega (arith, each_once_within nat_eq (commands_numbers cs), commands_use cs)
 
 -- ---- fields
 
@@ -138,25 +124,25 @@ aim_within true false (test u us) following target b t = b
 aim_within false true (test u us) following target b t = b
 
 mutual
-  fits_test : (table : List ℕ) (place : ℕ) (t : TestForm) (asked : Bool) (target : ℕ) → length table < 2 ^ 32 → place + test_length t < 2 ^ 32 → target < 2 ^ 32 → All Fits (test_code table place t asked target)
-  fits_test table place (constant b) asked target few room small = fits_simple (push_bool b) asked target (fits_push_bool b) small
-  fits_test table place (negation t) asked target few room small = fits_test table place t (not asked) target few room small
-  fits_test table place (all_of t ts) asked target few room small =
+  fits_test : (tables : Tables) (place : ℕ) (t : TestForm) (asked : Bool) (target : ℕ) → length tables.numbers < 2 ^ 32 → place + test_length t < 2 ^ 32 → target < 2 ^ 32 → All Fits (test_code tables place t asked target)
+  fits_test tables place (constant b) asked target few room small = fits_simple (push_bool b) asked target (fits_push_bool b) small
+  fits_test tables place (negation t) asked target few room small = fits_test tables place t (not asked) target few room small
+  fits_test tables place (all_of t ts) asked target few room small =
       let following : ℕ = place + (test_length t + tests_length ts) in
-      All-append Fits _ _ (fits_test table place t (asked_of false asked ts) (aim_of false asked ts following target) few (omega (arith, room)) (aim_within false asked ts following target room small))
-      (fits_tests table (place + test_length t) ts false asked following target few (omega (arith, room)) room small)
-  fits_test table place (any_of t ts) asked target few room small =
+      All-append Fits _ _ (fits_test tables place t (asked_of false asked ts) (aim_of false asked ts following target) few (omega (arith, room)) (aim_within false asked ts following target room small))
+      (fits_tests tables (place + test_length t) ts false asked following target few (omega (arith, room)) room small)
+  fits_test tables place (any_of t ts) asked target few room small =
       let following : ℕ = place + (test_length t + tests_length ts) in
-      All-append Fits _ _ (fits_test table place t (asked_of true asked ts) (aim_of true asked ts following target) few (omega (arith, room)) (aim_within true asked ts following target room small))
-      (fits_tests table (place + test_length t) ts true asked following target few (omega (arith, room)) room small)
-  fits_test table place (size order number) asked target few room small =
-      fits_simple (push_size order (place_in table number)) asked target (fits_push_size order (place_in table number) (omega (arith, place_within table number, few))) small
+      All-append Fits _ _ (fits_test tables place t (asked_of true asked ts) (aim_of true asked ts following target) few (omega (arith, room)) (aim_within true asked ts following target room small))
+      (fits_tests tables (place + test_length t) ts true asked following target few (omega (arith, room)) room small)
+  fits_test tables place (size order number) asked target few room small =
+      fits_simple (push_size order (place_of_number tables number)) asked target (fits_push_size order (place_of_number tables number) (omega (arith, place_within nat_eq tables.numbers number, few))) small
 
-  fits_tests : (table : List ℕ) (place : ℕ) (ts : TestForms) (deciding asked : Bool) (following target : ℕ) → length table < 2 ^ 32 → place + tests_length ts < 2 ^ 32 → following < 2 ^ 32 → target < 2 ^ 32 → All Fits (tests_code table place ts deciding asked following target)
-  fits_tests table place no_test deciding asked following target few room b small = All-nil Fits
-  fits_tests table place (test t ts) deciding asked following target few room b small =
-      All-append Fits _ _ (fits_test table place t (asked_of deciding asked ts) (aim_of deciding asked ts following target) few (omega (arith, room)) (aim_within deciding asked ts following target b small))
-      (fits_tests table (place + test_length t) ts deciding asked following target few (omega (arith, room)) b small)
+  fits_tests : (tables : Tables) (place : ℕ) (ts : TestForms) (deciding asked : Bool) (following target : ℕ) → length tables.numbers < 2 ^ 32 → place + tests_length ts < 2 ^ 32 → following < 2 ^ 32 → target < 2 ^ 32 → All Fits (tests_code tables place ts deciding asked following target)
+  fits_tests tables place no_test deciding asked following target few room b small = All-nil Fits
+  fits_tests tables place (test t ts) deciding asked following target few room b small =
+      All-append Fits _ _ (fits_test tables place t (asked_of deciding asked ts) (aim_of deciding asked ts following target) few (omega (arith, room)) (aim_within deciding asked ts following target b small))
+      (fits_tests tables (place + test_length t) ts deciding asked following target few (omega (arith, room)) b small)
 
 fits_leave : (bs : BranchForms) (end : ℕ) → end < 2 ^ 32 → All Fits (leave_code bs end)
 fits_leave no_branch end small = All-nil Fits
@@ -164,37 +150,37 @@ fits_leave (otherwise cs) end small = one (instruction Jump 0 end) (fits_instruc
 fits_leave (branch t cs bs) end small = one (instruction Jump 0 end) (fits_instruction Jump 0 end (omega arith) (omega arith) small)
 
 mutual
-  fits_command : (table : List ℕ) (place : ℕ) (c : CommandForm) → length table < 2 ^ 32 → place + command_length c < 2 ^ 32 → All Fits (command_code table place c)
-  fits_command table place keep few room = fits_plain Keep (omega arith)
-  fits_command table place discard few room = fits_plain Discard (omega arith)
-  fits_command table place stop few room = fits_plain Halt (omega arith)
-  fits_command table place (choice bs) few room = fits_branches table place bs (place + branches_length bs) few room room
+  fits_command : (tables : Tables) (place : ℕ) (c : CommandForm) → length tables.numbers < 2 ^ 32 → place + command_length c < 2 ^ 32 → All Fits (command_code tables place c)
+  fits_command tables place keep few room = fits_plain Keep (omega arith)
+  fits_command tables place discard few room = fits_plain Discard (omega arith)
+  fits_command tables place stop few room = fits_plain Halt (omega arith)
+  fits_command tables place (choice bs) few room = fits_branches tables place bs (place + branches_length bs) few room room
 
-  fits_commands : (table : List ℕ) (place : ℕ) (cs : CommandForms) → length table < 2 ^ 32 → place + commands_length cs < 2 ^ 32 → All Fits (commands_code table place cs)
-  fits_commands table place no_command few room = All-nil Fits
-  fits_commands table place (command c cs) few room =
-      All-append Fits _ _ (fits_command table place c few (omega (arith, room))) (fits_commands table (place + command_length c) cs few (omega (arith, room)))
+  fits_commands : (tables : Tables) (place : ℕ) (cs : CommandForms) → length tables.numbers < 2 ^ 32 → place + commands_length cs < 2 ^ 32 → All Fits (commands_code tables place cs)
+  fits_commands tables place no_command few room = All-nil Fits
+  fits_commands tables place (command c cs) few room =
+      All-append Fits _ _ (fits_command tables place c few (omega (arith, room))) (fits_commands tables (place + command_length c) cs few (omega (arith, room)))
 
-  fits_branches : (table : List ℕ) (place : ℕ) (bs : BranchForms) (end : ℕ) → length table < 2 ^ 32 → place + branches_length bs < 2 ^ 32 → end < 2 ^ 32 → All Fits (branches_code table place bs end)
-  fits_branches table place no_branch end few room small = All-nil Fits
-  fits_branches table place (otherwise cs) end few room small = fits_commands table place cs few room
-  fits_branches table place (branch t cs bs) end few room small =
+  fits_branches : (tables : Tables) (place : ℕ) (bs : BranchForms) (end : ℕ) → length tables.numbers < 2 ^ 32 → place + branches_length bs < 2 ^ 32 → end < 2 ^ 32 → All Fits (branches_code tables place bs end)
+  fits_branches tables place no_branch end few room small = All-nil Fits
+  fits_branches tables place (otherwise cs) end few room small = fits_commands tables place cs few room
+  fits_branches tables place (branch t cs bs) end few room small =
       let block : ℕ = place + test_length t in
       let next : ℕ = block + commands_length cs + leave_length bs in
-      All-append Fits _ _ (All-append Fits _ _ (All-append Fits _ _ (fits_test table place t false next few (omega (arith, room)) (omega (arith, room))) (fits_commands table block cs few (omega (arith, room)))) (fits_leave bs end small))
-      (fits_branches table next bs end few (omega (arith, room)) small)
+      All-append Fits _ _ (All-append Fits _ _ (All-append Fits _ _ (fits_test tables place t false next few (omega (arith, room)) (omega (arith, room))) (fits_commands tables block cs few (omega (arith, room)))) (fits_leave bs end small))
+      (fits_branches tables next bs end few (omega (arith, room)) small)
 
 -- ---- the program
 
 -- how many instructions the program has
 pub length_code : (cs : CommandForms) → length (code_of cs).instructions ≡ commands_length cs + 1
-length_code cs = omega (arith, length-append (commands_code (table_of cs) 0 cs) (plain Halt ∷ []), commands_code_length (table_of cs) cs 0)
+length_code cs = omega (arith, length-append (commands_code (tables_of cs) 0 cs) (plain Halt ∷ []), commands_code_length (tables_of cs) cs 0)
 
 -- the code is a program, where its numbers are those of 64 bits
-pub is_program : (cs : CommandForms) → IsBounded cs → All (λ n. n < 2 ^ 64) (table_of cs) → IsProgram (code_of cs)
+pub is_program : (cs : CommandForms) → IsBounded cs → All (λ n. n < 2 ^ 64) (tables_of cs).numbers → IsProgram (code_of cs)
 is_program cs short numbers =
     let commands : commands_length cs ≤ commands_extent cs - 1 = commands_within cs in
-    let few : length (table_of cs) ≤ commands_length cs = table_within cs in
+    let few : length (tables_of cs).numbers ≤ commands_length cs = table_within cs in
     record {
       version = refl;
       variables = omega arith;
@@ -203,10 +189,10 @@ is_program cs short numbers =
       strings = omega arith;
       each_string = All-nil _;
       instructions = omega (arith, length_code cs, commands, short.octets);
-      each_instruction = All-append Fits _ _ (fits_commands (table_of cs) 0 cs (omega (arith, commands, few, short.octets)) (omega (arith, commands, short.octets))) (fits_plain Halt (omega arith));
+      each_instruction = All-append Fits _ _ (fits_commands (tables_of cs) 0 cs (omega (arith, commands, few, short.octets)) (omega (arith, commands, short.octets))) (fits_plain Halt (omega arith));
       octets = omega (arith, length-spelling (code_of cs), length_code cs, commands, few, short.octets);
     }
 
 -- the same, by the numbers of the script
 pub code_is_program : (cs : CommandForms) → IsBounded cs → All (λ n. n < 2 ^ 64) (commands_numbers cs) → IsProgram (code_of cs)
-code_is_program cs short numbers = is_program cs short (all_distinct (λ n. n < 2 ^ 64) (commands_numbers cs) numbers)
+code_is_program cs short numbers = is_program cs short (each_once_all nat_eq (λ n. n < 2 ^ 64) (commands_numbers cs) numbers)

@@ -1,10 +1,9 @@
 pub mod Standing
 pub mod CodeLengths
-pub mod Table
+pub mod Known
 pub mod Sound
 pub mod Accepted
 pub mod Meets
-pub mod TableLemmas
 pub mod Walks
 pub mod NumberingLemmas
 pub mod PuttingLemmas

@@ -15,12 +15,13 @@ use Rattle.sieve_vm.specs.State.{truth, State, Turn, goes, ends, start}
 use Rattle.sieve_vm.specs.Machine.{is_sound_jump, step, turn_at}
 use Rattle.sieve_vm.specs.Runs.{Run}
 use Rattle.sieve_vm.specs.Ending.{IsOutcome}
+use Rattle.sieve_compiler.specs.Tables.{Tables, tables_of, place_of_number}
 use Rattle.sieve_compiler.specs.Lengths.{test_length, tests_length, leave_length, command_length, commands_length, branches_length}
-use Rattle.sieve_compiler.specs.Numbers.{test_numbers, tests_numbers, command_numbers, commands_numbers, branches_numbers, place_in}
+use Rattle.sieve_compiler.specs.Numbers.{test_numbers, tests_numbers, command_numbers, commands_numbers, branches_numbers}
 use Rattle.sieve_compiler.specs.Coding.{plain, instruction, jump_if, push_bool, push_size, asked_of, aim_of, test_code, tests_code, leave_code, command_code, commands_code, branches_code, code_of}
 use Rattle.sieve_compiler.proofs.Standing.{Stands, stands_first, stands_next, stands_left, stands_right}
 use Rattle.sieve_compiler.proofs.CodeLengths.{test_code_length, command_code_length}
-use Rattle.sieve_compiler.proofs.Table.{Has, has_left, has_right, has_itself, found, distinct_has}
+use Rattle.sieve_compiler.proofs.Known.{Has, has_left, has_right, has_itself, found, tables_have}
 use Rattle.sieve_compiler.proofs.Sound.{branch_parts_of}
 use Rattle.sieve_compiler.proofs.Accepted.{halt_at, sound, loopless}
 
@@ -49,8 +50,8 @@ module _ (script : CommandForms) (mail : Mail) where
   abbrev all : List Instruction
   all = code.instructions
 
-  abbrev table : List ℕ
-  table = code.numbers
+  abbrev tables : Tables
+  tables = tables_of script
 
   -- at a place where nothing is on the stack, after these effects
   abbrev at : ℕ → Effects → ℕ → State
@@ -93,9 +94,9 @@ module _ (script : CommandForms) (mail : Mail) where
   bool_step p c true e here = step_at (at p e c) (push_bool true) _ here refl
   bool_step p c false e here = step_at (at p e c) (push_bool false) _ here refl
 
-  size_step : (p c : ℕ) (order : Order) (n : ℕ) (e : Effects) → Has table (n ∷ []) → slice_get all p ≡ Some (push_size order (place_in table n)) → Goes (at p e c) (holding (is_size order n (size_of mail)) (suc p) e (c + 1))
-  size_step p c Over n e known here = step_at (at p e c) (push_size Over (place_in table n)) _ here (rw (found table n (known n (has_itself n))) refl)
-  size_step p c Under n e known here = step_at (at p e c) (push_size Under (place_in table n)) _ here (rw (found table n (known n (has_itself n))) refl)
+  size_step : (p c : ℕ) (order : Order) (n : ℕ) (e : Effects) → Has tables (n ∷ []) → slice_get all p ≡ Some (push_size order (place_of_number tables n)) → Goes (at p e c) (holding (is_size order n (size_of mail)) (suc p) e (c + 1))
+  size_step p c Over n e known here = step_at (at p e c) (push_size Over (place_of_number tables n)) _ here (rw (found tables n (known n (has_itself n))) refl)
+  size_step p c Under n e known here = step_at (at p e c) (push_size Under (place_of_number tables n)) _ here (rw (found tables n (known n (has_itself n))) refl)
 
   branch_step : (p c : ℕ) (b asked : Bool) (target : ℕ) (e : Effects) → slice_get all p ≡ Some (jump_if asked target) → p < target → Goes (holding b p e c) (at (lands b asked target (suc p)) e (c + 1))
   branch_step p c true true target e here forward = step_at (holding true p e c) (jump_if true target) _ here (rw (sound_jump (holding true p e c) (jump_if true target) here forward) refl)
@@ -126,32 +127,32 @@ module _ (script : CommandForms) (mail : Mail) where
 
   -- a test goes to its target where it is as asked, and on after its code where it isn't
   mutual
-    test_run : (t : TestForm) (p : ℕ) (asked : Bool) (target : ℕ) (e : Effects) → Stands all p (test_code table p t asked target) → Has table (test_numbers t)
+    test_run : (t : TestForm) (p : ℕ) (asked : Bool) (target : ℕ) (e : Effects) → Stands all p (test_code tables p t asked target) → Has tables (test_numbers t)
         → Comes p e (lands (test_does mail None t e).value asked target (p + test_length t)) (test_does mail None t e).effects
     test_run (constant b) p asked target e h known = λ c.
         simple_run p c (push_bool b) b asked target e h (bool_step p c b e (stands_first all p (push_bool b) (jump_if asked target ∷ []) h))
     test_run (size order n) p asked target e h known = λ c.
-        simple_run p c (push_size order (place_in table n)) (is_size order n (size_of mail)) asked target e h (size_step p c order n e known (stands_first all p (push_size order (place_in table n)) (jump_if asked target ∷ []) h))
+        simple_run p c (push_size order (place_of_number tables n)) (is_size order n (size_of mail)) asked target e h (size_step p c order n e known (stands_first all p (push_size order (place_of_number tables n)) (jump_if asked target ∷ []) h))
     test_run (negation t) p asked target e h known =
         let v = test_does mail None t e in
         subst (λ q. Comes p e q v.effects) (turned (test_does mail None t e).value asked target (p + test_length t)) (test_run t p (not asked) target e h known)
     test_run (all_of t ts) p asked target e h known =
         let following = p + (test_length t + tests_length ts) in
         let same : (p + test_length t) + tests_length ts ≡ following = omega arith in
-        let first = test_run t p _ _ e (stands_left all p _ _ h) (has_left table (test_numbers t) (tests_numbers ts) known) in
-        let there = stands_right all p (test_length t) _ _ (test_code_length table t p _ _) h in
-        let rest = tests_run ts (p + test_length t) false asked following target (test_does mail None t e).value (test_does mail None t e).effects there (has_right table (test_numbers t) (tests_numbers ts) known) same in
+        let first = test_run t p _ _ e (stands_left all p _ _ h) (has_left tables (test_numbers t) (tests_numbers ts) known) in
+        let there = stands_right all p (test_length t) _ _ (test_code_length tables t p _ _) h in
+        let rest = tests_run ts (p + test_length t) false asked following target (test_does mail None t e).value (test_does mail None t e).effects there (has_right tables (test_numbers t) (tests_numbers ts) known) same in
         comes_then p _ _ e (test_does mail None t e).effects (listed mail false (test_does mail None t e).value (test_does mail None t e).effects ts).effects first rest
     test_run (any_of t ts) p asked target e h known =
         let following = p + (test_length t + tests_length ts) in
         let same : (p + test_length t) + tests_length ts ≡ following = omega arith in
-        let first = test_run t p _ _ e (stands_left all p _ _ h) (has_left table (test_numbers t) (tests_numbers ts) known) in
-        let there = stands_right all p (test_length t) _ _ (test_code_length table t p _ _) h in
-        let rest = tests_run ts (p + test_length t) true asked following target (test_does mail None t e).value (test_does mail None t e).effects there (has_right table (test_numbers t) (tests_numbers ts) known) same in
+        let first = test_run t p _ _ e (stands_left all p _ _ h) (has_left tables (test_numbers t) (tests_numbers ts) known) in
+        let there = stands_right all p (test_length t) _ _ (test_code_length tables t p _ _) h in
+        let rest = tests_run ts (p + test_length t) true asked following target (test_does mail None t e).value (test_does mail None t e).effects there (has_right tables (test_numbers t) (tests_numbers ts) known) same in
         comes_then p _ _ e (test_does mail None t e).effects (listed mail true (test_does mail None t e).value (test_does mail None t e).effects ts).effects first rest
 
     -- from where the test before the rest has gone, by its value v and the effects by then
-    tests_run : (ts : TestForms) (p : ℕ) (deciding asked : Bool) (following target : ℕ) (v : Bool) (e : Effects) → Stands all p (tests_code table p ts deciding asked following target) → Has table (tests_numbers ts) → p + tests_length ts ≡ following
+    tests_run : (ts : TestForms) (p : ℕ) (deciding asked : Bool) (following target : ℕ) (v : Bool) (e : Effects) → Stands all p (tests_code tables p ts deciding asked following target) → Has tables (tests_numbers ts) → p + tests_length ts ≡ following
         → Comes (lands v (asked_of deciding asked ts) (aim_of deciding asked ts following target) p) e (lands (listed mail deciding v e ts).value asked target following) (listed mail deciding v e ts).effects
     tests_run no_test p false asked following target true e h known done = comes_here _ _ e (let here : p ≡ following = omega (arith, done) in rw here refl)
     tests_run no_test p false asked following target false e h known done = comes_here _ _ e (let here : p ≡ following = omega (arith, done) in rw here refl)
@@ -161,15 +162,15 @@ module _ (script : CommandForms) (mail : Mail) where
     tests_run (test t ts) p true asked following target true e h known done = comes_here _ _ e (aim_lands true asked t ts following target)
     tests_run (test t ts) p false asked following target true e h known done =
         let same : (p + test_length t) + tests_length ts ≡ following = omega (arith, done) in
-        let first = test_run t p _ _ e (stands_left all p _ _ h) (has_left table (test_numbers t) (tests_numbers ts) known) in
-        let there = stands_right all p (test_length t) _ _ (test_code_length table t p _ _) h in
-        let rest = tests_run ts (p + test_length t) false asked following target (test_does mail None t e).value (test_does mail None t e).effects there (has_right table (test_numbers t) (tests_numbers ts) known) same in
+        let first = test_run t p _ _ e (stands_left all p _ _ h) (has_left tables (test_numbers t) (tests_numbers ts) known) in
+        let there = stands_right all p (test_length t) _ _ (test_code_length tables t p _ _) h in
+        let rest = tests_run ts (p + test_length t) false asked following target (test_does mail None t e).value (test_does mail None t e).effects there (has_right tables (test_numbers t) (tests_numbers ts) known) same in
         comes_then p _ _ e (test_does mail None t e).effects (listed mail false (test_does mail None t e).value (test_does mail None t e).effects ts).effects first rest
     tests_run (test t ts) p true asked following target false e h known done =
         let same : (p + test_length t) + tests_length ts ≡ following = omega (arith, done) in
-        let first = test_run t p _ _ e (stands_left all p _ _ h) (has_left table (test_numbers t) (tests_numbers ts) known) in
-        let there = stands_right all p (test_length t) _ _ (test_code_length table t p _ _) h in
-        let rest = tests_run ts (p + test_length t) true asked following target (test_does mail None t e).value (test_does mail None t e).effects there (has_right table (test_numbers t) (tests_numbers ts) known) same in
+        let first = test_run t p _ _ e (stands_left all p _ _ h) (has_left tables (test_numbers t) (tests_numbers ts) known) in
+        let there = stands_right all p (test_length t) _ _ (test_code_length tables t p _ _) h in
+        let rest = tests_run ts (p + test_length t) true asked following target (test_does mail None t e).value (test_does mail None t e).effects there (has_right tables (test_numbers t) (tests_numbers ts) known) same in
         comes_then p _ _ e (test_does mail None t e).effects (listed mail true (test_does mail None t e).value (test_does mail None t e).effects ts).effects first rest
 
   -- where commands lead that begin at a place, by how they end
@@ -218,22 +219,22 @@ module _ (script : CommandForms) (mail : Mail) where
   decided false x y p block next end e f go h k = arrives_after y p next end e f go k
 
   mutual
-    command_run : (c : CommandForm) (p : ℕ) (e : Effects) → Stands all p (command_code table p c) → Has table (command_numbers c) → Arrives (command_does mail None c e) p (p + command_length c) e
+    command_run : (c : CommandForm) (p : ℕ) (e : Effects) → Stands all p (command_code tables p c) → Has tables (command_numbers c) → Arrives (command_does mail None c e) p (p + command_length c) e
     command_run keep p e h known = keep_run p e (stands_first all p _ [] h)
     command_run discard p e h known = discard_run p e (stands_first all p _ [] h)
     command_run stop p e h known = (p, comes_here p p e refl, stands_first all p _ [] h)
     command_run (choice bs) p e h known = branches_run bs p (p + branches_length bs) e h known refl
 
-    commands_run : (cs : CommandForms) (p : ℕ) (e : Effects) → Stands all p (commands_code table p cs) → Has table (commands_numbers cs) → Arrives (commands_do mail None cs e) p (p + commands_length cs) e
+    commands_run : (cs : CommandForms) (p : ℕ) (e : Effects) → Stands all p (commands_code tables p cs) → Has tables (commands_numbers cs) → Arrives (commands_do mail None cs e) p (p + commands_length cs) e
     commands_run no_command p e h known = let same : p ≡ p + 0 = omega arith in comes_here p (p + 0) e same
     commands_run (command c cs) p e h known =
         let same : p + command_length c + commands_length cs ≡ p + (command_length c + commands_length cs) = omega arith in
-        let first = command_run c p e (stands_left all p _ _ h) (has_left table (command_numbers c) (commands_numbers cs) known) in
-        let there = stands_right all p (command_length c) _ _ (command_code_length table c p) h in
+        let first = command_run c p e (stands_left all p _ _ h) (has_left tables (command_numbers c) (commands_numbers cs) known) in
+        let there = stands_right all p (command_length c) _ _ (command_code_length tables c p) h in
         arrives_then (command_does mail None c e) (λ f. commands_do mail None cs f) p (p + command_length c) _ e first
-        (λ f. subst (λ q. Arrives (commands_do mail None cs f) (p + command_length c) q f) same (commands_run cs (p + command_length c) f there (has_right table (command_numbers c) (commands_numbers cs) known)))
+        (λ f. subst (λ q. Arrives (commands_do mail None cs f) (p + command_length c) q f) same (commands_run cs (p + command_length c) f there (has_right tables (command_numbers c) (commands_numbers cs) known)))
 
-    branches_run : (bs : BranchForms) (p end : ℕ) (e : Effects) → Stands all p (branches_code table p bs end) → Has table (branches_numbers bs) → p + branches_length bs ≡ end → Arrives (choice_does mail None bs e) p end e
+    branches_run : (bs : BranchForms) (p end : ℕ) (e : Effects) → Stands all p (branches_code tables p bs end) → Has tables (branches_numbers bs) → p + branches_length bs ≡ end → Arrives (choice_does mail None bs e) p end e
     branches_run no_branch p end e h known done = let same : p ≡ end = omega (arith, done) in comes_here p end e same
     branches_run (otherwise cs) p end e h known done = subst (λ q. Arrives (commands_do mail None cs e) p q e) done (commands_run cs p e h known)
     branches_run (branch t cs bs) p end e h known done =
@@ -241,13 +242,13 @@ module _ (script : CommandForms) (mail : Mail) where
         let leave = block + commands_length cs in
         let next = leave + leave_length bs in
         let same : next + branches_length bs ≡ end = omega (arith, done) in
-        let numbers = has_left table (test_numbers t ++ commands_numbers cs) (branches_numbers bs) known in
-        let parts = branch_parts_of all table t cs bs p end h in
-        let tested = test_run t p false next e parts.test (has_left table (test_numbers t) (commands_numbers cs) numbers) in
+        let numbers = has_left tables (test_numbers t ++ commands_numbers cs) (branches_numbers bs) known in
+        let parts = branch_parts_of all tables t cs bs p end h in
+        let tested = test_run t p false next e parts.test (has_left tables (test_numbers t) (commands_numbers cs) numbers) in
         let f = (test_does mail None t e).effects in
-        let inner = commands_run cs block f parts.block (has_right table (test_numbers t) (commands_numbers cs) numbers) in
+        let inner = commands_run cs block f parts.block (has_right tables (test_numbers t) (commands_numbers cs) numbers) in
         let taken = arrives_at (commands_do mail None cs f) block leave end f (λ g. leave_run bs leave end g parts.leave same) inner in
-        let others = branches_run bs next end f parts.rest (has_right table (test_numbers t ++ commands_numbers cs) (branches_numbers bs) known) same in
+        let others = branches_run bs next end f parts.rest (has_right tables (test_numbers t ++ commands_numbers cs) (branches_numbers bs) known) same in
         decided (test_does mail None t e).value (commands_do mail None cs f) (choice_does mail None bs f) p block next end e f tested taken others
 
   halted : (p : ℕ) (e : Effects) (c : ℕ) → slice_get all p ≡ Some (plain Halt) → step code mail (at p e c) ≡ ends (at p e (c + 1))
@@ -272,4 +273,4 @@ module _ (script : CommandForms) (mail : Mail) where
 
   -- the run of the code ends with the final actions of the meaning
   pub code_means : (charged : ℕ) × IsOutcome code mail (meaning mail script) charged
-  code_means = outcome (commands_do mail None script no_effects) (commands_run script 0 no_effects (plain Halt ∷ [], refl) (distinct_has (commands_numbers script)))
+  code_means = outcome (commands_do mail None script no_effects) (commands_run script 0 no_effects (plain Halt ∷ [], refl) (tables_have script))

@@ -1,6 +1,7 @@
 -- The first pass, one piece at a time.
-use Rattle.std.proofs.Common.{◌≡◌, ℕ, ◌+◌, ◌<◌, ◌≤◌, List, ◌++◌, map, drop, length, get_or, Option, Result, Ok, Err, OnOk, ◌⊎◌, inl, inr, sym, ap, subst, ◌∙◌, refl}
+use Rattle.std.proofs.Common.{◌≡◌, ℕ, nat_eq, ◌+◌, ◌<◌, ◌≤◌, List, ◌++◌, map, drop, length, get_or, Option, Result, Ok, Err, OnOk, ◌⊎◌, inl, inr, sym, ap, subst, ◌∙◌, refl}
 use Rattle.std.specs.Global.{Vec, Box}
+use Rattle.octets.proofs.Once.{more_after}
 use Rattle.sieve_check.specs.declared.typed.Test.{Test}
 use Rattle.sieve_check.specs.declared.typed.Test.TheVariants.{AllOf, AnyOf}
 use Rattle.sieve_check.specs.declared.typed.Branch.{Branch}
@@ -9,9 +10,12 @@ use Rattle.sieve_check.specs.declared.typed.Command.TheVariants.{If}
 use Rattle.sieve_check.specs.Typed.{BranchForms}
 use Rattle.sieve_check.specs.TypedView.{test_form, tests_of, command_form, commands_form, branch_forms, else_form}
 use Rattle.sieve_compiler.specs.Numbers.{test_numbers, tests_numbers, command_numbers, commands_numbers, branches_numbers}
-use Rattle.sieve_compiler.specs.Table.{with_numbers}
-use Rattle.sieve_compiler.proofs.TableLemmas.{numbers_after}
+use Rattle.sieve_compiler.specs.Growing.{with_numbers}
 use Rattle.sieve_compiler.proofs.Walks.{all_form, any_form, first_test, first_command, first_branch, no_branch_left, if_form}
+
+-- numbers after others
+pub numbers_after : (table ms ns : List ℕ) → with_numbers table (ms ++ ns) ≡ with_numbers (with_numbers table ms) ns
+numbers_after table ms ns = more_after nat_eq table ms ns
 
 -- the numbers of one piece, then those that are left
 then_left : (table next ms ns all : List ℕ) → next ≡ with_numbers table ms → ms ++ ns ≡ all → with_numbers next ns ≡ with_numbers table all

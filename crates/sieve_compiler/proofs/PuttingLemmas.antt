@@ -5,6 +5,7 @@ use Rattle.bytecode_format.specs.declared.instruction.Instruction.{Instruction}
 use Rattle.sieve_check.specs.declared.typed.Test.{Test}
 use Rattle.sieve_check.specs.Typed.{TestForm, all_of, any_of, TestForms}
 use Rattle.sieve_check.specs.TypedView.{test_form, tests_of}
+use Rattle.sieve_compiler.specs.Tables.{Tables}
 use Rattle.sieve_compiler.specs.declared.coder.Coder.{Coder}
 use Rattle.sieve_compiler.specs.declared.exits.ListExit.{ListExit}
 use Rattle.sieve_compiler.specs.declared.exits.Exit.{Exit}
@@ -14,19 +15,19 @@ use Rattle.sieve_compiler.specs.Putting.{Puts}
 use Rattle.sieve_compiler.proofs.CodeLengths.{test_code_length}
 
 -- code after a piece of n instructions
-after_piece : (out next piece : List Instruction) (table later : List ℕ) (n : ℕ) (rest : List ℕ → ℕ → List Instruction) → length piece ≡ n → later ≡ table → next ≡ out ++ piece → next ++ rest later (length next) ≡ out ++ (piece ++ rest table (length out + n))
-after_piece out next piece table later n rest len same e =
+after_piece : (out next piece : List Instruction) (tables later : Tables) (n : ℕ) (rest : Tables → ℕ → List Instruction) → length piece ≡ n → later ≡ tables → next ≡ out ++ piece → next ++ rest later (length next) ≡ out ++ (piece ++ rest tables (length out + n))
+after_piece out next piece tables later n rest len same e =
     let place : length next ≡ length out + n = omega (arith, ap length e, length-append out piece, len) in
     ap (λ t. next ++ rest t (length next)) same
-    ∙ ap (λ m. next ++ rest table m) place
-    ∙ ap (λ l. l ++ rest table (length out + n)) e
-    ∙ append_assoc out piece (rest table (length out + n))
+    ∙ ap (λ m. next ++ rest tables m) place
+    ∙ ap (λ l. l ++ rest tables (length out + n)) e
+    ∙ append_assoc out piece (rest tables (length out + n))
 
 -- a piece of n instructions, then the rest
-puts_then : (a b c : Coder) (piece : List Instruction) (n : ℕ) (rest : List ℕ → ℕ → List Instruction) → length piece ≡ n → Puts a b piece → Puts b c (rest b.numbers.now (length b.instructions.items)) → Puts a c (piece ++ rest a.numbers.now (length a.instructions.items + n))
+puts_then : (a b c : Coder) (piece : List Instruction) (n : ℕ) (rest : Tables → ℕ → List Instruction) → length piece ≡ n → Puts a b piece → Puts b c (rest b.tables.now (length b.instructions.items)) → Puts a c (piece ++ rest a.tables.now (length a.instructions.items + n))
 puts_then a b c piece n rest len p q = record {
-  numbers = q.numbers ∙ p.numbers;
-  instructions = q.instructions ∙ after_piece a.instructions.items b.instructions.items piece a.numbers.now b.numbers.now n rest len p.numbers p.instructions;
+  tables = q.tables ∙ p.tables;
+  instructions = q.instructions ∙ after_piece a.instructions.items b.instructions.items piece a.tables.now b.tables.now n rest len p.tables p.instructions;
 }
 
 -- a list of tests, by what decides it
@@ -35,15 +36,15 @@ list_form false t ts = all_of t ts
 list_form true t ts = any_of t ts
 
 list_puts : (a b c : Coder) (deciding asked : Bool) (following target : ℕ) (t : TestForm) (ts : TestForms) → following ≡ length a.instructions.items + (test_length t + tests_length ts)
-    → Puts a b (test_code a.numbers.now (length a.instructions.items) t (asked_of deciding asked ts) (aim_of deciding asked ts following target))
-    → Puts b c (tests_code b.numbers.now (length b.instructions.items) ts deciding asked following target)
-    → Puts a c (test_code a.numbers.now (length a.instructions.items) (list_form deciding t ts) asked target)
+    → Puts a b (test_code a.tables.now (length a.instructions.items) t (asked_of deciding asked ts) (aim_of deciding asked ts following target))
+    → Puts b c (tests_code b.tables.now (length b.instructions.items) ts deciding asked following target)
+    → Puts a c (test_code a.tables.now (length a.instructions.items) (list_form deciding t ts) asked target)
 list_puts a b c false asked following target t ts e p q =
-    subst (λ (n : ℕ). Puts a c (test_code a.numbers.now (length a.instructions.items) t (asked_of false asked ts) (aim_of false asked ts n target) ++ tests_code a.numbers.now (length a.instructions.items + test_length t) ts false asked n target)) e
-    (puts_then a b c _ (test_length t) (λ table place. tests_code table place ts false asked following target) (test_code_length a.numbers.now t (length a.instructions.items) (asked_of false asked ts) (aim_of false asked ts following target)) p q)
+    subst (λ (n : ℕ). Puts a c (test_code a.tables.now (length a.instructions.items) t (asked_of false asked ts) (aim_of false asked ts n target) ++ tests_code a.tables.now (length a.instructions.items + test_length t) ts false asked n target)) e
+    (puts_then a b c _ (test_length t) (λ tables place. tests_code tables place ts false asked following target) (test_code_length a.tables.now t (length a.instructions.items) (asked_of false asked ts) (aim_of false asked ts following target)) p q)
 list_puts a b c true asked following target t ts e p q =
-    subst (λ (n : ℕ). Puts a c (test_code a.numbers.now (length a.instructions.items) t (asked_of true asked ts) (aim_of true asked ts n target) ++ tests_code a.numbers.now (length a.instructions.items + test_length t) ts true asked n target)) e
-    (puts_then a b c _ (test_length t) (λ table place. tests_code table place ts true asked following target) (test_code_length a.numbers.now t (length a.instructions.items) (asked_of true asked ts) (aim_of true asked ts following target)) p q)
+    subst (λ (n : ℕ). Puts a c (test_code a.tables.now (length a.instructions.items) t (asked_of true asked ts) (aim_of true asked ts n target) ++ tests_code a.tables.now (length a.instructions.items + test_length t) ts true asked n target)) e
+    (puts_then a b c _ (test_length t) (λ tables place. tests_code tables place ts true asked following target) (test_code_length a.tables.now t (length a.instructions.items) (asked_of true asked ts) (aim_of true asked ts following target)) p q)
 
 -- the same as the code has it
 pub list_put : (a b c : Coder) (deciding : Bool) (exit step : Exit) (list : ListExit) (t first h1 h2 : Test) (others o1 o2 o3 : List Test)
@@ -52,15 +53,15 @@ pub list_put : (a b c : Coder) (deciding : Bool) (exit step : Exit) (list : List
     → list.deciding ≡ deciding → list.exit ≡ exit → list.following ≡ length a.instructions.items + (test_length (test_form h1) + tests_length (tests_of (map test_form o1)))
     → step.asked ≡ asked_of list.deciding list.exit.asked (tests_of (map test_form o2))
     → step.target ≡ aim_of list.deciding list.exit.asked (tests_of (map test_form o2)) list.following list.exit.target
-    → Puts a b (test_code a.numbers.now (length a.instructions.items) (test_form h2) step.asked step.target)
-    → Puts b c (tests_code b.numbers.now (length b.instructions.items) (tests_of (map test_form o3)) list.deciding list.exit.asked list.following list.exit.target)
-    → Puts a c (test_code a.numbers.now (length a.instructions.items) (test_form t) exit.asked exit.target)
+    → Puts a b (test_code a.tables.now (length a.instructions.items) (test_form h2) step.asked step.target)
+    → Puts b c (tests_code b.tables.now (length b.instructions.items) (tests_of (map test_form o3)) list.deciding list.exit.asked list.following list.exit.target)
+    → Puts a c (test_code a.tables.now (length a.instructions.items) (test_form t) exit.asked exit.target)
 list_put a b c deciding exit step list t first h1 h2 others o1 o2 o3 form eh1 eh2 eo1 eo2 eo3 ed ee eb ask aim p q =
     let ts : TestForms = tests_of (map test_form others) in
     let following : list.following ≡ length a.instructions.items + (test_length (test_form first) + tests_length ts) = cc in
-    let code1 : test_code a.numbers.now (length a.instructions.items) (test_form h2) step.asked step.target ≡ test_code a.numbers.now (length a.instructions.items) (test_form first) (asked_of deciding exit.asked ts) (aim_of deciding exit.asked ts list.following exit.target) = cc in
-    let code2 : tests_code b.numbers.now (length b.instructions.items) (tests_of (map test_form o3)) list.deciding list.exit.asked list.following list.exit.target ≡ tests_code b.numbers.now (length b.instructions.items) ts deciding exit.asked list.following exit.target = cc in
-    let code : test_code a.numbers.now (length a.instructions.items) (list_form deciding (test_form first) ts) exit.asked exit.target ≡ test_code a.numbers.now (length a.instructions.items) (test_form t) exit.asked exit.target = cc in
+    let code1 : test_code a.tables.now (length a.instructions.items) (test_form h2) step.asked step.target ≡ test_code a.tables.now (length a.instructions.items) (test_form first) (asked_of deciding exit.asked ts) (aim_of deciding exit.asked ts list.following exit.target) = cc in
+    let code2 : tests_code b.tables.now (length b.instructions.items) (tests_of (map test_form o3)) list.deciding list.exit.asked list.following list.exit.target ≡ tests_code b.tables.now (length b.instructions.items) ts deciding exit.asked list.following exit.target = cc in
+    let code : test_code a.tables.now (length a.instructions.items) (list_form deciding (test_form first) ts) exit.asked exit.target ≡ test_code a.tables.now (length a.instructions.items) (test_form t) exit.asked exit.target = cc in
     let P : List Instruction → Type 0 = λ l. Puts a b l in
     let Q : List Instruction → Type 0 = λ l. Puts b c l in
     let R : List Instruction → Type 0 = λ l. Puts a c l in

@@ -1,5 +1,5 @@
 -- The code of a script: of each piece the instructions, from the place on where the piece begins.
-use Rattle.std.specs.Prelude.{ℕ, ◌+◌, Bool, true, false, not, List, [], ◌∷◌, ◌++◌}
+use Rattle.std.specs.Prelude.{ℕ, ◌+◌, Bool, true, false, not, List, [], ◌∷◌, ◌++◌, length}
 use Rattle.bytecode_format.specs.declared.instruction.Instruction.{Instruction}
 use Rattle.bytecode_format.specs.declared.operation.Operation.{Operation}
 use Rattle.bytecode_format.specs.declared.operation.Operation.TheVariants.{Halt, Bool as BoolOp, Jump, JumpIfTrue, JumpIfFalse, Size, Keep, Discard}
@@ -9,7 +9,7 @@ use Rattle.sieve_check.specs.declared.typed.Order.{Order}
 use Rattle.sieve_check.specs.declared.typed.Order.TheVariants.{Over, Under}
 use Rattle.sieve_check.specs.Typed.{TestForm, constant, negation, all_of, any_of, size, TestForms, no_test, test, CommandForm, keep, discard, stop, choice, CommandForms, no_command, command, BranchForms, no_branch, otherwise, branch}
 use Rattle.sieve_compiler.specs.Lengths.{test_length, tests_length, commands_length, command_length, leave_length, branches_length}
-use Rattle.sieve_compiler.specs.Numbers.{table_of, place_in}
+use Rattle.sieve_compiler.specs.Tables.{Tables, tables_of, place_of_number}
 
 -- an instruction with its fields a and c
 abbrev pub instruction : Operation → ℕ → ℕ → Instruction
@@ -50,22 +50,22 @@ aim_of false true (test t ts) following target = following
 
 abbrev mutual
   -- goes to the target where the test is as asked, true or false, and else on after the code
-  pub test_code : List ℕ → ℕ → TestForm → Bool → ℕ → List Instruction
-  test_code table place (constant b) asked target = push_bool b ∷ jump_if asked target ∷ []
-  test_code table place (negation t) asked target = test_code table place t (not asked) target
-  test_code table place (all_of t ts) asked target =
+  pub test_code : Tables → ℕ → TestForm → Bool → ℕ → List Instruction
+  test_code tables place (constant b) asked target = push_bool b ∷ jump_if asked target ∷ []
+  test_code tables place (negation t) asked target = test_code tables place t (not asked) target
+  test_code tables place (all_of t ts) asked target =
       let following = place + (test_length t + tests_length ts) in
-      test_code table place t (asked_of false asked ts) (aim_of false asked ts following target) ++ tests_code table (place + test_length t) ts false asked following target
-  test_code table place (any_of t ts) asked target =
+      test_code tables place t (asked_of false asked ts) (aim_of false asked ts following target) ++ tests_code tables (place + test_length t) ts false asked following target
+  test_code tables place (any_of t ts) asked target =
       let following = place + (test_length t + tests_length ts) in
-      test_code table place t (asked_of true asked ts) (aim_of true asked ts following target) ++ tests_code table (place + test_length t) ts true asked following target
-  test_code table place (size order number) asked target = push_size order (place_in table number) ∷ jump_if asked target ∷ []
+      test_code tables place t (asked_of true asked ts) (aim_of true asked ts following target) ++ tests_code tables (place + test_length t) ts true asked following target
+  test_code tables place (size order number) asked target = push_size order (place_of_number tables number) ∷ jump_if asked target ∷ []
 
   -- the tests of a list after its first
-  pub tests_code : List ℕ → ℕ → TestForms → Bool → Bool → ℕ → ℕ → List Instruction
-  tests_code table place no_test deciding asked following target = []
-  tests_code table place (test t ts) deciding asked following target =
-      test_code table place t (asked_of deciding asked ts) (aim_of deciding asked ts following target) ++ tests_code table (place + test_length t) ts deciding asked following target
+  pub tests_code : Tables → ℕ → TestForms → Bool → Bool → ℕ → ℕ → List Instruction
+  tests_code tables place no_test deciding asked following target = []
+  tests_code tables place (test t ts) deciding asked following target =
+      test_code tables place t (asked_of deciding asked ts) (aim_of deciding asked ts following target) ++ tests_code tables (place + test_length t) ts deciding asked following target
 
 -- after a block, to the end of the if, where another branch follows
 abbrev pub leave_code : BranchForms → ℕ → List Instruction
@@ -74,27 +74,27 @@ leave_code (otherwise cs) end = instruction Jump 0 end ∷ []
 leave_code (branch t cs bs) end = instruction Jump 0 end ∷ []
 
 abbrev mutual
-  pub command_code : List ℕ → ℕ → CommandForm → List Instruction
-  command_code table place keep = plain Keep ∷ []
-  command_code table place discard = plain Discard ∷ []
-  command_code table place stop = plain Halt ∷ []
-  command_code table place (choice bs) = branches_code table place bs (place + branches_length bs)
+  pub command_code : Tables → ℕ → CommandForm → List Instruction
+  command_code tables place keep = plain Keep ∷ []
+  command_code tables place discard = plain Discard ∷ []
+  command_code tables place stop = plain Halt ∷ []
+  command_code tables place (choice bs) = branches_code tables place bs (place + branches_length bs)
 
-  pub commands_code : List ℕ → ℕ → CommandForms → List Instruction
-  commands_code table place no_command = []
-  commands_code table place (command c cs) = command_code table place c ++ commands_code table (place + command_length c) cs
+  pub commands_code : Tables → ℕ → CommandForms → List Instruction
+  commands_code tables place no_command = []
+  commands_code tables place (command c cs) = command_code tables place c ++ commands_code tables (place + command_length c) cs
 
   -- the branches of an if that ends at a place
-  pub branches_code : List ℕ → ℕ → BranchForms → ℕ → List Instruction
-  branches_code table place no_branch end = []
-  branches_code table place (otherwise cs) end = commands_code table place cs
-  branches_code table place (branch t cs bs) end =
+  pub branches_code : Tables → ℕ → BranchForms → ℕ → List Instruction
+  branches_code tables place no_branch end = []
+  branches_code tables place (otherwise cs) end = commands_code tables place cs
+  branches_code tables place (branch t cs bs) end =
       let block = place + test_length t in
       let next = block + commands_length cs + leave_length bs in
-      test_code table place t false next ++ commands_code table block cs ++ leave_code bs end ++ branches_code table next bs end
+      test_code tables place t false next ++ commands_code tables block cs ++ leave_code bs end ++ branches_code tables next bs end
 
 -- the program of a script
 abbrev pub code_of : CommandForms → Code
 code_of script =
-    let table = table_of script in
-    record { version = 1; variables = 0; numbers = table; strings = []; instructions = commands_code table 0 script ++ plain Halt ∷ [] }
+    let tables = tables_of script in
+    record { version = 1; variables = length tables.variables; numbers = tables.numbers; strings = tables.strings; instructions = commands_code tables 0 script ++ plain Halt ∷ [] }

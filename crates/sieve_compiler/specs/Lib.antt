@@ -1,6 +1,7 @@
 pub mod Lengths
 pub mod Numbers
+pub mod Tables
 pub mod Coding
 -- how the compiler goes; nothing public rests on these
-pub mod Table
+pub mod Growing
 pub mod Putting

@@ -1,5 +1,5 @@
--- The numbers of a script: each once, in the order of their first use.
-use Rattle.std.specs.Prelude.{ℕ, suc, ◌==◌, not, filter, List, [], ◌∷◌, ◌++◌, if◌then◌else◌}
+-- The numbers of a script, as they stand in it.
+use Rattle.std.specs.Prelude.{ℕ, List, [], ◌∷◌, ◌++◌}
 use Rattle.sieve_check.specs.Typed.{TestForm, constant, negation, all_of, any_of, size, TestForms, no_test, test, CommandForm, keep, discard, stop, choice, CommandForms, no_command, command, BranchForms, no_branch, otherwise, branch}
 
 abbrev mutual
@@ -31,17 +31,3 @@ abbrev mutual
   branches_numbers no_branch = []
   branches_numbers (otherwise cs) = commands_numbers cs
   branches_numbers (branch t cs bs) = test_numbers t ++ commands_numbers cs ++ branches_numbers bs
-
--- each number once, at its first place
-abbrev pub distinct : List ℕ → List ℕ
-distinct [] = []
-distinct (n ∷ ns) = n ∷ filter (λ m. not (m == n)) (distinct ns)
-
--- the table of numbers of a script
-abbrev pub table_of : CommandForms → List ℕ
-table_of script = distinct (commands_numbers script)
-
--- the first place of a number in a table
-abbrev pub place_in : List ℕ → ℕ → ℕ
-place_in [] n = 0
-place_in (m ∷ ms) n = if m == n then 0 else suc (place_in ms n)

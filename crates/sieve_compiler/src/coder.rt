@@ -4,17 +4,17 @@ ghost use Rattle.std.specs.Prelude.{◌≡◌, ◌<◌, ◌^◌, length};
 use crate::exits::{Exit, ListExit};
 use crate::instructions::{instruction, jump_if, push_bool, push_size};
 use crate::lengths::{command_length, commands_length, is_left, test_length, tests_length};
-use crate::numbers::Numbers;
+use crate::tables::Tables;
 use bytecode_format::{Instruction, Operation};
 use sieve_check::{Branch, Command, Test};
 use std::alloc::{AllocError, Global};
 
-/// The code so far, and the numbers of the whole script.
+/// The code so far, and the tables of the whole script.
 #[derive(Drop)]
 pub struct Coder<'a> {
-    pub numbers: &'a Numbers,
+    pub tables: &'a Tables,
     pub instructions: Vec<Instruction>,
-    ghost few: { length numbers.now < 2 ^ 32 },
+    ghost few: { length tables.now.numbers < 2 ^ 32 },
 }
 
 impl<'a> Coder<'a> {
@@ -25,13 +25,13 @@ impl<'a> Coder<'a> {
     ghost use Rattle.sieve_compiler.specs.Putting.{Puts};
 
     /// No code. Takes no memory.
-    pub fn new(alloc: Global, numbers: &'a Numbers) -> Coder<'a>
-        requires { length numbers.now < 2 ^ 32 }
-        ensures numbers { result.numbers.now ≡ numbers.now }
+    pub fn new(alloc: Global, tables: &'a Tables) -> Coder<'a>
+        requires { length tables.now.numbers < 2 ^ 32 }
+        ensures tables { result.tables.now ≡ tables.now }
         ensures instructions { result.instructions.items ≡ [] }
     {
         Coder {
-            numbers,
+            tables,
             instructions: Vec::new(alloc),
         }
     }
@@ -67,7 +67,7 @@ impl<'a> Coder<'a> {
     #[cycle(tests)]
     pub fn put_test(&mut self, test: &Test, exit: Exit) -> Result<(), AllocError>
         requires { length self.old.instructions.items + test_length (test_form test.now) < 2 ^ 32 }
-        ensures code { OnOk result (Puts self.old self.new (test_code self.old.numbers.now (length self.old.instructions.items) (test_form test.now) exit.asked exit.target)) }
+        ensures code { OnOk result (Puts self.old self.new (test_code self.old.tables.now (length self.old.instructions.items) (test_form test.now) exit.asked exit.target)) }
         ensures room { OnOk result (length self.new.instructions.items ≡ length self.old.instructions.items + test_length (test_form test.now)) }
     {
         match test {
@@ -92,7 +92,7 @@ impl<'a> Coder<'a> {
                 Ok(())
             }
             Test::Size(order, number) => {
-                let place = self.numbers.place_of(*number) as u32;
+                let place = self.tables.place_of_number(*number) as u32;
                 self.put_simple(push_size(*order, place), exit)
             }
         }
@@ -102,7 +102,7 @@ impl<'a> Coder<'a> {
     #[cycle(tests)]
     fn put_tests(&mut self, others: &[Test], list: ListExit) -> Result<(), AllocError>
         requires { length self.old.instructions.items + tests_length (tests_of (map test_form others.now)) < 2 ^ 32 }
-        ensures code { OnOk result (Puts self.old self.new (tests_code self.old.numbers.now (length self.old.instructions.items) (tests_of (map test_form others.now)) list.deciding list.exit.asked list.following list.exit.target)) }
+        ensures code { OnOk result (Puts self.old self.new (tests_code self.old.tables.now (length self.old.instructions.items) (tests_of (map test_form others.now)) list.deciding list.exit.asked list.following list.exit.target)) }
         ensures room { OnOk result (length self.new.instructions.items ≡ length self.old.instructions.items + tests_length (tests_of (map test_form others.now))) }
     {
         'tests: for (i, test) in others.iter().enumerate() {
@@ -129,7 +129,7 @@ impl<'a> Coder<'a> {
     #[cycle(commands)]
     fn put_command(&mut self, command: &Command) -> Result<(), AllocError>
         requires { length self.old.instructions.items + command_length (command_form command.now) < 2 ^ 32 }
-        ensures code { OnOk result (Puts self.old self.new (command_code self.old.numbers.now (length self.old.instructions.items) (command_form command.now))) }
+        ensures code { OnOk result (Puts self.old self.new (command_code self.old.tables.now (length self.old.instructions.items) (command_form command.now))) }
         ensures room { OnOk result (length self.new.instructions.items ≡ length self.old.instructions.items + command_length (command_form command.now)) }
     {
         match command {
@@ -157,7 +157,7 @@ impl<'a> Coder<'a> {
     #[cycle(commands)]
     pub fn put_commands(&mut self, commands: &[Command]) -> Result<(), AllocError>
         requires { length self.old.instructions.items + commands_length (commands_form commands.now) < 2 ^ 32 }
-        ensures code { OnOk result (Puts self.old self.new (commands_code self.old.numbers.now (length self.old.instructions.items) (commands_form commands.now))) }
+        ensures code { OnOk result (Puts self.old self.new (commands_code self.old.tables.now (length self.old.instructions.items) (commands_form commands.now))) }
         ensures room { OnOk result (length self.new.instructions.items ≡ length self.old.instructions.items + commands_length (commands_form commands.now)) }
     {
         'commands: for command in commands {

@@ -10,7 +10,7 @@ ghost use Rattle.sieve_compiler.specs.Coding.{code_of};
 
 use crate::coder::Coder;
 use crate::instructions::instruction;
-use crate::numbers::Numbers;
+use crate::tables::Tables;
 use bytecode_format::{Operation, Program};
 use sieve_check::{Checked, Command};
 use std::alloc::{AllocError, Global};
@@ -33,11 +33,11 @@ fn compile_commands(alloc: Global, commands: &[Command]) -> Result<Program, Allo
     requires { IsBounded (commands_form commands.now) }
     ensures code { IfOk result (λ p. p ≡ code_of (commands_form commands.now)) }
 {
-    let numbers = Numbers::of_script(alloc, commands)?;
-    let mut coder = Coder::new(alloc, &numbers);
+    let tables = Tables::of_script(alloc, commands)?;
+    let mut coder = Coder::new(alloc, &tables);
     coder.put_commands(commands)?;
     coder.put(instruction(Operation::Halt, 0, 0))?;
     let instructions = coder.instructions;
-    let table = numbers.into_list();
-    Ok(Program::build(1, 0, table, Vec::new(alloc), instructions).unwrap())
+    let numbers = tables.into_numbers();
+    Ok(Program::build(1, 0, numbers, Vec::new(alloc), instructions).unwrap())
 }

@@ -14,5 +14,6 @@ pub mod laws;
 mod lengths;
 mod numbering;
 mod numbers;
+mod tables;
 
 pub use compiler::compile;

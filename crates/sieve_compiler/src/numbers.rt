@@ -19,7 +19,7 @@ impl Model for Numbers {
     ghost use Rattle.std.specs.Prelude.{◌≡◌, ℕ, List};
     ghost use Rattle.std.specs.BTreeMap.{get};
     ghost use Rattle.std.specs.Ordering.{nat_cmp};
-    ghost use Rattle.sieve_compiler.specs.Table.{found_in};
+    ghost use Rattle.sieve_compiler.specs.Growing.{found_in};
 
     ghost Value = { List ℕ };
 
@@ -29,8 +29,9 @@ impl Model for Numbers {
 }
 
 impl Numbers {
-    ghost use Rattle.sieve_compiler.specs.Numbers.{place_in};
-    ghost use Rattle.sieve_compiler.specs.Table.{with_number};
+    ghost use Rattle.std.specs.Prelude.{nat_eq};
+    ghost use Rattle.octets.specs.Once.{place_in};
+    ghost use Rattle.sieve_compiler.specs.Growing.{with_number};
 
     /// No number. Takes no memory.
     pub fn new(alloc: Global) -> Numbers
@@ -60,7 +61,7 @@ impl Numbers {
 
     /// The place of the number; the list's end, where it isn't listed.
     pub fn place_of(&self, number: u64) -> usize
-        ensures place { result ≡ place_in self.now number }
+        ensures place { result ≡ place_in nat_eq self.now number }
         ensures within { result ≤ length self.now }
     {
         let place = self.places.get(&number).copied();

@@ -9,14 +9,14 @@ abbrev pub invariant-put_commands-commands : goal.invariant-put_commands-command
 invariant-put_commands-commands l = record {
   room : length l.self.instructions.items + commands_length (commands_form (drop l.command-index l.commands)) ≡ length l.initial.self.instructions.items + commands_length (commands_form l.commands);
   code : Left l.initial.self l.self
-      (λ table place. commands_code table place (commands_form (drop l.command-index l.commands)))
-      (λ table place. commands_code table place (commands_form l.commands));
+      (λ tables place. commands_code tables place (commands_form (drop l.command-index l.commands)))
+      (λ tables place. commands_code tables place (commands_form l.commands));
 }
 
 abbrev pub invariant-put_command-branches : goal.invariant-put_command-branches
 invariant-put_command-branches l = record {
   room : length l.self.instructions.items + branches_length (branch_forms (drop l.i l.branch-items) (else_form l.otherwise)) ≡ length l.initial.self.instructions.items + branches_length (branch_forms l.branch-items (else_form l.otherwise));
   code : Left l.initial.self l.self
-      (λ table place. branches_code table place (branch_forms (drop l.i l.branch-items) (else_form l.otherwise)) l.end)
-      (λ table place. branches_code table place (branch_forms l.branch-items (else_form l.otherwise)) l.end);
+      (λ tables place. branches_code tables place (branch_forms (drop l.i l.branch-items) (else_form l.otherwise)) l.end)
+      (λ tables place. branches_code tables place (branch_forms l.branch-items (else_form l.otherwise)) l.end);
 }

@@ -9,6 +9,6 @@ abbrev pub invariant-put_tests-tests : goal.invariant-put_tests-tests
 invariant-put_tests-tests l = record {
   room : length l.self.instructions.items + tests_length (tests_of (map test_form (drop l.i l.others))) ≡ length l.initial.self.instructions.items + tests_length (tests_of (map test_form l.others));
   code : Left l.initial.self l.self
-      (λ table place. tests_code table place (tests_of (map test_form (drop l.i l.others))) l.list.deciding l.list.exit.asked l.list.following l.list.exit.target)
-      (λ table place. tests_code table place (tests_of (map test_form l.others)) l.list.deciding l.list.exit.asked l.list.following l.list.exit.target);
+      (λ tables place. tests_code tables place (tests_of (map test_form (drop l.i l.others))) l.list.deciding l.list.exit.asked l.list.following l.list.exit.target)
+      (λ tables place. tests_code tables place (tests_of (map test_form l.others)) l.list.deciding l.list.exit.asked l.list.following l.list.exit.target);
 }

@@ -1,7 +1,7 @@
 use Rattle.std.proofs.Common.{sym, ap, ◌∙◌}
 use Rattle.sieve_check.specs.TypedView.{commands_form, else_form}
 use Rattle.sieve_compiler.specs.Numbers.{commands_numbers, branches_numbers}
-use Rattle.sieve_compiler.specs.Table.{with_numbers}
+use Rattle.sieve_compiler.specs.Growing.{with_numbers}
 use Rattle.sieve_compiler.proofs.NumberingLemmas.{command_added, branch_added, branches_added}
 use Rattle.sieve_compiler.proofs.numbers.Numbers.+command_numbers.Goals as goal
 

@@ -1,7 +1,7 @@
 use Rattle.std.proofs.Common.{◌≡◌, drop}
 use Rattle.sieve_check.specs.TypedView.{commands_form, branch_forms, else_form}
 use Rattle.sieve_compiler.specs.Numbers.{commands_numbers, branches_numbers}
-use Rattle.sieve_compiler.specs.Table.{with_numbers}
+use Rattle.sieve_compiler.specs.Growing.{with_numbers}
 use Rattle.sieve_compiler.proofs.numbers.Numbers.+command_numbers.Given as goal
 
 abbrev pub invariant-add_commands-commands : goal.invariant-add_commands-commands

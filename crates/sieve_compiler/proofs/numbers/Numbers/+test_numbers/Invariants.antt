@@ -1,7 +1,7 @@
 use Rattle.std.proofs.Common.{◌≡◌, map, drop}
 use Rattle.sieve_check.specs.TypedView.{test_form, tests_of}
 use Rattle.sieve_compiler.specs.Numbers.{tests_numbers}
-use Rattle.sieve_compiler.specs.Table.{with_numbers}
+use Rattle.sieve_compiler.specs.Growing.{with_numbers}
 use Rattle.sieve_compiler.proofs.numbers.Numbers.+test_numbers.Given as goal
 
 -- the numbers that are left, after those that were added, give the same table as all of them
