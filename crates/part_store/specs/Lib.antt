@@ -1,0 +1,6 @@
+pub mod Tables
+pub mod Statements
+pub mod Changes
+pub mod Entries
+pub mod Standing
+pub mod Refusals

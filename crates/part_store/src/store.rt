@@ -1,0 +1,149 @@
+//! The store and its calls.
+ghost use Rattle.std.specs.Prelude.{◌≡◌, ◌⊎◌, ◌↔◌, IsTrue, option_map, IfOk, IfErr, OnOk, OnErr};
+ghost use Rattle.sqlite.specs.Held.{state};
+ghost use Rattle.sqlite.specs.State.{HasCleanDisk, KeepsCommit, Survives};
+ghost use Rattle.part_store.specs.Tables.{no_schema, store_schema};
+ghost use Rattle.part_store.specs.Entries.{no_entries, with_program};
+ghost use Rattle.part_store.specs.Standing.{last_in, Brings, Makes, Spares, Stands, StandsFor};
+ghost use Rattle.part_store.specs.declared.error.StoreError.TheVariants.{Memory, Database};
+
+use crate::error::StoreError;
+use crate::{tables, users};
+use sqlite::{Alter, Connection, Error, Row, Transaction};
+use sqlite_schema::schema::Schema;
+use std::marker::Model;
+
+/// Entries, programs and last numbers in the three tables of a database.
+pub struct PartStore<S: Alter> {
+    conn: Connection<S>,
+}
+
+impl<S: Alter> Model for PartStore<S> {
+    ghost use Rattle.sqlite.specs.Held.{Held, held_code};
+
+    ghost Value = { Held S };
+
+    ghost coded = { held_code S.code };
+
+    ghost view = { λ s. s.conn };
+}
+
+impl<S: Alter + Drop> Drop for PartStore<S> {
+    fn drop(self) {
+        let PartStore { conn: _ } = self;
+    }
+}
+
+fn last_in(found: &Option<Row>) -> Result<u32, Error>
+    ensures { IfOk result (last_in found.now) }
+{
+    match found {
+        Some(row) => row.get(0),
+        None => Ok(0),
+    }
+}
+
+/// Whether a database has no table, index or view.
+fn is_bare(schema: &Schema) -> bool
+    ensures { IsTrue result ↔ (schema.now ≡ no_schema) }
+{
+    schema.tables.is_empty() && schema.indexes.is_empty() && schema.views.is_empty()
+}
+
+fn create_tables<S: Alter>(tx: &mut Transaction<'_, S>) -> Result<(), Error>
+    ensures same_reference { tx.new.conn.ghost_name ≡ tx.old.conn.ghost_name }
+    ensures step { HasCleanDisk (state S.Store tx.new.conn.now) → OnOk result ((state S.Store tx.old.conn.now).now.schema ≡ no_schema → Stands (state S.Store tx.new.conn.now).now no_entries) }
+    ensures inside { HasCleanDisk (state S.Store tx.new.conn.now) → OnOk result (IsTrue (state S.Store tx.new.conn.now).in_transaction) }
+    ensures kept { HasCleanDisk (state S.Store tx.new.conn.now) → KeepsCommit (state S.Store tx.old.conn.now) (state S.Store tx.new.conn.now) }
+    ensures survives { Survives (state S.Store tx.old.conn.now) (state S.Store tx.new.conn.now) (λ _. ⊥) }
+{
+    tables::create_users(tx)?;
+    tables::create_contents(tx)?;
+    tables::create_entries(tx)?;
+    Ok(())
+}
+
+/// Makes the tables in a database that has none, and leaves another as it is.
+fn ready_tables<S: Alter>(conn: &mut Connection<S>) -> Result<(), StoreError>
+    ensures made { HasCleanDisk (state S.Store conn.new) → OnOk result ((state S.Store conn.old).now.schema ≡ no_schema → Stands (state S.Store conn.new).now no_entries) }
+    ensures same { HasCleanDisk (state S.Store conn.new) → OnOk result ((before : _) → Stands (state S.Store conn.old).now before → Stands (state S.Store conn.new).now before) }
+    ensures spared { HasCleanDisk (state S.Store conn.new) → OnErr result (IsTrue (state S.Store conn.new).is_open → (state S.Store conn.new).now ≡ (state S.Store conn.old).now) }
+    ensures refused { IfErr result (λ e. (e ≡ Memory) ⊎ (e ≡ Database)) }
+    ensures survives { Survives (state S.Store conn.old) (state S.Store conn.new) (λ trees. StandsFor trees no_entries) }
+{
+    if !conn.is_autocommit() {
+        return Err(StoreError::Database);
+    }
+    if !is_bare(conn.schema()) {
+        return Ok(());
+    }
+    let mut tx = conn.transaction();
+    create_tables(&mut tx)?;
+    tx.commit()?;
+    Ok(())
+}
+
+fn put_program<S: Alter>(
+    tx: &mut Transaction<'_, S>,
+    user: &str,
+    program: &[u8],
+) -> Result<(), Error>
+    ensures same_reference { tx.new.conn.ghost_name ≡ tx.old.conn.ghost_name }
+    ensures step { HasCleanDisk (state S.Store tx.new.conn.now) → OnOk result (Brings (with_program user.now program.now) (state S.Store tx.old.conn.now) (state S.Store tx.new.conn.now)) }
+    ensures inside { HasCleanDisk (state S.Store tx.new.conn.now) → OnOk result (IsTrue (state S.Store tx.new.conn.now).in_transaction) }
+    ensures kept { HasCleanDisk (state S.Store tx.new.conn.now) → (state S.Store tx.old.conn.now).now.schema ≡ store_schema → KeepsCommit (state S.Store tx.old.conn.now) (state S.Store tx.new.conn.now) }
+    ensures survives { Survives (state S.Store tx.old.conn.now) (state S.Store tx.new.conn.now) (λ _. ⊥) }
+{
+    let found = users::find(tx, user)?;
+    let last = last_in(&found)?;
+    users::remove(tx, user)?;
+    users::add(tx, user, last, Some(program))?;
+    Ok(())
+}
+
+fn read_program<S: Alter>(
+    tx: &mut Transaction<'_, S>,
+    user: &str,
+) -> Result<Option<Vec<u8>>, Error>
+    ensures same_reference { tx.new.conn.ghost_name ≡ tx.old.conn.ghost_name }
+    ensures told { HasCleanDisk (state S.Store tx.new.conn.now) → IfOk result (λ found. (before : _) → Stands (state S.Store tx.old.conn.now).now before → option_map (λ v. v.items) found ≡ before.programs user.now) }
+    ensures kept { HasCleanDisk (state S.Store tx.new.conn.now) → (state S.Store tx.old.conn.now).now.schema ≡ store_schema → KeepsCommit (state S.Store tx.old.conn.now) (state S.Store tx.new.conn.now) }
+    ensures survives { Survives (state S.Store tx.old.conn.now) (state S.Store tx.new.conn.now) (λ _. ⊥) }
+{
+    match users::find(tx, user)? {
+        Some(row) => row.get(1),
+        None => Ok(None),
+    }
+}
+
+impl<S: Alter> PartStore<S> {
+    /// Stores the user's program in place of the one before. Refuses `Memory` and `Database`.
+    pub fn set_program(&mut self, user: &str, program: &[u8]) -> Result<(), StoreError>
+        ensures made { HasCleanDisk (state S.Store self.new) → OnOk result (Makes (with_program user.now program.now) (state S.Store self.old) (state S.Store self.new)) }
+        ensures spared { HasCleanDisk (state S.Store self.new) → OnErr result (Spares (state S.Store self.old) (state S.Store self.new)) }
+        ensures refused { IfErr result (λ e. (e ≡ Memory) ⊎ (e ≡ Database)) }
+        ensures survives { Survives (state S.Store self.old) (state S.Store self.new) (λ trees. (before : _) → Stands (state S.Store self.old).now before → StandsFor trees (with_program user.now program.now before)) }
+    {
+        if !self.conn.is_autocommit() {
+            return Err(StoreError::Database);
+        }
+        let mut tx = self.conn.transaction();
+        put_program(&mut tx, user, program)?;
+        tx.commit()?;
+        Ok(())
+    }
+
+    /// The user's program, or none where he has none. Refuses `Memory` and `Database`.
+    pub fn program_of(&mut self, user: &str) -> Result<Option<Vec<u8>>, StoreError>
+        ensures told { HasCleanDisk (state S.Store self.new) → IfOk result (λ found. (before : _) → Stands (state S.Store self.old).now before → option_map (λ v. v.items) found ≡ before.programs user.now) }
+        ensures spared { HasCleanDisk (state S.Store self.new) → Spares (state S.Store self.old) (state S.Store self.new) }
+        ensures refused { IfErr result (λ e. (e ≡ Memory) ⊎ (e ≡ Database)) }
+        ensures survives { Survives (state S.Store self.old) (state S.Store self.new) (λ _. ⊥) }
+    {
+        if !self.conn.is_autocommit() {
+            return Err(StoreError::Database);
+        }
+        let mut tx = self.conn.transaction();
+        Ok(read_program(&mut tx, user)?)
+    }
+}
