@@ -1,5 +1,5 @@
 -- What the statements on the table of contents do.
-use Rattle.std.proofs.Common.{◌≡◌, ℕ, Bool, true, List, [], ◌∷◌, codes, Ok, refl, slice_get}
+use Rattle.std.proofs.Common.{ℕ, List, [], ◌∷◌, codes, Ok, refl, slice_get}
 use Rattle.sqlite_value.specs.declared.value.Value.TheVariants.{Null, Blob}
 use Rattle.sqlite_value.specs.Order.{Row}
 use Rattle.sqlite_sql.specs.Term.{lit, col, op1}

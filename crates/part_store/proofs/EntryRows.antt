@@ -1,5 +1,5 @@
 -- What the statements on the table of entries do.
-use Rattle.std.proofs.Common.{◌≡◌, ℕ, pos, Bool, true, ◌&&◌, List, [], ◌∷◌, codes, Ok, refl, ap, ap₂, sym, subst, subst₂, ◌∙◌, slice_get, map, filter, inl, inr, ◌+◌, Ordering, IsPermutation, IsSorted, arith}
+use Rattle.std.proofs.Common.{◌≡◌, ℕ, pos, ◌&&◌, List, [], ◌∷◌, codes, Ok, refl, ap, ap₂, sym, subst, subst₂, ◌∙◌, slice_get, map, filter, inl, inr, ◌+◌, Ordering, IsPermutation, IsSorted, arith}
 use Rattle.std.proofs.lemmas.List.{get_or-map, length-map}
 use Rattle.std.specs.Ordering.{on}
 use Rattle.sqlite_value.proofs.OrderLemmas.{then-Equal}

@@ -1,18 +1,17 @@
 -- Tables that gain or lose rows.
-use Rattle.std.proofs.Common.{◌≡◌, ◌≢◌, ◌⊎◌, inl, inr, ℕ, ℤ, pos, Bool, true, false, not, List, [], ◌∷◌, ◌++◌, filter, refl, sym, ap, subst, ◌∙◌, Ordering, Less, Equal, Greater, is_eq, IsTrue, arith}
+use Rattle.std.proofs.Common.{◌≡◌, ◌⊎◌, inl, inr, ℕ, Bool, true, false, List, [], ◌∷◌, filter, sym, subst, Ordering, Less, Equal, Greater, is_eq, IsTrue}
 use Rattle.std.specs.Ordering.{match_ordering}
 use Rattle.sqlite_rules.specs.Edit.{is_taken}
 use Rattle.std.specs.List.{AllByRecursion}
 use Rattle.std.proofs.lemmas.Bool.{cases_Bool, true≢false, or_parts}
-use Rattle.sqlite_value.specs.declared.value.Value.TheVariants.{Int}
 use Rattle.sqlite_value.specs.Order.{Row, value_cmp}
 use Rattle.sqlite_trees.specs.Tree.{Trees, rowid, IsAscending, IsTable, put_row}
 use Rattle.sqlite_trees.specs.View.{is_int}
 use Rattle.sqlite_trees.proofs.TreeLemmas.{IsTable-put_row}
 use Rattle.sqlite_rules.specs.Lists.{Has}
-use Rattle.sqlite_rules.proofs.ListLemmas.{all_has, all_from, has_filtered, has_kept}
+use Rattle.sqlite_rules.proofs.ListLemmas.{all_has, all_from, has_filtered}
 use Rattle.sqlite_rules.proofs.TableLemmas.{has_put, put_has}
-use Rattle.part_store.specs.Changes.{new_row, IsAdded, IsTaken}
+use Rattle.part_store.specs.Changes.{new_row, IsAdded}
 
 pub filter_rises : {X : Type 0} (R : X → X → Type 0) (p : X → Bool) (xs : List X) → IsAscending R xs → IsAscending R (filter p xs)
 filter_rises R p [] up = tt

@@ -9,3 +9,6 @@ mod Equals
 mod Gaining
 mod Programs
 mod Creation
+mod Finding
+mod Reading
+mod Filing

@@ -1,5 +1,5 @@
 -- The table of users stands for the state with another program.
-use Rattle.std.proofs.Common.{◌≡◌, ◌≢◌, ◌⊎◌, inl, inr, ℕ, ◌<◌, ℤ, pos, Bool, true, false, not, List, [], ◌∷◌, length, filter, Option, Some, None, MatchOption, option_map, Result, Ok, Err, IfOk, refl, sym, ap, subst, subst₂, ◌∙◌, IsTrue, bytes_eq, arith}
+use Rattle.std.proofs.Common.{◌≡◌, ◌≢◌, inl, inr, ℕ, ◌<◌, ℤ, pos, true, false, not, List, [], ◌∷◌, length, filter, Option, Some, None, MatchOption, option_map, Result, Ok, Err, IfOk, refl, sym, ap, subst, subst₂, ◌∙◌, bytes_eq, arith}
 use Rattle.std.specs.List.{AllByRecursion, AllZip}
 use Rattle.std.proofs.lemmas.Bool.{cases_Bool, true≢false, not-true, false_from_ne_true}
 use Rattle.std.proofs.lemmas.Slice.Eq.{bytes_eq-Decides}
@@ -12,7 +12,7 @@ use Rattle.sqlite_rules.specs.Edit.{next_rowid}
 use Rattle.sqlite_rules.proofs.ListLemmas.{all_has, all_from, has_filtered, has_kept}
 use Rattle.sqlite.specs.Values.{or_null}
 use Rattle.sqlite.specs.State.{State}
-use Rattle.part_store.specs.Changes.{users_tree, contents_tree, entries_tree, equals, columns, Steps, Reads, IsFound, IsAdded, IsTaken, new_row}
+use Rattle.part_store.specs.Changes.{users_tree, contents_tree, entries_tree, equals, columns, Steps, Reads, IsFound, IsAdded, IsTaken}
 use Rattle.part_store.specs.Entries.{Entries, with_program}
 use Rattle.part_store.specs.Standing.{last_in, Brings, Stands, IsUserRow, IsContentRow, HasContent, StandsFor, IsEntryRow}
 use Rattle.part_store.proofs.Equals.{equal_texts}

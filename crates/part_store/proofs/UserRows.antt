@@ -1,11 +1,8 @@
 -- What the statements on the table of users do.
-use Rattle.std.proofs.Common.{◌≡◌, ℕ, pos, Bool, true, false, ◌&&◌, not, List, [], ◌∷◌, codes, Option, Some, None, Ok, Err, Result, OnOk, IfOk, refl, sym, ap, subst, ◌∙◌, slice_get, Bor}
-use Rattle.sqlite_value.specs.declared.value.Value.{Value}
+use Rattle.std.proofs.Common.{◌≡◌, ℕ, pos, List, [], ◌∷◌, codes, Option, Some, None, Ok, refl, slice_get, Bor}
 use Rattle.sqlite_value.specs.declared.value.Value.TheVariants.{Null, Int, Text, Blob}
 use Rattle.sqlite_value.specs.Order.{Row}
-use Rattle.sqlite_trees.specs.Tree.{Trees}
 use Rattle.sqlite_sql.specs.Term.{lit, col}
-use Rattle.sqlite_schema.specs.Rules.{equal}
 use Rattle.sqlite.specs.Values.{or_null, bound_value}
 use Rattle.sqlite.specs.State.{State, ExecutesInside, Shown}
 use Rattle.part_store.specs.Tables.{user_columns}

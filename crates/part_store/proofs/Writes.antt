@@ -1,13 +1,13 @@
 -- What an INSERT and a DELETE leave.
-use Rattle.std.proofs.Common.{◌≡◌, ◌≢◌, ◌⊎◌, inl, inr, ℕ, ◌/◌, ℤ, pos, Bool, true, false, cond, not, ◌&&◌, ◌||◌, ◌==◌, flat_map, filter_map, List, [], ◌∷◌, ◌++◌, append-nil, map, filter, length, drop, slice_get, Option, Some, None, Ok, Err, Result, refl, sym, ap, subst, ◌∙◌, IsTrue, Ordering, Less, Equal, Greater, is_eq}
-use Rattle.std.specs.List.{AllByRecursion, list_any, list_all}
-use Rattle.std.proofs.lemmas.Bool.{true≢false, cases_Bool, and_parts, not-true, or_parts, false_from_ne_true}
-use Rattle.std.proofs.lemmas.Cmp.{tied_itself, tied_back}
+use Rattle.std.proofs.Common.{◌≡◌, ◌⊎◌, inl, inr, ℕ, ◌/◌, ℤ, Bool, true, false, cond, not, ◌&&◌, ◌||◌, ◌==◌, flat_map, filter_map, List, [], ◌∷◌, append-nil, map, filter, length, drop, slice_get, Some, None, Ok, Err, Result, refl, sym, ap, subst, ◌∙◌, IsTrue, Ordering, Less, Equal, Greater, is_eq}
+use Rattle.std.specs.List.{AllByRecursion, list_any}
+use Rattle.std.proofs.lemmas.Bool.{true≢false, cases_Bool, and_parts, not-true, false_from_ne_true}
+use Rattle.std.proofs.lemmas.Cmp.{tied_itself}
 use Rattle.sqlite_value.specs.declared.value.Value.{Value}
-use Rattle.sqlite_value.specs.declared.value.Value.TheVariants.{Null, Int, Text, Blob}
-use Rattle.sqlite_value.specs.Order.{Row, column, value_cmp}
+use Rattle.sqlite_value.specs.declared.value.Value.TheVariants.{Null, Int}
+use Rattle.sqlite_value.specs.Order.{Row, value_cmp}
 use Rattle.sqlite_value.proofs.OrderLemmas.{value_cmp_total}
-use Rattle.sqlite_trees.specs.Tree.{Trees, rowid, IsTable, has_rowid, put_row, without_rowid}
+use Rattle.sqlite_trees.specs.Tree.{Trees, rowid, IsTable, has_rowid, without_rowid}
 use Rattle.sqlite_trees.specs.View.{is_int}
 use Rattle.sqlite_sql.specs.Query.{IsAnswer}
 use Rattle.sqlite_sql.specs.Program.{overlay}
@@ -18,7 +18,6 @@ use Rattle.sqlite_schema.specs.Rules.{parent_key}
 use Rattle.sqlite_schema.specs.declared.schema.Column.{Column}
 use Rattle.sqlite_schema.specs.declared.schema.Reference.{Reference}
 use Rattle.sqlite_schema.specs.declared.schema.Table.{Table}
-use Rattle.sqlite_schema.specs.declared.schema.Schema.{Schema}
 use Rattle.sqlite_schema.specs.declared.schema.Kind.TheVariants as kind
 use Rattle.sqlite_schema.specs.declared.schema.Keys.TheVariants.{Enforced}
 use Rattle.sqlite_schema.specs.declared.command.Source.TheVariants.{Values}
@@ -26,7 +25,7 @@ use Rattle.sqlite_schema.specs.declared.command.Command.TheVariants.{Insert, Del
 use Rattle.sqlite_rules.specs.declared.error.Rowids.TheVariants.{Chosen, Given}
 use Rattle.sqlite_rules.specs.Cast.{cast, cast_row}
 use Rattle.sqlite_rules.specs.Lists.{Has}
-use Rattle.sqlite_rules.specs.Edit.{Edit, id_in, numbered, with_rowid, are_fresh, put_all, edit_of, edited, next_rowid, without_all, taken_by}
+use Rattle.sqlite_rules.specs.Edit.{id_in, numbered, with_rowid, are_fresh, put_all, edit_of, without_all, taken_by}
 use Rattle.sqlite_rules.specs.Action.{works, work_by, pairs, deed_for}
 use Rattle.sqlite_rules.specs.Action as action
 use Rattle.sqlite_rules.specs.Calls.{ids_of}
@@ -34,13 +33,13 @@ use Rattle.sqlite_rules.proofs.ListLemmas.{all_has, some_has, some_from}
 use Rattle.sqlite_rules.proofs.ProbeLemmas.{has_mapped, mapped_has}
 use Rattle.sqlite_rules.proofs.PlaceLemmas.{Tied, tied_same}
 use Rattle.sqlite_rules.proofs.TableLemmas.{int_is}
-use Rattle.sqlite.specs.Effect.{Database, Answers, IsSource, value_rows}
+use Rattle.sqlite.specs.Effect.{Database, IsSource, value_rows}
 use Rattle.sqlite.specs.Does.{Tally, Does}
 use Rattle.sqlite.specs.Rows.{Written}
 use Rattle.sqlite.specs.State.{State, mode_of, Writes}
 use Rattle.sqlite.proofs.Callers.{one_step}
 use Rattle.part_store.specs.Tables.{keyed, store_schema}
-use Rattle.part_store.specs.Changes.{KeepsOthers, new_row, IsAdded, IsTaken}
+use Rattle.part_store.specs.Changes.{new_row, IsAdded, IsTaken}
 use Rattle.part_store.proofs.Meaning.{picked, alone}
 use Rattle.part_store.proofs.Rows.{passes, answer_from, answer_has}
 

@@ -1,5 +1,5 @@
 -- What one statement does to the tables.
-use Rattle.std.specs.Prelude.{◌≡◌, ◌≢◌, ◌+◌, ℕ, pos, Bool, true, false, not, ◌&&◌, List, [], ◌∷◌, map, filter, Option, Some, None, IsTrue, IsPermutation, IsSorted}
+use Rattle.std.specs.Prelude.{◌≡◌, ◌≢◌, ℕ, pos, Bool, true, false, not, ◌&&◌, List, [], ◌∷◌, map, filter, Option, Some, None, IsTrue, IsPermutation, IsSorted}
 use Rattle.std.specs.Ordering.{on}
 use Rattle.sqlite_sql.specs.declared.ops.UnaryOp.TheVariants.{Length}
 use Rattle.sqlite_sql.specs.Ops.{unary}

@@ -4,3 +4,4 @@ pub mod Changes
 pub mod Entries
 pub mod Standing
 pub mod Refusals
+pub mod Opening

@@ -1,7 +1,6 @@
 -- The state that the tables stand for.
-use Rattle.std.specs.Prelude.{◌≡◌, ℕ, ◌<◌, ◌≤◌, ℤ, pos, Bool, true, false, List, [], ◌∷◌, Option, Some, None, IsTrue}
+use Rattle.std.specs.Prelude.{◌≡◌, ℕ, ◌<◌, ◌≤◌, ℤ, pos, true, false, List, [], ◌∷◌, Option, Some, None, IsTrue}
 use Rattle.std.specs.List.{AllByRecursion, AllZip}
-use Rattle.sqlite_value.specs.declared.value.Value.{Value}
 use Rattle.sqlite_value.specs.declared.value.Value.TheVariants.{Int, Text, Blob}
 use Rattle.sqlite_value.specs.Order.{Row, column}
 use Rattle.sqlite_trees.specs.Tree.{Trees, IsTable, IsAscending}
@@ -11,7 +10,7 @@ use Rattle.sqlite.specs.Effect.{Database}
 use Rattle.sqlite.specs.State.{State}
 use Rattle.octets.specs.Limits.{max_entry_number}
 use Rattle.part_store.specs.Tables.{store_schema}
-use Rattle.part_store.specs.Changes.{users_tree, contents_tree, entries_tree, equals}
+use Rattle.part_store.specs.Changes.{users_tree, contents_tree, entries_tree, equals, is_entry}
 use Rattle.part_store.specs.declared.entry.Kind.{Kind}
 use Rattle.part_store.specs.declared.entry.Kind.TheVariants.{Message, Part}
 use Rattle.part_store.specs.Entries.{Entry, Entries}
@@ -84,3 +83,18 @@ Spares old new = old.now.schema ≡ store_schema → IsTrue new.is_open → (new
 abbrev pub last_in : Option Row → ℕ → Type 0
 last_in None n = n ≡ 0
 last_in (Some row) n = column row 0 ≡ Int (pos n)
+
+-- the user's entry of that number
+abbrev pub IsEntryAt : Entries → List ℕ → ℕ → Entry → Type 0
+IsEntryAt e user number x = Has e.entries x × (x.user ≡ user) × (x.number ≡ number)
+
+abbrev pub HasNone : Entries → List ℕ → ℕ → Type 0
+HasNone e user number = (x : Entry) → ¬ IsEntryAt e user number x
+
+-- in a transaction: the tables are read, and stay as they are
+abbrev pub Stays : State → State → Type 0
+Stays old new = old.now.schema ≡ store_schema → (new.now.schema ≡ store_schema) × (new.now.trees ≡ old.now.trees)
+
+-- a row of the user's entry of that number names the digest
+abbrev pub NamesDigest : Trees → List ℕ → ℕ → List ℕ → Type 0
+NamesDigest db user number digest = (r : Row) × Has (db entries_tree) r × (is_entry user number r ≡ true) × (column r 7 ≡ Blob digest)

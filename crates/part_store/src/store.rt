@@ -1,16 +1,20 @@
 //! The store and its calls.
-ghost use Rattle.std.specs.Prelude.{◌≡◌, ◌⊎◌, ◌↔◌, IsTrue, option_map, IfOk, IfErr, OnOk, OnErr};
+ghost use Rattle.std.specs.Prelude.{◌≡◌, ◌⊎◌, ◌↔◌, IsTrue, option_map, MatchOption, IfOk, IfErr, OnOk, OnErr};
 ghost use Rattle.sqlite.specs.Held.{state};
 ghost use Rattle.sqlite.specs.State.{HasCleanDisk, KeepsCommit, Survives};
 ghost use Rattle.part_store.specs.Tables.{no_schema, store_schema};
 ghost use Rattle.part_store.specs.Entries.{no_entries, with_program};
-ghost use Rattle.part_store.specs.Standing.{last_in, Brings, Makes, Spares, Stands, StandsFor};
-ghost use Rattle.part_store.specs.declared.error.StoreError.TheVariants.{Memory, Database};
+ghost use Rattle.part_store.specs.Standing.{last_in, Brings, Makes, Spares, Stays, Stands, StandsFor, HasContent, IsEntryAt, HasNone, NamesDigest};
+ghost use Rattle.part_store.specs.declared.error.StoreError.TheVariants.{Memory, NoSuchEntry, Database};
+ghost use Rattle.part_store.specs.Changes.{contents_tree};
+ghost use Rattle.sqlite.specs.Steps.{over_memory};
+ghost use Rattle.part_store.specs.Opening.{IsReady};
 
 use crate::error::StoreError;
-use crate::{tables, users};
-use sqlite::{Alter, Connection, Error, Row, Transaction};
+use crate::{contents, entries, tables, users};
+use sqlite::{Alter, Connection, Error, File, FileStore, MemStore, Row, Transaction};
 use sqlite_schema::schema::Schema;
+use std::alloc::Global;
 use std::marker::Model;
 
 /// Entries, programs and last numbers in the three tables of a database.
@@ -116,6 +120,54 @@ fn read_program<S: Alter>(
     }
 }
 
+/// The digest of a user's entry, or none where he has no such entry.
+fn digest_of<S: Alter>(
+    tx: &mut Transaction<'_, S>,
+    user: &str,
+    number: u32,
+) -> Result<Option<Vec<u8>>, Error>
+    ensures same_reference { tx.new.conn.ghost_name ≡ tx.old.conn.ghost_name }
+    ensures told { HasCleanDisk (state S.Store tx.new.conn.now) → IfOk result (λ found. (before : _) → Stands (state S.Store tx.old.conn.now).now before → MatchOption found (HasNone before user.now number) (λ digest. NamesDigest (state S.Store tx.old.conn.now).now.trees user.now number digest.items)) }
+    ensures same { HasCleanDisk (state S.Store tx.new.conn.now) → OnOk result (Stays (state S.Store tx.old.conn.now) (state S.Store tx.new.conn.now)) }
+    ensures kept { HasCleanDisk (state S.Store tx.new.conn.now) → (state S.Store tx.old.conn.now).now.schema ≡ store_schema → KeepsCommit (state S.Store tx.old.conn.now) (state S.Store tx.new.conn.now) }
+    ensures survives { Survives (state S.Store tx.old.conn.now) (state S.Store tx.new.conn.now) (λ _. ⊥) }
+{
+    match entries::find(tx, user, number)? {
+        Some(row) => Ok(Some(row.get(0)?)),
+        None => Ok(None),
+    }
+}
+
+/// The content under a digest that an entry names.
+fn content_of<S: Alter>(tx: &mut Transaction<'_, S>, digest: &[u8]) -> Result<Vec<u8>, Error>
+    ensures same_reference { tx.new.conn.ghost_name ≡ tx.old.conn.ghost_name }
+    ensures told { HasCleanDisk (state S.Store tx.new.conn.now) → IfOk result (λ octets. (before : _) → Stands (state S.Store tx.old.conn.now).now before → HasContent ((state S.Store tx.old.conn.now).now.trees contents_tree) digest.now octets.items) }
+    ensures same { HasCleanDisk (state S.Store tx.new.conn.now) → OnOk result (Stays (state S.Store tx.old.conn.now) (state S.Store tx.new.conn.now)) }
+    ensures kept { HasCleanDisk (state S.Store tx.new.conn.now) → (state S.Store tx.old.conn.now).now.schema ≡ store_schema → KeepsCommit (state S.Store tx.old.conn.now) (state S.Store tx.new.conn.now) }
+    ensures survives { Survives (state S.Store tx.old.conn.now) (state S.Store tx.new.conn.now) (λ _. ⊥) }
+{
+    match contents::find(tx, digest)? {
+        Some(row) => row.get(0),
+        None => Err(Error::InvalidQuery),
+    }
+}
+
+fn read_bytes<S: Alter>(
+    tx: &mut Transaction<'_, S>,
+    user: &str,
+    number: u32,
+) -> Result<Option<Vec<u8>>, Error>
+    ensures same_reference { tx.new.conn.ghost_name ≡ tx.old.conn.ghost_name }
+    ensures told { HasCleanDisk (state S.Store tx.new.conn.now) → IfOk result (λ found. (before : _) → Stands (state S.Store tx.old.conn.now).now before → MatchOption found (HasNone before user.now number) (λ octets. (x : _) × IsEntryAt before user.now number x × (octets.items ≡ x.octets))) }
+    ensures kept { HasCleanDisk (state S.Store tx.new.conn.now) → (state S.Store tx.old.conn.now).now.schema ≡ store_schema → KeepsCommit (state S.Store tx.old.conn.now) (state S.Store tx.new.conn.now) }
+    ensures survives { Survives (state S.Store tx.old.conn.now) (state S.Store tx.new.conn.now) (λ _. ⊥) }
+{
+    let Some(digest) = digest_of(tx, user, number)? else {
+        return Ok(None);
+    };
+    Ok(Some(content_of(tx, &digest)?))
+}
+
 impl<S: Alter> PartStore<S> {
     /// Stores the user's program in place of the one before. Refuses `Memory` and `Database`.
     pub fn set_program(&mut self, user: &str, program: &[u8]) -> Result<(), StoreError>
@@ -145,5 +197,49 @@ impl<S: Alter> PartStore<S> {
         }
         let mut tx = self.conn.transaction();
         Ok(read_program(&mut tx, user)?)
+    }
+
+    /// The octets of the user's entry of that number. Refuses `Memory`, `NoSuchEntry` exactly where he has none, and
+    /// `Database`.
+    pub fn bytes_of(&mut self, user: &str, number: u32) -> Result<Vec<u8>, StoreError>
+        ensures told { HasCleanDisk (state S.Store self.new) → IfOk result (λ octets. (before : _) → Stands (state S.Store self.old).now before → (x : _) × IsEntryAt before user.now number x × (octets.items ≡ x.octets)) }
+        ensures absent { HasCleanDisk (state S.Store self.new) → IfErr result (λ e. e ≡ NoSuchEntry → (before : _) → Stands (state S.Store self.old).now before → HasNone before user.now number) }
+        ensures spared { HasCleanDisk (state S.Store self.new) → Spares (state S.Store self.old) (state S.Store self.new) }
+        ensures refused { IfErr result (λ e. (e ≡ Memory) ⊎ ((e ≡ NoSuchEntry) ⊎ (e ≡ Database))) }
+        ensures survives { Survives (state S.Store self.old) (state S.Store self.new) (λ _. ⊥) }
+    {
+        if !self.conn.is_autocommit() {
+            return Err(StoreError::Database);
+        }
+        let mut tx = self.conn.transaction();
+        match read_bytes(&mut tx, user, number)? {
+            Some(octets) => Ok(octets),
+            None => Err(StoreError::NoSuchEntry),
+        }
+    }
+}
+
+impl PartStore<MemStore> {
+    /// An empty store in memory. Refuses `Memory` and `Database`.
+    pub fn in_memory(alloc: Global) -> Result<PartStore<MemStore>, StoreError>
+        ensures empty { IfOk result (λ s. Stands (state over_memory s).now no_entries) }
+        ensures refused { IfErr result (λ e. (e ≡ Memory) ⊎ (e ≡ Database)) }
+    {
+        let mut conn = Connection::open_in_memory(alloc)?;
+        ready_tables(&mut conn)?;
+        Ok(PartStore { conn })
+    }
+}
+
+impl PartStore<FileStore<File>> {
+    /// The store in the file at a path, which is made if it isn't there. Refuses `Memory`, and `Database` where the
+    /// file can't be opened or is no database.
+    pub fn open(rt: &HostRuntime, path: &str) -> Result<PartStore<FileStore<File>>, StoreError>
+        ensures ready { IfOk result IsReady }
+        ensures refused { IfErr result (λ e. (e ≡ Memory) ⊎ (e ≡ Database)) }
+    {
+        let mut conn = Connection::open(rt, path)?;
+        ready_tables(&mut conn)?;
+        Ok(PartStore { conn })
     }
 }

@@ -1,4 +1,3 @@
-use Rattle.std.proofs.Common.{Ok, Err, Result, IfOk, OnErr}
 use Rattle.sqlite.specs.Held.{state}
 use Rattle.part_store.proofs.Runs.{query_keeps, if_ok, if_err}
 use Rattle.part_store.proofs.EntryRows.{entries_listed}
