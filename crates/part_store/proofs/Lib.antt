@@ -11,4 +11,5 @@ mod Programs
 mod Creation
 mod Finding
 mod Reading
-mod Filing
+mod Filed
+mod Removing

@@ -85,7 +85,7 @@ ran_as sql params old new command count means h has = runs_as sql params old new
 pub stepped : (sql : List ℕ) (params : Row) (old new : State) (count : ℕ) (Change : Trees → Trees → Type 0) → ExecutesInside 0 sql params old new (Ok count)
     → (old.now.schema ≡ store_schema → (new.now.schema ≡ store_schema) × Change old.now.trees new.now.trees) → Steps Change old new
 stepped sql params old new count Change h change has =
-    let made = change has in record { was_open = h.1.was_open; is_open = h.1.is_open; committed = h.1.committed_is; schema = made.0; change = made.1 }
+    let made = change has in record { was_open = h.1.was_open; is_open = h.1.is_open; committed = h.1.committed_is; inside = λ _. h.1.mode; schema = made.0; change = made.1 }
 
 -- ---- what is read
 
@@ -108,6 +108,7 @@ module _ (sql : List ℕ) (params : Row) (old new : State) (query : Query) (name
         was_open = same.0.was_open;
         is_open = same.0.is_open;
         committed = same.0.committed_is;
+        inside = λ h. same.0.mode ∙ h;
         schema = ap (λ (d : Database). d.schema) same.0.now_is ∙ has;
         change = (ap (λ (d : Database). d.trees) same.0.now_is, find (shown_answer has));
       }

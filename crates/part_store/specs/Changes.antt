@@ -76,6 +76,7 @@ pub record IsStep (Change : Trees → Trees → Type 0) (old new : State) : Type
   pub was_open : IsTrue old.is_open
   pub is_open : IsTrue new.is_open
   pub committed : new.committed ≡ old.committed
+  pub inside : IsTrue old.in_transaction → IsTrue new.in_transaction
   pub schema : new.now.schema ≡ store_schema
   pub change : Change old.now.trees new.now.trees
 

@@ -5,3 +5,4 @@ pub mod Entries
 pub mod Standing
 pub mod Refusals
 pub mod Opening
+pub mod Filing

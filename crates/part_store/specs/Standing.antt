@@ -1,5 +1,5 @@
 -- The state that the tables stand for.
-use Rattle.std.specs.Prelude.{◌≡◌, ℕ, ◌<◌, ◌≤◌, ℤ, pos, true, false, List, [], ◌∷◌, Option, Some, None, IsTrue}
+use Rattle.std.specs.Prelude.{◌≡◌, ◌⊎◌, ℕ, ◌<◌, ◌≤◌, ℤ, pos, true, false, List, [], ◌∷◌, Option, Some, None, IsTrue}
 use Rattle.std.specs.List.{AllByRecursion, AllZip}
 use Rattle.sqlite_value.specs.declared.value.Value.TheVariants.{Int, Text, Blob}
 use Rattle.sqlite_value.specs.Order.{Row, column}
@@ -10,10 +10,11 @@ use Rattle.sqlite.specs.Effect.{Database}
 use Rattle.sqlite.specs.State.{State}
 use Rattle.octets.specs.Limits.{max_entry_number}
 use Rattle.part_store.specs.Tables.{store_schema}
-use Rattle.part_store.specs.Changes.{users_tree, contents_tree, entries_tree, equals, is_entry}
+use Rattle.part_store.specs.Changes.{users_tree, contents_tree, entries_tree, equals, is_entry, IsTaken}
 use Rattle.part_store.specs.declared.entry.Kind.{Kind}
 use Rattle.part_store.specs.declared.entry.Kind.TheVariants.{Message, Part}
-use Rattle.part_store.specs.Entries.{Entry, Entries}
+use Rattle.part_store.specs.Entries.{Entry, Entries, Draft}
+use Rattle.part_store.specs.declared.entry.NewEntry.{NewEntry}
 
 abbrev pub kind_number : Kind → ℕ
 kind_number Message = 0
@@ -98,3 +99,16 @@ Stays old new = old.now.schema ≡ store_schema → (new.now.schema ≡ store_sc
 -- a row of the user's entry of that number names the digest
 abbrev pub NamesDigest : Trees → List ℕ → ℕ → List ℕ → Type 0
 NamesDigest db user number digest = (r : Row) × Has (db entries_tree) r × (is_entry user number r ≡ true) × (column r 7 ≡ Blob digest)
+
+-- an entry that is to be made, as the definitions see it
+abbrev pub draft_of : NewEntry → Draft
+draft_of entry = record { folder = entry.folder.items; kind = entry.kind; name = entry.name.items; media = entry.media.items; octets = entry.octets.items }
+
+-- In a transaction: where no entry names the digest any more, what is under it is gone, and else nothing has changed.
+pub record IsTidied (digest : List ℕ) (old new : State) : Type 0 where
+  pub schema : new.now.schema ≡ store_schema
+  pub committed : new.committed ≡ old.committed
+  pub inside : IsTrue old.in_transaction → IsTrue new.in_transaction
+  pub change :
+      ((r : Row) × Has (old.now.trees entries_tree) r × (equals 7 (Blob digest) r ≡ true) × (new.now.trees ≡ old.now.trees))
+      ⊎ (((r : Row) → Has (old.now.trees entries_tree) r → equals 7 (Blob digest) r ≡ false) × IsTaken contents_tree (equals 1 (Blob digest)) old.now.trees new.now.trees)

@@ -5,6 +5,7 @@ mod contents;
 mod entries;
 mod entry;
 mod error;
+mod filing;
 mod store;
 mod tables;
 mod users;

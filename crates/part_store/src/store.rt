@@ -1,10 +1,10 @@
 //! The store and its calls.
-ghost use Rattle.std.specs.Prelude.{◌≡◌, ◌⊎◌, ◌↔◌, IsTrue, option_map, MatchOption, IfOk, IfErr, OnOk, OnErr};
+ghost use Rattle.std.specs.Prelude.{◌≡◌, ◌⊎◌, ◌↔◌, true, false, IsTrue, option_map, MatchOption, IfOk, IfErr, OnOk, OnErr};
 ghost use Rattle.sqlite.specs.Held.{state};
 ghost use Rattle.sqlite.specs.State.{HasCleanDisk, KeepsCommit, Survives};
 ghost use Rattle.part_store.specs.Tables.{no_schema, store_schema};
-ghost use Rattle.part_store.specs.Entries.{no_entries, with_program};
-ghost use Rattle.part_store.specs.Standing.{last_in, Brings, Makes, Spares, Stays, Stands, StandsFor, HasContent, IsEntryAt, HasNone, NamesDigest};
+ghost use Rattle.part_store.specs.Entries.{no_entries, with_program, without_entry};
+ghost use Rattle.part_store.specs.Standing.{last_in, Brings, Makes, Spares, Stays, Stands, StandsFor, HasContent, IsEntryAt, HasNone, NamesDigest, IsTidied};
 ghost use Rattle.part_store.specs.declared.error.StoreError.TheVariants.{Memory, NoSuchEntry, Database};
 ghost use Rattle.part_store.specs.Changes.{contents_tree};
 ghost use Rattle.sqlite.specs.Steps.{over_memory};
@@ -168,6 +168,44 @@ fn read_bytes<S: Alter>(
     Ok(Some(content_of(tx, &digest)?))
 }
 
+/// Takes out what is under a digest that no entry names.
+fn tidy<S: Alter>(tx: &mut Transaction<'_, S>, digest: &[u8]) -> Result<(), Error>
+    ensures same_reference { tx.new.conn.ghost_name ≡ tx.old.conn.ghost_name }
+    ensures tidied { HasCleanDisk (state S.Store tx.new.conn.now) → OnOk result ((state S.Store tx.old.conn.now).now.schema ≡ store_schema → IsTidied digest.now (state S.Store tx.old.conn.now) (state S.Store tx.new.conn.now)) }
+    ensures kept { HasCleanDisk (state S.Store tx.new.conn.now) → (state S.Store tx.old.conn.now).now.schema ≡ store_schema → KeepsCommit (state S.Store tx.old.conn.now) (state S.Store tx.new.conn.now) }
+    ensures survives { Survives (state S.Store tx.old.conn.now) (state S.Store tx.new.conn.now) (λ _. ⊥) }
+{
+    match entries::naming(tx, digest)? {
+        Some(_) => Ok(()),
+        None => {
+            contents::remove(tx, digest)?;
+            Ok(())
+        }
+    }
+}
+
+/// Takes a user's entry out. Answers false where he has no such entry.
+fn take_entry<S: Alter>(
+    tx: &mut Transaction<'_, S>,
+    user: &str,
+    number: u32,
+) -> Result<bool, Error>
+    ensures same_reference { tx.new.conn.ghost_name ≡ tx.old.conn.ghost_name }
+    ensures taken { HasCleanDisk (state S.Store tx.new.conn.now) → IfOk result (λ done. done ≡ true → Brings (without_entry user.now number) (state S.Store tx.old.conn.now) (state S.Store tx.new.conn.now)) }
+    ensures there { HasCleanDisk (state S.Store tx.new.conn.now) → IfOk result (λ done. done ≡ true → (before : _) → Stands (state S.Store tx.old.conn.now).now before → (x : _) × IsEntryAt before user.now number x) }
+    ensures none { HasCleanDisk (state S.Store tx.new.conn.now) → IfOk result (λ done. done ≡ false → (before : _) → Stands (state S.Store tx.old.conn.now).now before → HasNone before user.now number) }
+    ensures inside { HasCleanDisk (state S.Store tx.new.conn.now) → IfOk result (λ done. done ≡ true → (state S.Store tx.old.conn.now).now.schema ≡ store_schema → IsTrue (state S.Store tx.new.conn.now).in_transaction) }
+    ensures kept { HasCleanDisk (state S.Store tx.new.conn.now) → (state S.Store tx.old.conn.now).now.schema ≡ store_schema → KeepsCommit (state S.Store tx.old.conn.now) (state S.Store tx.new.conn.now) }
+    ensures survives { Survives (state S.Store tx.old.conn.now) (state S.Store tx.new.conn.now) (λ _. ⊥) }
+{
+    let Some(digest) = digest_of(tx, user, number)? else {
+        return Ok(false);
+    };
+    entries::remove(tx, user, number)?;
+    tidy(tx, &digest)?;
+    Ok(true)
+}
+
 impl<S: Alter> PartStore<S> {
     /// Stores the user's program in place of the one before. Refuses `Memory` and `Database`.
     pub fn set_program(&mut self, user: &str, program: &[u8]) -> Result<(), StoreError>
@@ -216,6 +254,27 @@ impl<S: Alter> PartStore<S> {
             Some(octets) => Ok(octets),
             None => Err(StoreError::NoSuchEntry),
         }
+    }
+
+    /// Removes the user's entry of that number, and its octets where no other entry has them. The number isn't given
+    /// again. Refuses `Memory`, `NoSuchEntry` exactly where he has none, and `Database`.
+    pub fn remove_entry(&mut self, user: &str, number: u32) -> Result<(), StoreError>
+        ensures made { HasCleanDisk (state S.Store self.new) → OnOk result (Makes (without_entry user.now number) (state S.Store self.old) (state S.Store self.new)) }
+        ensures there { HasCleanDisk (state S.Store self.new) → OnOk result ((before : _) → Stands (state S.Store self.old).now before → (x : _) × IsEntryAt before user.now number x) }
+        ensures absent { HasCleanDisk (state S.Store self.new) → IfErr result (λ e. e ≡ NoSuchEntry → (before : _) → Stands (state S.Store self.old).now before → HasNone before user.now number) }
+        ensures spared { HasCleanDisk (state S.Store self.new) → OnErr result (Spares (state S.Store self.old) (state S.Store self.new)) }
+        ensures refused { IfErr result (λ e. (e ≡ Memory) ⊎ ((e ≡ NoSuchEntry) ⊎ (e ≡ Database))) }
+        ensures survives { Survives (state S.Store self.old) (state S.Store self.new) (λ trees. (before : _) → Stands (state S.Store self.old).now before → StandsFor trees (without_entry user.now number before)) }
+    {
+        if !self.conn.is_autocommit() {
+            return Err(StoreError::Database);
+        }
+        let mut tx = self.conn.transaction();
+        if !take_entry(&mut tx, user, number)? {
+            return Err(StoreError::NoSuchEntry);
+        }
+        tx.commit()?;
+        Ok(())
     }
 }
 

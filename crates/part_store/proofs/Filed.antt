@@ -1,5 +1,5 @@
 -- An entry that is filed: its octets under their digest, and then its row.
-use Rattle.std.proofs.Common.{◌≡◌, ◌⊎◌, inl, inr, ℕ, ◌<◌, ◌≤◌, ℤ, pos, ◌+ℤ◌, ◌<ℤ◌, fold, true, false, List, [], ◌∷◌, ◌++◌, None, refl, sym, ap, subst, subst₂, ◌∙◌, bytes_eq, IsTrue, Less, int_cmp, arith}
+use Rattle.std.proofs.Common.{Some, None, ◌≢◌, ◌≡◌, ◌⊎◌, inl, inr, ℕ, ◌<◌, ◌≤◌, ℤ, pos, ◌+ℤ◌, ◌<ℤ◌, fold, true, false, List, [], ◌∷◌, ◌++◌, None, refl, sym, ap, subst, subst₂, ◌∙◌, bytes_eq, IsTrue, Less, int_cmp, arith}
 use Rattle.std.specs.List.{AllByRecursion, AllZip}
 use Rattle.std.proofs.lemmas.Bool.{true≢false}
 use Rattle.std.proofs.lemmas.Bool.Decides.{nat_tests}
@@ -13,11 +13,14 @@ use Rattle.sqlite_rules.specs.Lists.{Has}
 use Rattle.sqlite_rules.specs.Edit.{id_in, next_rowid}
 use Rattle.sqlite_rules.proofs.ListLemmas.{all_has, all_from}
 use Rattle.sqlite_rules.proofs.TableLemmas.{int_is}
-use Rattle.part_store.specs.Changes.{users_tree, contents_tree, entries_tree, equals, IsAdded, new_row}
+use Rattle.part_store.specs.Changes.{users_tree, contents_tree, entries_tree, equals, columns, IsFound, Steps, Reads, IsAdded, new_row}
 use Rattle.part_store.specs.Entries.{Entry, Entries}
-use Rattle.part_store.specs.Standing.{IsUserRow, IsEntryRow, IsContentRow, HasContent, content_row, kind_number, StandsFor}
+use Rattle.part_store.specs.Filing.{IsStocked, IsNext, with_entry, entry_values, Stocks, IsOther, Files}
+use Rattle.part_store.specs.Standing.{Stands, IsUserRow, IsEntryRow, IsContentRow, HasContent, content_row, kind_number, StandsFor}
 use Rattle.part_store.proofs.Gaining.{added_rises, added_has, has_added, added_keeps}
-use Rattle.part_store.proofs.Finding.{content_test, same_blob}
+use Rattle.sqlite.specs.State.{State, KeepsCommit}
+use Rattle.part_store.specs.Tables.{store_schema}
+use Rattle.part_store.proofs.Finding.{content_there, content_test, same_blob}
 use Rattle.part_store.proofs.Programs.{bytes_same}
 
 -- ---- the next rowid comes last
@@ -88,16 +91,6 @@ entry_keys db e stands = zip_keys (db contents_tree) (db entries_tree) e.entries
 
 -- ---- the octets are under their digest
 
-pub record IsStocked (db new : Trees) (digest octets : List ℕ) : Type 0 where
-  pub users : new users_tree ≡ db users_tree
-  pub entries : new entries_tree ≡ db entries_tree
-  pub rise : IsTable (new contents_tree)
-  pub contents : AllByRecursion IsContentRow (new contents_tree)
-  pub single : (d one other : List ℕ) → HasContent (new contents_tree) d one → HasContent (new contents_tree) d other → one ≡ other
-  pub has : HasContent (new contents_tree) digest octets
-  pub kept : (d o : List ℕ) → HasContent (db contents_tree) d o → HasContent (new contents_tree) d o
-  pub from : (d o : List ℕ) → HasContent (new contents_tree) d o → HasContent (db contents_tree) d o ⊎ ((d ≡ digest) × (o ≡ octets))
-
 pub stocked_already : (db : Trees) (e : Entries) (digest octets : List ℕ) → StandsFor db e → HasContent (db contents_tree) digest octets → IsStocked db db digest octets
 stocked_already db e digest octets stands h = record {
   users = refl;
@@ -150,18 +143,6 @@ module _ (db new : Trees) (e : Entries) (digest octets : List ℕ) (stands : Sta
 
 -- ---- and then the row
 
-abbrev pub entry_values : Entry → List ℕ → Row
-entry_values x digest = Text x.user ∷ Int (pos x.number) ∷ Blob x.folder ∷ Int (pos (kind_number x.kind)) ∷ Blob x.name ∷ Blob x.media ∷ Blob digest ∷ []
-
-abbrev pub with_entry : Entry → Entries → Entries
-with_entry x e = record e { entries = e.entries ++ x ∷ [] }
-
--- the number is one that the user may have next
-pub record IsNext (e : Entries) (x : Entry) : Type 0 where
-  pub first : 1 ≤ x.number
-  pub within : x.number ≤ e.lasts x.user
-  pub above : (y : Entry) → Has e.entries y → y.user ≡ x.user → y.number < x.number
-
 module _ (db mid new : Trees) (e : Entries) (x : Entry) (digest : List ℕ) (stands : StandsFor db e) (next : IsNext e x) (stocked : IsStocked db mid digest x.octets)
     (added : IsAdded entries_tree (entry_values x digest) mid new) where
   users_same : new users_tree ≡ db users_tree
@@ -207,3 +188,53 @@ module _ (db mid new : Trees) (e : Entries) (x : Entry) (digest : List ℕ) (sta
       rising = rises_push _ e.entries x stands.numbers.rising next.above;
     };
   }
+
+-- ---- in a transaction
+
+pub stocked_found : (old new : State) (digest octets : List ℕ) (row : Row) (there : List ℕ) → Steps (Reads (λ db. IsFound contents_tree (equals 1 (Blob digest)) (columns (2 ∷ [])) db (Some row))) old new
+    → column row 0 ≡ Blob there → there ≡ octets → (before : Entries) → Stands old.now before → Stocks digest octets old new
+stocked_found old new digest octets row there reads shown same before stands =
+    let step = reads stands.schema in
+    let held = subst (HasContent (old.now.trees contents_tree) digest) same (content_there old new digest row there reads shown before stands) in
+    record {
+      schema = step.schema;
+      committed = step.committed;
+      tables = subst (λ t. IsStocked old.now.trees t digest octets) (sym step.change.0) (stocked_already old.now.trees before digest octets stands.tables held);
+    }
+
+pub other_found : (old new : State) (digest octets : List ℕ) (row : Row) (there : List ℕ) → Steps (Reads (λ db. IsFound contents_tree (equals 1 (Blob digest)) (columns (2 ∷ [])) db (Some row))) old new
+    → column row 0 ≡ Blob there → there ≢ octets → (before : Entries) → Stands old.now before → IsOther old.now.trees digest octets
+other_found old new digest octets row there reads shown apart before stands = (there, content_there old new digest row there reads shown before stands, apart)
+
+pub stocked_none : (old mid new : State) (digest octets : List ℕ) → Steps (Reads (λ db. IsFound contents_tree (equals 1 (Blob digest)) (columns (2 ∷ [])) db None)) old mid
+    → Steps (IsAdded contents_tree (Blob digest ∷ Blob octets ∷ [])) mid new → (before : Entries) → Stands old.now before → Stocks digest octets old new
+stocked_none old mid new digest octets reads adds before stands =
+    let one = reads stands.schema in
+    let two = adds one.schema in
+    let added = subst (λ t. IsAdded contents_tree (Blob digest ∷ Blob octets ∷ []) t new.now.trees) one.change.0 two.change in
+    record {
+      schema = two.schema;
+      committed = two.committed ∙ one.committed;
+      tables = stocked_anew old.now.trees new.now.trees before digest octets stands.tables one.change.1 added;
+    }
+
+pub files : (old mid new : State) (x : Entry) (digest : List ℕ) (before : Entries) → Stands old.now before → IsNext before x → Stocks digest x.octets old mid
+    → Steps (IsAdded entries_tree (entry_values x digest)) mid new → Files x digest before old new
+files old mid new x digest before stands next stocks adds =
+    let step = adds stocks.schema in
+    let same : new.now.trees contents_tree ≡ mid.now.trees contents_tree = step.change.others.1.0 (λ h. absurd (omega (arith, h))) in
+    let held = stocks.tables in
+    record {
+      stands = record { schema = step.schema; tables = filed old.now.trees mid.now.trees new.now.trees before x digest stands.tables next held step.change };
+      committed = step.committed ∙ stocks.committed;
+      has = subst (λ rows. HasContent rows digest x.octets) (sym same) held.has;
+      kept = λ d o h. subst (λ rows. HasContent rows d o) (sym same) (held.kept d o h);
+      from = λ d o h. held.from d o (subst (λ rows. HasContent rows d o) same h);
+    }
+
+pub files_kept : (old mid new : State) (values : Row) → (old.now.schema ≡ store_schema → KeepsCommit old mid) → (old.now.schema ≡ store_schema → mid.now.schema ≡ store_schema)
+    → Steps (IsAdded entries_tree values) mid new → old.now.schema ≡ store_schema → KeepsCommit old new
+files_kept old mid new values one schema adds has =
+    let first = one has in
+    let step = adds (schema has) in
+    record { was_open = λ h. first.was_open step.was_open; committed = λ h. step.committed ∙ first.committed step.was_open }
