@@ -91,9 +91,9 @@ entries_listed old new user rows h =
     record {
       same = subst₂ IsPermutation shows (sym a.shown) (IsPermutation-map (λ (o : Output). o.1) a.kept a.ordered a.same);
       sorted = by_number rows (subst (IsSorted (output_cmp list_entries_query)) (sym (ap (map back) a.shown ∙ backs a.ordered (λ o there.
-      let was = has_permuted a.ordered a.kept o (IsPermutation-sym a.kept a.ordered a.same) there in
-      let env = has_mapped (output list_entries_query) _ o (subst (λ l. Has l o) kept was) in
-      let r = has_mapped (λ r. params ∷ r ∷ []) (filter test (db entries_tree)) env.0 env.1 in
-      let is : o ≡ output list_entries_query (params ∷ r.0 ∷ []) = env.2 ∙ ap (output list_entries_query) r.2 in
-      is ∙ sym (ap (λ (o : Output). back o.1) is)))) a.sorted);
+          let was = has_permuted a.ordered a.kept o (IsPermutation-sym a.kept a.ordered a.same) there in
+          let env = has_mapped (output list_entries_query) _ o (subst (λ l. Has l o) kept was) in
+          let r = has_mapped (λ r. params ∷ r ∷ []) (filter test (db entries_tree)) env.0 env.1 in
+          let is : o ≡ output list_entries_query (params ∷ r.0 ∷ []) = env.2 ∙ ap (output list_entries_query) r.2 in
+          is ∙ sym (ap (λ (o : Output). back o.1) is)))) a.sorted);
     })

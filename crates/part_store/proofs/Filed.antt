@@ -1,5 +1,5 @@
 -- An entry that is filed: its octets under their digest, and then its row.
-use Rattle.std.proofs.Common.{Some, None, ◌≢◌, ◌≡◌, ◌⊎◌, inl, inr, ℕ, ◌<◌, ◌≤◌, ℤ, pos, ◌+ℤ◌, ◌<ℤ◌, fold, true, false, List, [], ◌∷◌, ◌++◌, None, refl, sym, ap, subst, subst₂, ◌∙◌, bytes_eq, IsTrue, Less, int_cmp, arith}
+use Rattle.std.proofs.Common.{Some, None, ◌≢◌, ◌≡◌, ◌⊎◌, inl, inr, ℕ, ℤ, pos, ◌+ℤ◌, ◌<ℤ◌, fold, true, false, List, [], ◌∷◌, ◌++◌, None, refl, sym, ap, subst, subst₂, ◌∙◌, bytes_eq, IsTrue, Less, int_cmp, arith}
 use Rattle.std.specs.List.{AllByRecursion, AllZip}
 use Rattle.std.proofs.lemmas.Bool.{true≢false}
 use Rattle.std.proofs.lemmas.Bool.Decides.{nat_tests}
@@ -16,7 +16,7 @@ use Rattle.sqlite_rules.proofs.TableLemmas.{int_is}
 use Rattle.part_store.specs.Changes.{users_tree, contents_tree, entries_tree, equals, columns, IsFound, Steps, Reads, IsAdded, new_row}
 use Rattle.part_store.specs.Entries.{Entry, Entries}
 use Rattle.part_store.specs.Filing.{IsStocked, IsNext, with_entry, entry_values, Stocks, IsOther, Files}
-use Rattle.part_store.specs.Standing.{Stands, IsUserRow, IsEntryRow, IsContentRow, HasContent, content_row, kind_number, StandsFor}
+use Rattle.part_store.specs.Standing.{Stands, IsUserRow, IsEntryRow, IsContentRow, HasContent, content_row, StandsFor}
 use Rattle.part_store.proofs.Gaining.{added_rises, added_has, has_added, added_keeps}
 use Rattle.sqlite.specs.State.{State, KeepsCommit}
 use Rattle.part_store.specs.Tables.{store_schema}

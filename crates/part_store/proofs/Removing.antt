@@ -1,23 +1,22 @@
 -- The tables without an entry.
-use Rattle.std.proofs.Common.{◌≡◌, ◌≢◌, ◌⊎◌, inl, inr, ℕ, ◌<◌, ◌≤◌, ◌==◌, ℤ, pos, Bool, true, false, not, ◌&&◌, List, [], ◌∷◌, filter, Option, Some, None, refl, sym, ap, ap₂, subst, subst₂, ◌∙◌, bytes_eq, IsTrue, arith}
+use Rattle.std.proofs.Common.{◌≡◌, ◌⊎◌, inl, inr, ℕ, ◌<◌, ℤ, Bool, true, false, not, List, [], ◌∷◌, filter, None, refl, sym, ap, subst, ◌∙◌, bytes_eq, arith}
 use Rattle.std.specs.List.{AllByRecursion, AllZip}
 use Rattle.std.proofs.lemmas.Bool.{cases_Bool, true≢false, and_parts, not-true, eqb-true}
 use Rattle.sqlite_value.specs.declared.keys.Collation.TheVariants.{Binary}
 use Rattle.sqlite_schema.specs.Rules.{equal}
-use Rattle.sqlite_value.specs.declared.value.Value.TheVariants.{Null, Int, Text, Blob}
+use Rattle.sqlite_value.specs.declared.value.Value.TheVariants.{Text, Blob}
 use Rattle.sqlite_value.specs.Order.{Row, column}
-use Rattle.sqlite_trees.specs.Tree.{Trees, rowid, IsAscending, IsTable}
-use Rattle.sqlite_trees.specs.View.{is_int}
+use Rattle.sqlite_trees.specs.Tree.{Trees, IsAscending, IsTable}
 use Rattle.sqlite_rules.specs.Lists.{Has}
 use Rattle.sqlite_rules.proofs.ListLemmas.{all_has, all_from, has_filtered, has_kept}
 use Rattle.sqlite.specs.State.{State, KeepsCommit}
 use Rattle.part_store.specs.Tables.{store_schema}
-use Rattle.part_store.specs.Changes.{users_tree, contents_tree, entries_tree, equals, is_entry, columns, IsFound, IsTaken, Steps, Reads}
+use Rattle.part_store.specs.Changes.{users_tree, contents_tree, entries_tree, equals, is_entry, IsTaken, Steps}
 use Rattle.part_store.specs.Entries.{Entry, Entries, is_at, without_entry}
 use Rattle.part_store.specs.Standing.{IsUserRow, IsEntryRow, IsContentRow, HasContent, content_row, StandsFor, Stands, Brings, NamesDigest, Stays, IsTidied}
 use Rattle.part_store.proofs.Gaining.{filter_rises, keyed_all}
 use Rattle.part_store.proofs.Equals.{equal_blobs}
-use Rattle.part_store.proofs.Finding.{zip_found, row_test, content_test, at_is, same_blob}
+use Rattle.part_store.proofs.Finding.{zip_found, row_test, content_test, same_blob}
 use Rattle.part_store.proofs.Filed.{zip_weaker, entry_keys}
 use Rattle.part_store.proofs.Programs.{same_bytes, bytes_same}
 
@@ -155,8 +154,8 @@ entry_taken_out old one two new user number digest told stays commits takes tidi
     let names = told before stands in
     let tables : StandsFor new.now.trees (without_entry user number before) = elim tidied.change [
       | inl shared ↦ subst (λ t. StandsFor t (without_entry user number before)) (sym shared.3) (shared_left old.now.trees two.now.trees before user number digest stands.tables names gone shared.0 shared.1
-      (let was = has_filtered (λ r. not (is_entry user number r)) (old.now.trees entries_tree) shared.0 (subst (λ rows. Has rows shared.0) (rows_left old.now.trees two.now.trees before user number digest stands.tables names gone) shared.1) in
-      named_blob old.now.trees before digest shared.0 stands.tables was.0 shared.2))
+          (let was = has_filtered (λ r. not (is_entry user number r)) (old.now.trees entries_tree) shared.0 (subst (λ rows. Has rows shared.0) (rows_left old.now.trees two.now.trees before user number digest stands.tables names gone) shared.1) in
+          named_blob old.now.trees before digest shared.0 stands.tables was.0 shared.2))
       | inr alone ↦ alone_left old.now.trees two.now.trees before user number digest stands.tables names gone new.now.trees alone.0 alone.1
     ] in
     (record { schema = tidied.schema; tables = tables }, tidied.committed ∙ step.committed ∙ (commits stands.schema).committed step.was_open)

@@ -21,7 +21,7 @@ bare db t = elim (nat_le (2147483648) t) as (λ b. unwrap_or (cond b (slice_get 
 pub kept_each : {X Y : Type 0} (p : X → Bool) (f : X → Y) (xs : List X) → flat_map (λ x. cond (p x) (f x ∷ []) []) xs ≡ map f (filter p xs)
 kept_each p f [] = refl
 kept_each p f (x ∷ xs) = elim (p x) as (λ b. cond b (f x ∷ []) [] ++ flat_map (λ x. cond (p x) (f x ∷ []) []) xs ≡ map f (cond b (x ∷ filter p xs) (filter p xs)))
-  [ true ↦ ap (λ ys. f x ∷ ys) (kept_each p f xs) | false ↦ kept_each p f xs ]
+    [ true ↦ ap (λ ys. f x ∷ ys) (kept_each p f xs) | false ↦ kept_each p f xs ]
 
 pub has_permuted : {X : Type 0} (xs ys : List X) (x : X) → IsPermutation xs ys → Has xs x → Has ys x
 has_permuted xs ys x same h = has_contained ys x (Contains-permutation xs ys x same (contains_had xs x h))

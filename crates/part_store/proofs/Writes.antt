@@ -173,8 +173,10 @@ module _ (at tree : ℕ) (name : List ℕ) (columns : List Column) (key : List �
           let edit = edit_of db (table) (ids_of rows) Given 0 [] in
           let applied = one_step store_schema Enforced db written.0 edit (no_works tree (taken_by db edit) edit.news) written.1 in
           let all : new.now.trees ≡ written.0 = ap (λ (d : Database). d.trees) now ∙ trees in
-          let sure = answer.1.answer Null in
-          (ap (λ (d : Database). d.schema) now, subst (IsTaken tree test db) (sym all) (record {
-            rows = λ up keyed. applied.rows ∙ taken_out (ids_of rows) (db tree) ∙ filter_same _ _ (db tree) (taken_test rows sure up keyed);
-            others = applied.tables;
-          }))
+          let sure = answer.1.answer Null in (
+            ap (λ (d : Database). d.schema) now,
+            subst (IsTaken tree test db) (sym all) (record {
+              rows = λ up keyed. applied.rows ∙ taken_out (ids_of rows) (db tree) ∙ filter_same _ _ (db tree) (taken_test rows sure up keyed);
+              others = applied.tables;
+            }),
+          )

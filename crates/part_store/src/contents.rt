@@ -18,7 +18,10 @@ pub(crate) fn find<S: Alter>(
     ensures kept { HasCleanDisk (state S.Store tx.new.conn.now) → OnErr result (KeepsCommit (state S.Store tx.old.conn.now) (state S.Store tx.new.conn.now)) }
     ensures survives { Survives (state S.Store tx.old.conn.now) (state S.Store tx.new.conn.now) (λ _. ⊥) }
 {
-    let rows = tx.query_all("SELECT octets FROM contents WHERE digest = ?1", params![digest])?;
+    let rows = tx.query_all(
+        "SELECT octets FROM contents WHERE digest = ?1",
+        params![digest],
+    )?;
     Ok(first_of(rows))
 }
 
@@ -32,7 +35,10 @@ pub(crate) fn size<S: Alter>(
     ensures kept { HasCleanDisk (state S.Store tx.new.conn.now) → OnErr result (KeepsCommit (state S.Store tx.old.conn.now) (state S.Store tx.new.conn.now)) }
     ensures survives { Survives (state S.Store tx.old.conn.now) (state S.Store tx.new.conn.now) (λ _. ⊥) }
 {
-    let rows = tx.query_all("SELECT length(octets) FROM contents WHERE digest = ?1", params![digest])?;
+    let rows = tx.query_all(
+        "SELECT length(octets) FROM contents WHERE digest = ?1",
+        params![digest],
+    )?;
     Ok(first_of(rows))
 }
 
@@ -48,14 +54,14 @@ pub(crate) fn add<S: Alter>(
     ensures kept { HasCleanDisk (state S.Store tx.new.conn.now) → OnErr result (KeepsCommit (state S.Store tx.old.conn.now) (state S.Store tx.new.conn.now)) }
     ensures survives { Survives (state S.Store tx.old.conn.now) (state S.Store tx.new.conn.now) (λ _. ⊥) }
 {
-    tx.execute("INSERT INTO contents (digest, octets) VALUES (?1, ?2)", params![digest, octets])
+    tx.execute(
+        "INSERT INTO contents (digest, octets) VALUES (?1, ?2)",
+        params![digest, octets],
+    )
 }
 
 /// Takes out what is under a digest.
-pub(crate) fn remove<S: Alter>(
-    tx: &mut Transaction<'_, S>,
-    digest: &[u8],
-) -> Result<usize, Error>
+pub(crate) fn remove<S: Alter>(tx: &mut Transaction<'_, S>, digest: &[u8]) -> Result<usize, Error>
     ensures same_reference { tx.new.conn.ghost_name ≡ tx.old.conn.ghost_name }
     ensures step { HasCleanDisk (state S.Store tx.new.conn.now) → OnOk result (Steps (IsTaken contents_tree (equals 1 (Blob digest.now))) (state S.Store tx.old.conn.now) (state S.Store tx.new.conn.now)) }
     ensures inside { HasCleanDisk (state S.Store tx.new.conn.now) → OnOk result (IsTrue (state S.Store tx.new.conn.now).in_transaction) }

@@ -9,16 +9,16 @@ use crate::users::first_of;
 use sqlite::{Alter, Error, Row, Transaction, params};
 
 /// A user's entries by their numbers.
-pub(crate) fn list<S: Alter>(
-    tx: &mut Transaction<'_, S>,
-    user: &str,
-) -> Result<Vec<Row>, Error>
+pub(crate) fn list<S: Alter>(tx: &mut Transaction<'_, S>, user: &str) -> Result<Vec<Row>, Error>
     ensures same_reference { tx.new.conn.ghost_name ≡ tx.old.conn.ghost_name }
     ensures step { HasCleanDisk (state S.Store tx.new.conn.now) → IfOk result (λ found. Steps (Reads (IsListed (equals 1 (Text user.now)) (columns (2 ∷ 4 ∷ 3 ∷ 5 ∷ 6 ∷ 7 ∷ [])) found.items)) (state S.Store tx.old.conn.now) (state S.Store tx.new.conn.now)) }
     ensures kept { HasCleanDisk (state S.Store tx.new.conn.now) → OnErr result (KeepsCommit (state S.Store tx.old.conn.now) (state S.Store tx.new.conn.now)) }
     ensures survives { Survives (state S.Store tx.old.conn.now) (state S.Store tx.new.conn.now) (λ _. ⊥) }
 {
-    tx.query_all("SELECT number, kind, folder, name, media, digest FROM entries WHERE user = ?1 ORDER BY number", params![user])
+    tx.query_all(
+        "SELECT number, kind, folder, name, media, digest FROM entries WHERE user = ?1 ORDER BY number",
+        params![user],
+    )
 }
 
 /// The digest of a user's entry.
@@ -32,7 +32,10 @@ pub(crate) fn find<S: Alter>(
     ensures kept { HasCleanDisk (state S.Store tx.new.conn.now) → OnErr result (KeepsCommit (state S.Store tx.old.conn.now) (state S.Store tx.new.conn.now)) }
     ensures survives { Survives (state S.Store tx.old.conn.now) (state S.Store tx.new.conn.now) (λ _. ⊥) }
 {
-    let rows = tx.query_all("SELECT digest FROM entries WHERE user = ?1 AND number = ?2", params![user, number])?;
+    let rows = tx.query_all(
+        "SELECT digest FROM entries WHERE user = ?1 AND number = ?2",
+        params![user, number],
+    )?;
     Ok(first_of(rows))
 }
 
@@ -46,7 +49,10 @@ pub(crate) fn naming<S: Alter>(
     ensures kept { HasCleanDisk (state S.Store tx.new.conn.now) → OnErr result (KeepsCommit (state S.Store tx.old.conn.now) (state S.Store tx.new.conn.now)) }
     ensures survives { Survives (state S.Store tx.old.conn.now) (state S.Store tx.new.conn.now) (λ _. ⊥) }
 {
-    let rows = tx.query_all("SELECT number FROM entries WHERE digest = ?1", params![digest])?;
+    let rows = tx.query_all(
+        "SELECT number FROM entries WHERE digest = ?1",
+        params![digest],
+    )?;
     Ok(first_of(rows))
 }
 
@@ -67,7 +73,10 @@ pub(crate) fn add<S: Alter>(
     ensures kept { HasCleanDisk (state S.Store tx.new.conn.now) → OnErr result (KeepsCommit (state S.Store tx.old.conn.now) (state S.Store tx.new.conn.now)) }
     ensures survives { Survives (state S.Store tx.old.conn.now) (state S.Store tx.new.conn.now) (λ _. ⊥) }
 {
-    tx.execute("INSERT INTO entries (user, number, folder, kind, name, media, digest) VALUES (?1, ?2, ?3, ?4, ?5, ?6, ?7)", params![user, number, folder, kind, name, media, digest])
+    tx.execute(
+        "INSERT INTO entries (user, number, folder, kind, name, media, digest) VALUES (?1, ?2, ?3, ?4, ?5, ?6, ?7)",
+        params![user, number, folder, kind, name, media, digest],
+    )
 }
 
 /// Takes a user's entry out.
@@ -82,5 +91,8 @@ pub(crate) fn remove<S: Alter>(
     ensures kept { HasCleanDisk (state S.Store tx.new.conn.now) → OnErr result (KeepsCommit (state S.Store tx.old.conn.now) (state S.Store tx.new.conn.now)) }
     ensures survives { Survives (state S.Store tx.old.conn.now) (state S.Store tx.new.conn.now) (λ _. ⊥) }
 {
-    tx.execute("DELETE FROM entries WHERE user = ?1 AND number = ?2", params![user, number])
+    tx.execute(
+        "DELETE FROM entries WHERE user = ?1 AND number = ?2",
+        params![user, number],
+    )
 }

@@ -14,11 +14,7 @@ use sha2::{Digest, Sha256};
 use sqlite::{Alter, Error, Transaction};
 
 /// Puts octets under their digest where nothing is under it yet. Answers whether they are what is under it now.
-fn stock<S: Alter>(
-    tx: &mut Transaction<'_, S>,
-    digest: &[u8],
-    octets: &[u8],
-) -> Result<bool, Error>
+fn stock<S: Alter>(tx: &mut Transaction<'_, S>, digest: &[u8], octets: &[u8]) -> Result<bool, Error>
     ensures same_reference { tx.new.conn.ghost_name ≡ tx.old.conn.ghost_name }
     ensures stocked { HasCleanDisk (state S.Store tx.new.conn.now) → IfOk result (λ done. done ≡ true → (before : _) → Stands (state S.Store tx.old.conn.now).now before → Stocks digest.now octets.now (state S.Store tx.old.conn.now) (state S.Store tx.new.conn.now)) }
     ensures other { HasCleanDisk (state S.Store tx.new.conn.now) → IfOk result (λ done. done ≡ false → (before : _) → Stands (state S.Store tx.old.conn.now).now before → IsOther (state S.Store tx.old.conn.now).now.trees digest.now octets.now) }

@@ -105,10 +105,7 @@ fn put_program<S: Alter>(
     Ok(())
 }
 
-fn read_program<S: Alter>(
-    tx: &mut Transaction<'_, S>,
-    user: &str,
-) -> Result<Option<Vec<u8>>, Error>
+fn read_program<S: Alter>(tx: &mut Transaction<'_, S>, user: &str) -> Result<Option<Vec<u8>>, Error>
     ensures same_reference { tx.new.conn.ghost_name ≡ tx.old.conn.ghost_name }
     ensures told { HasCleanDisk (state S.Store tx.new.conn.now) → IfOk result (λ found. (before : _) → Stands (state S.Store tx.old.conn.now).now before → option_map (λ v. v.items) found ≡ before.programs user.now) }
     ensures kept { HasCleanDisk (state S.Store tx.new.conn.now) → (state S.Store tx.old.conn.now).now.schema ≡ store_schema → KeepsCommit (state S.Store tx.old.conn.now) (state S.Store tx.new.conn.now) }
@@ -185,11 +182,7 @@ fn tidy<S: Alter>(tx: &mut Transaction<'_, S>, digest: &[u8]) -> Result<(), Erro
 }
 
 /// Takes a user's entry out. Answers false where he has no such entry.
-fn take_entry<S: Alter>(
-    tx: &mut Transaction<'_, S>,
-    user: &str,
-    number: u32,
-) -> Result<bool, Error>
+fn take_entry<S: Alter>(tx: &mut Transaction<'_, S>, user: &str, number: u32) -> Result<bool, Error>
     ensures same_reference { tx.new.conn.ghost_name ≡ tx.old.conn.ghost_name }
     ensures taken { HasCleanDisk (state S.Store tx.new.conn.now) → IfOk result (λ done. done ≡ true → Brings (without_entry user.now number) (state S.Store tx.old.conn.now) (state S.Store tx.new.conn.now)) }
     ensures there { HasCleanDisk (state S.Store tx.new.conn.now) → IfOk result (λ done. done ≡ true → (before : _) → Stands (state S.Store tx.old.conn.now).now before → (x : _) × IsEntryAt before user.now number x) }
