@@ -1,0 +1,29 @@
+-- Columns that equal a value.
+use Rattle.std.proofs.Common.{◌≡◌, ℕ, pos, Bool, true, false, List, Some, refl, ap, ◌∙◌, bytes_eq, eqb, is_eq, int_cmp, arith}
+use Rattle.std.proofs.lemmas.Bool.Decides.{nat_tests}
+use Rattle.std.proofs.lemmas.Int.{ints}
+use Rattle.std.proofs.lemmas.Map.Text.{is_eq-slice_cmp}
+use Rattle.sqlite_value.specs.declared.keys.Collation.TheVariants.{Binary}
+use Rattle.sqlite_value.specs.declared.value.Value.TheVariants.{Int, Text, Blob}
+use Rattle.sqlite_value.proofs.OrderLemmas.{value_cmp-Int, value_cmp-Text, value_cmp-Blob}
+use Rattle.sqlite_sql.specs.Ops.{binary, is_true, from_truth}
+use Rattle.sqlite_schema.specs.Rules.{equal}
+
+told : (b : Bool) → is_true (from_truth (Some b)) ≡ b
+told true = refl
+told false = refl
+
+pub equal_texts : (m n : List ℕ) → equal Binary (Text m) (Text n) ≡ bytes_eq m n
+unfolding binary
+equal_texts m n = told _ ∙ ap is_eq (value_cmp-Text m n) ∙ is_eq-slice_cmp m n
+
+pub equal_blobs : (m n : List ℕ) → equal Binary (Blob m) (Blob n) ≡ bytes_eq m n
+unfolding binary
+equal_blobs m n = told _ ∙ ap is_eq (value_cmp-Blob m n) ∙ is_eq-slice_cmp m n
+
+same_ints : (m n : ℕ) → is_eq (int_cmp (pos m) (pos n)) ≡ eqb m n
+same_ints m n = grind (arith, ints, nat_tests)
+
+pub equal_numbers : (m n : ℕ) → equal Binary (Int (pos m)) (Int (pos n)) ≡ eqb m n
+unfolding binary
+equal_numbers m n = told _ ∙ ap is_eq (value_cmp-Int (pos m) (pos n)) ∙ same_ints m n

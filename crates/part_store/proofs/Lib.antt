@@ -1,0 +1,15 @@
+mod Meaning
+mod Rows
+mod Writes
+mod Runs
+mod UserRows
+mod ContentRows
+mod EntryRows
+mod Equals
+mod Gaining
+mod Programs
+mod Creation
+mod Finding
+mod Reading
+mod Filed
+mod Removing

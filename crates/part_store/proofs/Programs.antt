@@ -1,0 +1,147 @@
+-- The table of users stands for the state with another program.
+use Rattle.std.proofs.Common.{◌≡◌, ◌≢◌, inl, inr, ℕ, ◌<◌, ℤ, pos, true, false, not, List, [], ◌∷◌, length, filter, Option, Some, None, MatchOption, option_map, Result, Ok, Err, IfOk, refl, sym, ap, subst, subst₂, ◌∙◌, bytes_eq, arith}
+use Rattle.std.specs.List.{AllByRecursion, AllZip}
+use Rattle.std.proofs.lemmas.Bool.{cases_Bool, true≢false, not-true, false_from_ne_true}
+use Rattle.std.proofs.lemmas.Slice.Eq.{bytes_eq-Decides}
+use Rattle.sqlite_value.specs.declared.value.Value.TheVariants.{Null, Int, Text, Blob}
+use Rattle.sqlite_value.specs.Order.{Row, column}
+use Rattle.sqlite_trees.specs.Tree.{Trees, rowid, IsTable}
+use Rattle.sqlite_trees.specs.View.{is_int}
+use Rattle.sqlite_rules.specs.Lists.{Has}
+use Rattle.sqlite_rules.specs.Edit.{next_rowid}
+use Rattle.sqlite_rules.proofs.ListLemmas.{all_has, all_from, has_filtered, has_kept}
+use Rattle.sqlite.specs.Values.{or_null}
+use Rattle.sqlite.specs.State.{State}
+use Rattle.part_store.specs.Changes.{users_tree, contents_tree, entries_tree, equals, columns, Steps, Reads, IsFound, IsAdded, IsTaken}
+use Rattle.part_store.specs.Entries.{Entries, with_program}
+use Rattle.part_store.specs.Standing.{last_in, Brings, Stands, IsUserRow, IsContentRow, HasContent, StandsFor, IsEntryRow}
+use Rattle.part_store.proofs.Equals.{equal_texts}
+use Rattle.part_store.proofs.Gaining.{filter_rises, added_rises, added_has, has_added, added_keeps, keyed_all}
+
+pub same_bytes : (m n : List ℕ) → bytes_eq m n ≡ true → m ≡ n
+same_bytes m n h = (bytes_eq-Decides m n).0 h
+
+pub bytes_same : (m : List ℕ) → bytes_eq m m ≡ true
+bytes_same m = (bytes_eq-Decides m m).1 refl
+
+pub user_key : (e : Entries) (r : Row) → IsUserRow e r → is_int (rowid r) ≡ true
+user_key e r h = rw h.2
+
+-- the row is of the user exactly where his name is in it
+pub of_user : (e : Entries) (r : Row) (user : List ℕ) (h : IsUserRow e r) → equals 1 (Text user) r ≡ bytes_eq h.1 user
+of_user e r user h = rw h.2 (equal_texts h.1 user)
+
+same_int : (m n : ℕ) → Int (pos m) ≡ Int (pos n) → m ≡ n
+same_int m n h = cc
+
+module _ (db : Trees) (e : Entries) (stands : StandsFor db e) (user : List ℕ) where
+  -- the row that was found is the user's
+  pub found_user : (r : Row) → Has (db users_tree) r → equals 1 (Text user) r ≡ true → (id : ℤ) × (r ≡ Int id ∷ Text user ∷ Int (pos (e.lasts user)) ∷ or_null Blob (e.programs user) ∷ [])
+  found_user r there is =
+      let h = all_has (IsUserRow e) (db users_tree) r stands.users there in
+      let same = same_bytes h.1 user (sym (of_user e r user h) ∙ is) in
+      (h.0, subst (λ n. r ≡ Int h.0 ∷ Text n ∷ Int (pos (e.lasts n)) ∷ or_null Blob (e.programs n) ∷ []) same h.2)
+
+  pub last_read : (found : Option Row) (n : ℕ) → IsFound users_tree (equals 1 (Text user)) (columns (2 ∷ 3 ∷ [])) db found → last_in found n → n ≡ e.lasts user
+  last_read None n found last = last ∙ sym (stands.strangers user found).0
+  last_read (Some row) n found last =
+      let r = found_user found.0 found.1 found.2 in
+      same_int n (e.lasts user) (sym last ∙ ap (λ (x : Row). column x 0) found.3 ∙ ap (λ (x : Row). column x 2) r.1)
+
+-- the user's row is put anew, with his last number and this program
+module _ (db mid new : Trees) (e : Entries) (stands : StandsFor db e) (user program : List ℕ) (n : ℕ) (last : n ≡ e.lasts user)
+    (taken : IsTaken users_tree (equals 1 (Text user)) db mid) (added : IsAdded users_tree (Text user ∷ Int (pos n) ∷ Blob program ∷ []) mid new) where
+  abbrev after : Entries
+  after = with_program user program e
+
+  rest : mid users_tree ≡ filter (λ r. not (equals 1 (Text user) r)) (db users_tree)
+  rest = taken.rows stands.users_rise (keyed_all (IsUserRow e) (db users_tree) (user_key e) stands.users)
+
+  contents_same : new contents_tree ≡ db contents_tree
+  contents_same = added.others.1.0 (λ h. absurd (omega (arith, h))) ∙ taken.others.1.0 (λ h. absurd (omega (arith, h)))
+
+  entries_same : new entries_tree ≡ db entries_tree
+  entries_same = added.others.1.1.0 (λ h. absurd (omega (arith, h))) ∙ taken.others.1.1.0 (λ h. absurd (omega (arith, h)))
+
+  mid_rises : IsTable (mid users_tree)
+  mid_rises = subst IsTable (sym rest) (filter_rises _ _ (db users_tree) stands.users_rise)
+
+  -- a row of another user stays
+  others_stay : (r : Row) → Has (db users_tree) r → equals 1 (Text user) r ≡ false → Has (new users_tree) r
+  others_stay r there other =
+      added_keeps users_tree _ mid new r added (subst (λ rows. Has rows r) (sym rest) (has_kept _ (db users_tree) r there (ap not other)))
+
+  each_user : (r : Row) → Has (new users_tree) r → IsUserRow after r
+  each_user r there = elim (added_has users_tree _ mid new r added there) [
+    | inl is ↦ (next_rowid (mid users_tree), user, is ∙ rw (last, bytes_same user))
+    | inr was ↦
+        let kept = has_filtered _ (db users_tree) r (subst (λ rows. Has rows r) rest was) in
+        let h = all_has (IsUserRow e) (db users_tree) r stands.users kept.0 in
+        let other : bytes_eq h.1 user ≡ false = sym (of_user e r user h) ∙ not-true _ kept.1 in
+        (h.0, h.1, h.2 ∙ rw other)
+  ]
+
+  strangers_too : (name : List ℕ) → ((r : Row) → Has (new users_tree) r → equals 1 (Text name) r ≡ false) → (after.lasts name ≡ 0) × (after.programs name ≡ None)
+  strangers_too name none =
+      let here = none _ (has_added users_tree _ mid new added) in
+      let other : bytes_eq user name ≡ false = sym (equal_texts user name) ∙ here in
+      let other2 : bytes_eq name user ≡ false = false_from_ne_true _ (λ is. absurd (true≢false (sym (bytes_same user) ∙ ap (bytes_eq user) (sym (same_bytes name user is)) ∙ other))) in
+      let was = stands.strangers name (λ r there. elim (cases_Bool (equals 1 (Text user) r)) [
+        | inl mine ↦ let r2 = found_user db e stands user r there mine in rw (r2.1) (equal_texts user name ∙ other)
+        | inr not_mine ↦ none r (others_stay r there not_mine)
+      ]) in
+      (was.0, rw other2 was.1)
+
+  pub program_put : StandsFor new after
+  program_put = record {
+    users_rise = added_rises users_tree _ mid new added mid_rises;
+    contents_rise = subst IsTable (sym contents_same) stands.contents_rise;
+    entries_rise = subst IsTable (sym entries_same) stands.entries_rise;
+    users = all_from (IsUserRow after) (new users_tree) each_user;
+    strangers = strangers_too;
+    contents = subst (AllByRecursion IsContentRow) (sym contents_same) stands.contents;
+    single = subst (λ rows. (digest one other : List ℕ) → HasContent rows digest one → HasContent rows digest other → one ≡ other) (sym contents_same) stands.single;
+    entries = subst₂ (λ c rows. AllZip (IsEntryRow c) rows e.entries) (sym contents_same) (sym entries_same) stands.entries;
+    named = subst₂ (λ c rows. (digest octets : List ℕ) → HasContent c digest octets → (r : Row) × Has rows r × (column r 7 ≡ Blob digest)) (sym contents_same) (sym entries_same) stands.named;
+    numbers = record { limit = stands.numbers.limit; given = stands.numbers.given; rising = stands.numbers.rising };
+  }
+
+pub program_brought : (old one two new : State) (user program : List ℕ) (n : ℕ) (found : Option Row)
+    → Steps (Reads (λ db. IsFound users_tree (equals 1 (Text user)) (columns (2 ∷ 3 ∷ [])) db found)) old one → last_in found n
+    → Steps (IsTaken users_tree (equals 1 (Text user))) one two → Steps (IsAdded users_tree (Text user ∷ Int (pos n) ∷ Blob program ∷ [])) two new → Brings (with_program user program) old new
+program_brought old one two new user program n found reads last takes adds before stands =
+    let a = reads stands.schema in
+    let b = takes a.schema in
+    let c = adds b.schema in
+    let number = last_read old.now.trees before stands.tables user found n a.change.1 last in
+    let taken = subst (λ t. IsTaken users_tree (equals 1 (Text user)) t two.now.trees) a.change.0 b.change in
+    (record { schema = c.schema; tables = program_put old.now.trees two.now.trees new.now.trees before stands.tables user program n number taken c.change }, c.committed ∙ b.committed ∙ a.committed)
+
+-- a program that was read
+no_program : (program : Option (List ℕ)) → or_null Blob program ≡ Null → program ≡ None
+no_program None h = refl
+no_program (Some octets) h = absurd (cc)
+
+this_program : (program : Option (List ℕ)) (octets : List ℕ) → or_null Blob program ≡ Blob octets → Some octets ≡ program
+this_program None octets h = absurd (cc)
+this_program (Some others) octets h = let e : octets ≡ others = cc in ap Some e
+
+program_shown : {A : Type 0} (old new : State) (user : List ℕ) (row : Row) (items : A → List ℕ) (before : Entries) → Stands old.now before
+    → Steps (Reads (λ db. IsFound users_tree (equals 1 (Text user)) (columns (2 ∷ 3 ∷ [])) db (Some row))) old new
+    → (x : Option A) → MatchOption x (column row 1 ≡ Null) (λ v. (column row 1 ≢ Null) × (column row 1 ≡ Blob (items v))) → option_map items x ≡ before.programs user
+program_shown old new user row items before stands reads x is =
+    let h = (reads stands.schema).change.1 in
+    let r = found_user old.now.trees before stands.tables user h.0 h.1 h.2 in
+    let shown : column row 1 ≡ or_null Blob (before.programs user) = ap (λ (x : Row). column x 1) (h.3 ∙ ap (columns (2 ∷ 3 ∷ [])) r.1) in
+    go x is shown
+  where
+    go : (x : Option _) → MatchOption x (column row 1 ≡ Null) (λ v. (column row 1 ≢ Null) × (column row 1 ≡ Blob (items v))) → column row 1 ≡ or_null Blob (before.programs user) → option_map items x ≡ before.programs user
+    go None is shown = sym (no_program (before.programs user) (sym shown ∙ is))
+    go (Some v) is shown = this_program (before.programs user) (items v) (sym shown ∙ is.1)
+
+pub program_read : {A E : Type 0} (old new : State) (user : List ℕ) (row : Row) (items : A → List ℕ) (r : Result (Option A) E)
+    → Steps (Reads (λ db. IsFound users_tree (equals 1 (Text user)) (columns (2 ∷ 3 ∷ [])) db (Some row))) old new
+    → IfOk r (λ x. (1 < length row) × MatchOption x (column row 1 ≡ Null) (λ v. (column row 1 ≢ Null) × (column row 1 ≡ Blob (items v))))
+    → IfOk r (λ found. (before : Entries) → Stands old.now before → option_map items found ≡ before.programs user)
+program_read old new user row items (Err e) reads got = tt
+program_read old new user row items (Ok found) reads got = λ before stands. program_shown old new user row items before stands reads found got.1

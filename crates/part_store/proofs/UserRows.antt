@@ -1,0 +1,39 @@
+-- What the statements on the table of users do.
+use Rattle.std.proofs.Common.{◌≡◌, ℕ, pos, List, [], ◌∷◌, codes, Option, Some, None, Ok, refl, slice_get, Bor}
+use Rattle.sqlite_value.specs.declared.value.Value.TheVariants.{Null, Int, Text, Blob}
+use Rattle.sqlite_value.specs.Order.{Row}
+use Rattle.sqlite_sql.specs.Term.{lit, col}
+use Rattle.sqlite.specs.Values.{or_null, bound_value}
+use Rattle.sqlite.specs.State.{State, ExecutesInside, Shown}
+use Rattle.part_store.specs.Tables.{user_columns}
+use Rattle.part_store.specs.Statements.{find_user_text, drop_user_text, add_user_text}
+use Rattle.part_store.specs.Changes.{Steps, Reads, IsFound, IsAdded, IsTaken, users_tree, equals, columns}
+use Rattle.part_store.proofs.Meaning.{is_given, find_user_query, find_user_is, drop_user_is, add_user_is}
+use Rattle.part_store.proofs.Writes.{inserted, deleted, cast_null, cast_int}
+use Rattle.part_store.proofs.Runs.{ran_as, stepped, read, found, found_as, taken_as, and_true}
+
+pub user_found : (old new : State) (user : List ℕ) (rows : List Row) → Shown find_user_text (Text user ∷ []) old new rows
+    → Steps (Reads (λ db. IsFound users_tree (equals 1 (Text user)) (columns (2 ∷ 3 ∷ [])) db (slice_get rows 0))) old new
+user_found old new user rows h =
+    read find_user_text (Text user ∷ []) old new find_user_query _ find_user_is rows h _ (λ a.
+    found_as users_tree _ (equals 1 (Text user)) _ (columns (2 ∷ 3 ∷ [])) old.now.trees (slice_get rows 0) (λ r. and_true _) (λ r. refl)
+    (found 0 (is_given 1 0 ∷ []) (col 1 2 ∷ col 1 3 ∷ []) [] old.now.trees (Text user ∷ []) rows a))
+
+pub user_taken : (old new : State) (user : List ℕ) (count : ℕ) → ExecutesInside 0 drop_user_text (Text user ∷ []) old new (Ok count) → Steps (IsTaken users_tree (equals 1 (Text user))) old new
+user_taken old new user count h = stepped drop_user_text (Text user ∷ []) old new count _ h (λ has.
+    let it = deleted 0 0 (codes "users") user_columns (1 ∷ []) [] refl old new (Text user ∷ []) _ count has (is_given 1 0 ∷ []) (ran_as drop_user_text (Text user ∷ []) old new _ count drop_user_is h has) in
+    (it.0, taken_as users_tree _ (equals 1 (Text user)) old.now.trees new.now.trees (λ r. and_true _) it.1))
+
+pub user_added : (old new : State) (user : List ℕ) (last : ℕ) (program : Option (Bor (List ℕ))) (count : ℕ)
+    → ExecutesInside 0 add_user_text (Text user ∷ Int (pos last) ∷ or_null (λ octets. Blob octets.now) program ∷ []) old new (Ok count)
+    → Steps (IsAdded users_tree (Text user ∷ Int (pos last) ∷ or_null (λ octets. Blob octets.now) program ∷ [])) old new
+user_added old new user last program count h =
+    let params : Row = Text user ∷ Int (pos last) ∷ or_null (λ octets. Blob octets.now) program ∷ [] in
+    stepped add_user_text params old new count _ h (λ has.
+    inserted 0 0 (codes "users") user_columns (1 ∷ []) [] refl old new params _ count has (lit Null ∷ col 0 0 ∷ col 0 1 ∷ col 0 2 ∷ []) 4 (Null ∷ params) params refl
+    (rw (cast_null, cast_int)) (ran_as add_user_text params old new _ count add_user_is h has))
+
+-- a program, or none, is bound as it is
+pub bound_program : (program : Option (Bor (List ℕ))) → bound_value (or_null (λ octets. Blob octets.now) program) ≡ or_null (λ octets. Blob octets.now) program
+bound_program None = refl
+bound_program (Some octets) = refl

@@ -1,0 +1,11 @@
+use Rattle.sqlite.specs.Held.{state}
+use Rattle.part_store.proofs.Runs.{query_keeps, if_ok, if_err}
+use Rattle.part_store.proofs.EntryRows.{entries_listed}
+use Rattle.part_store.proofs.entries.list.Goals as goal
+
+pub returns-clause-step : goal.returns-clause-step
+returns-clause-step g c clean =
+    if_ok c.query_all.result _ _ (λ rows shown. entries_listed (state g.S.Store c.args.tx.now.conn.now) (state g.S.Store c.query_all.new.self.conn.now) c.args.user.now rows.items (rw c.params-to_sql.ensures at shown)) (c.query_all.ensures.ok clean)
+
+pub returns-clause-kept : goal.returns-clause-kept
+returns-clause-kept g c clean = if_err c.query_all.result _ _ (λ e failed. query_keeps _ _ _ _ e failed) (c.query_all.ensures.err clean)

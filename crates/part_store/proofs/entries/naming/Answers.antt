@@ -1,0 +1,12 @@
+use Rattle.sqlite.specs.Held.{state}
+use Rattle.part_store.proofs.Runs.{query_keeps, on_err}
+use Rattle.part_store.proofs.EntryRows.{naming_found}
+use Rattle.part_store.proofs.entries.naming.Goals as goal
+
+pub returns-in_err-rows-clause-kept : goal.returns-in_err-rows-clause-kept
+returns-in_err-rows-clause-kept g c clean = on_err c.from_residual.result _ (query_keeps _ _ _ _ _ (c.in_err-rows.ensures.err clean))
+
+pub returns-clause-step : goal.returns-clause-step
+returns-clause-step g c clean =
+    let shown = rw c.params-to_sql.ensures at (c.in_ok-rows.ensures.ok clean) in
+    rw c.first_of.ensures (naming_found (state g.S.Store c.args.tx.now.conn.now) (state g.S.Store c.query_all.new.self.conn.now) c.args.digest.now _ shown)

@@ -1,0 +1,29 @@
+use Rattle.std.proofs.Common.{arith}
+use Rattle.sqlite.specs.State.{HasCleanDisk}
+use Rattle.sqlite.specs.Held.{state}
+use Rattle.part_store.proofs.Finding.{entry_there}
+use Rattle.part_store.proofs.Removing.{entry_taken_out}
+use Rattle.part_store.proofs.store.take_entry.Goals as goal
+
+pub returns-clause-taken : goal.returns-clause-taken
+returns-clause-taken g c clean _ =
+    let old = state g.S.Store c.args.tx.now.conn.now in
+    let one = state g.S.Store c.digest_of.new.tx.conn.now in
+    let two = state g.S.Store c.remove.new.tx.conn.now in
+    let new = state g.S.Store c.tidy.new.tx.conn.now in
+    let late : HasCleanDisk two = omega (arith, c.tidy.ensures.survives.clean) in
+    let early : HasCleanDisk one = omega (arith, late, c.remove.ensures.survives.clean) in
+    let told = rw c.in-Some.is at (c.in_ok-digest.ensures.told early) in
+    entry_taken_out old one two new c.args.user.now c.args.number c.in-Some.digest.items told (c.in_ok-digest.ensures.same early) (c.digest_of.ensures.kept early) (c.in_ok-remove.ensures.step late)
+    (rw c.deref.ensures.value at (c.in_ok-tidy.ensures.tidied clean))
+
+pub returns-clause-there : goal.returns-clause-there
+returns-clause-there g c clean _ before stands =
+    let old = state g.S.Store c.args.tx.now.conn.now in
+    let one = state g.S.Store c.digest_of.new.tx.conn.now in
+    let two = state g.S.Store c.remove.new.tx.conn.now in
+    let late : HasCleanDisk two = omega (arith, c.tidy.ensures.survives.clean) in
+    let early : HasCleanDisk one = omega (arith, late, c.remove.ensures.survives.clean) in
+    let told = rw c.in-Some.is at (c.in_ok-digest.ensures.told early) in
+    let x = entry_there old.now.trees before c.args.user.now c.args.number c.in-Some.digest.items stands.tables (told before stands) in
+    (x.0, x.1)

@@ -1,0 +1,17 @@
+use Rattle.std.proofs.Common.{[], ◌∷◌, pos}
+use Rattle.sqlite_value.specs.declared.value.Value.TheVariants.{Int, Text, Blob}
+use Rattle.sqlite.specs.Values.{or_null}
+use Rattle.sqlite.specs.Held.{state}
+use Rattle.part_store.specs.Statements.{add_user_text}
+use Rattle.part_store.proofs.Runs.{executed, on_ok}
+use Rattle.part_store.proofs.UserRows.{user_added, bound_program}
+use Rattle.part_store.proofs.users.add.Goals as goal
+
+pub returns-clause-step : goal.returns-clause-step
+returns-clause-step g c clean =
+    let old = c.args.tx.now.conn.now in
+    let new = c.execute.new.self.conn.now in
+    let params = Text c.args.user.now ∷ Int (pos c.args.last) ∷ or_null (λ octets. Blob octets.now) c.args.program ∷ [] in
+    on_ok c.execute.result _ (λ count is. user_added (state g.S.Store old) (state g.S.Store new) c.args.user.now c.args.last c.args.program count
+    (executed g.S.Store old new add_user_text params c.execute.result c.execute.ensures.ended
+    (λ clean inside. rw (c.params-to_sql.ensures, c.params-to_sql-2.ensures, c.params-to_sql-3.ensures, bound_program c.args.program) at (c.execute.ensures.runs clean inside)) clean count is))

@@ -1,0 +1,15 @@
+use Rattle.std.proofs.Common.{[], ◌∷◌}
+use Rattle.sqlite_value.specs.declared.value.Value.TheVariants.{Text}
+use Rattle.sqlite.specs.Held.{state}
+use Rattle.part_store.specs.Statements.{drop_user_text}
+use Rattle.part_store.proofs.Runs.{executed, on_ok}
+use Rattle.part_store.proofs.UserRows.{user_taken}
+use Rattle.part_store.proofs.users.remove.Goals as goal
+
+pub returns-clause-step : goal.returns-clause-step
+returns-clause-step g c clean =
+    let old = c.args.tx.now.conn.now in
+    let new = c.execute.new.self.conn.now in
+    on_ok c.execute.result _ (λ count is. user_taken (state g.S.Store old) (state g.S.Store new) c.args.user.now count
+    (executed g.S.Store old new drop_user_text (Text c.args.user.now ∷ []) c.execute.result c.execute.ensures.ended
+    (λ clean inside. rw c.params-to_sql.ensures at (c.execute.ensures.runs clean inside)) clean count is))

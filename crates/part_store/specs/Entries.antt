@@ -1,0 +1,56 @@
+-- What the store holds, and the steps of its calls.
+use Rattle.std.specs.Prelude.{ℕ, ◌+◌, ◌==◌, ◌&&◌, Bool, not, List, [], ◌∷◌, ◌++◌, filter, length, Option, Some, None, if◌then◌else◌, bytes_eq}
+use Rattle.part_store.specs.declared.entry.Kind.{Kind}
+
+pub record Entry : Type 0 where
+  pub user : List ℕ
+  pub number : ℕ
+  pub folder : List ℕ
+  pub kind : Kind
+  pub name : List ℕ
+  pub media : List ℕ
+  pub octets : List ℕ
+
+-- the entries in the order in which they were made, and of each user the program, if he has one, and the last number that was given, 0 at first
+pub record Entries : Type 0 where
+  pub entries : List Entry
+  pub programs : List ℕ → Option (List ℕ)
+  pub lasts : List ℕ → ℕ
+
+abbrev pub no_entries : Entries
+no_entries = record { entries = []; programs = λ _. None; lasts = λ _. 0 }
+
+-- the user has another program
+abbrev pub with_program : List ℕ → List ℕ → Entries → Entries
+with_program user program e = record e { programs = λ name. if bytes_eq name user then Some program else e.programs name }
+
+-- an entry that has no number yet
+pub record Draft : Type 0 where
+  pub folder : List ℕ
+  pub kind : Kind
+  pub name : List ℕ
+  pub media : List ℕ
+  pub octets : List ℕ
+
+abbrev pub entry_of : List ℕ → ℕ → Draft → Entry
+entry_of user number d = record { user = user; number = number; folder = d.folder; kind = d.kind; name = d.name; media = d.media; octets = d.octets }
+
+-- the drafts as entries of the user, numbered from a number on
+abbrev pub numbered : List ℕ → ℕ → List Draft → List Entry
+numbered user number [] = []
+numbered user number (d ∷ ds) = entry_of user number d ∷ numbered user (number + 1) ds
+
+abbrev pub with_last : List ℕ → ℕ → Entries → Entries
+with_last user last e = record e { lasts = λ name. if bytes_eq name user then last else e.lasts name }
+
+-- the drafts become entries under the next numbers
+abbrev pub with_entries : List ℕ → List Draft → Entries → Entries
+with_entries user drafts e = with_last user (e.lasts user + length drafts) (record e { entries = e.entries ++ numbered user (e.lasts user + 1) drafts })
+
+-- the user's entry of that number
+abbrev pub is_at : List ℕ → ℕ → Entry → Bool
+is_at user number x = bytes_eq x.user user && (x.number == number)
+
+-- the entry is gone, and the last number stays
+abbrev pub without_entry : List ℕ → ℕ → Entries → Entries
+without_entry user number e = record e { entries = filter (λ x. not (is_at user number x)) e.entries }

@@ -1,0 +1,114 @@
+-- The state that the tables stand for.
+use Rattle.std.specs.Prelude.{◌≡◌, ◌⊎◌, ℕ, ◌<◌, ◌≤◌, ℤ, pos, true, false, List, [], ◌∷◌, Option, Some, None, IsTrue}
+use Rattle.std.specs.List.{AllByRecursion, AllZip}
+use Rattle.sqlite_value.specs.declared.value.Value.TheVariants.{Int, Text, Blob}
+use Rattle.sqlite_value.specs.Order.{Row, column}
+use Rattle.sqlite_trees.specs.Tree.{Trees, IsTable, IsAscending}
+use Rattle.sqlite_rules.specs.Lists.{Has}
+use Rattle.sqlite.specs.Values.{or_null}
+use Rattle.sqlite.specs.Effect.{Database}
+use Rattle.sqlite.specs.State.{State}
+use Rattle.octets.specs.Limits.{max_entry_number}
+use Rattle.part_store.specs.Tables.{store_schema}
+use Rattle.part_store.specs.Changes.{users_tree, contents_tree, entries_tree, equals, is_entry, IsTaken}
+use Rattle.part_store.specs.declared.entry.Kind.{Kind}
+use Rattle.part_store.specs.declared.entry.Kind.TheVariants.{Message, Part}
+use Rattle.part_store.specs.Entries.{Entry, Entries, Draft}
+use Rattle.part_store.specs.declared.entry.NewEntry.{NewEntry}
+
+abbrev pub kind_number : Kind → ℕ
+kind_number Message = 0
+kind_number Part = 1
+
+-- a user with his last number and his program
+abbrev pub IsUserRow : Entries → Row → Type 0
+IsUserRow e r = (id : ℤ) × (name : List ℕ) × (r ≡ Int id ∷ Text name ∷ Int (pos (e.lasts name)) ∷ or_null Blob (e.programs name) ∷ [])
+
+abbrev pub content_row : ℤ → List ℕ → List ℕ → Row
+content_row id digest octets = Int id ∷ Blob digest ∷ Blob octets ∷ []
+
+abbrev pub IsContentRow : Row → Type 0
+IsContentRow r = (id : ℤ) × (digest : List ℕ) × (octets : List ℕ) × (r ≡ content_row id digest octets)
+
+-- the octets are kept under the digest
+abbrev pub HasContent : List Row → List ℕ → List ℕ → Type 0
+HasContent rows digest octets = (id : ℤ) × Has rows (content_row id digest octets)
+
+-- the row of an entry, whose octets are those under its digest
+abbrev pub IsEntryRow : List Row → Row → Entry → Type 0
+IsEntryRow contents r x =
+    (id : ℤ) × (digest : List ℕ)
+    × (r ≡ Int id ∷ Text x.user ∷ Int (pos x.number) ∷ Blob x.folder ∷ Int (pos (kind_number x.kind)) ∷ Blob x.name ∷ Blob x.media ∷ Blob digest ∷ [])
+    × HasContent contents digest x.octets
+
+-- no number is above the last one or the limit, and a user's numbers rise
+pub record IsNumbered (e : Entries) : Type 0 where
+  pub limit : (user : List ℕ) → e.lasts user ≤ max_entry_number
+  pub given : AllByRecursion (λ x. (1 ≤ x.number) × (x.number ≤ e.lasts x.user)) e.entries
+  pub rising : IsAscending (λ x y. x.user ≡ y.user → x.number < y.number) e.entries
+
+pub record StandsFor (db : Trees) (e : Entries) : Type 0 where
+  -- the rowids rise
+  pub users_rise : IsTable (db users_tree)
+  pub contents_rise : IsTable (db contents_tree)
+  pub entries_rise : IsTable (db entries_tree)
+  pub users : AllByRecursion (IsUserRow e) (db users_tree)
+  -- who has no row has no number and no program
+  pub strangers : (name : List ℕ) → ((r : Row) → Has (db users_tree) r → equals 1 (Text name) r ≡ false) → (e.lasts name ≡ 0) × (e.programs name ≡ None)
+  pub contents : AllByRecursion IsContentRow (db contents_tree)
+  -- a digest has one content
+  pub single : (digest one other : List ℕ) → HasContent (db contents_tree) digest one → HasContent (db contents_tree) digest other → one ≡ other
+  pub entries : AllZip (IsEntryRow (db contents_tree)) (db entries_tree) e.entries
+  -- each content is named by an entry
+  pub named : (digest octets : List ℕ) → HasContent (db contents_tree) digest octets → (r : Row) × Has (db entries_tree) r × (column r 7 ≡ Blob digest)
+  pub numbers : IsNumbered e
+
+-- the database has the three tables, and they stand for the state
+pub record Stands (d : Database) (e : Entries) : Type 0 where
+  pub schema : d.schema ≡ store_schema
+  pub tables : StandsFor d.trees e
+
+-- within a transaction: what the tables stand for has changed so, and nothing is committed
+abbrev pub Brings : (Entries → Entries) → State → State → Type 0
+Brings change old new = (before : Entries) → Stands old.now before → Stands new.now (change before) × (new.committed ≡ old.committed)
+
+-- the same, once it is committed
+abbrev pub Makes : (Entries → Entries) → State → State → Type 0
+Makes change old new = (before : Entries) → Stands old.now before → Stands new.now (change before) × (new.committed ≡ new.now)
+
+-- a refusal leaves the tables as they were, unless a failure has shut the database
+abbrev pub Spares : State → State → Type 0
+Spares old new = old.now.schema ≡ store_schema → IsTrue new.is_open → (new.now ≡ old.now) × (new.committed ≡ old.committed)
+
+-- the last number in a user's row
+abbrev pub last_in : Option Row → ℕ → Type 0
+last_in None n = n ≡ 0
+last_in (Some row) n = column row 0 ≡ Int (pos n)
+
+-- the user's entry of that number
+abbrev pub IsEntryAt : Entries → List ℕ → ℕ → Entry → Type 0
+IsEntryAt e user number x = Has e.entries x × (x.user ≡ user) × (x.number ≡ number)
+
+abbrev pub HasNone : Entries → List ℕ → ℕ → Type 0
+HasNone e user number = (x : Entry) → ¬ IsEntryAt e user number x
+
+-- in a transaction: the tables are read, and stay as they are
+abbrev pub Stays : State → State → Type 0
+Stays old new = old.now.schema ≡ store_schema → (new.now.schema ≡ store_schema) × (new.now.trees ≡ old.now.trees)
+
+-- a row of the user's entry of that number names the digest
+abbrev pub NamesDigest : Trees → List ℕ → ℕ → List ℕ → Type 0
+NamesDigest db user number digest = (r : Row) × Has (db entries_tree) r × (is_entry user number r ≡ true) × (column r 7 ≡ Blob digest)
+
+-- an entry that is to be made, as the definitions see it
+abbrev pub draft_of : NewEntry → Draft
+draft_of entry = record { folder = entry.folder.items; kind = entry.kind; name = entry.name.items; media = entry.media.items; octets = entry.octets.items }
+
+-- In a transaction: where no entry names the digest any more, what is under it is gone, and else nothing has changed.
+pub record IsTidied (digest : List ℕ) (old new : State) : Type 0 where
+  pub schema : new.now.schema ≡ store_schema
+  pub committed : new.committed ≡ old.committed
+  pub inside : IsTrue old.in_transaction → IsTrue new.in_transaction
+  pub change :
+      ((r : Row) × Has (old.now.trees entries_tree) r × (equals 7 (Blob digest) r ≡ true) × (new.now.trees ≡ old.now.trees))
+      ⊎ (((r : Row) → Has (old.now.trees entries_tree) r → equals 7 (Blob digest) r ≡ false) × IsTaken contents_tree (equals 1 (Blob digest)) old.now.trees new.now.trees)

@@ -1,0 +1,38 @@
+-- The texts of the statements.
+use Rattle.std.specs.Prelude.{ℕ, List, codes}
+
+abbrev pub find_user_text : List ℕ
+find_user_text = codes "SELECT last, program FROM users WHERE user = ?1"
+
+abbrev pub drop_user_text : List ℕ
+drop_user_text = codes "DELETE FROM users WHERE user = ?1"
+
+abbrev pub add_user_text : List ℕ
+add_user_text = codes "INSERT INTO users (user, last, program) VALUES (?1, ?2, ?3)"
+
+abbrev pub find_content_text : List ℕ
+find_content_text = codes "SELECT octets FROM contents WHERE digest = ?1"
+
+abbrev pub size_content_text : List ℕ
+size_content_text = codes "SELECT length(octets) FROM contents WHERE digest = ?1"
+
+abbrev pub add_content_text : List ℕ
+add_content_text = codes "INSERT INTO contents (digest, octets) VALUES (?1, ?2)"
+
+abbrev pub drop_content_text : List ℕ
+drop_content_text = codes "DELETE FROM contents WHERE digest = ?1"
+
+abbrev pub list_entries_text : List ℕ
+list_entries_text = codes "SELECT number, kind, folder, name, media, digest FROM entries WHERE user = ?1 ORDER BY number"
+
+abbrev pub find_entry_text : List ℕ
+find_entry_text = codes "SELECT digest FROM entries WHERE user = ?1 AND number = ?2"
+
+abbrev pub name_content_text : List ℕ
+name_content_text = codes "SELECT number FROM entries WHERE digest = ?1"
+
+abbrev pub add_entry_text : List ℕ
+add_entry_text = codes "INSERT INTO entries (user, number, folder, kind, name, media, digest) VALUES (?1, ?2, ?3, ?4, ?5, ?6, ?7)"
+
+abbrev pub drop_entry_text : List ℕ
+drop_entry_text = codes "DELETE FROM entries WHERE user = ?1 AND number = ?2"

@@ -1,0 +1,94 @@
+-- The three tables, and the texts that make them.
+use Rattle.std.specs.Prelude.{◌≡◌, ℕ, true, false, List, [], ◌∷◌, None, codes}
+use Rattle.std.specs.List.{AllByRecursion}
+use Rattle.sqlite.specs.Effect.{Database}
+use Rattle.sqlite_value.specs.declared.keys.Collation.TheVariants.{Binary}
+use Rattle.sqlite_value.specs.declared.value.Value.TheVariants.{Null}
+use Rattle.sqlite_value.specs.Keys.{plain as unordered}
+use Rattle.sqlite_schema.specs.declared.schema.Column.{Column}
+use Rattle.sqlite_schema.specs.declared.schema.Table.{Table}
+use Rattle.sqlite_schema.specs.declared.schema.Schema.{Schema}
+use Rattle.sqlite_schema.specs.declared.schema.Kind.{Kind}
+use Rattle.sqlite_schema.specs.declared.schema.Kind.TheVariants.{Integer, Text, Blob}
+use Rattle.sqlite_schema.specs.declared.schema.Action.TheVariants.{NoAction}
+use Rattle.sqlite_schema.specs.declared.schema.Reference.{Reference}
+use Rattle.sqlite_catalog.specs.Change.{created}
+
+abbrev pub nullable : List ℕ → Kind → Column
+nullable name kind = record { name = name; kind = kind; is_strict = true; not_null = false; default = Null; collation = Binary }
+
+abbrev pub required : List ℕ → Kind → Column
+required name kind = record { name = name; kind = kind; is_strict = true; not_null = true; default = Null; collation = Binary }
+
+-- a table whose key has these places, and that refers to others
+abbrev pub keyed : List ℕ → List Column → List ℕ → List Reference → Table
+keyed name columns key references = record {
+  name = name;
+  tree = 0;
+  columns = columns;
+  key = None;
+  primary = key;
+  uniques = key ∷ [];
+  orders = unordered ∷ [];
+  checks = [];
+  references = references;
+  computed = [];
+  stamps = record { places = []; terms = []; formats = [] };
+  is_counted = false;
+}
+
+-- a user's last number, and his program if he has one
+abbrev pub user_columns : List Column
+user_columns = required (codes "user") Text ∷ required (codes "last") Integer ∷ nullable (codes "program") Blob ∷ []
+
+abbrev pub users : Table
+users = keyed (codes "users") user_columns (1 ∷ []) []
+
+-- the octets of a digest
+abbrev pub content_columns : List Column
+content_columns = required (codes "digest") Blob ∷ required (codes "octets") Blob ∷ []
+
+abbrev pub contents : Table
+contents = keyed (codes "contents") content_columns (1 ∷ []) []
+
+-- an entry, whose octets are those of its digest
+abbrev pub entry_columns : List Column
+entry_columns =
+    required (codes "user") Text ∷ required (codes "number") Integer ∷ required (codes "folder") Blob ∷ required (codes "kind") Integer ∷ required (codes "name") Blob
+    ∷ required (codes "media") Blob ∷ required (codes "digest") Blob ∷ []
+
+abbrev pub entry_references : List Reference
+entry_references = record { columns = 7 ∷ []; parent = codes "contents"; parent_columns = []; on_delete = NoAction; on_update = NoAction; is_deferred = false } ∷ []
+
+abbrev pub entries : Table
+entries = keyed (codes "entries") entry_columns (1 ∷ 2 ∷ []) entry_references
+
+abbrev pub no_schema : Schema
+no_schema = record { tables = []; indexes = []; views = [] }
+
+abbrev pub with_users : Schema
+with_users = created no_schema users
+
+abbrev pub with_contents : Schema
+with_contents = created with_users contents
+
+abbrev pub store_schema : Schema
+store_schema = created with_contents entries
+
+abbrev pub users_text : List ℕ
+users_text = codes "CREATE TABLE users (user TEXT PRIMARY KEY, last INTEGER NOT NULL, program BLOB) STRICT"
+
+abbrev pub contents_text : List ℕ
+contents_text = codes "CREATE TABLE contents (digest BLOB PRIMARY KEY, octets BLOB NOT NULL) STRICT"
+
+abbrev pub entries_text : List ℕ
+entries_text = codes "CREATE TABLE entries (user TEXT NOT NULL, number INTEGER NOT NULL, folder BLOB NOT NULL, kind INTEGER NOT NULL, name BLOB NOT NULL, media BLOB NOT NULL, digest BLOB NOT NULL REFERENCES contents, PRIMARY KEY (user, number)) STRICT"
+
+-- A table is made in a database that has the schema before: it is empty, and the other tables are as they were.
+pub record IsMadeTable (was is : Schema) (tree : ℕ) (old new : Database) : Type 0 where
+  pub schema : new.schema ≡ is
+  pub empty : new.trees tree ≡ []
+  pub others : AllByRecursion (λ t. new.trees t.tree ≡ old.trees t.tree) was.tables
+
+abbrev pub IsMade : Schema → Schema → ℕ → Database → Database → Type 0
+IsMade was is tree old new = old.schema ≡ was → IsMadeTable was is tree old new

@@ -1,0 +1,41 @@
+//! Entries as callers give and see them.
+/// What an entry is of.
+#[derive(Clone, Copy, Debug, PartialEq, Eq, Drop)]
+pub enum Kind {
+    /// A whole message.
+    Message,
+    /// A part of a message.
+    Part,
+}
+
+/// An entry that is to be made.
+#[derive(Debug, Drop)]
+pub struct NewEntry {
+    /// The folder, as octets.
+    pub folder: Vec<u8>,
+    /// Whether it is a message or a part.
+    pub kind: Kind,
+    /// The name, as octets.
+    pub name: Vec<u8>,
+    /// The media type, as octets.
+    pub media: Vec<u8>,
+    /// The content.
+    pub octets: Vec<u8>,
+}
+
+/// An entry that is there, without its content.
+#[derive(Debug, Drop)]
+pub struct EntryRow {
+    /// The number, from 1 for each user.
+    pub number: u32,
+    /// Whether it is a message or a part.
+    pub kind: Kind,
+    /// The folder, as octets.
+    pub folder: Vec<u8>,
+    /// The name, as octets.
+    pub name: Vec<u8>,
+    /// The media type, as octets.
+    pub media: Vec<u8>,
+    /// How many octets the content has.
+    pub octets: u64,
+}

@@ -1,0 +1,55 @@
+// Why a call of the store is refused.
+ghost use Rattle.std.specs.Prelude.{◌≡◌};
+ghost use Rattle.part_store.specs.declared.error.StoreError.TheVariants.{Memory};
+ghost use Rattle.part_store.specs.Refusals.{refusal_of};
+
+use sqlite::ErrorCode;
+use std::alloc::{AllocError, AllocFailed};
+use thiserror::Error;
+
+/// Why a call of the store is refused.
+#[derive(Clone, Copy, Debug, PartialEq, Eq, Drop, Error)]
+pub enum StoreError {
+    /// An allocation was refused, here or in the database.
+    #[error("refused 1 Memory")]
+    Memory,
+    /// The user has no entry of that number.
+    #[error("refused 40 NoSuchEntry")]
+    NoSuchEntry,
+    /// The numbers that are left don't suffice.
+    #[error("refused 41 NumberFull")]
+    NumberFull,
+    /// Another content has the same digest and other octets.
+    #[error("refused 42 Collision")]
+    Collision,
+    /// The database refused or failed.
+    #[error("refused 43 Database")]
+    Database,
+}
+
+impl From<AllocError> for StoreError {
+    ghost from_gives = { λ _ e. e ≡ Memory };
+
+    fn from(_refused: AllocError) -> StoreError {
+        StoreError::Memory
+    }
+}
+
+impl<T: Drop> From<AllocFailed<T>> for StoreError {
+    ghost from_gives = { λ _ e. e ≡ Memory };
+
+    fn from(_refused: AllocFailed<T>) -> StoreError {
+        StoreError::Memory
+    }
+}
+
+impl From<sqlite::Error> for StoreError {
+    ghost from_gives = { λ error e. e ≡ refusal_of error };
+
+    fn from(error: sqlite::Error) -> StoreError {
+        match error {
+            sqlite::Error::SqliteFailure(ErrorCode::OutOfMemory) => StoreError::Memory,
+            _ => StoreError::Database,
+        }
+    }
+}

@@ -1,0 +1,76 @@
+//! How entries are filed.
+ghost use Rattle.std.specs.Prelude.{◌≡◌, true, false, string_bytes, IsTrue, IfOk, OnOk};
+ghost use Rattle.sqlite.specs.Held.{state};
+ghost use Rattle.sqlite.specs.State.{HasCleanDisk, KeepsCommit, Survives};
+ghost use Rattle.sha2.specs.Sha256.{sha256};
+ghost use Rattle.part_store.specs.Tables.{store_schema};
+ghost use Rattle.part_store.specs.Entries.{entry_of};
+ghost use Rattle.part_store.specs.Standing.{Stands, kind_number, draft_of};
+ghost use Rattle.part_store.specs.Filing.{Stocks, IsOther, IsNext, Files};
+
+use crate::entry::{Kind, NewEntry};
+use crate::{contents, entries};
+use sha2::{Digest, Sha256};
+use sqlite::{Alter, Error, Transaction};
+
+/// Puts octets under their digest where nothing is under it yet. Answers whether they are what is under it now.
+fn stock<S: Alter>(tx: &mut Transaction<'_, S>, digest: &[u8], octets: &[u8]) -> Result<bool, Error>
+    ensures same_reference { tx.new.conn.ghost_name ≡ tx.old.conn.ghost_name }
+    ensures stocked { HasCleanDisk (state S.Store tx.new.conn.now) → IfOk result (λ done. done ≡ true → (before : _) → Stands (state S.Store tx.old.conn.now).now before → Stocks digest.now octets.now (state S.Store tx.old.conn.now) (state S.Store tx.new.conn.now)) }
+    ensures other { HasCleanDisk (state S.Store tx.new.conn.now) → IfOk result (λ done. done ≡ false → (before : _) → Stands (state S.Store tx.old.conn.now).now before → IsOther (state S.Store tx.old.conn.now).now.trees digest.now octets.now) }
+    ensures schema { HasCleanDisk (state S.Store tx.new.conn.now) → OnOk result ((state S.Store tx.old.conn.now).now.schema ≡ store_schema → (state S.Store tx.new.conn.now).now.schema ≡ store_schema) }
+    ensures kept { HasCleanDisk (state S.Store tx.new.conn.now) → (state S.Store tx.old.conn.now).now.schema ≡ store_schema → KeepsCommit (state S.Store tx.old.conn.now) (state S.Store tx.new.conn.now) }
+    ensures survives { Survives (state S.Store tx.old.conn.now) (state S.Store tx.new.conn.now) (λ _. ⊥) }
+{
+    match contents::find(tx, digest)? {
+        Some(row) => {
+            let there: Vec<u8> = row.get(0)?;
+            Ok(there.as_slice() == octets)
+        }
+        None => {
+            contents::add(tx, digest, octets)?;
+            Ok(true)
+        }
+    }
+}
+
+fn kind_number(kind: Kind) -> u32
+    ensures { result ≡ kind_number kind }
+{
+    match kind {
+        Kind::Message => 0,
+        Kind::Part => 1,
+    }
+}
+
+/// Files one entry under a number. Answers false where other octets are under its digest.
+pub(crate) fn file_entry<S: Alter>(
+    tx: &mut Transaction<'_, S>,
+    user: &str,
+    number: u32,
+    entry: &NewEntry,
+) -> Result<bool, Error>
+    ensures same_reference { tx.new.conn.ghost_name ≡ tx.old.conn.ghost_name }
+    ensures filed { HasCleanDisk (state S.Store tx.new.conn.now) → IfOk result (λ done. done ≡ true → (before : _) → Stands (state S.Store tx.old.conn.now).now before → IsNext before (entry_of user.now number (draft_of entry.now))
+        → Files (entry_of user.now number (draft_of entry.now)) (sha256 entry.now.octets.items) before (state S.Store tx.old.conn.now) (state S.Store tx.new.conn.now)) }
+    ensures other { HasCleanDisk (state S.Store tx.new.conn.now) → IfOk result (λ done. done ≡ false → (before : _) → Stands (state S.Store tx.old.conn.now).now before → IsOther (state S.Store tx.old.conn.now).now.trees (sha256 entry.now.octets.items) entry.now.octets.items) }
+    ensures schema { HasCleanDisk (state S.Store tx.new.conn.now) → OnOk result ((state S.Store tx.old.conn.now).now.schema ≡ store_schema → (state S.Store tx.new.conn.now).now.schema ≡ store_schema) }
+    ensures kept { HasCleanDisk (state S.Store tx.new.conn.now) → (state S.Store tx.old.conn.now).now.schema ≡ store_schema → KeepsCommit (state S.Store tx.old.conn.now) (state S.Store tx.new.conn.now) }
+    ensures survives { Survives (state S.Store tx.old.conn.now) (state S.Store tx.new.conn.now) (λ _. ⊥) }
+{
+    let digest = Sha256::digest(entry.octets.as_slice());
+    if !stock(tx, &digest, entry.octets.as_slice())? {
+        return Ok(false);
+    }
+    entries::add(
+        tx,
+        user,
+        number,
+        entry.folder.as_slice(),
+        kind_number(entry.kind),
+        entry.name.as_slice(),
+        entry.media.as_slice(),
+        &digest,
+    )?;
+    Ok(true)
+}

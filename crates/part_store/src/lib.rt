@@ -1,0 +1,19 @@
+//! The store of the depot: entries, programs and last numbers in three tables of one SQLite database.
+//!
+//! What the store holds is in `specs/Entries`, which has no digest, and how the tables stand for it in `specs/Standing`.
+//! Each call of [`PartStore`] is one transaction: its step on what the tables stand for, or a refusal that leaves them as
+//! they were. Octets are kept once under their SHA-256, and as long as an entry names them.
+#![tactic(auto)]
+
+mod contents;
+mod entries;
+mod entry;
+mod error;
+mod filing;
+mod store;
+mod tables;
+mod users;
+
+pub use entry::{EntryRow, Kind, NewEntry};
+pub use error::StoreError;
+pub use store::PartStore;

@@ -1,0 +1,297 @@
+//! The store and its calls.
+ghost use Rattle.std.specs.Prelude.{◌≡◌, ◌⊎◌, ◌↔◌, true, false, IsTrue, option_map, MatchOption, IfOk, IfErr, OnOk, OnErr};
+ghost use Rattle.sqlite.specs.Held.{state};
+ghost use Rattle.sqlite.specs.State.{HasCleanDisk, KeepsCommit, Survives};
+ghost use Rattle.part_store.specs.Tables.{no_schema, store_schema};
+ghost use Rattle.part_store.specs.Entries.{no_entries, with_program, without_entry};
+ghost use Rattle.part_store.specs.Standing.{last_in, Brings, Makes, Spares, Stays, Stands, StandsFor, HasContent, IsEntryAt, HasNone, NamesDigest, IsTidied};
+ghost use Rattle.part_store.specs.declared.error.StoreError.TheVariants.{Memory, NoSuchEntry, Database};
+ghost use Rattle.part_store.specs.Changes.{contents_tree};
+ghost use Rattle.sqlite.specs.Steps.{over_memory};
+ghost use Rattle.part_store.specs.Opening.{IsReady};
+
+use crate::error::StoreError;
+use crate::{contents, entries, tables, users};
+use sqlite::{Alter, Connection, Error, File, FileStore, MemStore, Row, Transaction};
+use sqlite_schema::schema::Schema;
+use std::alloc::Global;
+use std::marker::Model;
+
+/// Entries, programs and last numbers in the three tables of a database.
+pub struct PartStore<S: Alter> {
+    conn: Connection<S>,
+}
+
+impl<S: Alter> Model for PartStore<S> {
+    ghost use Rattle.sqlite.specs.Held.{Held, held_code};
+
+    ghost Value = { Held S };
+
+    ghost coded = { held_code S.code };
+
+    ghost view = { λ s. s.conn };
+}
+
+impl<S: Alter + Drop> Drop for PartStore<S> {
+    fn drop(self) {
+        let PartStore { conn: _ } = self;
+    }
+}
+
+fn last_in(found: &Option<Row>) -> Result<u32, Error>
+    ensures { IfOk result (last_in found.now) }
+{
+    match found {
+        Some(row) => row.get(0),
+        None => Ok(0),
+    }
+}
+
+/// Whether a database has no table, index or view.
+fn is_bare(schema: &Schema) -> bool
+    ensures { IsTrue result ↔ (schema.now ≡ no_schema) }
+{
+    schema.tables.is_empty() && schema.indexes.is_empty() && schema.views.is_empty()
+}
+
+fn create_tables<S: Alter>(tx: &mut Transaction<'_, S>) -> Result<(), Error>
+    ensures same_reference { tx.new.conn.ghost_name ≡ tx.old.conn.ghost_name }
+    ensures step { HasCleanDisk (state S.Store tx.new.conn.now) → OnOk result ((state S.Store tx.old.conn.now).now.schema ≡ no_schema → Stands (state S.Store tx.new.conn.now).now no_entries) }
+    ensures inside { HasCleanDisk (state S.Store tx.new.conn.now) → OnOk result (IsTrue (state S.Store tx.new.conn.now).in_transaction) }
+    ensures kept { HasCleanDisk (state S.Store tx.new.conn.now) → KeepsCommit (state S.Store tx.old.conn.now) (state S.Store tx.new.conn.now) }
+    ensures survives { Survives (state S.Store tx.old.conn.now) (state S.Store tx.new.conn.now) (λ _. ⊥) }
+{
+    tables::create_users(tx)?;
+    tables::create_contents(tx)?;
+    tables::create_entries(tx)?;
+    Ok(())
+}
+
+/// Makes the tables in a database that has none, and leaves another as it is.
+fn ready_tables<S: Alter>(conn: &mut Connection<S>) -> Result<(), StoreError>
+    ensures made { HasCleanDisk (state S.Store conn.new) → OnOk result ((state S.Store conn.old).now.schema ≡ no_schema → Stands (state S.Store conn.new).now no_entries) }
+    ensures same { HasCleanDisk (state S.Store conn.new) → OnOk result ((before : _) → Stands (state S.Store conn.old).now before → Stands (state S.Store conn.new).now before) }
+    ensures spared { HasCleanDisk (state S.Store conn.new) → OnErr result (IsTrue (state S.Store conn.new).is_open → (state S.Store conn.new).now ≡ (state S.Store conn.old).now) }
+    ensures refused { IfErr result (λ e. (e ≡ Memory) ⊎ (e ≡ Database)) }
+    ensures survives { Survives (state S.Store conn.old) (state S.Store conn.new) (λ trees. StandsFor trees no_entries) }
+{
+    if !conn.is_autocommit() {
+        return Err(StoreError::Database);
+    }
+    if !is_bare(conn.schema()) {
+        return Ok(());
+    }
+    let mut tx = conn.transaction();
+    create_tables(&mut tx)?;
+    tx.commit()?;
+    Ok(())
+}
+
+fn put_program<S: Alter>(
+    tx: &mut Transaction<'_, S>,
+    user: &str,
+    program: &[u8],
+) -> Result<(), Error>
+    ensures same_reference { tx.new.conn.ghost_name ≡ tx.old.conn.ghost_name }
+    ensures step { HasCleanDisk (state S.Store tx.new.conn.now) → OnOk result (Brings (with_program user.now program.now) (state S.Store tx.old.conn.now) (state S.Store tx.new.conn.now)) }
+    ensures inside { HasCleanDisk (state S.Store tx.new.conn.now) → OnOk result (IsTrue (state S.Store tx.new.conn.now).in_transaction) }
+    ensures kept { HasCleanDisk (state S.Store tx.new.conn.now) → (state S.Store tx.old.conn.now).now.schema ≡ store_schema → KeepsCommit (state S.Store tx.old.conn.now) (state S.Store tx.new.conn.now) }
+    ensures survives { Survives (state S.Store tx.old.conn.now) (state S.Store tx.new.conn.now) (λ _. ⊥) }
+{
+    let found = users::find(tx, user)?;
+    let last = last_in(&found)?;
+    users::remove(tx, user)?;
+    users::add(tx, user, last, Some(program))?;
+    Ok(())
+}
+
+fn read_program<S: Alter>(tx: &mut Transaction<'_, S>, user: &str) -> Result<Option<Vec<u8>>, Error>
+    ensures same_reference { tx.new.conn.ghost_name ≡ tx.old.conn.ghost_name }
+    ensures told { HasCleanDisk (state S.Store tx.new.conn.now) → IfOk result (λ found. (before : _) → Stands (state S.Store tx.old.conn.now).now before → option_map (λ v. v.items) found ≡ before.programs user.now) }
+    ensures kept { HasCleanDisk (state S.Store tx.new.conn.now) → (state S.Store tx.old.conn.now).now.schema ≡ store_schema → KeepsCommit (state S.Store tx.old.conn.now) (state S.Store tx.new.conn.now) }
+    ensures survives { Survives (state S.Store tx.old.conn.now) (state S.Store tx.new.conn.now) (λ _. ⊥) }
+{
+    match users::find(tx, user)? {
+        Some(row) => row.get(1),
+        None => Ok(None),
+    }
+}
+
+/// The digest of a user's entry, or none where he has no such entry.
+fn digest_of<S: Alter>(
+    tx: &mut Transaction<'_, S>,
+    user: &str,
+    number: u32,
+) -> Result<Option<Vec<u8>>, Error>
+    ensures same_reference { tx.new.conn.ghost_name ≡ tx.old.conn.ghost_name }
+    ensures told { HasCleanDisk (state S.Store tx.new.conn.now) → IfOk result (λ found. (before : _) → Stands (state S.Store tx.old.conn.now).now before → MatchOption found (HasNone before user.now number) (λ digest. NamesDigest (state S.Store tx.old.conn.now).now.trees user.now number digest.items)) }
+    ensures same { HasCleanDisk (state S.Store tx.new.conn.now) → OnOk result (Stays (state S.Store tx.old.conn.now) (state S.Store tx.new.conn.now)) }
+    ensures kept { HasCleanDisk (state S.Store tx.new.conn.now) → (state S.Store tx.old.conn.now).now.schema ≡ store_schema → KeepsCommit (state S.Store tx.old.conn.now) (state S.Store tx.new.conn.now) }
+    ensures survives { Survives (state S.Store tx.old.conn.now) (state S.Store tx.new.conn.now) (λ _. ⊥) }
+{
+    match entries::find(tx, user, number)? {
+        Some(row) => Ok(Some(row.get(0)?)),
+        None => Ok(None),
+    }
+}
+
+/// The content under a digest that an entry names.
+fn content_of<S: Alter>(tx: &mut Transaction<'_, S>, digest: &[u8]) -> Result<Vec<u8>, Error>
+    ensures same_reference { tx.new.conn.ghost_name ≡ tx.old.conn.ghost_name }
+    ensures told { HasCleanDisk (state S.Store tx.new.conn.now) → IfOk result (λ octets. (before : _) → Stands (state S.Store tx.old.conn.now).now before → HasContent ((state S.Store tx.old.conn.now).now.trees contents_tree) digest.now octets.items) }
+    ensures same { HasCleanDisk (state S.Store tx.new.conn.now) → OnOk result (Stays (state S.Store tx.old.conn.now) (state S.Store tx.new.conn.now)) }
+    ensures kept { HasCleanDisk (state S.Store tx.new.conn.now) → (state S.Store tx.old.conn.now).now.schema ≡ store_schema → KeepsCommit (state S.Store tx.old.conn.now) (state S.Store tx.new.conn.now) }
+    ensures survives { Survives (state S.Store tx.old.conn.now) (state S.Store tx.new.conn.now) (λ _. ⊥) }
+{
+    match contents::find(tx, digest)? {
+        Some(row) => row.get(0),
+        None => Err(Error::InvalidQuery),
+    }
+}
+
+fn read_bytes<S: Alter>(
+    tx: &mut Transaction<'_, S>,
+    user: &str,
+    number: u32,
+) -> Result<Option<Vec<u8>>, Error>
+    ensures same_reference { tx.new.conn.ghost_name ≡ tx.old.conn.ghost_name }
+    ensures told { HasCleanDisk (state S.Store tx.new.conn.now) → IfOk result (λ found. (before : _) → Stands (state S.Store tx.old.conn.now).now before → MatchOption found (HasNone before user.now number) (λ octets. (x : _) × IsEntryAt before user.now number x × (octets.items ≡ x.octets))) }
+    ensures kept { HasCleanDisk (state S.Store tx.new.conn.now) → (state S.Store tx.old.conn.now).now.schema ≡ store_schema → KeepsCommit (state S.Store tx.old.conn.now) (state S.Store tx.new.conn.now) }
+    ensures survives { Survives (state S.Store tx.old.conn.now) (state S.Store tx.new.conn.now) (λ _. ⊥) }
+{
+    let Some(digest) = digest_of(tx, user, number)? else {
+        return Ok(None);
+    };
+    Ok(Some(content_of(tx, &digest)?))
+}
+
+/// Takes out what is under a digest that no entry names.
+fn tidy<S: Alter>(tx: &mut Transaction<'_, S>, digest: &[u8]) -> Result<(), Error>
+    ensures same_reference { tx.new.conn.ghost_name ≡ tx.old.conn.ghost_name }
+    ensures tidied { HasCleanDisk (state S.Store tx.new.conn.now) → OnOk result ((state S.Store tx.old.conn.now).now.schema ≡ store_schema → IsTidied digest.now (state S.Store tx.old.conn.now) (state S.Store tx.new.conn.now)) }
+    ensures kept { HasCleanDisk (state S.Store tx.new.conn.now) → (state S.Store tx.old.conn.now).now.schema ≡ store_schema → KeepsCommit (state S.Store tx.old.conn.now) (state S.Store tx.new.conn.now) }
+    ensures survives { Survives (state S.Store tx.old.conn.now) (state S.Store tx.new.conn.now) (λ _. ⊥) }
+{
+    match entries::naming(tx, digest)? {
+        Some(_) => Ok(()),
+        None => {
+            contents::remove(tx, digest)?;
+            Ok(())
+        }
+    }
+}
+
+/// Takes a user's entry out. Answers false where he has no such entry.
+fn take_entry<S: Alter>(tx: &mut Transaction<'_, S>, user: &str, number: u32) -> Result<bool, Error>
+    ensures same_reference { tx.new.conn.ghost_name ≡ tx.old.conn.ghost_name }
+    ensures taken { HasCleanDisk (state S.Store tx.new.conn.now) → IfOk result (λ done. done ≡ true → Brings (without_entry user.now number) (state S.Store tx.old.conn.now) (state S.Store tx.new.conn.now)) }
+    ensures there { HasCleanDisk (state S.Store tx.new.conn.now) → IfOk result (λ done. done ≡ true → (before : _) → Stands (state S.Store tx.old.conn.now).now before → (x : _) × IsEntryAt before user.now number x) }
+    ensures none { HasCleanDisk (state S.Store tx.new.conn.now) → IfOk result (λ done. done ≡ false → (before : _) → Stands (state S.Store tx.old.conn.now).now before → HasNone before user.now number) }
+    ensures inside { HasCleanDisk (state S.Store tx.new.conn.now) → IfOk result (λ done. done ≡ true → (state S.Store tx.old.conn.now).now.schema ≡ store_schema → IsTrue (state S.Store tx.new.conn.now).in_transaction) }
+    ensures kept { HasCleanDisk (state S.Store tx.new.conn.now) → (state S.Store tx.old.conn.now).now.schema ≡ store_schema → KeepsCommit (state S.Store tx.old.conn.now) (state S.Store tx.new.conn.now) }
+    ensures survives { Survives (state S.Store tx.old.conn.now) (state S.Store tx.new.conn.now) (λ _. ⊥) }
+{
+    let Some(digest) = digest_of(tx, user, number)? else {
+        return Ok(false);
+    };
+    entries::remove(tx, user, number)?;
+    tidy(tx, &digest)?;
+    Ok(true)
+}
+
+impl<S: Alter> PartStore<S> {
+    /// Stores the user's program in place of the one before. Refuses `Memory` and `Database`.
+    pub fn set_program(&mut self, user: &str, program: &[u8]) -> Result<(), StoreError>
+        ensures made { HasCleanDisk (state S.Store self.new) → OnOk result (Makes (with_program user.now program.now) (state S.Store self.old) (state S.Store self.new)) }
+        ensures spared { HasCleanDisk (state S.Store self.new) → OnErr result (Spares (state S.Store self.old) (state S.Store self.new)) }
+        ensures refused { IfErr result (λ e. (e ≡ Memory) ⊎ (e ≡ Database)) }
+        ensures survives { Survives (state S.Store self.old) (state S.Store self.new) (λ trees. (before : _) → Stands (state S.Store self.old).now before → StandsFor trees (with_program user.now program.now before)) }
+    {
+        if !self.conn.is_autocommit() {
+            return Err(StoreError::Database);
+        }
+        let mut tx = self.conn.transaction();
+        put_program(&mut tx, user, program)?;
+        tx.commit()?;
+        Ok(())
+    }
+
+    /// The user's program, or none where he has none. Refuses `Memory` and `Database`.
+    pub fn program_of(&mut self, user: &str) -> Result<Option<Vec<u8>>, StoreError>
+        ensures told { HasCleanDisk (state S.Store self.new) → IfOk result (λ found. (before : _) → Stands (state S.Store self.old).now before → option_map (λ v. v.items) found ≡ before.programs user.now) }
+        ensures spared { HasCleanDisk (state S.Store self.new) → Spares (state S.Store self.old) (state S.Store self.new) }
+        ensures refused { IfErr result (λ e. (e ≡ Memory) ⊎ (e ≡ Database)) }
+        ensures survives { Survives (state S.Store self.old) (state S.Store self.new) (λ _. ⊥) }
+    {
+        if !self.conn.is_autocommit() {
+            return Err(StoreError::Database);
+        }
+        let mut tx = self.conn.transaction();
+        Ok(read_program(&mut tx, user)?)
+    }
+
+    /// The octets of the user's entry of that number. Refuses `Memory`, `NoSuchEntry` exactly where he has none, and
+    /// `Database`.
+    pub fn bytes_of(&mut self, user: &str, number: u32) -> Result<Vec<u8>, StoreError>
+        ensures told { HasCleanDisk (state S.Store self.new) → IfOk result (λ octets. (before : _) → Stands (state S.Store self.old).now before → (x : _) × IsEntryAt before user.now number x × (octets.items ≡ x.octets)) }
+        ensures absent { HasCleanDisk (state S.Store self.new) → IfErr result (λ e. e ≡ NoSuchEntry → (before : _) → Stands (state S.Store self.old).now before → HasNone before user.now number) }
+        ensures spared { HasCleanDisk (state S.Store self.new) → Spares (state S.Store self.old) (state S.Store self.new) }
+        ensures refused { IfErr result (λ e. (e ≡ Memory) ⊎ ((e ≡ NoSuchEntry) ⊎ (e ≡ Database))) }
+        ensures survives { Survives (state S.Store self.old) (state S.Store self.new) (λ _. ⊥) }
+    {
+        if !self.conn.is_autocommit() {
+            return Err(StoreError::Database);
+        }
+        let mut tx = self.conn.transaction();
+        match read_bytes(&mut tx, user, number)? {
+            Some(octets) => Ok(octets),
+            None => Err(StoreError::NoSuchEntry),
+        }
+    }
+
+    /// Removes the user's entry of that number, and its octets where no other entry has them. The number isn't given
+    /// again. Refuses `Memory`, `NoSuchEntry` exactly where he has none, and `Database`.
+    pub fn remove_entry(&mut self, user: &str, number: u32) -> Result<(), StoreError>
+        ensures made { HasCleanDisk (state S.Store self.new) → OnOk result (Makes (without_entry user.now number) (state S.Store self.old) (state S.Store self.new)) }
+        ensures there { HasCleanDisk (state S.Store self.new) → OnOk result ((before : _) → Stands (state S.Store self.old).now before → (x : _) × IsEntryAt before user.now number x) }
+        ensures absent { HasCleanDisk (state S.Store self.new) → IfErr result (λ e. e ≡ NoSuchEntry → (before : _) → Stands (state S.Store self.old).now before → HasNone before user.now number) }
+        ensures spared { HasCleanDisk (state S.Store self.new) → OnErr result (Spares (state S.Store self.old) (state S.Store self.new)) }
+        ensures refused { IfErr result (λ e. (e ≡ Memory) ⊎ ((e ≡ NoSuchEntry) ⊎ (e ≡ Database))) }
+        ensures survives { Survives (state S.Store self.old) (state S.Store self.new) (λ trees. (before : _) → Stands (state S.Store self.old).now before → StandsFor trees (without_entry user.now number before)) }
+    {
+        if !self.conn.is_autocommit() {
+            return Err(StoreError::Database);
+        }
+        let mut tx = self.conn.transaction();
+        if !take_entry(&mut tx, user, number)? {
+            return Err(StoreError::NoSuchEntry);
+        }
+        tx.commit()?;
+        Ok(())
+    }
+}
+
+impl PartStore<MemStore> {
+    /// An empty store in memory. Refuses `Memory` and `Database`.
+    pub fn in_memory(alloc: Global) -> Result<PartStore<MemStore>, StoreError>
+        ensures empty { IfOk result (λ s. Stands (state over_memory s).now no_entries) }
+        ensures refused { IfErr result (λ e. (e ≡ Memory) ⊎ (e ≡ Database)) }
+    {
+        let mut conn = Connection::open_in_memory(alloc)?;
+        ready_tables(&mut conn)?;
+        Ok(PartStore { conn })
+    }
+}
+
+impl PartStore<FileStore<File>> {
+    /// The store in the file at a path, which is made if it isn't there. Refuses `Memory`, and `Database` where the
+    /// file can't be opened or is no database.
+    pub fn open(rt: &HostRuntime, path: &str) -> Result<PartStore<FileStore<File>>, StoreError>
+        ensures ready { IfOk result IsReady }
+        ensures refused { IfErr result (λ e. (e ≡ Memory) ⊎ (e ≡ Database)) }
+    {
+        let mut conn = Connection::open(rt, path)?;
+        ready_tables(&mut conn)?;
+        Ok(PartStore { conn })
+    }
+}
