@@ -4,9 +4,9 @@ use lanes_base64_mime::{decode_mime, encode_mime};
 use std::alloc::{AllocError, Global};
 use std::time::Instant;
 
-const SMALL: usize = 1 << 20;
+pub(crate) const SMALL: usize = 1 << 20;
 
-const LARGE: usize = 1 << 26;
+pub(crate) const LARGE: usize = 1 << 26;
 
 pub(crate) fn run(rt: &HostRuntime) -> anyhow::Result<()> {
     for (octets, rounds) in [(SMALL, 256), (LARGE, 4)] {
@@ -42,7 +42,7 @@ fn noise(alloc: Global, octets: usize) -> Result<Vec<u8>, AllocError> {
 }
 
 // Millions of octets a second.
-fn rate_of(octets: usize, rounds: u64, micros: u128) -> u64 {
+pub(crate) fn rate_of(octets: usize, rounds: u64, micros: u128) -> u64 {
     let micros = u64::try_from(micros).unwrap_or(u64::MAX).max(1);
     (octets as u64).saturating_mul(rounds) / micros
 }

@@ -7,6 +7,8 @@ mod headers;
 mod lines;
 mod machine;
 mod matching;
+mod parts;
+mod quoted;
 mod scripts;
 
 use std::env;
@@ -20,6 +22,8 @@ fn main(rt: HostRuntime) -> anyhow::Result<()> {
         Some(job) if job.as_str() == "headers" => headers::run(&rt),
         Some(job) if job.as_str() == "lines" => lines::run(&rt),
         Some(job) if job.as_str() == "matching" => matching::run(&rt),
+        Some(job) if job.as_str() == "parts" => parts::run(&rt),
+        Some(job) if job.as_str() == "quoted" => quoted::run(&rt),
         Some(job) if job.as_str() == "run" => machine::run(&rt),
         Some(job) if job.as_str() == "scripts" => scripts::run(&rt),
         _ => {
@@ -28,6 +32,8 @@ fn main(rt: HostRuntime) -> anyhow::Result<()> {
             println!(rt; "headers")?;
             println!(rt; "lines")?;
             println!(rt; "matching")?;
+            println!(rt; "parts")?;
+            println!(rt; "quoted")?;
             println!(rt; "run")?;
             println!(rt; "scripts")?;
             Ok(())

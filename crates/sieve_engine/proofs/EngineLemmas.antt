@@ -76,13 +76,13 @@ refused_script script message _ h = absurd h
 -- a message that isn't read, after a script that is one
 pub unread_after_script : (script message : List ℕ) (form : CommandForms) (e : Refusal) → IsScript script form → IsUnread message e → IsEvaluationRefusal script message e
 unread_after_script script message form engine.Memory is h = tt
-unread_after_script script message form engine.MessageTooLarge is h = (h, form, is)
-unread_after_script script message form engine.TooManyParts is h = (h, form, is)
+unread_after_script script message form engine.MessageTooLarge is h = (h, (form, is))
+unread_after_script script message form engine.TooManyParts is h = (h, (form, is))
 unread_after_script script message form _ is h = absurd h
 
 -- and after a program that is accepted
 pub unread_after_program : (program message : List ℕ) (code : Code) (e : Refusal) → IsChecked program code → IsUnread message e → IsRefusal program message e
 unread_after_program program message code engine.Memory is h = tt
-unread_after_program program message code engine.MessageTooLarge is h = (h, code, is)
-unread_after_program program message code engine.TooManyParts is h = (h, code, is)
+unread_after_program program message code engine.MessageTooLarge is h = (h, (code, is))
+unread_after_program program message code engine.TooManyParts is h = (h, (code, is))
 unread_after_program program message code _ is h = absurd h
