@@ -5,7 +5,8 @@ use std::alloc::{AllocError, Global};
 use std::time::Instant;
 
 // A line of 76 octets without an escape, with its break.
-const LINE: &[u8] = b"The quick brown fox jumps over the lazy dog, again and again, over the dog.\r\n";
+const LINE: &[u8] =
+    b"The quick brown fox jumps over the lazy dog, again and again, over the dog.\r\n";
 
 pub(crate) fn run(rt: &HostRuntime) -> anyhow::Result<()> {
     for (octets, rounds) in [(SMALL, 256), (LARGE, 4)] {

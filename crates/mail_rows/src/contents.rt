@@ -46,7 +46,8 @@ fn bodies_in_each_encoding(rt: HostRuntime) {
 #[test]
 fn the_content_of_a_part(rt: HostRuntime) {
     let alloc = rt.alloc();
-    let message = b"Content-Type: multipart/mixed; boundary=b\n\n--b\n\nA\n--b\nContent-Transfer-Encoding: base64\n\nYWJj\n--b--\n";
+    let message =
+        b"Content-Type: multipart/mixed; boundary=b\n\n--b\n\nA\n--b\nContent-Transfer-Encoding: base64\n\nYWJj\n--b--\n";
     assert!(rt; is_content(alloc, message, 1, b"A"));
     assert!(rt; is_content(alloc, message, 2, b"abc"));
     assert!(rt; is_digest(alloc, message, 2, ABC));
@@ -76,6 +77,11 @@ fn large_contents(rt: HostRuntime) -> Result<(), Fail> {
         4096,
         b"--b--\n",
     )?;
-    assert!(rt; matches!(Message::read(alloc, &parts), Err(MessageError::TooManyParts)));
+    assert!(rt;
+        matches!(
+            Message::read(alloc, &parts),
+            Err(MessageError::TooManyParts)
+        )
+    );
     Ok(())
 }

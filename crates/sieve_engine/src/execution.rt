@@ -47,11 +47,7 @@ pub fn execute(alloc: Global, program: &[u8], message: &[u8]) -> Result<Report, 
 }
 
 /// The report of an accepted program's run on the message that the octets are.
-pub(crate) fn run_on(
-    alloc: Global,
-    verified: &Verified,
-    message: &[u8],
-) -> Result<Report, Refusal>
+pub(crate) fn run_on(alloc: Global, verified: &Verified, message: &[u8]) -> Result<Report, Refusal>
     requires { IsAccepted verified.now }
     ensures reported { IfOk result (λ report. IsReport verified.now message.now report.outcome.actions.items report.outcome.charged report.limit) }
     ensures refused { IfErr result (λ e. IsUnread message.now e) }
