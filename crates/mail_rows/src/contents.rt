@@ -12,9 +12,10 @@ fn is_content(alloc: Global, text: &[u8], part: usize, want: &[u8]) -> bool {
     if part >= message.parts() {
         return false;
     }
-    message
-        .content(alloc, part)
-        .is_ok_and(|content| content.as_slice() == want)
+    match message.content(alloc, part) {
+        Ok(content) => content.as_slice() == want,
+        Err(_) => false,
+    }
 }
 
 // Whether these are the digits of a part's digest.
