@@ -2,7 +2,8 @@
 //!
 //! What the store holds is in `specs/Entries`, which has no digest, and how the tables stand for it in `specs/Standing`.
 //! Each call of [`PartStore`] is one transaction: its step on what the tables stand for, or a refusal that leaves them as
-//! they were. Octets are kept once under their SHA-256, and as long as an entry names them.
+//! they were. Octets are kept once under their SHA-256, and as long as an entry names them. No call adds or lists entries
+//! so far.
 #![tactic(auto)]
 
 mod contents;

@@ -7,7 +7,7 @@
 //!
 //! *Accepts* is `IsAccepted` of bytecode_verifier; *runs*, *traps* and *charges* are `step`, `Run` and `charge` of
 //! sieve_vm; the *budget* is `budget_of`, and a report's limit its value at the message; a *read message* is `mail_of`
-//! any octets up to the limit; *compiled* is `code_of` of sieve_compiler, and the *meaning* `meaning` of sieve_meaning.
+//! any octets up to the limits; *compiled* is `code_of` of sieve_compiler, and the *meaning* `meaning` of sieve_meaning.
 #![tactic(auto)]
 
 mod evaluation;
