@@ -28,6 +28,8 @@ pub(crate) fn run(rt: &HostRuntime) -> anyhow::Result<()> {
         rates(rt, "one long list", &list)?;
         let numbers = numbers(alloc, octets)?;
         rates(rt, "different numbers", &numbers)?;
+        let strings = strings(alloc, octets)?;
+        rates(rt, "different strings", &strings)?;
     }
     Ok(())
 }
@@ -48,6 +50,28 @@ fn numbers(alloc: Global, octets: usize) -> Result<Vec<u8>, AllocError> {
             script.extend_from_slice(text.as_bytes())?;
         }
     }
+    Ok(script)
+}
+
+// Tests of 500 keys each, all of which are different.
+fn strings(alloc: Global, octets: usize) -> Result<Vec<u8>, AllocError> {
+    let mut script = Vec::with_capacity(alloc, octets)?;
+    for number in 0..10_920u32 {
+        if script.len().saturating_add(40) > octets {
+            break;
+        }
+        if number % 500 == 0 {
+            let head: &[u8] = if number == 0 {
+                b"if header \"s\" ["
+            } else {
+                b"\"\"]{} if header \"s\" ["
+            };
+            script.extend_from_slice(head)?;
+        }
+        let text = format!(in alloc; "\"{number:x}\",")?;
+        script.extend_from_slice(text.as_bytes())?;
+    }
+    script.extend_from_slice(b"\"\"]{}")?;
     Ok(script)
 }
 

@@ -3,6 +3,7 @@
 
 mod codecs;
 mod compiling;
+mod filters;
 mod headers;
 mod lines;
 mod machine;
@@ -10,6 +11,7 @@ mod matching;
 mod parts;
 mod quoted;
 mod scripts;
+mod store;
 
 use std::env;
 
@@ -19,6 +21,7 @@ fn main(rt: HostRuntime) -> anyhow::Result<()> {
     match words.next() {
         Some(job) if job.as_str() == "codecs" => codecs::run(&rt),
         Some(job) if job.as_str() == "compile" => compiling::run(&rt),
+        Some(job) if job.as_str() == "filter" => filters::run(&rt),
         Some(job) if job.as_str() == "headers" => headers::run(&rt),
         Some(job) if job.as_str() == "lines" => lines::run(&rt),
         Some(job) if job.as_str() == "matching" => matching::run(&rt),
@@ -26,9 +29,14 @@ fn main(rt: HostRuntime) -> anyhow::Result<()> {
         Some(job) if job.as_str() == "quoted" => quoted::run(&rt),
         Some(job) if job.as_str() == "run" => machine::run(&rt),
         Some(job) if job.as_str() == "scripts" => scripts::run(&rt),
+        Some(job) if job.as_str() == "store" => match words.next() {
+            Some(path) => store::file(&rt, path.as_str()),
+            None => store::run(&rt),
+        },
         _ => {
             println!(rt; "codecs")?;
             println!(rt; "compile")?;
+            println!(rt; "filter")?;
             println!(rt; "headers")?;
             println!(rt; "lines")?;
             println!(rt; "matching")?;
@@ -36,6 +44,7 @@ fn main(rt: HostRuntime) -> anyhow::Result<()> {
             println!(rt; "quoted")?;
             println!(rt; "run")?;
             println!(rt; "scripts")?;
+            println!(rt; "store [PATH]")?;
             Ok(())
         }
     }

@@ -1,6 +1,8 @@
-// A mail of eight attachments in base64, about 10 MB: its tree, and the digests of its contents.
+// The parts of messages: a mail of eight attachments in base64, about 10 MB, with the digests of its contents; and the trees of
+// messages that are all delimiters, boundaries or levels, each beside a multipart of plain lines of about the same size.
 use crate::codecs::rate_of;
-use mime_decode::Message;
+use lanes_base64_mime::decode_mime;
+use mime_decode::{Message, digest_of};
 use mime_tree::Tree;
 use std::alloc::{AllocError, Global};
 use std::time::Instant;
@@ -9,28 +11,51 @@ const ROUNDS: u64 = 20;
 
 const LINES: usize = 16_000;
 
+const MULTIPART: &[u8] = b"Content-Type: multipart/mixed; boundary=b\r\n\r\n--b\r\n\r\n";
+
 pub(crate) fn run(rt: &HostRuntime) -> anyhow::Result<()> {
+    attachments_at_work(rt)?;
+    shapes_at_work(rt)
+}
+
+fn attachments_at_work(rt: &HostRuntime) -> anyhow::Result<()> {
     let mail = attachments(rt.alloc())?;
-    let start = Instant::now(rt)?;
-    for _ in 0..ROUNDS {
-        let _tree = Tree::read(rt.alloc(), &mail)?;
-    }
-    let rate = rate_of(mail.len(), ROUNDS, start.elapsed(rt)?.as_micros());
+    let rate = tree_rate(rt, &mail)?;
     println!(rt; "{} octets: tree {rate} MB/s", mail.len())?;
     let start = Instant::now(rt)?;
     for _ in 0..ROUNDS {
         digest_all(rt.alloc(), &mail)?;
     }
-    let rate = rate_of(mail.len(), ROUNDS, start.elapsed(rt)?.as_micros());
-    println!(rt; "{} octets: digests of all parts {rate} MB/s", mail.len())?;
+    let all = start.elapsed(rt)?.as_micros();
+    let start = Instant::now(rt)?;
+    for _ in 0..ROUNDS {
+        decode_and_digest(rt.alloc(), &mail)?;
+    }
+    let alone = start.elapsed(rt)?.as_micros();
+    println!(rt;
+        "{} octets: contents and digests {} us, without the message around them {} us",
+        mail.len(),
+        all / u128::from(ROUNDS),
+        alone / u128::from(ROUNDS)
+    )?;
     Ok(())
 }
 
-// The digests of all contents.
+// The digests of all contents, as a message gives them.
 fn digest_all(alloc: Global, mail: &[u8]) -> anyhow::Result<()> {
     let message = Message::read(alloc, mail)?;
     for part in 0..message.parts() {
         let _digest = message.digest(alloc, part)?;
+    }
+    Ok(())
+}
+
+// The same work on the octets alone: the digest of the whole body, and of eight bodies decoded.
+fn decode_and_digest(alloc: Global, mail: &[u8]) -> anyhow::Result<()> {
+    let _digest = digest_of(mail);
+    for body in mail.chunks(mail.len().div_ceil(8).max(1)) {
+        let content = decode_mime(alloc, body)?;
+        let _digest = digest_of(&content);
     }
     Ok(())
 }
@@ -40,12 +65,105 @@ fn attachments(alloc: Global) -> Result<Vec<u8>, AllocError> {
     let mut mail = Vec::from_slice(alloc, b"Content-Type: multipart/mixed; boundary=b\r\n\r\n")?;
     for _ in 0..8 {
         mail.extend_from_slice(b"--b\r\nContent-Transfer-Encoding: base64\r\n\r\n")?;
-        for _ in 0..LINES {
-            mail.extend_from_slice(
-                b"Zm9vYmFyZm9vYmFyZm9vYmFyZm9vYmFyZm9vYmFyZm9vYmFyZm9vYmFyZm9vYmFyZm9vYmFyZm9v\r\n",
-            )?;
-        }
+        let line =
+            b"Zm9vYmFyZm9vYmFyZm9vYmFyZm9vYmFyZm9vYmFyZm9vYmFyZm9vYmFyZm9vYmFyZm9vYmFyZm9v\r\n";
+        add_lines(&mut mail, line, LINES)?;
     }
     mail.extend_from_slice(b"--b--\r\n")?;
     Ok(mail)
+}
+
+fn shapes_at_work(rt: &HostRuntime) -> anyhow::Result<()> {
+    let alloc = rt.alloc();
+    let parts = lines_after(
+        alloc,
+        b"Content-Type: multipart/mixed; boundary=b\n\n",
+        b"--b\n",
+        4_095,
+    )?;
+    shape(rt, "4,095 parts with nothing in them", &parts)?;
+    let delimiters = lines_after(alloc, b"", b"--b\n", 1_000_000)?;
+    shape(rt, "1,000,000 lines --b without a header", &delimiters)?;
+    let others = lines_after(alloc, MULTIPART, b"--c\n", 1_000_000)?;
+    shape(rt, "1,000,000 lines that begin as a delimiter", &others)?;
+    let mut nested = levels(alloc)?;
+    add_lines(&mut nested, b"--b\n", 1_000_000)?;
+    shape(rt, "31 nested multiparts over 1,000,000 lines --b", &nested)?;
+    let boundary = lines_after(alloc, b"", b"b", 60_000)?;
+    let mut long = Vec::from_slice(alloc, b"Content-Type: multipart/mixed; boundary=")?;
+    long.extend_from_slice(&boundary)?;
+    long.extend_from_slice(b"\n\n")?;
+    for _ in 0..100 {
+        long.extend_from_slice(b"--")?;
+        long.extend_from_slice(&boundary)?;
+        long.extend_from_slice(b"x\n")?;
+    }
+    shape(
+        rt,
+        "a boundary of 60,000 octets, and lines that begin with it",
+        &long,
+    )
+}
+
+// The headers of 31 multiparts in one another, each with a boundary of its own, and that of a part.
+fn levels(alloc: Global) -> Result<Vec<u8>, AllocError> {
+    let mut text = Vec::new(alloc);
+    for level in b'0'..b'0' + 31 {
+        text.extend_from_slice(b"Content-Type: multipart/mixed; boundary=\"")?;
+        text.push(level)?;
+        text.extend_from_slice(b"\"\n\n--")?;
+        text.push(level)?;
+        text.push(b'\n')?;
+    }
+    text.push(b'\n')?;
+    Ok(text)
+}
+
+// The time of a message's tree, and that of plain lines of about its size.
+fn shape(rt: &HostRuntime, name: &str, mail: &[u8]) -> anyhow::Result<()> {
+    let line = b"plain lines of seventy octets, as mail has them, in a part of their own\r\n";
+    let plain = lines_after(rt.alloc(), MULTIPART, line, mail.len() / line.len())?;
+    let time = tree_time(rt, mail)?;
+    let beside = tree_time(rt, &plain)?;
+    println!(rt;
+        "{name}: {} octets, tree {time} us; plain lines {beside} us",
+        mail.len()
+    )?;
+    Ok(())
+}
+
+// Microseconds that the tree of a message takes.
+fn tree_time(rt: &HostRuntime, mail: &[u8]) -> anyhow::Result<u128> {
+    let start = Instant::now(rt)?;
+    for _ in 0..ROUNDS {
+        let _tree = Tree::read(rt.alloc(), mail)?;
+    }
+    Ok(start.elapsed(rt)?.as_micros() / u128::from(ROUNDS))
+}
+
+fn tree_rate(rt: &HostRuntime, mail: &[u8]) -> anyhow::Result<u64> {
+    let start = Instant::now(rt)?;
+    for _ in 0..ROUNDS {
+        let _tree = Tree::read(rt.alloc(), mail)?;
+    }
+    Ok(rate_of(mail.len(), ROUNDS, start.elapsed(rt)?.as_micros()))
+}
+
+// A text, and so many lines after it.
+fn lines_after(
+    alloc: Global,
+    before: &[u8],
+    line: &[u8],
+    count: usize,
+) -> Result<Vec<u8>, AllocError> {
+    let mut text = Vec::from_slice(alloc, before)?;
+    add_lines(&mut text, line, count)?;
+    Ok(text)
+}
+
+fn add_lines(text: &mut Vec<u8>, line: &[u8], count: usize) -> Result<(), AllocError> {
+    for _ in 0..count {
+        text.extend_from_slice(line)?;
+    }
+    Ok(())
 }

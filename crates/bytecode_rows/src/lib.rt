@@ -10,4 +10,6 @@ mod large;
 #[cfg(test)]
 mod programs;
 #[cfg(test)]
+mod strings;
+#[cfg(test)]
 mod verifier;

@@ -1,10 +1,13 @@
 -- The budget of an accepted program: what its sums are at most.
-use Rattle.std.proofs.Common.{◌≡◌, ℕ, zero, suc, ◌+◌, ◌*◌, ◌^◌, ◌<◌, ◌≤◌, Bool, true, false, cond, ◌==◌, List, [], ◌∷◌, Option, Some, None, All, length, slice_get, refl, ap, arith}
+use Rattle.std.proofs.Common.{◌≡◌, ℕ, zero, suc, ◌+◌, ◌*◌, ◌^◌, ◌<◌, ◌≤◌, Bool, true, false, cond, ◌==◌, [], ◌∷◌, Option, Some, None, All, length, slice_get, sum, refl, lit≤, arith}
+use Rattle.std.proofs.Math.Nat.{mul-le-mul}
+use Rattle.std.proofs.lemmas.List.Sums.{sum_by-le-sum_by}
+use Rattle.std.specs.Option.{option_map_or}
 use Rattle.std.proofs.lemmas.List.Elements.{All-cons, All-nil}
 use Rattle.octets.specs.Limits.{max_message, max_parts}
 use Rattle.bytecode_format.specs.declared.instruction.Instruction.{Instruction}
 use Rattle.bytecode_format.specs.declared.operation.Operation.{Operation}
-use Rattle.bytecode_format.specs.declared.operation.Operation.TheVariants.{Halt, Literal, Variable, Capture, Join, Set, Bool as BoolOp, Not, Jump, JumpIfTrue, JumpIfFalse, Header, Exists, String, Size, PartSize, PartBody, PartDigest, Keep, Discard, File, Store, Each, Next, Break}
+use Rattle.bytecode_format.specs.declared.operation.Operation.TheVariants.{Header, Exists, File}
 use Rattle.bytecode_format.specs.Operations.{operation_of}
 use Rattle.bytecode_format.specs.Code.{Code}
 use Rattle.bytecode_format.specs.Spelling.{IsProgram}
@@ -12,58 +15,73 @@ use Rattle.bytecode_cost.specs.Sums.{IsBudget, budget_at}
 use Rattle.bytecode_cost.proofs.Powers.{budget_bound}
 use Rattle.bytecode_verifier.specs.Places.{sum_below}
 use Rattle.bytecode_verifier.specs.Loops.{open_loops}
-use Rattle.bytecode_verifier.specs.Shape.{Entries, shape_at}
-use Rattle.bytecode_verifier.specs.Budget.{Cap, one_charge, cap_of, cap_found, cap_at, sum_inside, sums_inside, budget_of}
+use Rattle.bytecode_verifier.specs.Shape.{Entries, Texts, Lists, take_texts, take_lists, shape_at}
+use Rattle.bytecode_verifier.specs.declared.cap.Cap.{Cap}
+use Rattle.bytecode_verifier.specs.Budget.{one_more_each, cap_of_octets, cap_of_names, cap_of_matching, one_charge, cap_of, cap_found, cap_at, sum_inside, sums_inside, budget_of}
+use Rattle.bytecode_verifier.specs.Pass.{max_cap}
+use Rattle.bytecode_verifier.proofs.Taking.{taken, taken_lists}
+use Rattle.bytecode_verifier.proofs.Short.{IsSmall, shape_small}
 
--- so far each instruction costs one charge
-pub cap_one : (o : Option Operation) (i : Instruction) (entries : Entries) → cap_of o i entries ≡ one_charge
-cap_one None i entries = refl
-cap_one (Some Halt) i entries = refl
-cap_one (Some Literal) i entries = refl
-cap_one (Some Variable) i entries = refl
-cap_one (Some Capture) i entries = refl
-cap_one (Some Join) i entries = refl
-cap_one (Some Set) i entries = refl
-cap_one (Some BoolOp) i entries = refl
-cap_one (Some Not) i entries = refl
-cap_one (Some Jump) i entries = refl
-cap_one (Some JumpIfTrue) i entries = refl
-cap_one (Some JumpIfFalse) i entries = refl
-cap_one (Some Header) i entries = refl
-cap_one (Some Exists) i entries = refl
-cap_one (Some String) i entries = refl
-cap_one (Some Size) i entries = refl
-cap_one (Some PartSize) i entries = refl
-cap_one (Some PartBody) i entries = refl
-cap_one (Some PartDigest) i entries = refl
-cap_one (Some Keep) i entries = refl
-cap_one (Some Discard) i entries = refl
-cap_one (Some File) i entries = refl
-cap_one (Some Store) i entries = refl
-cap_one (Some Each) i entries = refl
-cap_one (Some Next) i entries = refl
-cap_one (Some Break) i entries = refl
+-- no cap is larger than this
+abbrev pub Fits : Cap → Type 0
+Fits cap = (cap.fixed ≤ max_cap) × (cap.scaled ≤ max_cap)
 
-cap_small : (part : Cap → ℕ) → part one_charge ≤ 1 → part (record { fixed = 0; scaled = 0 }) ≤ 1 → (i : Option Instruction) (entries : Option Entries) → part (cap_found i entries) ≤ 1
-cap_small part one none None entries = none
-cap_small part one none (Some i) None = none
-cap_small part one none (Some i) (Some entries) = rw (cap_one (operation_of i.op) i entries) one
+one_fits : Fits one_charge
+one_fits = (lit≤ tt, lit≤ tt)
 
-sum_small : (f : ℕ → ℕ) (n : ℕ) → ((place : ℕ) → f place ≤ 1) → sum_below f n ≤ n
-sum_small f zero h = omega arith
-sum_small f (suc n) h = omega (arith, sum_small f n h, h n)
+-- what a header test's names and keys come to
+matching_fits : (names keys a b n k : ℕ) → names + keys ≤ 1024 → a ≤ names * 16385 → b ≤ keys * 16385 → n ≡ names → a + n * b ≤ 2 ^ 40
+matching_fits names keys a b n k few ha hb same =
+    let few_names : n ≤ 1024 = omega arith in
+    let few_keys : b ≤ 16778240 = omega arith in
+    let most : n * b ≤ 1024 * 16778240 = mul-le-mul few_names few_keys in
+    omega arith
 
-counted_small : (b : Bool) (n : ℕ) → n ≤ 1 → cond b n 0 ≤ 1
-counted_small true n h = h
-counted_small false n h = omega arith
+pub cap_fits : (o : Option Operation) (i : Instruction) (entries : Entries) → IsSmall entries → Fits (cap_of o i entries)
+cap_fits (Some Header) i entries small = go (take_lists i.b i.c entries) refl
+  where
+    go : (o : Option Lists) → take_lists i.b i.c entries ≡ o → Fits (option_map_or cap_of_matching o one_charge)
+    go None h = one_fits
+    go (Some lists) h =
+        let t = taken_lists i.b i.c entries lists small.short h in
+        (lit≤ tt, matching_fits i.b i.c (one_more_each lists.names) (one_more_each lists.keys) (length lists.names) 0 (omega (arith, t.left, small.few)) t.names_total t.keys_total t.names_are)
+cap_fits (Some Exists) i entries small = go (take_texts i.b entries) refl
+  where
+    go : (o : Option Texts) → take_texts i.b entries ≡ o → Fits (option_map_or cap_of_names o one_charge)
+    go None h = one_fits
+    go (Some names) h = let t = taken i.b entries names small.short h in (lit≤ tt, omega (arith, t.total, t.left, small.few))
+cap_fits (Some File) i entries small = go (take_texts 1 entries) refl
+  where
+    go : (o : Option Texts) → take_texts 1 entries ≡ o → Fits (option_map_or cap_of_octets o one_charge)
+    go None h = one_fits
+    go (Some folder) h =
+        let t = taken 1 entries folder small.short h in
+        let less : sum folder.bounds ≤ one_more_each folder.bounds = sum_by-le-sum_by (λ b. b) (λ b. b + 1) folder.bounds (λ b. omega arith) in
+        (omega (arith, t.total, less), lit≤ tt)
+cap_fits _ i entries small = one_fits
 
-inside_small : (part : Cap → ℕ) (code : Code) (k : ℕ) → part one_charge ≤ 1 → part (record { fixed = 0; scaled = 0 }) ≤ 1 → sum_inside part code k ≤ length code.instructions
-inside_small part code k one none =
-    sum_small _ (length code.instructions) (λ place. counted_small (length (open_loops code place) == k) (part (cap_at code place)) (cap_small part one none (slice_get code.instructions place) (shape_at code place)))
+-- the cap at a place
+pub cap_at_fits : (code : Code) → IsProgram code → (place : ℕ) → Fits (cap_at code place)
+cap_at_fits code fits place = found (slice_get code.instructions place) (shape_at code place) refl
+  where
+    found : (i : Option Instruction) (o : Option Entries) → shape_at code place ≡ o → Fits (cap_found i o)
+    found None o h = (lit≤ tt, lit≤ tt)
+    found (Some i) None h = (lit≤ tt, lit≤ tt)
+    found (Some i) (Some entries) h = cap_fits (operation_of i.op) i entries (shape_small code fits place entries h)
 
-sums_small : (part : Cap → ℕ) (code : Code) → IsProgram code → part one_charge ≤ 1 → part (record { fixed = 0; scaled = 0 }) ≤ 1 → All (λ sum. sum < 2 ^ 63) (sums_inside part code)
-sums_small part code fits one none =
-    let small : (k : ℕ) → sum_inside part code k < 2 ^ 63 = λ k. omega (arith, inside_small part code k one none, fits.instructions) in
+sum_small : (f : ℕ → ℕ) (n most : ℕ) → ((place : ℕ) → f place ≤ most) → sum_below f n ≤ n * most
+sum_small f zero most h = omega arith
+sum_small f (suc n) most h = omega (arith, sum_small f n most h, h n)
+
+counted_small : (b : Bool) (n most : ℕ) → n ≤ most → cond b n 0 ≤ most
+counted_small true n most h = h
+counted_small false n most h = omega arith
+
+sums_small : (part : Cap → ℕ) (code : Code) → IsProgram code → ((cap : Cap) → Fits cap → part cap ≤ max_cap) → All (λ sum. sum < 2 ^ 63) (sums_inside part code)
+sums_small part code fits one =
+    let inside : (k : ℕ) → sum_inside part code k ≤ length code.instructions * max_cap =
+    λ k. sum_small _ (length code.instructions) max_cap (λ place. counted_small (length (open_loops code place) == k) (part (cap_at code place)) max_cap (one (cap_at code place) (cap_at_fits code fits place))) in
+    let small : (k : ℕ) → sum_inside part code k < 2 ^ 63 = λ k. omega (arith, inside k, fits.instructions) in
     let P : ℕ → Type 0 = λ sum. sum < 2 ^ 63 in
     let s : ℕ → ℕ = sum_inside part code in
     All-cons P (s 0) (s 1 ∷ s 2 ∷ s 3 ∷ []) (small 0) (All-cons P (s 1) (s 2 ∷ s 3 ∷ []) (small 1) (All-cons P (s 2) (s 3 ∷ []) (small 2) (All-cons P (s 3) [] (small 3) (All-nil P))))
@@ -74,8 +92,8 @@ is_budget code fits =
     record {
       fixed_levels = refl;
       scaled_levels = refl;
-      each_fixed = sums_small (λ cap. cap.fixed) code fits (omega arith) (omega arith);
-      each_scaled = sums_small (λ cap. cap.scaled) code fits (omega arith) (omega arith);
+      each_fixed = sums_small (λ cap. cap.fixed) code fits (λ cap h. h.0);
+      each_scaled = sums_small (λ cap. cap.scaled) code fits (λ cap h. h.1);
     }
 
 pub budget_small : (code : Code) → IsProgram code → (n p : ℕ) → n ≤ max_message → p ≤ max_parts → budget_at (budget_of code) n p < 2 ^ 128

@@ -1,8 +1,8 @@
 -- The definitions at small programs, by computation.
-use Rattle.std.proofs.Common.{◌≡◌, ℕ, List, [], ◌∷◌, Some, None, refl, true, false}
+use Rattle.std.proofs.Common.{◌≡◌, ℕ, Bool, List, [], ◌∷◌, Some, None, refl, true, false}
 use Rattle.bytecode_format.specs.declared.instruction.Instruction.{Instruction}
 use Rattle.bytecode_format.specs.declared.operation.Operation.{Operation}
-use Rattle.bytecode_format.specs.declared.operation.Operation.TheVariants.{Halt, Literal, Bool, Not, Jump as Goto, JumpIfTrue, JumpIfFalse, Size, Keep, Discard, Each, Next, Break}
+use Rattle.bytecode_format.specs.declared.operation.Operation.TheVariants.{Halt, Literal, Variable, Bool as BoolOp, Not, Jump as Goto, JumpIfTrue, JumpIfFalse, Header, Exists, Size, Keep, Discard, File, Each, Next, Break}
 use Rattle.bytecode_format.specs.Operations.{octet_of}
 use Rattle.bytecode_format.specs.Code.{Code}
 use Rattle.bytecode_verifier.specs.declared.error.Refusal.TheVariants.{Index, Form, End, Jump, Stack}
@@ -10,6 +10,7 @@ use Rattle.bytecode_verifier.specs.Acceptance.{refusal_of}
 use Rattle.bytecode_verifier.specs.Loops.{loops, open_loops, same_loops}
 use Rattle.bytecode_verifier.specs.Rules.{breaks_loop, breaks_jump}
 use Rattle.bytecode_verifier.specs.Budget.{budget_of}
+use Rattle.bytecode_verifier.specs.Rows.{row_named, is_well_formed}
 
 abbrev at : Operation → ℕ → ℕ → Instruction
 at operation a c = record { op = octet_of operation; a = a; b = 0; c = c }
@@ -32,11 +33,11 @@ nothing = refl
 missing_entry : refusal_of (program [] (plain Not ∷ plain Halt ∷ [])) ≡ Some (Stack 0)
 missing_entry = refl
 
-operation_to_come : refusal_of (program [] (plain Literal ∷ plain Halt ∷ [])) ≡ Some (Form 0)
+operation_to_come : refusal_of (program [] (plain Variable ∷ plain Halt ∷ [])) ≡ Some (Form 0)
 operation_to_come = refl
 
 -- the jump leads between a value and what takes it
-jump_into_value : refusal_of (program [] (at Bool 1 0 ∷ at JumpIfFalse 0 3 ∷ at Bool 1 0 ∷ plain Not ∷ at JumpIfTrue 0 5 ∷ plain Halt ∷ [])) ≡ Some (Stack 3)
+jump_into_value : refusal_of (program [] (at BoolOp 1 0 ∷ at JumpIfFalse 0 3 ∷ at BoolOp 1 0 ∷ plain Not ∷ at JumpIfTrue 0 5 ∷ plain Halt ∷ [])) ≡ Some (Stack 3)
 jump_into_value = refl
 
 abbrev over_size : List Instruction
@@ -50,6 +51,84 @@ accepted = refl
 
 budget : budget_of (program (7 ∷ []) over_size) ≡ record { version = 1; fixed = 4 ∷ 0 ∷ 0 ∷ 0 ∷ []; scaled = 0 ∷ 0 ∷ 0 ∷ 0 ∷ [] }
 budget = refl
+
+-- ---- strings
+
+abbrev lists : Operation → ℕ → ℕ → ℕ → Instruction
+lists operation a b c = record { op = octet_of operation; a = a; b = b; c = c }
+
+abbrev with_strings : List (List ℕ) → List Instruction → Code
+with_strings strings instructions = record { version = 1; variables = 0; numbers = []; strings = strings; instructions = instructions }
+
+abbrev files : List Instruction
+files = plain Literal ∷ plain File ∷ plain Halt ∷ []
+
+filed : refusal_of (with_strings ((7 ∷ 7 ∷ 7 ∷ []) ∷ []) files) ≡ None
+filed = refl
+
+filed_budget : (budget_of (with_strings ((7 ∷ 7 ∷ 7 ∷ []) ∷ []) files)).fixed ≡ 6 ∷ 0 ∷ 0 ∷ 0 ∷ []
+filed_budget = refl
+
+missing_string : refusal_of (with_strings [] files) ≡ Some (Index 0)
+missing_string = refl
+
+text_left : refusal_of (with_strings ([] ∷ []) (plain Literal ∷ plain Halt ∷ [])) ≡ Some (Stack 1)
+text_left = refl
+
+truth_filed : refusal_of (program [] (at BoolOp 1 0 ∷ plain File ∷ plain Halt ∷ [])) ≡ Some (Stack 1)
+truth_filed = refl
+
+-- names of 7 and 3 octets, a key of 1, another of 2: 8 + 4, and 2 names times 2 + 3
+abbrev two_names : List Instruction
+two_names =
+    at Literal 0 0 ∷ at Literal 0 1 ∷ at Literal 0 2 ∷ at Literal 0 3 ∷ lists Header 4 2 2 ∷ at JumpIfFalse 0 7 ∷ plain Discard ∷ plain Halt ∷ []
+
+abbrev lengths : List (List ℕ)
+lengths = (1 ∷ 1 ∷ 1 ∷ 1 ∷ 1 ∷ 1 ∷ 1 ∷ []) ∷ (1 ∷ 1 ∷ 1 ∷ []) ∷ (1 ∷ []) ∷ (1 ∷ 1 ∷ []) ∷ []
+
+names_and_keys : refusal_of (with_strings lengths two_names) ≡ None
+names_and_keys = refl
+
+names_and_keys_budget : budget_of (with_strings lengths two_names) ≡ record { version = 1; fixed = 8 ∷ 0 ∷ 0 ∷ 0 ∷ []; scaled = 22 ∷ 0 ∷ 0 ∷ 0 ∷ [] }
+names_and_keys_budget = refl
+
+-- three keys, where two texts stand
+missing_text : refusal_of (with_strings ([] ∷ []) (plain Literal ∷ plain Literal ∷ lists Header 0 1 3 ∷ at JumpIfFalse 0 4 ∷ plain Halt ∷ [])) ≡ Some (Stack 2)
+missing_text = refl
+
+exists_budget : budget_of (with_strings lengths (plain Literal ∷ lists Exists 0 1 0 ∷ at JumpIfFalse 0 3 ∷ plain Halt ∷ [])) ≡ record { version = 1; fixed = 4 ∷ 0 ∷ 0 ∷ 0 ∷ []; scaled = 8 ∷ 0 ∷ 0 ∷ 0 ∷ [] }
+exists_budget = refl
+
+-- of fields: lists of 1 to 512, ways to match, no scope but the message's
+abbrev formed : (i : Instruction) → Bool
+formed i = is_well_formed (row_named 1 i.op) i
+
+no_names : formed (lists Header 0 0 1) ≡ false
+no_names = refl
+
+no_keys : formed (lists Header 0 1 0) ≡ false
+no_keys = refl
+
+most_names : formed (lists Header 6 512 512) ≡ true
+most_names = refl
+
+a_name_too_many : formed (lists Header 0 513 1) ≡ false
+a_name_too_many = refl
+
+a_key_too_many : formed (lists Header 0 1 513) ≡ false
+a_key_too_many = refl
+
+no_fourth_way : formed (lists Header 3 1 1) ≡ false
+no_fourth_way = refl
+
+no_fourth_way_of_octets : formed (lists Header 7 1 1) ≡ false
+no_fourth_way_of_octets = refl
+
+no_other_scope : formed (lists Header 8 1 1) ≡ false
+no_other_scope = refl
+
+exists_in_no_other_scope : formed (lists Exists 1 1 0) ≡ false
+exists_in_no_other_scope = refl
 
 -- a stray Next, a loop in a loop, a stray Next and a stray Each
 abbrev brackets : Code

@@ -2,6 +2,8 @@ pub mod Tests
 pub mod Least
 pub mod Loopless
 pub mod Steps
+pub mod Taking
+pub mod Short
 pub mod Ends
 pub mod Marks
 pub mod Accepted

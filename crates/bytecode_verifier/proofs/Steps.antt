@@ -1,24 +1,27 @@
 -- How the pass goes on by one instruction.
-use Rattle.std.proofs.Common.{◌≡◌, ℕ, suc, ◌+◌, ◌≤◌, Bool, true, false, not, ◌&&◌, ◌||◌, nat_le, List, [], ◌∷◌, Option, Some, None, is_some, is_none, if◌then◌else◌, length, slice_get, slice_set, slice_index, refl, sym, ap, ◌∙◌, arith, add-one, add-zero}
+use Rattle.std.proofs.Common.{◌≡◌, ℕ, suc, ◌+◌, ◌*◌, ◌≤◌, Bool, true, false, not, ◌&&◌, ◌||◌, nat_le, List, [], ◌∷◌, Option, Some, None, is_some, is_none, length, slice_get, slice_set, slice_index, refl, sym, ap, subst, ◌∙◌, lit≤, arith, add-one, add-zero}
 use Rattle.std.specs.Bool.{then_some}
-use Rattle.std.specs.Option.{option_or, option_and_then}
+use Rattle.std.specs.Option.{option_or, option_and_then, unwrap_or}
 use Rattle.bytecode_format.specs.declared.instruction.Instruction.{Instruction}
 use Rattle.bytecode_format.specs.declared.operation.Operation.{Operation}
 use Rattle.bytecode_format.specs.Operations.{operation_of}
 use Rattle.bytecode_format.specs.Code.{Code}
+use Rattle.bytecode_format.specs.Spelling.{IsProgram}
 use Rattle.bytecode_cost.specs.Sums.{Sums, with_cap}
 use Rattle.bytecode_verifier.specs.declared.pass.Pass.{Pass}
 use Rattle.bytecode_verifier.specs.Places.{least_below}
 use Rattle.bytecode_verifier.specs.Loops.{loops, open_loops}
 use Rattle.bytecode_verifier.specs.declared.row.Row.{Row}
-use Rattle.bytecode_verifier.specs.Rows.{row_named, is_well_formed, is_jump}
-use Rattle.bytecode_verifier.specs.Shape.{Entries, is_empty, is_target, entries_after, shape_after, shape_at}
+use Rattle.bytecode_verifier.specs.Rows.{is_well_formed, is_jump}
+use Rattle.bytecode_verifier.specs.Shape.{Entries, is_target, shape_after, shape_at}
 use Rattle.bytecode_verifier.specs.Rules.{row_in, misses_index, breaks_index, breaks_form, breaks_jump, breaks_stack}
-use Rattle.bytecode_verifier.specs.Budget.{Cap, one_charge, cap_at}
-use Rattle.bytecode_verifier.specs.Pass.{unless_failed, sums_below, budget_below, HasPassed}
+use Rattle.bytecode_verifier.specs.declared.cap.Cap.{Cap}
+use Rattle.bytecode_verifier.specs.Budget.{one_charge, cap_of, cap_at}
+use Rattle.bytecode_verifier.specs.Pass.{AreShort, Passes, max_cap, unless_failed, sums_below, budget_below, HasPassed}
 use Rattle.bytecode_verifier.proofs.Tests.{or_false}
-use Rattle.bytecode_verifier.proofs.Budgets.{cap_one}
-use Rattle.bytecode_verifier.proofs.Least.{or_none, least_more}
+use Rattle.bytecode_verifier.proofs.Short.{shape_small}
+use Rattle.bytecode_verifier.proofs.Budgets.{Fits, cap_fits}
+use Rattle.bytecode_verifier.proofs.Least.{least_more}
 
 -- the shape goes on from a place to the next
 pub shape_more : (code : Code) (place : ℕ) (i : Instruction) (old new : Option Entries) → slice_get code.instructions place ≡ Some i → shape_at code place ≡ old
@@ -42,27 +45,39 @@ stack_more code place old new before after e b a n =
     let left : is_none (shape_at code (suc place)) ≡ is_some new = ap is_none (rw add-one at a) ∙ is_none_unless new after in
     least_more (breaks_stack code) place old new (is_none old && is_some new) e (sym (rw (reached, left) refl)) n
 
--- the shape over an instruction at which it hasn't failed before
-pub shape_over : (code : Code) (i : Instruction) (targeted fine : Bool) (operation : Option Operation) (place : ℕ) (failed after : Option ℕ) (old new : Entries) → failed ≡ None → (targeted && not (is_empty old)) ≡ false
-    → (if fine then Some new else None) ≡ option_and_then (λ o. entries_after code o i old) operation → after ≡ then_some (not fine) place
-    → unless_failed after new ≡ option_and_then (shape_after code targeted operation i) (unless_failed failed old)
-shape_over code i targeted true operation place failed after old new f t e a = rw (f, t, a) e
-shape_over code i targeted false operation place failed after old new f t e a = rw (f, t, a) e
+-- what the shape is after an instruction, and where it has failed
+after_passed : (failed : Option ℕ) (cap : Option Cap) (place : ℕ) (before now : Entries) (here : Cap) (over : Entries → Option Entries)
+    → Passes cap now here (option_and_then over (unless_failed failed before)) → unless_failed (option_or failed (then_some (is_none cap) place)) now ≡ option_and_then over (unless_failed failed before)
+after_passed None None place before now here over p = sym p
+after_passed None (Some c) place before now here over p = sym p.1
+after_passed (Some q) None place before now here over p = refl
+after_passed (Some q) (Some c) place before now here over p = absurd (let f = p.1 in cc)
 
--- a loop-free program's budget grows by one at each instruction
+failed_once : (failed : Option ℕ) (cap : Option Cap) (place : ℕ)
+    → option_or failed (then_some (is_none cap) place) ≡ option_or failed (then_some (is_none failed && is_some (option_or failed (then_some (is_none cap) place))) place)
+failed_once None None place = refl
+failed_once None (Some c) place = refl
+failed_once (Some q) cap place = refl
+
+-- where the shape goes on, it is with the cap of the instruction
+pub cap_found_at : (failed : Option ℕ) (cap : Option Cap) (place : ℕ) (now : Entries) (here : Cap) (after : Option Entries) → Passes cap now here after → option_or failed (then_some (is_none cap) place) ≡ None → (failed ≡ None) × (unwrap_or cap one_charge ≡ here)
+cap_found_at None None place now here after p e = absurd cc
+cap_found_at None (Some c) place now here after p e = (refl, p.0)
+cap_found_at (Some q) cap place now here after p e = absurd cc
+
+-- the budget of a program without loops grows by the cap of each instruction
 open_none : (code : Code) (place : ℕ) → loops code ≡ [] → length (open_loops code place) ≡ 0
 open_none code place h = rw h refl
 
-cap_here : (code : Code) (place : ℕ) (i : Instruction) (entries : Entries) → slice_get code.instructions place ≡ Some i → shape_at code place ≡ Some entries → cap_at code place ≡ one_charge
-cap_here code place i entries here shape = rw (here, shape) (cap_one (operation_of i.op) i entries)
+cap_here : (code : Code) (place : ℕ) (i : Instruction) (entries : Entries) → slice_get code.instructions place ≡ Some i → shape_at code place ≡ Some entries → cap_at code place ≡ cap_of (operation_of i.op) i entries
+cap_here code place i entries here shape = rw (here, shape) refl
 
 outside_more : (part : Cap → ℕ) (code : Code) (place n : ℕ) → loops code ≡ [] → part (cap_at code place) ≡ n → sums_below part code (place + 1) ≡ slice_set (sums_below part code place) 0 (slice_index (sums_below part code place) 0 + n)
 outside_more part code place n none caps = rw (add-one, open_none code place none, caps) (simp add-zero)
 
-pub budget_more : (code : Code) (place : ℕ) (i : Instruction) (entries : Entries) (old : Sums) → loops code ≡ [] → slice_get code.instructions place ≡ Some i → shape_at code place ≡ Some entries → old ≡ budget_below code place → with_cap old 0 1 0 ≡ budget_below code (place + 1)
-budget_more code place i entries old none here shape e =
-    let caps = cap_here code place i entries here shape in
-    rw (e, outside_more (λ c. c.fixed) code place 1 none (ap (λ c. c.fixed) caps), outside_more (λ c. c.scaled) code place 0 none (ap (λ c. c.scaled) caps)) refl
+pub budget_more : (code : Code) (place : ℕ) (cap : Cap) (old : Sums) → loops code ≡ [] → cap_at code place ≡ cap → old ≡ budget_below code place → with_cap old 0 cap.fixed cap.scaled ≡ budget_below code (place + 1)
+budget_more code place cap old none caps e =
+    rw (e, outside_more (λ c. c.fixed) code place cap.fixed none (ap (λ c. c.fixed) caps), outside_more (λ c. c.scaled) code place cap.scaled none (ap (λ c. c.scaled) caps)) refl
 
 -- the first sum after one more cap
 pub first_sum_more : (sums : List ℕ) (a bound : ℕ) → slice_index sums 0 + a ≤ bound → slice_index (slice_set sums 0 (slice_index sums 0 + a)) 0 ≤ bound
@@ -81,31 +96,63 @@ pub jump_here : (code : Code) (place : ℕ) (i : Instruction) (o : Option Row) (
 jump_here code place i o b here op e none =
     rw (here, none) (e ∙ ap (λ p. is_jump p && (nat_le i.c place || nat_le (length code.instructions) i.c)) op ∙ ap (λ t. is_jump (row_in code i) && t) (sym (or_false _)))
 
+-- whether there is none, as std's test says it
+pub none_from : (cap : Option Cap) (b : Bool) → is_some cap ≡ not b → b ≡ is_none cap
+none_from None true e = refl
+none_from None false e = absurd cc
+none_from (Some c) true e = absurd cc
+none_from (Some c) false e = refl
+
+-- a cap that was found fits, and so does that of a failing instruction
+pub found_fits : (cap : Option Cap) (now : Entries) (here : Cap) (after : Option Entries) → Passes cap now here after → ((entries : Entries) → after ≡ Some entries → Fits here) → Fits (unwrap_or cap one_charge)
+found_fits None now here after p h = (lit≤ tt, lit≤ tt)
+found_fits (Some c) now here after p h = subst Fits (sym p.0) (h now p.1)
+
+-- what the pass knows of the shape at an instruction
+module _ (code : Code) (place : ℕ) (i : Instruction) (pass : Pass) (fits : IsProgram code) (here : slice_get code.instructions place ≡ Some i) (before : HasPassed code place pass) where
+  -- the texts are short
+  pub short_here : pass.stack ≡ None → AreShort pass.shape
+  short_here whole = (shape_small code fits place pass.shape (before.shape ∙ ap (λ s. unless_failed s pass.shape) whole)).short
+
+  -- the cap that was found fits
+  pub cap_fits_here : (targeted : Bool) (operation : Option Operation) (cap : Option Cap) (added : Cap) (now : Entries) → operation ≡ operation_of i.op
+      → Passes cap now (cap_of operation i pass.shape) (option_and_then (shape_after code targeted operation i) (unless_failed pass.stack pass.shape)) → added ≡ unwrap_or cap one_charge → Fits added
+  cap_fits_here targeted operation cap added now op p same = subst Fits (sym same) (found_fits cap now _ _ p (λ entries e. go pass.stack refl e))
+    where
+      go : (s : Option ℕ) → pass.stack ≡ s → {entries : Entries} → option_and_then (shape_after code targeted operation i) (unless_failed s pass.shape) ≡ Some entries → Fits (cap_of operation i pass.shape)
+      go None e h = rw op (cap_fits (operation_of i.op) i pass.shape (shape_small code fits place pass.shape (before.shape ∙ ap (λ s. unless_failed s pass.shape) e)))
+      go (Some q) e h = absurd cc
+
 -- the pass goes on by the instruction at a place
-pub passed_more : (code : Code) (place : ℕ) (i : Instruction) (operation : Option Operation) (row : Option Row) (old new : Pass) (targeted misses formed astray : Bool) (count : ℕ)
+pub passed_more : (code : Code) (place : ℕ) (i : Instruction) (operation : Option Operation) (row : Option Row) (old new : Pass) (cap : Option Cap) (added : Cap) (targeted misses formed astray : Bool) (count : ℕ)
     → slice_get code.instructions place ≡ Some i → HasPassed code place old → targeted ≡ is_target code.version code.instructions place → operation ≡ operation_of i.op → row ≡ row_in code i → count ≡ length code.instructions
     → misses ≡ misses_index code row i → new.index ≡ option_or old.index (then_some misses place)
     → formed ≡ is_well_formed row i → new.form ≡ option_or old.form (then_some (not formed) place)
     → astray ≡ (is_jump row && (nat_le i.c place || nat_le count i.c)) → new.jump ≡ option_or old.jump (then_some astray place)
-    → new.stack ≡ option_or old.stack (then_some (is_none old.stack && is_some new.stack) place)
-    → unless_failed new.stack new.shape ≡ option_and_then (shape_after code targeted operation i) (unless_failed old.stack old.shape)
-    → new.budget ≡ with_cap old.budget 0 1 0
+    → new.stack ≡ option_or old.stack (then_some (is_none cap) place)
+    → Passes cap new.shape (cap_of operation i old.shape) (option_and_then (shape_after code targeted operation i) (unless_failed old.stack old.shape))
+    → added ≡ unwrap_or cap one_charge → Fits added → new.budget ≡ with_cap old.budget 0 added.fixed added.scaled
     → HasPassed code (place + 1) new
-passed_more code place i operation row old new targeted misses formed astray count here before target op named counted missed index form_is form astray_is jump stack shape budget =
+passed_more code place i operation row old new cap added targeted misses formed astray count here before target op named counted missed index form_is form astray_is jump stack passes adds fits budget =
+    let shape : unless_failed new.stack new.shape ≡ option_and_then (shape_after code targeted operation i) (unless_failed old.stack old.shape) =
+    ap (λ s. unless_failed s new.shape) stack ∙ after_passed old.stack cap place old.shape new.shape _ _ passes in
     let goes : shape_at code (place + 1) ≡ unless_failed new.stack new.shape =
     shape_more code place i (unless_failed old.stack old.shape) (unless_failed new.stack new.shape) here before.shape
     (shape ∙ ap (λ t. option_and_then (shape_after code t operation i) (unless_failed old.stack old.shape)) target
     ∙ ap (λ o. option_and_then (shape_after code (is_target code.version code.instructions place) o i) (unless_failed old.stack old.shape)) op) in
     let forward : astray ≡ (is_jump row && (nat_le i.c place || nat_le (length code.instructions) i.c)) = astray_is ∙ ap (λ n. is_jump row && (nat_le i.c place || nat_le n i.c)) counted in
+    let once : new.stack ≡ option_or old.stack (then_some (is_none old.stack && is_some new.stack) place) =
+    stack ∙ failed_once old.stack cap place ∙ ap (λ s. option_or old.stack (then_some (is_none old.stack && is_some s) place)) (sym stack) in
     record {
       index = least_more (breaks_index code) place old.index new.index misses before.index (index_here code place i row misses here named missed) index;
       form = least_more (breaks_form code) place old.form new.form (not formed) before.form (form_here code place i row formed here named form_is) form;
       jump = λ none. least_more (breaks_jump code) place old.jump new.jump astray (before.jump none) (jump_here code place i row astray here named forward none) jump;
-      stack = stack_more code place old.stack new.stack old.shape new.shape before.stack before.shape goes stack;
+      stack = stack_more code place old.stack new.stack old.shape new.shape before.stack before.shape goes once;
       shape = goes;
       budget = λ none whole.
-          let was_whole : old.stack ≡ None = (or_none old.stack _ (sym stack ∙ whole)).0 in
-          budget ∙ budget_more code place i old.shape old.budget none here (before.shape ∙ ap (λ s. unless_failed s old.shape) was_whole) (before.budget none was_whole);
-      fixed = let sum = before.fixed in rw budget (first_sum_more old.budget.fixed 1 (place + 1) (omega arith));
-      scaled = let sum = before.scaled in let most : slice_index new.budget.scaled 0 ≤ 0 = rw budget (first_sum_more old.budget.scaled 0 0 (omega arith)) in omega arith;
+          let found = cap_found_at old.stack cap place new.shape _ _ passes (sym stack ∙ whole) in
+          let caps = cap_here code place i old.shape here (before.shape ∙ ap (λ s. unless_failed s old.shape) found.0) ∙ ap (λ o. cap_of o i old.shape) (sym op) ∙ sym found.1 ∙ sym adds in
+          budget ∙ budget_more code place added old.budget none caps (before.budget none found.0);
+      fixed = let most = before.fixed in let more = fits.0 in rw budget (first_sum_more old.budget.fixed added.fixed ((place + 1) * max_cap) (omega arith));
+      scaled = let most = before.scaled in let more = fits.1 in rw budget (first_sum_more old.budget.scaled added.scaled ((place + 1) * max_cap) (omega arith));
     }

@@ -1,5 +1,6 @@
 -- The budget of a program: the sums of its instructions' caps, by the number of open loops.
-use Rattle.std.specs.Prelude.{ℕ, Option, Some, None, List, [], ◌∷◌, if◌then◌else◌, length, ◌==◌, slice_get}
+use Rattle.std.specs.Prelude.{ℕ, ◌+◌, ◌*◌, Option, Some, None, List, [], ◌∷◌, if◌then◌else◌, length, ◌==◌, slice_get, sum, sum_by}
+use Rattle.std.specs.Option.{option_map_or}
 use Rattle.bytecode_format.specs.declared.instruction.Instruction.{Instruction}
 use Rattle.bytecode_format.specs.declared.operation.Operation.{Operation}
 use Rattle.bytecode_format.specs.declared.operation.Operation.TheVariants.{Halt, Literal, Variable, Capture, Join, Set, Bool as BoolOp, Not, Jump, JumpIfTrue, JumpIfFalse, Header, Exists, String, Size, PartSize, PartBody, PartDigest, Keep, Discard, File, Store, Each, Next, Break}
@@ -8,12 +9,8 @@ use Rattle.bytecode_format.specs.Code.{Code}
 use Rattle.bytecode_cost.specs.Sums.{Sums}
 use Rattle.bytecode_verifier.specs.Places.{sum_below}
 use Rattle.bytecode_verifier.specs.Loops.{open_loops}
-use Rattle.bytecode_verifier.specs.Shape.{Entries, shape_at}
-
--- what an instruction may charge at most: fixed, and for each octet of the message and one more
-pub record Cap : Type 0 where
-  pub fixed : ℕ
-  pub scaled : ℕ
+use Rattle.bytecode_verifier.specs.Shape.{Entries, Texts, Lists, take_texts, take_lists, shape_at}
+use Rattle.bytecode_verifier.specs.declared.cap.Cap.{Cap}
 
 abbrev pub no_cap : Cap
 no_cap = record { fixed = 0; scaled = 0 }
@@ -21,6 +18,22 @@ no_cap = record { fixed = 0; scaled = 0 }
 -- one charge, however long the message is
 abbrev pub one_charge : Cap
 one_charge = record { fixed = 1; scaled = 0 }
+
+-- the sum of the bounds, each with one more
+abbrev pub one_more_each : List ℕ → ℕ
+one_more_each bounds = sum_by (λ bound. bound + 1) bounds
+
+-- one charge, and one for each octet of the texts that are taken
+abbrev pub cap_of_octets : Texts → Cap
+cap_of_octets taken = record { fixed = 1 + sum taken.bounds; scaled = 0 }
+
+-- for each octet of the message and one more, the names, each with one more: a message has no more fields than octets
+abbrev pub cap_of_names : Texts → Cap
+cap_of_names names = record { fixed = 1; scaled = one_more_each names.bounds }
+
+-- the same, and for each name the keys, each with one more: the values of a name's fields have no more octets than the message
+abbrev pub cap_of_matching : Lists → Cap
+cap_of_matching lists = record { fixed = 1; scaled = one_more_each lists.names + length lists.names * one_more_each lists.keys }
 
 -- the cap of an instruction that finds these entries
 abbrev pub cap_of : Option Operation → Instruction → Entries → Cap
@@ -36,8 +49,8 @@ cap_of (Some Not) i entries = one_charge
 cap_of (Some Jump) i entries = one_charge
 cap_of (Some JumpIfTrue) i entries = one_charge
 cap_of (Some JumpIfFalse) i entries = one_charge
-cap_of (Some Header) i entries = one_charge
-cap_of (Some Exists) i entries = one_charge
+cap_of (Some Header) i entries = option_map_or cap_of_matching (take_lists i.b i.c entries) one_charge
+cap_of (Some Exists) i entries = option_map_or cap_of_names (take_texts i.b entries) one_charge
 cap_of (Some String) i entries = one_charge
 cap_of (Some Size) i entries = one_charge
 cap_of (Some PartSize) i entries = one_charge
@@ -45,7 +58,7 @@ cap_of (Some PartBody) i entries = one_charge
 cap_of (Some PartDigest) i entries = one_charge
 cap_of (Some Keep) i entries = one_charge
 cap_of (Some Discard) i entries = one_charge
-cap_of (Some File) i entries = one_charge
+cap_of (Some File) i entries = option_map_or cap_of_octets (take_texts 1 entries) one_charge
 cap_of (Some Store) i entries = one_charge
 cap_of (Some Each) i entries = one_charge
 cap_of (Some Next) i entries = one_charge

@@ -1,17 +1,41 @@
 -- What the verifier knows when it has passed the instructions below a place.
-use Rattle.std.specs.Prelude.{◌≡◌, ℕ, ◌≤◌, ◌==◌, length, List, [], ◌∷◌, Option, Some, None, if◌then◌else◌, is_none, slice_index}
+use Rattle.std.specs.Prelude.{◌≡◌, ℕ, ◌*◌, ◌^◌, ◌≤◌, ◌==◌, length, List, [], ◌∷◌, Option, Some, None, if◌then◌else◌, is_none, slice_index}
+use Rattle.octets.specs.Limits.{max_string}
 use Rattle.bytecode_format.specs.Code.{Code}
 use Rattle.bytecode_verifier.specs.declared.pass.Pass.{Pass}
 use Rattle.bytecode_cost.specs.Sums.{Sums}
 use Rattle.bytecode_verifier.specs.Places.{least_below, sum_below}
 use Rattle.bytecode_verifier.specs.Loops.{loops, open_loops}
-use Rattle.bytecode_verifier.specs.Shape.{Entries, shape_at}
+use Rattle.bytecode_verifier.specs.declared.shape.Entry.TheVariants.{Truth, Text}
+use Rattle.bytecode_verifier.specs.Shape.{Entries, Texts, shape_at}
 use Rattle.bytecode_verifier.specs.Rules.{breaks_index, breaks_form, breaks_jump, breaks_stack}
-use Rattle.bytecode_verifier.specs.Budget.{Cap, cap_at}
+use Rattle.bytecode_verifier.specs.declared.cap.Cap.{Cap}
+use Rattle.bytecode_verifier.specs.Budget.{one_more_each, cap_at}
 
 -- the shape, unless it has failed at a place before
 abbrev pub unless_failed : Option ℕ → Entries → Option Entries
 unless_failed failed entries = if is_none failed then Some entries else None
+
+-- no text is longer than a string of a program may be
+abbrev pub AreShort : Entries → Type 0
+AreShort [] = Unit {0}
+AreShort (Truth ∷ entries) = AreShort entries
+AreShort (Text bound ∷ entries) = (bound ≤ max_string) × AreShort entries
+
+-- the sum of the bounds of so many texts that were taken, each with one more, and the entries below them; neither, where they weren't there
+abbrev pub Takes : ℕ → Option ℕ → Entries → Option Texts → Type 0
+Takes number None now None = Unit {0}
+Takes number (Some total) now (Some texts) = (total ≡ one_more_each texts.bounds) × (length texts.bounds ≡ number) × (now ≡ texts.rest)
+Takes number _ now _ = ⊥
+
+-- the shape goes on to these entries with this cap, or it fails
+abbrev pub Passes : Option Cap → Entries → Cap → Option Entries → Type 0
+Passes None now cap after = after ≡ None
+Passes (Some found) now cap after = (found ≡ cap) × (after ≡ Some now)
+
+-- no cap is larger, whatever the stack holds: at most 1,024 texts, each of at most 16,384 octets
+abbrev pub max_cap : ℕ
+max_cap = 2 ^ 40
 
 -- the sum over the instructions below a place that stand inside k open loops
 abbrev pub sum_below_place : (Cap → ℕ) → Code → ℕ → ℕ → ℕ
@@ -35,6 +59,6 @@ pub record HasPassed (code : Code) (place : ℕ) (pass : Pass) : Type 0 where
   pub shape : shape_at code place ≡ unless_failed pass.stack pass.shape
   -- and none stands inside one
   pub budget : loops code ≡ [] → pass.stack ≡ None → pass.budget ≡ budget_below code place
-  -- each instruction adds one charge to the sum of those outside all loops
-  pub fixed : slice_index pass.budget.fixed 0 ≤ place
-  pub scaled : slice_index pass.budget.scaled 0 ≡ 0
+  -- each instruction adds at most so much to the sums of those outside all loops
+  pub fixed : slice_index pass.budget.fixed 0 ≤ place * max_cap
+  pub scaled : slice_index pass.budget.scaled 0 ≤ place * max_cap

@@ -1,14 +1,18 @@
 -- What the verifier knows of each operation before it looks at what the operation does: one row each.
-use Rattle.std.specs.Prelude.{ℕ, Bool, true, false, ◌&&◌, Option, Some, None, nat_lt, ◌==◌}
+use Rattle.std.specs.Prelude.{ℕ, ◌%◌, Bool, true, false, ◌&&◌, Option, Some, None, nat_lt, nat_le, ◌==◌}
 use Rattle.std.specs.Option.{option_and_then, option_map_or}
 use Rattle.bytecode_format.specs.declared.instruction.Instruction.{Instruction}
 use Rattle.bytecode_format.specs.declared.operation.Operation.{Operation}
 use Rattle.bytecode_format.specs.declared.operation.Operation.TheVariants.{Halt, Literal, Variable, Capture, Join, Set, Bool as BoolOp, Not, Jump, JumpIfTrue, JumpIfFalse, Header, Exists, String, Size, PartSize, PartBody, PartDigest, Keep, Discard, File, Store, Each, Next, Break}
 use Rattle.bytecode_format.specs.Operations.{operation_of}
 use Rattle.bytecode_verifier.specs.declared.row.Range.{Range}
-use Rattle.bytecode_verifier.specs.declared.row.Range.TheVariants.{Unnamed, Below, Any}
-use Rattle.bytecode_verifier.specs.declared.row.Table.TheVariants.{Numbers}
+use Rattle.bytecode_verifier.specs.declared.row.Range.TheVariants.{Unnamed, Below, Between, Match, Any}
+use Rattle.bytecode_verifier.specs.declared.row.Table.TheVariants.{Numbers, Strings}
 use Rattle.bytecode_verifier.specs.declared.row.Row.{Row}
+
+-- the most strings in one list of a test
+abbrev pub max_list : ℕ
+max_list = 512
 
 -- an operation that names no field
 abbrev pub plain : Row
@@ -21,7 +25,7 @@ jump = record plain { c = Any; jumps = true }
 -- the row of an operation in programs of a version, or None where it hasn't come
 abbrev pub row_of : ℕ → Operation → Option Row
 row_of version Halt = Some plain
-row_of version Literal = None
+row_of version Literal = Some (record plain { c = Any; index = Some Strings })
 row_of version Variable = None
 row_of version Capture = None
 row_of version Join = None
@@ -31,8 +35,8 @@ row_of version Not = Some plain
 row_of version Jump = Some jump
 row_of version JumpIfTrue = Some jump
 row_of version JumpIfFalse = Some jump
-row_of version Header = None
-row_of version Exists = None
+row_of version Header = Some (record plain { a = Match; b = Between 1 max_list; c = Between 1 max_list })
+row_of version Exists = Some (record plain { a = Below 1; b = Between 1 max_list })
 row_of version String = None
 row_of version Size = Some (record plain { a = Below 2; c = Any; index = Some Numbers })
 row_of version PartSize = None
@@ -40,7 +44,7 @@ row_of version PartBody = None
 row_of version PartDigest = None
 row_of version Keep = Some plain
 row_of version Discard = Some plain
-row_of version File = None
+row_of version File = Some plain
 row_of version Store = None
 row_of version Each = None
 row_of version Next = None
@@ -50,10 +54,16 @@ row_of version Break = None
 abbrev pub row_named : ℕ → ℕ → Option Row
 row_named version octet = option_and_then (row_of version) (operation_of octet)
 
+-- how values are matched with keys: bits 0 and 1 say by which of three ways, bit 2 by which of two comparators
+abbrev pub is_match_number : ℕ → Bool
+is_match_number n = nat_lt n 8 && nat_lt (n % 4) 3
+
 -- whether a field takes the value; one that isn't named is 0
 abbrev pub takes : Range → ℕ → Bool
 takes Unnamed n = n == 0
 takes (Below bound) n = nat_lt n bound
+takes (Between least most) n = nat_le least n && nat_le n most
+takes Match n = is_match_number n
 takes Any n = true
 
 -- the operation has come, its fields are in their ranges, and the fields that it doesn't name are 0

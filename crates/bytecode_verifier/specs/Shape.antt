@@ -1,7 +1,7 @@
 -- The shape: which entries stand on the stack before the instruction at a place.
 use Rattle.std.specs.Prelude.{ℕ, zero, suc, Bool, true, false, ◌&&◌, not, List, [], ◌∷◌, Option, Some, None, if◌then◌else◌, length, nat_lt, ◌==◌, slice_get}
 use Rattle.std.specs.List.{list_any}
-use Rattle.std.specs.Option.{option_and_then, option_map_or}
+use Rattle.std.specs.Option.{option_and_then, option_map, option_map_or}
 use Rattle.octets.specs.Limits.{max_stack}
 use Rattle.bytecode_format.specs.declared.instruction.Instruction.{Instruction}
 use Rattle.bytecode_format.specs.declared.operation.Operation.{Operation}
@@ -10,7 +10,7 @@ use Rattle.bytecode_format.specs.Operations.{operation_of}
 use Rattle.bytecode_format.specs.Code.{Code}
 use Rattle.bytecode_verifier.specs.Rows.{row_named, is_jump}
 use Rattle.bytecode_verifier.specs.declared.shape.Entry.{Entry}
-use Rattle.bytecode_verifier.specs.declared.shape.Entry.TheVariants.{Truth}
+use Rattle.bytecode_verifier.specs.declared.shape.Entry.TheVariants.{Truth, Text}
 
 -- the entries, the top one first
 abbrev pub Entries : Type 0
@@ -34,11 +34,45 @@ abbrev pub without_truth : Entries → Option Entries
 without_truth (Truth ∷ []) = Some []
 without_truth _ = None
 
+-- texts that are taken from the top: their bounds, the top one first, and the entries below them
+pub record Texts : Type 0 where
+  pub bounds : List ℕ
+  pub rest : Entries
+
+-- with the text above them
+abbrev pub with_text : ℕ → Texts → Texts
+with_text bound texts = record { bounds = bound ∷ texts.bounds; rest = texts.rest }
+
+-- so many texts from the top, or None where an entry is missing or a truth value
+abbrev pub take_texts : ℕ → Entries → Option Texts
+take_texts zero entries = Some (record { bounds = []; rest = entries })
+take_texts (suc n) [] = None
+take_texts (suc n) (Truth ∷ entries) = None
+take_texts (suc n) (Text bound ∷ entries) = option_map (with_text bound) (take_texts n entries)
+
+-- two lists that are taken: the bounds of names and of the keys above them, and the entries below
+pub record Lists : Type 0 where
+  pub names : List ℕ
+  pub keys : List ℕ
+  pub rest : Entries
+
+abbrev pub with_keys : List ℕ → Texts → Lists
+with_keys keys names = record { names = names.bounds; keys = keys; rest = names.rest }
+
+-- so many names, and so many keys above them
+abbrev pub take_lists : ℕ → ℕ → Entries → Option Lists
+take_lists names keys entries =
+    option_and_then (λ (above : Texts). option_map (with_keys above.bounds) (take_texts names above.rest)) (take_texts keys entries)
+
+-- a text of at most as many octets as the string has, where there is one
+abbrev pub with_string : Option (List ℕ) → Entries → Option Entries
+with_string string entries = option_and_then (λ octets. with_entry (Text (length octets)) entries) string
+
 -- the entries that an operation leaves of these, or None where an entry is missing or of the wrong kind, where there is no room,
 -- where entries are left that must not be, or where it hasn't come
 abbrev pub entries_after : Code → Operation → Instruction → Entries → Option Entries
 entries_after code Halt i entries = if is_empty entries then Some [] else None
-entries_after code Literal i entries = None
+entries_after code Literal i entries = with_string (slice_get code.strings i.c) entries
 entries_after code Variable i entries = None
 entries_after code Capture i entries = None
 entries_after code Join i entries = None
@@ -48,8 +82,8 @@ entries_after code Not i entries = if has_truth entries then Some entries else N
 entries_after code Jump i entries = if is_empty entries then Some [] else None
 entries_after code JumpIfTrue i entries = without_truth entries
 entries_after code JumpIfFalse i entries = without_truth entries
-entries_after code Header i entries = None
-entries_after code Exists i entries = None
+entries_after code Header i entries = option_and_then (λ (lists : Lists). with_entry Truth lists.rest) (take_lists i.b i.c entries)
+entries_after code Exists i entries = option_and_then (λ (names : Texts). with_entry Truth names.rest) (take_texts i.b entries)
 entries_after code String i entries = None
 entries_after code Size i entries = with_entry Truth entries
 entries_after code PartSize i entries = None
@@ -57,7 +91,7 @@ entries_after code PartBody i entries = None
 entries_after code PartDigest i entries = None
 entries_after code Keep i entries = Some entries
 entries_after code Discard i entries = Some entries
-entries_after code File i entries = None
+entries_after code File i entries = option_map (λ (folder : Texts). folder.rest) (take_texts 1 entries)
 entries_after code Store i entries = None
 entries_after code Each i entries = None
 entries_after code Next i entries = None

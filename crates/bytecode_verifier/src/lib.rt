@@ -5,6 +5,7 @@
 //! accepted, with its budget (`specs/Budget`): only `verify` makes one.
 #![tactic(auto)]
 
+mod cap;
 mod error;
 pub mod laws;
 mod pass;

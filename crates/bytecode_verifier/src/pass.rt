@@ -1,12 +1,13 @@
 // One pass over the instructions.
-ghost use Rattle.std.specs.Prelude.{◌≡◌, ◌+◌, ◌<◌, ◌^◌, ◌&&◌, Some, None, is_some, is_none, IfOk, OnOk, slice_get};
+ghost use Rattle.std.specs.Prelude.{◌≡◌, ◌+◌, ◌<◌, Some, None, IfOk, OnOk, slice_get};
 ghost use Rattle.std.specs.Bool.{then_some};
 ghost use Rattle.std.specs.Option.{option_or, option_and_then};
-ghost use Rattle.bytecode_format.specs.Code.{Code};
-ghost use Rattle.bytecode_format.specs.declared.instruction.Instruction.{Instruction};
+ghost use Rattle.octets.specs.Limits.{max_instructions};
 ghost use Rattle.bytecode_verifier.specs.Shape.{shape_after, is_target};
-ghost use Rattle.bytecode_verifier.specs.Pass.{HasPassed, unless_failed};
+ghost use Rattle.bytecode_verifier.specs.Budget.{cap_of};
+ghost use Rattle.bytecode_verifier.specs.Pass.{HasPassed, AreShort, Passes, unless_failed};
 
+use crate::cap::{Cap, ONE_CHARGE};
 use crate::rules::{is_well_formed, misses_index, misses_target, row_named};
 use crate::shape::Shape;
 use bytecode_cost::Budget;
@@ -48,7 +49,7 @@ impl Pass {
         instruction: &Instruction,
         targeted: bool,
     ) -> Result<(), AllocError>
-        requires small { place < 2 ^ 62 }
+        requires small { place < max_instructions }
         requires here { slice_get program.now.instructions place ≡ Some instruction.now }
         requires target { targeted ≡ is_target program.now.version program.now.instructions place }
         requires before { HasPassed program.now place self.old }
@@ -57,7 +58,15 @@ impl Pass {
         let operation = Operation::of(instruction.op);
         let row = row_named(program.version(), instruction.op);
         let count = program.instructions().len();
-        self.stack = advance(self.stack, &mut self.shape, place, targeted, operation)?;
+        let passed = advance(
+            self.stack,
+            &mut self.shape,
+            program,
+            targeted,
+            operation,
+            instruction,
+        )?;
+        self.stack = first(self.stack, passed.is_none(), place);
         self.index = first(self.index, misses_index(program, row, instruction), place);
         self.form = first(self.form, !is_well_formed(row, instruction), place);
         self.jump = first(
@@ -65,8 +74,9 @@ impl Pass {
             misses_target(count, place, row, instruction),
             place,
         );
-        // Outside all loops, one charge, however long the message is.
-        self.budget.add(0, 1, 0);
+        // Outside all loops; of a program whose shape fails the budget is of no account.
+        let cap = passed.unwrap_or(ONE_CHARGE);
+        self.budget.add(0, cap.fixed as u128, cap.scaled as u128);
         Ok(())
     }
 }
@@ -78,24 +88,21 @@ fn first(before: Option<usize>, broken: bool, place: usize) -> Option<usize>
     before.or(broken.then_some(place))
 }
 
-// Takes the shape over the instruction at a place: where it has failed, that place or one before.
+// Takes the shape over an instruction: what that may charge, or None where the shape fails there or
+// has failed before.
 fn advance(
     failed: Option<usize>,
     shape: &mut Shape,
-    place: usize,
+    program: &Program,
     targeted: bool,
     operation: Option<Operation>,
-) -> Result<Option<usize>, AllocError>
-    ensures place { IfOk result (λ after. after ≡ option_or failed (then_some (is_none failed && is_some after) place)) }
-    ensures shape { IfOk result (λ after. (code : Code) (i : Instruction) →
-        unless_failed after shape.new ≡ option_and_then (shape_after code targeted operation i) (unless_failed failed shape.old)) }
+    instruction: &Instruction,
+) -> Result<Option<Cap>, AllocError>
+    requires { failed ≡ None → AreShort shape.old }
+    ensures { IfOk result (λ cap. Passes cap shape.new (cap_of operation instruction.now shape.old) (option_and_then (shape_after program.now targeted operation instruction.now) (unless_failed failed shape.old))) }
 {
-    if failed.is_some() {
-        return Ok(failed);
+    if failed.is_some() || targeted && !shape.is_empty() {
+        return Ok(None);
     }
-    if targeted && !shape.is_empty() {
-        return Ok(Some(place));
-    }
-    let fine = shape.advance(operation)?;
-    Ok((!fine).then_some(place))
+    shape.advance(program, operation, instruction)
 }

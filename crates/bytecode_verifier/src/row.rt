@@ -4,6 +4,9 @@ ghost use Rattle.bytecode_verifier.specs.Rows;
 
 use bytecode_format::{Instruction, Operation};
 
+/// The most strings in one list of a test.
+const MAX_LIST: u32 = 512;
+
 /// Which values a field of an instruction takes.
 #[derive(Clone, Copy, Debug, PartialEq, Eq)]
 pub enum Range {
@@ -11,6 +14,11 @@ pub enum Range {
     Unnamed,
     /// The numbers below this one.
     Below(u32),
+    /// The numbers from the first to the second, both included.
+    Between(u32, u32),
+    /// How values are matched with keys: bits 0 and 1 say by which of three ways, bit 2 by which of
+    /// two comparators.
+    Match,
     /// Every number.
     Any,
 }
@@ -19,6 +27,7 @@ pub enum Range {
 #[derive(Clone, Copy, Debug, PartialEq, Eq)]
 pub enum Table {
     Numbers,
+    Strings,
 }
 
 /// The row of an operation in the table of the bytecode.
@@ -52,12 +61,21 @@ const JUMP: Row = Row {
     ..PLAIN
 };
 
+/// How many strings a list of a test has.
+const LIST: Range = Range::Between(1, MAX_LIST);
+
 /// The row of an operation in programs of a version, if it has come.
 pub fn row_of(_version: u8, operation: Operation) -> Option<Row>
     ensures { result ≡ Rows.row_of _version operation }
 {
     match operation {
-        Operation::Halt | Operation::Not | Operation::Keep | Operation::Discard => Some(PLAIN),
+        Operation::Halt | Operation::Not | Operation::Keep | Operation::Discard | Operation::File =>
+            Some(PLAIN),
+        Operation::Literal => Some(Row {
+            c: Range::Any,
+            index: Some(Table::Strings),
+            ..PLAIN
+        }),
         Operation::Bool => Some(Row {
             a: Range::Below(2),
             ..PLAIN
@@ -69,18 +87,25 @@ pub fn row_of(_version: u8, operation: Operation) -> Option<Row>
             index: Some(Table::Numbers),
             ..PLAIN
         }),
-        Operation::Literal
-        | Operation::Variable
+        Operation::Header => Some(Row {
+            a: Range::Match,
+            b: LIST,
+            c: LIST,
+            ..PLAIN
+        }),
+        Operation::Exists => Some(Row {
+            a: Range::Below(1),
+            b: LIST,
+            ..PLAIN
+        }),
+        Operation::Variable
         | Operation::Capture
         | Operation::Join
         | Operation::Set
-        | Operation::Header
-        | Operation::Exists
         | Operation::String
         | Operation::PartSize
         | Operation::PartBody
         | Operation::PartDigest
-        | Operation::File
         | Operation::Store
         | Operation::Each
         | Operation::Next
@@ -96,6 +121,8 @@ impl Range {
         match self {
             Range::Unnamed => value == 0,
             Range::Below(bound) => value < bound,
+            Range::Between(least, most) => least <= value && value <= most,
+            Range::Match => value < 8 && value % 4 < 3,
             Range::Any => true,
         }
     }

@@ -39,6 +39,7 @@ fn count_of(program: &Program, table: Table) -> usize
 {
     match table {
         Table::Numbers => program.numbers().len(),
+        Table::Strings => program.strings().len(),
     }
 }
 

@@ -3,7 +3,6 @@ use Rattle.std.specs.Prelude.{◌≡◌, ◌⊎◌, ℕ, List, length}
 use Rattle.octet_lanes.specs.Encoding.{IsOctets}
 use Rattle.depot_actions.specs.Device.{HasBroken, HasTaken, Output}
 use Rattle.depot_actions.specs.Texts.{IsUnread, Reads, text_of}
-use Rattle.depot_actions.specs.declared.encoding.Encoding.{Encoding}
 use Rattle.bytecode_cost.specs.Text.{budget_text}
 use Rattle.bytecode_format.specs.declared.action.Action.{Action}
 use Rattle.bytecode_format.specs.Code.{Code}
@@ -11,16 +10,19 @@ use Rattle.bytecode_format.specs.Spelling.{spelling}
 use Rattle.bytecode_verifier.specs.Budget.{budget_of}
 use Rattle.sieve_check.specs.Typed.{CommandForms}
 use Rattle.sieve_engine.specs.Evaluation.{IsCompiled, IsEvaluation, IsEvaluationRefusal, IsScript, IsScriptRefusal}
+use Rattle.sieve_engine.specs.Execution as engine
 use Rattle.sieve_engine.specs.Execution.{IsChecked, IsExecution, IsProgramRefusal, IsRefusal}
+use Rattle.mime_decode.specs.Mail.{IsReadable, mail_of}
 use Rattle.depot_cli.specs.Host.{HasMade, HasNotMade, HostState}
-use Rattle.depot_cli.specs.Printed.{line, ok_text, refusal_line, report_text, wrote_text}
+use Rattle.depot_cli.specs.Printed.{line, ok_text, parts_text, refusal_line, report_text, wrote_text}
 use Rattle.refusals.specs.declared.refusal.Refusal.{Refusal}
 use Rattle.refusals.specs.declared.refusal.Refusal.TheVariants as refusals
 use Rattle.depot_cli.specs.declared.job.Job.{Job}
-use Rattle.depot_cli.specs.declared.job.Job.TheVariants.{Check, Compile, Verify, Run, Eval, Encode, Decode}
+use Rattle.depot_cli.specs.declared.job.Job.TheVariants.{Check, Compile, Verify, Run, Eval, Parts, Encode, Decode}
 
 -- The text of a job's answer: that the script has no fault, how many octets its program has, the budget of the accepted program, the
--- lines of the run, or the octets and nothing else. The script's program was made a file; no other job asks anything of the host.
+-- lines of the run, those of the message's parts, or the octets and nothing else. The script's program was made a file; no other job
+-- asks anything of the host.
 abbrev pub IsAnswer : Job → List ℕ → HostState → HostState → Type 0
 IsAnswer (Check script) text old new = (form : CommandForms) × IsScript script.now form × (text ≡ line ok_text) × (new ≡ old)
 IsAnswer (Compile script name out) text old new =
@@ -30,6 +32,7 @@ IsAnswer (Run program message) text old new =
     (actions : List Action) × (charged : ℕ) × (limit : ℕ) × IsExecution program.now message.now actions charged limit × (text ≡ report_text actions charged limit) × (new ≡ old)
 IsAnswer (Eval script message) text old new =
     (actions : List Action) × (charged : ℕ) × (limit : ℕ) × IsEvaluation script.now message.now actions charged limit × (text ≡ report_text actions charged limit) × (new ≡ old)
+IsAnswer (Parts message) text old new = IsReadable message.now × (text ≡ parts_text (mail_of message.now).parts) × (new ≡ old)
 IsAnswer (Encode encoding octets) text old new = (text ≡ text_of encoding octets.now) × (new ≡ old)
 IsAnswer (Decode encoding text) octets old new = IsOctets octets × Reads encoding text.now octets × (new ≡ old)
 
@@ -42,6 +45,7 @@ IsJobRefusal (Compile script name out) refusal old new =
 IsJobRefusal (Verify program) refusal old new = IsProgramRefusal program.now refusal × (new ≡ old)
 IsJobRefusal (Run program message) refusal old new = IsRefusal program.now message.now refusal × (new ≡ old)
 IsJobRefusal (Eval script message) refusal old new = IsEvaluationRefusal script.now message.now refusal × (new ≡ old)
+IsJobRefusal (Parts message) refusal old new = engine.IsUnread message.now refusal × (new ≡ old)
 IsJobRefusal (Encode encoding octets) refusal old new = (refusal ≡ refusals.Memory) × (new ≡ old)
 IsJobRefusal (Decode encoding text) refusal old new = IsUnread encoding text.now refusal × (new ≡ old)
 

@@ -1,10 +1,14 @@
 -- The printed lines.
-use Rattle.std.specs.Prelude.{ℕ, ◌/◌, ◌%◌, Bool, List, [], ◌∷◌, ◌++◌, ◌&&◌, ◌||◌, ◌==◌, not, nat_le, codes, if◌then◌else◌}
+use Rattle.std.specs.Prelude.{ℕ, suc, ◌/◌, ◌%◌, Bool, List, [], ◌∷◌, ◌++◌, ◌&&◌, ◌||◌, ◌==◌, length, not, nat_le, codes, if◌then◌else◌}
 use Rattle.std.specs.List.{flat_map}
 use Rattle.std.specs.Fmt.{decimal, digit_glyph}
 use Rattle.std.specs.Prelude.{false}
 use Rattle.bytecode_format.specs.declared.action.Action.{Action}
 use Rattle.bytecode_format.specs.declared.action.Action.TheVariants.{Keep, File, Store}
+use Rattle.octets.specs.Ascii.{lowercase_of}
+use Rattle.mime_params.specs.declared.media.MediaType.{MediaType}
+use Rattle.mime_decode.specs.Content.{digest_of}
+use Rattle.mime_decode.specs.Mail.{Part}
 use Rattle.refusals.specs.Lines.{refusal_text}
 use Rattle.refusals.specs.declared.refusal.Refusal.{Refusal}
 use Rattle.depot_cli.specs.declared.piece.Setting.{Setting}
@@ -53,6 +57,24 @@ charge_text charged limit = codes "charged " ++ decimal charged ++ codes " of " 
 -- the lines of a run
 abbrev pub report_text : List Action → ℕ → ℕ → List ℕ
 report_text actions charged limit = actions_text actions ++ line (charge_text charged limit)
+
+-- a media type in lower case
+abbrev pub media_text : MediaType → List ℕ
+media_text media = lowercase_of media.main ++ codes "/" ++ lowercase_of media.sub
+
+-- a part of a message: its place, its depth, its media type, how many octets its content has, and their digest
+abbrev pub part_text : ℕ → ℕ → MediaType → List ℕ → List ℕ
+part_text place depth media content =
+    decimal place ++ codes " " ++ decimal depth ++ codes " " ++ media_text media ++ codes " " ++ decimal (length content) ++ codes " " ++ digest_of content
+
+-- a line for each part, of which the first has this place
+abbrev pub parts_text_from : ℕ → List Part → List ℕ
+parts_text_from place [] = []
+parts_text_from place (part ∷ parts) = line (part_text place part.depth part.media part.content) ++ parts_text_from (suc place) parts
+
+-- a line for each part of a message
+abbrev pub parts_text : List Part → List ℕ
+parts_text parts = parts_text_from 0 parts
 
 -- a script has no fault
 abbrev pub ok_text : List ℕ

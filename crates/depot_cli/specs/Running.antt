@@ -17,7 +17,7 @@ use Rattle.refusals.specs.declared.refusal.Refusal.TheVariants.{Memory, MessageT
 use Rattle.depot_cli.specs.declared.job.Job.{Job}
 use Rattle.depot_cli.specs.declared.job.Job.TheVariants as jobs
 use Rattle.depot_cli.specs.declared.line.CommandLine.{CommandLine}
-use Rattle.depot_cli.specs.declared.line.CommandLine.TheVariants.{NoWords, Check, Compile, Verify, Run, Eval, Encode, Decode}
+use Rattle.depot_cli.specs.declared.line.CommandLine.TheVariants.{NoWords, Check, Compile, Verify, Run, Eval, Parts, Encode, Decode}
 use Rattle.depot_cli.specs.declared.running.Inputs.{Inputs}
 use Rattle.depot_cli.specs.declared.running.Inputs.TheVariants.{One, Two}
 
@@ -31,6 +31,7 @@ origins_of (Compile script out) = file script.now ∷ []
 origins_of (Verify program) = file program.now ∷ []
 origins_of (Run program message) = file program.now ∷ file message.now ∷ []
 origins_of (Eval script message) = file script.now ∷ file message.now ∷ []
+origins_of (Parts message) = file message.now ∷ []
 origins_of (Encode encoding) = standard ∷ []
 origins_of (Decode encoding) = standard ∷ []
 
@@ -95,6 +96,7 @@ IsJobOf (Compile name out) inputs job =
 IsJobOf (Verify name) inputs job = (program : Bor (List ℕ)) × (job ≡ jobs.Verify program) × (program.now ≡ input inputs 0)
 IsJobOf (Run name other) inputs job = (program message : Bor (List ℕ)) × (job ≡ jobs.Run program message) × (program.now ≡ input inputs 0) × (message.now ≡ input inputs 1)
 IsJobOf (Eval name other) inputs job = (script message : Bor (List ℕ)) × (job ≡ jobs.Eval script message) × (script.now ≡ input inputs 0) × (message.now ≡ input inputs 1)
+IsJobOf (Parts name) inputs job = (message : Bor (List ℕ)) × (job ≡ jobs.Parts message) × (message.now ≡ input inputs 0)
 IsJobOf (Encode encoding) inputs job = (octets : Bor (List ℕ)) × (job ≡ jobs.Encode encoding octets) × (octets.now ≡ input inputs 0)
 IsJobOf (Decode encoding) inputs job = (text : Bor (List ℕ)) × (job ≡ jobs.Decode encoding text) × (text.now ≡ input inputs 0)
 

@@ -7,7 +7,7 @@ use Rattle.clap.specs.declared.builder.value_parser.ValueParser.TheVariants as p
 use Rattle.depot_actions.specs.declared.encoding.Encoding.{Encoding}
 use Rattle.depot_actions.specs.declared.encoding.Encoding.TheVariants.{Raw, Base64, Base64Mime, Base32, Base32Hex, Base16, Qp}
 use Rattle.depot_cli.specs.declared.line.CommandLine.{CommandLine}
-use Rattle.depot_cli.specs.declared.line.CommandLine.TheVariants.{NoWords, Check, Compile, Verify, Run, Eval, Encode, Decode}
+use Rattle.depot_cli.specs.declared.line.CommandLine.TheVariants.{NoWords, Check, Compile, Verify, Run, Eval, Parts, Encode, Decode}
 
 -- an argument that has to be there
 abbrev pub required_rule : Text → Rule
@@ -32,6 +32,10 @@ verify_app = with_rule (new_app (codes "verify")) (required_rule (codes "PROGRAM
 -- run PROGRAM MESSAGE
 abbrev pub run_app : App
 run_app = with_rule (with_rule (new_app (codes "run")) (required_rule (codes "PROGRAM"))) (required_rule (codes "MESSAGE"))
+
+-- parts MESSAGE
+abbrev pub parts_app : App
+parts_app = with_rule (new_app (codes "parts")) (required_rule (codes "MESSAGE"))
 
 -- the names of the encodings
 abbrev pub encoding_names : List Text
@@ -65,9 +69,9 @@ scripts_app = with_subcommand (with_subcommand (new_app (codes "depot")) check_a
 abbrev pub filters_app : App
 filters_app = with_subcommand (with_subcommand scripts_app verify_app.top) run_app.top
 
--- the program with all commands that take scripts or filter programs
+-- the program with all commands that take messages, scripts or filter programs
 abbrev pub mail_app : App
-mail_app = with_subcommand filters_app eval_app.top
+mail_app = with_subcommand (with_subcommand filters_app eval_app.top) parts_app.top
 
 -- the program with its commands, where these are the names of the encodings
 abbrev pub depot_app : Texts → App
@@ -98,7 +102,7 @@ IsCommand name matches rows = matches ≡ Some (name, rows)
 
 -- the command line says what the matches say: which command there is, and its arguments
 abbrev pub Says : CommandLine → Option (Text × List Row) → Type 0
-Says NoWords matches = IfSome matches (λ m. (m.0 ≢ codes "check") × (m.0 ≢ codes "compile") × (m.0 ≢ codes "verify") × (m.0 ≢ codes "run") × (m.0 ≢ codes "eval") × (m.0 ≢ codes "encode") × (m.0 ≢ codes "decode"))
+Says NoWords matches = IfSome matches (λ m. (m.0 ≢ codes "check") × (m.0 ≢ codes "compile") × (m.0 ≢ codes "verify") × (m.0 ≢ codes "run") × (m.0 ≢ codes "eval") × (m.0 ≢ codes "parts") × (m.0 ≢ codes "encode") × (m.0 ≢ codes "decode"))
 Says (Check script) matches = (rows : List Row) × IsCommand (codes "check") matches rows × (script.now ≡ argument (codes "SCRIPT") rows)
 Says (Compile script out) matches =
     (rows : List Row) × IsCommand (codes "compile") matches rows × (script.now ≡ argument (codes "SCRIPT") rows) × (out.now ≡ argument (codes "OUT") rows)
@@ -107,6 +111,7 @@ Says (Eval script message) matches =
 Says (Verify program) matches = (rows : List Row) × IsCommand (codes "verify") matches rows × (program.now ≡ argument (codes "PROGRAM") rows)
 Says (Run program message) matches =
     (rows : List Row) × IsCommand (codes "run") matches rows × (program.now ≡ argument (codes "PROGRAM") rows) × (message.now ≡ argument (codes "MESSAGE") rows)
+Says (Parts message) matches = (rows : List Row) × IsCommand (codes "parts") matches rows × (message.now ≡ argument (codes "MESSAGE") rows)
 Says (Encode encoding) matches =
     (rows : List Row) × IsCommand (codes "encode") matches rows × (encoding ≡ encoding_named (argument (codes "ENCODING") rows))
 Says (Decode encoding) matches =

@@ -12,6 +12,7 @@ ghost use Rattle.depot_cli.specs.Pieces.{lines_text};
 
 use crate::gathering::put;
 use crate::host::Host;
+use crate::listing::parts_lines;
 use crate::making::make_file;
 use crate::piece::Piece;
 use crate::printing::{put_line, put_pieces, put_refusal, put_report};
@@ -53,6 +54,10 @@ pub enum Job<'a> {
     /// What a script does with a message.
     Eval {
         script: &'a [u8],
+        message: &'a [u8],
+    },
+    /// The parts of a message.
+    Parts {
         message: &'a [u8],
     },
     /// The text of octets in an encoding.
@@ -142,6 +147,7 @@ fn carry_out<H: Host>(alloc: Global, job: Job<'_>, host: &mut H) -> Result<Lines
         Job::Verify { program } => Ok(Lines::Budget(budget_line(alloc, program)?)),
         Job::Run { program, message } => Ok(Lines::Report(execute(alloc, program, message)?)),
         Job::Eval { script, message } => Ok(Lines::Report(evaluate(alloc, script, message)?)),
+        Job::Parts { message } => Ok(Lines::Octets(parts_lines(alloc, message)?)),
         Job::Encode { encoding, octets } => Ok(Lines::Octets(encode(alloc, encoding, octets)?)),
         Job::Decode { encoding, text } => Ok(Lines::Octets(decode(alloc, encoding, text)?)),
     }

@@ -11,6 +11,7 @@ mod gathering;
 mod host;
 mod job;
 mod line;
+mod listing;
 mod making;
 mod new_file;
 mod piece;

@@ -3,7 +3,7 @@ ghost use Rattle.std.specs.Prelude.{◌≡◌, IfOk, IfErr, codes, map, true, fa
 ghost use Rattle.clap.specs.Words.{FailsBy, app_of, fault_of, first_value, found_of, kind_of, rows_of, subcommand_of, subcommand_rows_of, takes, rule_of, App};
 ghost use Rattle.clap.specs.declared.error.kind.ErrorKind.TheVariants.{OutOfMemory};
 ghost use Rattle.clap.specs.declared.builder.command.Command.TheViews.{out-Command as fields_of};
-ghost use Rattle.depot_cli.specs.Words.{AreEncodings, IsDepot, Says, argument as text_of, check_app, compile_app, decode_app, depot_app, encode_app, encoding_named, encoding_rule, eval_app, filters_app, mail_app, required_rule, run_app, scripts_app, verify_app};
+ghost use Rattle.depot_cli.specs.Words.{AreEncodings, IsDepot, Says, argument as text_of, check_app, compile_app, decode_app, depot_app, encode_app, encoding_named, encoding_rule, eval_app, filters_app, mail_app, parts_app, required_rule, run_app, scripts_app, verify_app};
 
 use clap::{Arg, ArgMatches, Command, Error};
 use depot_actions::Encoding;
@@ -24,6 +24,8 @@ pub enum CommandLine<'a> {
     Run { program: &'a str, message: &'a str },
     /// What a script does with a message.
     Eval { script: &'a str, message: &'a str },
+    /// The parts of a message.
+    Parts { message: &'a str },
     /// The text of standard input's octets in an encoding.
     Encode { encoding: Encoding },
     /// The octets that standard input reads as in an encoding.
@@ -81,6 +83,9 @@ fn line_in<'a>(matches: &ArgMatches<'a>) -> CommandLine<'a>
             script: argument(found, "SCRIPT"),
             message: argument(found, "MESSAGE"),
         },
+        Some(("parts", found)) => CommandLine::Parts {
+            message: argument(found, "MESSAGE"),
+        },
         Some(("encode", found)) => CommandLine::Encode {
             encoding: encoding_named(argument(found, "ENCODING")),
         },
@@ -130,12 +135,14 @@ fn depot_command<'a>(alloc: Global, names: &'a [&'a str]) -> Result<Command<'a>,
         .subcommand(decode_command(alloc, names)?)
 }
 
-// The program with all commands that take scripts or filter programs.
+// The program with all commands that take messages, scripts or filter programs.
 fn mail_command<'a>(alloc: Global) -> Result<Command<'a>, AllocError>
     ensures app { IfOk result (λ c. app_of c ≡ mail_app) }
     ensures local { IfOk result (λ c. (fields_of c).has_globals ≡ false) }
 {
-    filters_command(alloc)?.subcommand(eval_command(alloc)?)
+    filters_command(alloc)?
+        .subcommand(eval_command(alloc)?)?
+        .subcommand(parts_command(alloc)?)
 }
 
 // The program with the commands that take a script alone, or a filter program.
@@ -191,6 +198,18 @@ fn eval_command<'a>(alloc: Global) -> Result<Command<'a>, AllocError>
     Command::new(alloc, "eval")
         .about("Runs a Sieve script on a message, and prints what it does with it")
         .arg(script_file(alloc))?
+        .arg(message_file(alloc))
+}
+
+// The command parts.
+fn parts_command<'a>(alloc: Global) -> Result<Command<'a>, AllocError>
+    ensures app { IfOk result (λ c. app_of c ≡ parts_app) }
+    ensures local { IfOk result (λ c. (fields_of c).has_globals ≡ false) }
+{
+    Command::new(alloc, "parts")
+        .about(
+            "Lists the parts of a message: place, depth, media type, length and digest of the content",
+        )
         .arg(message_file(alloc))
 }
 

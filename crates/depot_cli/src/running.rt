@@ -116,6 +116,7 @@ fn inputs_of<'a>(line: CommandLine<'a>) -> Inputs<'a>
             Inputs::One(Input::File(script))
         }
         CommandLine::Verify { program } => Inputs::One(Input::File(program)),
+        CommandLine::Parts { message } => Inputs::One(Input::File(message)),
         CommandLine::Run { program, message } => {
             Inputs::Two(Input::File(program), Input::File(message))
         }
@@ -149,6 +150,7 @@ fn job_of<'a>(line: CommandLine<'a>, first: &'a [u8], second: &'a [u8]) -> Job<'
             script: first,
             message: second,
         },
+        CommandLine::Parts { .. } => Job::Parts { message: first },
         CommandLine::Encode { encoding } => Job::Encode {
             encoding,
             octets: first,

@@ -10,3 +10,5 @@ mod readings;
 #[cfg(test)]
 mod runs;
 pub mod shelf;
+#[cfg(test)]
+mod store;

@@ -6,7 +6,8 @@ use Rattle.glob_match.specs.declared.token.Token.TheVariants.{Literal, AnyOctet,
 use Rattle.glob_match.specs.Comparison.{is_match}
 use Rattle.glob_match.specs.Tokens.{tokens_of, literals}
 use Rattle.glob_match.specs.Matching.{match_of}
-use Rattle.glob_match.specs.Containment.{Is, Contains, Matches, contains_match, matched}
+use Rattle.glob_match.specs.Containment.{contains_match, matched}
+use Rattle.glob_match.specs.declared.match_type.MatchType.TheVariants.{Is, Contains, Matches}
 
 shortest_first : match_of Octet (codes "aXbXb") (codes "*X*b") ≡ Some (codes "aXbXb" ∷ codes "a" ∷ codes "bX" ∷ [])
 shortest_first = refl

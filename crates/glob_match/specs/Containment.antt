@@ -2,6 +2,8 @@
 use Rattle.std.specs.Prelude.{◌≡◌, ℕ, ◌+◌, Bool, true, false, ◌&&◌, List, [], ◌∷◌, ◌++◌, map, Option, Some, None, is_some, if◌then◌else◌}
 use Rattle.std.specs.Option.{option_map}
 use Rattle.glob_match.specs.declared.comparator.Comparator.{Comparator}
+use Rattle.glob_match.specs.declared.match_type.MatchType.{MatchType}
+use Rattle.glob_match.specs.declared.match_type.MatchType.TheVariants.{Is, Contains, Matches}
 use Rattle.glob_match.specs.declared.token.Token.{Token}
 use Rattle.glob_match.specs.declared.token.Token.TheVariants.{Literal, AnyOctet, Star}
 use Rattle.glob_match.specs.Comparison.{compared, same_octet, is_match}
@@ -33,13 +35,7 @@ first_place test (x ∷ xs) = if test (x ∷ xs) then Some 0 else option_map (λ
 abbrev pub contains_match : Comparator → List ℕ → List ℕ → Bool
 contains_match comparator value key = is_some (first_place (begins_with comparator (map Literal key)) value)
 
--- the three ways to match (RFC 5228, section 2.7.1)
-pub data MatchType : Type 0 where
-  Is : MatchType
-  Contains : MatchType
-  Matches : MatchType
-
--- whether the value matches the key
+-- whether the value matches the key in each of the three ways (RFC 5228, section 2.7.1)
 abbrev pub matched : MatchType → Comparator → List ℕ → List ℕ → Bool
 matched Is = is_match
 matched Contains = contains_match

@@ -4,5 +4,6 @@ pub mod FieldLines
 pub mod Steps
 pub mod Trimming
 pub mod Lengths
+pub mod Measuring
 pub mod Alone
 mod Examples

@@ -1,5 +1,5 @@
 // Why a header can't be read.
-ghost use Rattle.std.specs.Prelude.{◌≡◌};
+ghost use Rattle.std.specs.Prelude.{◌≡◌, alloc_error};
 ghost use Rattle.header_fields.specs.declared.error.HeaderError.TheVariants.{Memory};
 
 use std::alloc::{AllocError, AllocFailed};
@@ -26,5 +26,15 @@ impl<T: Drop> From<AllocFailed<T>> for HeaderError {
 
     fn from(_refused: AllocFailed<T>) -> HeaderError {
         HeaderError::Memory
+    }
+}
+
+impl From<HeaderError> for AllocError {
+    ghost from_gives = { λ _ e. e ≡ alloc_error };
+
+    fn from(refused: HeaderError) -> AllocError {
+        match refused {
+            HeaderError::Memory => AllocError,
+        }
     }
 }

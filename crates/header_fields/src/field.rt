@@ -1,11 +1,12 @@
 // A field of a header.
-ghost use Rattle.std.specs.Prelude.{◌≡◌, ◌↔◌, IsTrue, IfOk};
+ghost use Rattle.std.specs.Prelude.{◌≡◌, ◌↔◌, IsTrue, IfOk, length};
 ghost use Rattle.std.specs.Cow.{cow_slice_items};
 ghost use Rattle.octets.specs.Ascii.{EqualIgnoringCase};
 ghost use Rattle.octets.specs.Blank.{without_outer_blanks};
 ghost use Rattle.header_fields.specs.Header.{without_breaks};
 
 use crate::error::HeaderError;
+use crate::unfolding::joined_length;
 use octets::{equal_ignoring_case, trim_blanks, trim_leading_blanks, trim_trailing_blanks};
 use std::alloc::Global;
 use std::borrow::CowSlice;
@@ -68,6 +69,13 @@ pub fn unfold<'a>(alloc: Global, field: &Field<'a>) -> Result<CowSlice<'a, u8>, 
         Some(line) => Ok(CowSlice::Borrowed(trim_blanks(&text[..line.end]))),
         None => Ok(CowSlice::Borrowed(text)),
     }
+}
+
+/// How many octets the field's value has. It takes no memory.
+pub fn unfolded_length(field: &Field) -> usize
+    ensures { result ≡ length field.now.value }
+{
+    joined_length(field.text)
 }
 
 // The text without its line breaks, and then without outer blanks.

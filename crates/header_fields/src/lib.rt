@@ -9,7 +9,8 @@ mod field;
 mod field_line;
 mod header;
 pub mod laws;
+mod unfolding;
 
 pub use error::HeaderError;
-pub use field::{Field, name_is, unfold};
+pub use field::{Field, name_is, unfold, unfolded_length};
 pub use header::Header;

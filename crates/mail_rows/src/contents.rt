@@ -71,6 +71,16 @@ fn large_contents(rt: HostRuntime) -> Result<(), Fail> {
     )?;
     let want = repeated(alloc, b"", b"foobar", 200_000, b"")?;
     assert!(rt; is_content(alloc, &base64, 0, &want));
+    let quoted = repeated(
+        alloc,
+        b"Content-Transfer-Encoding: quoted-printable\n\n",
+        b"foo=62ar=\r\n",
+        200_000,
+        b"",
+    )?;
+    assert!(rt; is_content(alloc, &quoted, 0, &want));
+    let plain = repeated(alloc, b"\n", b"foobar", 200_000, b"")?;
+    assert!(rt; is_content(alloc, &plain, 0, &want));
     let parts = repeated(
         alloc,
         b"Content-Type: multipart/mixed; boundary=b\n\n",
@@ -84,5 +94,31 @@ fn large_contents(rt: HostRuntime) -> Result<(), Fail> {
             Err(MessageError::TooManyParts)
         )
     );
+    Ok(())
+}
+
+// Whether so many octets are read as a message.
+fn is_read(alloc: Global, octets: &[u8]) -> bool {
+    match Message::read(alloc, octets) {
+        Ok(message) => message.size() == octets.len(),
+        Err(_) => false,
+    }
+}
+
+// Whether so many octets are too many for a message.
+fn is_too_large(alloc: Global, octets: &[u8]) -> bool {
+    matches!(
+        Message::read(alloc, octets),
+        Err(MessageError::MessageTooLarge)
+    )
+}
+
+#[test]
+fn the_largest_message(rt: HostRuntime) -> Result<(), Fail> {
+    let alloc = rt.alloc();
+    let mut octets = repeated(alloc, b"", b"\n", 67_108_864, b"")?;
+    assert!(rt; is_read(alloc, &octets));
+    octets.push(b'\n')?;
+    assert!(rt; is_too_large(alloc, &octets));
     Ok(())
 }

@@ -4,6 +4,8 @@
 #[cfg(test)]
 mod contents;
 #[cfg(test)]
+mod header_tests;
+#[cfg(test)]
 mod headers;
 #[cfg(test)]
 mod large_headers;

@@ -2,7 +2,7 @@
 use crate::repeated::repeated;
 use mime_params::{TransferEncoding, param};
 use mime_tree::{MAX_MESSAGE, MAX_PARTS, Tree, TreeError};
-use std::alloc::Global;
+use std::alloc::{AllocError, Global};
 use std::test::Fail;
 
 // Whether a message's tree has these parts: the depth of each, the number of parts below it, and its body.
@@ -118,6 +118,13 @@ fn delimiters(rt: HostRuntime) {
             alloc,
             b"Content-Type: multipart/mixed; boundary=b\n\n--b\n--b\n--b--",
             &[(1, 2, "--b\n--b\n--b--"), (2, 0, ""), (2, 0, "")]
+        )
+    );
+    assert!(rt;
+        has_parts(
+            alloc,
+            b"Content-Type: multipart/mixed; boundary=b\n\n--b\n\n--b\n\n--b--",
+            &[(1, 2, "--b\n\n--b\n\n--b--"), (2, 0, ""), (2, 0, "")]
         )
     );
     // no line is the first delimiter
@@ -435,10 +442,213 @@ fn large_messages(rt: HostRuntime) -> Result<(), Fail> {
         b"",
     )?;
     assert!(rt; has_count(alloc, &text, 2));
-    // multiparts in one another, each over all the lines
+    // multiparts of one boundary, which is the outermost one's
     let inner = b"Content-Type: multipart/mixed; boundary=i\n\n--i\n";
-    let nested = repeated(alloc, b"", inner, 31, b"\n")?;
-    let text = repeated(alloc, &nested, b"--b\n", 100_000, b"")?;
+    let siblings = repeated(alloc, b"", inner, 31, b"\n")?;
+    let text = repeated(alloc, &siblings, b"--b\n", 100_000, b"")?;
     assert!(rt; has_count(alloc, &text, 32));
+    Ok(())
+}
+
+// The headers of 31 multiparts in one another, each with a boundary of its own, and that of a part.
+fn levels(alloc: Global) -> Result<Vec<u8>, AllocError> {
+    let mut text = Vec::new(alloc);
+    for level in b'0'..b'0' + 31 {
+        text.extend_from_slice(b"Content-Type: multipart/mixed; boundary=\"")?;
+        text.push(level)?;
+        text.extend_from_slice(b"\"\n\n--")?;
+        text.push(level)?;
+        text.push(b'\n')?;
+    }
+    text.push(b'\n')?;
+    Ok(text)
+}
+
+// Whether the message has so many parts, of which the last has that depth.
+fn has_last_at(alloc: Global, text: &[u8], parts: usize, depth: usize) -> bool {
+    let Ok(tree) = Tree::read(alloc, text) else {
+        return false;
+    };
+    let count = tree.parts();
+    let last = count.saturating_sub(1);
+    count == parts && last < count && tree.depth(last) == depth
+}
+
+#[test]
+fn nested_multiparts_over_many_lines(rt: HostRuntime) -> Result<(), Fail> {
+    let alloc = rt.alloc();
+    let nested = levels(alloc)?;
+    let text = repeated(alloc, &nested, b"--b\n", 100_000, b"--N\n")?;
+    assert!(rt; has_last_at(alloc, &text, 33, 32));
+    Ok(())
+}
+
+// A line of the messages that are all tried.
+#[derive(Clone, Copy, PartialEq, Eq)]
+enum Piece {
+    DelimiterA,
+    DelimiterB,
+    ClosingA,
+    OpensA,
+    OpensB,
+    Empty,
+    Text,
+}
+
+const PIECES: u32 = 7;
+
+// The piece of a number.
+fn piece_of(number: u32) -> Piece {
+    match number % PIECES {
+        0 => Piece::DelimiterA,
+        1 => Piece::DelimiterB,
+        2 => Piece::ClosingA,
+        3 => Piece::OpensA,
+        4 => Piece::OpensB,
+        5 => Piece::Empty,
+        _ => Piece::Text,
+    }
+}
+
+fn octets_of(piece: Piece) -> &'static [u8] {
+    match piece {
+        Piece::DelimiterA => b"--a",
+        Piece::DelimiterB => b"--b",
+        Piece::ClosingA => b"--a--",
+        Piece::OpensA => b"Content-Type: multipart/mixed; boundary=a",
+        Piece::OpensB => b"Content-Type: multipart/mixed; boundary=b",
+        Piece::Empty => b"",
+        Piece::Text => b"x",
+    }
+}
+
+// The octets of lines, with the break of the last where they are the whole rest of the message.
+fn joined(alloc: Global, lines: &[Piece], feed: &[u8], whole: bool) -> Result<Vec<u8>, AllocError> {
+    let mut text = Vec::new(alloc);
+    for (place, line) in lines.iter().enumerate() {
+        if place > 0 {
+            text.extend_from_slice(feed)?;
+        }
+        text.extend_from_slice(octets_of(*line))?;
+    }
+    if whole && !lines.is_empty() {
+        text.extend_from_slice(feed)?;
+    }
+    Ok(text)
+}
+
+// A part that is wanted: its depth, its lines, and whether its last line keeps its break.
+#[derive(Clone, Copy)]
+struct Wanted<'a> {
+    depth: usize,
+    lines: &'a [Piece],
+    whole: bool,
+}
+
+// The lines before the first one that passes, and those after it.
+fn cut_at(lines: &[Piece], ends: [Piece; 2]) -> Option<(&[Piece], Piece, &[Piece])> {
+    for (place, line) in lines.iter().enumerate() {
+        if (*line == ends[0] || *line == ends[1]) && place < lines.len() {
+            return Some((&lines[..place], *line, &lines[place + 1..]));
+        }
+    }
+    None
+}
+
+// The delimiter and the closing line of the first multipart that a header opens; b has no closing line here.
+fn opened_by(header: &[Piece]) -> Option<[Piece; 2]> {
+    for line in header {
+        match *line {
+            Piece::OpensA => return Some([Piece::DelimiterA, Piece::ClosingA]),
+            Piece::OpensB => return Some([Piece::DelimiterB, Piece::DelimiterB]),
+            _ => {}
+        }
+    }
+    None
+}
+
+// The parts of some lines, by the standard's words: the header, then the body cut at its own delimiters, and each piece read alike.
+fn add_parts<'a>(
+    depth: usize,
+    lines: &'a [Piece],
+    whole: bool,
+    out: &mut Vec<Wanted<'a>>,
+) -> Result<(), TreeError> {
+    out.push(Wanted {
+        depth,
+        lines,
+        whole,
+    })?;
+    if depth >= 32 {
+        return Ok(());
+    }
+    let Some((header, _, body)) = cut_at(lines, [Piece::Empty, Piece::Empty]) else {
+        return Ok(());
+    };
+    let Some(ends) = opened_by(header) else {
+        return Ok(());
+    };
+    let mut begun = false;
+    for (place, line) in body.iter().enumerate() {
+        if *line == ends[0] && place < body.len() {
+            begun = true;
+            let after = &body[place + 1..];
+            match cut_at(after, ends) {
+                Some((child, _, _)) => add_parts(depth + 1, child, false, out)?,
+                None => add_parts(depth + 1, after, whole, out)?,
+            }
+        } else if begun && *line == ends[1] {
+            return Ok(());
+        }
+    }
+    Ok(())
+}
+
+// Whether a message of these lines has the parts of the recursion.
+fn agrees(alloc: Global, lines: &[Piece], feed: &[u8]) -> Result<bool, TreeError> {
+    let mut wanted = Vec::new(alloc);
+    add_parts(1, lines, true, &mut wanted)?;
+    let text = joined(alloc, lines, feed, true)?;
+    let tree = Tree::read(alloc, &text)?;
+    if tree.parts() != wanted.len() {
+        return Ok(false);
+    }
+    for (part, want) in wanted.iter().enumerate() {
+        if part >= tree.parts() || tree.depth(part) != want.depth {
+            return Ok(false);
+        }
+        let raw = joined(alloc, want.lines, feed, want.whole)?;
+        if tree.raw(part) != raw.as_slice() {
+            return Ok(false);
+        }
+    }
+    Ok(true)
+}
+
+// Whether each message of so many lines has the parts of the recursion.
+fn all_agree(alloc: Global, count: u32, feed: &[u8]) -> Result<bool, TreeError> {
+    for message in 0..PIECES.saturating_pow(count) {
+        let mut lines = Vec::new(alloc);
+        let mut number = message;
+        for _ in 0..count {
+            lines.push(piece_of(number))?;
+            number /= PIECES;
+        }
+        if !agrees(alloc, &lines, feed)? {
+            return Ok(false);
+        }
+    }
+    Ok(true)
+}
+
+#[test]
+fn all_messages_of_few_lines(rt: HostRuntime) -> Result<(), Fail> {
+    let alloc = rt.alloc();
+    for count in 0..7u32 {
+        assert!(rt; all_agree(alloc, count, b"\n")?);
+    }
+    for count in 0..6u32 {
+        assert!(rt; all_agree(alloc, count, b"\r\n")?);
+    }
     Ok(())
 }

@@ -4,4 +4,6 @@ pub mod Delimiters
 mod Examples
 pub mod Fields
 pub mod Places
+pub mod Quiet
 pub mod Ranges
+pub mod Runs

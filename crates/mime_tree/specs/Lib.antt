@@ -1,6 +1,7 @@
 pub mod PartTree
 pub mod Readable
 pub mod Refusals
+pub mod Runs
 -- where parts stand
 pub mod Order
 -- what private functions of the reader are about

@@ -30,9 +30,9 @@ pub(crate) fn is_closing(line: &[u8], boundary: &[u8]) -> bool
     }
 }
 
-// What follows the two dashes that a line begins with.
+/// What follows the two dashes that a line begins with.
 #[inline]
-fn after_dashes(line: &[u8]) -> Option<&[u8]>
+pub(crate) fn after_dashes(line: &[u8]) -> Option<&[u8]>
     ensures { MatchOption result ((rest : List ℕ) → line.now ≢ 45 ∷ 45 ∷ rest) (λ after. line.now ≡ 45 ∷ 45 ∷ after.now) }
 {
     match line {

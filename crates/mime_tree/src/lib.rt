@@ -9,6 +9,7 @@ mod error;
 pub mod laws;
 mod media;
 mod part;
+mod run;
 mod split;
 mod stretch;
 mod tree;

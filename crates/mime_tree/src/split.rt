@@ -10,11 +10,11 @@ use crate::MAX_PARTS;
 use crate::delimiter::{is_closing, is_delimiter};
 use crate::error::TreeError;
 use crate::media::is_word;
+use crate::run::Runs;
 use crate::stretch::Stretch;
 use mime_params::{MediaType, param};
 use octets::trim_trailing_blanks;
 use std::alloc::Global;
-use text_lines::Lines;
 
 // Where a child ends, and where the next one begins, if there is one.
 #[derive(Drop)]
@@ -24,11 +24,11 @@ struct Ending {
 }
 
 // Where the first child of a multipart begins, after its first delimiter line; nothing where it has none.
-fn first_child(text: &[u8], boundary: &[u8], lines: &mut Lines) -> Option<usize>
+fn first_child(text: &[u8], boundary: &[u8], lines: &mut Runs) -> Option<usize>
     requires { lines.old.text ≡ text.now }
     ensures { GivesChild boundary.now text.now (λ base. multipart_children boundary.now (base + lines.old.place) (lines_left lines.old)) result lines.new }
 {
-    'preamble: while let Some(line) = lines.next() {
+    'preamble: while let Some(line) = lines.next_run() {
         if is_delimiter(&text[line.start..line.end], boundary) {
             return Some(line.stop);
         }
@@ -37,14 +37,14 @@ fn first_child(text: &[u8], boundary: &[u8], lines: &mut Lines) -> Option<usize>
 }
 
 // Where the child that begins with the next line ends, and the one after it begins.
-fn child_end(text: &[u8], boundary: &[u8], lines: &mut Lines, start: usize) -> Ending
+fn child_end(text: &[u8], boundary: &[u8], lines: &mut Runs, start: usize) -> Ending
     requires same { lines.old.text ≡ text.now }
     requires here { lines.old.place ≡ start }
     requires within { start ≤ length text.now }
     ensures { IsChildEnd boundary.now text.now start lines.old result lines.new }
 {
     let mut end = start;
-    'lines: while let Some(line) = lines.next() {
+    'lines: while let Some(line) = lines.next_run() {
         let content = &text[line.start..line.end];
         if is_closing(content, boundary) {
             return Ending { end, next: None };
@@ -77,7 +77,7 @@ pub(crate) fn multipart_children<'a>(
     ensures refused { IfErr result (λ e. IsRefusedFor e (length (multipart_children boundary.now place (lines_of body.now)))) }
 {
     let mut children = Vec::new(alloc);
-    let mut lines = Lines::new(body);
+    let mut lines = Runs::new(body);
     let mut next = first_child(body, boundary, &mut lines);
     'children: while let Some(start) = next {
         if children.len() == MAX_PARTS {

@@ -8,8 +8,14 @@ mod EntryRows
 mod Equals
 mod Gaining
 mod Programs
+mod Numbers
 mod Creation
 mod Finding
 mod Reading
 mod Filed
+mod FiledAll
+mod Entering
+mod Unmoved
 mod Removing
+mod Listed
+mod Showing

@@ -126,7 +126,7 @@ this_program : (program : Option (List ℕ)) (octets : List ℕ) → or_null Blo
 this_program None octets h = absurd (cc)
 this_program (Some others) octets h = let e : octets ≡ others = cc in ap Some e
 
-program_shown : {A : Type 0} (old new : State) (user : List ℕ) (row : Row) (items : A → List ℕ) (before : Entries) → Stands old.now before
+pub program_shown : {A : Type 0} (old new : State) (user : List ℕ) (row : Row) (items : A → List ℕ) (before : Entries) → Stands old.now before
     → Steps (Reads (λ db. IsFound users_tree (equals 1 (Text user)) (columns (2 ∷ 3 ∷ [])) db (Some row))) old new
     → (x : Option A) → MatchOption x (column row 1 ≡ Null) (λ v. (column row 1 ≢ Null) × (column row 1 ≡ Blob (items v))) → option_map items x ≡ before.programs user
 program_shown old new user row items before stands reads x is =
@@ -145,3 +145,17 @@ pub program_read : {A E : Type 0} (old new : State) (user : List ℕ) (row : Row
     → IfOk r (λ found. (before : Entries) → Stands old.now before → option_map items found ≡ before.programs user)
 program_read old new user row items (Err e) reads got = tt
 program_read old new user row items (Ok found) reads got = λ before stands. program_shown old new user row items before stands reads found got.1
+
+-- a user's last number and program that were read
+pub user_read : {A : Type 0} (old new : State) (user : List ℕ) (row : Row) (items : A → List ℕ) (n : ℕ) (program : Option A)
+    → Steps (Reads (λ db. IsFound users_tree (equals 1 (Text user)) (columns (2 ∷ 3 ∷ [])) db (Some row))) old new → column row 0 ≡ Int (pos n)
+    → MatchOption program (column row 1 ≡ Null) (λ v. (column row 1 ≢ Null) × (column row 1 ≡ Blob (items v))) → (before : Entries) → Stands old.now before
+    → (n ≡ before.lasts user) × (option_map items program ≡ before.programs user)
+user_read old new user row items n program reads last shown before stands =
+    (last_read old.now.trees before stands.tables user (Some row) n (reads stands.schema).change.1 last, program_shown old new user row items before stands reads program shown)
+
+-- the user has no row
+pub no_user_read : {A : Type 0} (old new : State) (user : List ℕ) (items : A → List ℕ) → Steps (Reads (λ db. IsFound users_tree (equals 1 (Text user)) (columns (2 ∷ 3 ∷ [])) db None)) old new
+    → (before : Entries) → Stands old.now before → (0 ≡ before.lasts user) × (option_map {T = A} items None ≡ before.programs user)
+no_user_read old new user items reads before stands =
+    let none = stands.tables.strangers user (reads stands.schema).change.1 in (sym none.0, sym none.1)

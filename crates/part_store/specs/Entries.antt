@@ -54,3 +54,19 @@ is_at user number x = bytes_eq x.user user && (x.number == number)
 -- the entry is gone, and the last number stays
 abbrev pub without_entry : List ℕ → ℕ → Entries → Entries
 without_entry user number e = record e { entries = filter (λ x. not (is_at user number x)) e.entries }
+
+-- an entry as it is listed, with the number of its octets in their place
+pub record Listing : Type 0 where
+  pub number : ℕ
+  pub kind : Kind
+  pub folder : List ℕ
+  pub name : List ℕ
+  pub media : List ℕ
+  pub octets : ℕ
+
+abbrev pub listing_of : Entry → Listing
+listing_of x = record { number = x.number; kind = x.kind; folder = x.folder; name = x.name; media = x.media; octets = length x.octets }
+
+-- the user's entries in the order in which they were made, which is that of their numbers
+abbrev pub entries_of : List ℕ → Entries → List Entry
+entries_of user e = filter (λ x. bytes_eq x.user user) e.entries

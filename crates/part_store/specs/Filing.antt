@@ -1,5 +1,5 @@
 -- How an entry is filed: its octets under their digest, and then its row.
-use Rattle.std.specs.Prelude.{◌≡◌, ◌≢◌, ◌⊎◌, ◌<◌, ◌≤◌, ℕ, pos, List, [], ◌∷◌, ◌++◌}
+use Rattle.std.specs.Prelude.{◌≡◌, ◌≢◌, ◌⊎◌, ◌<◌, ◌≤◌, ℕ, ◌+◌, pos, List, [], ◌∷◌, ◌++◌, IsTrue, length}
 use Rattle.std.specs.List.{AllByRecursion}
 use Rattle.sqlite_value.specs.declared.value.Value.TheVariants.{Int, Text, Blob}
 use Rattle.sqlite_value.specs.Order.{Row}
@@ -8,7 +8,11 @@ use Rattle.sqlite_rules.specs.Lists.{Has}
 use Rattle.sqlite.specs.State.{State}
 use Rattle.part_store.specs.Tables.{store_schema}
 use Rattle.part_store.specs.Changes.{users_tree, contents_tree, entries_tree}
-use Rattle.part_store.specs.Entries.{Entry, Entries}
+use Rattle.sha2.specs.Sha256.{sha256}
+use Rattle.part_store.specs.Entries.{Draft, Entry, Entries, numbered, with_entries, with_last}
+use Rattle.octets.specs.Limits.{max_entry_number}
+use Rattle.part_store.specs.declared.adding.Adding.{Adding}
+use Rattle.part_store.specs.declared.adding.Adding.TheVariants.{From, NumberFull, Collision}
 use Rattle.part_store.specs.Standing.{IsContentRow, HasContent, Stands, kind_number}
 
 -- the octets are under their digest, and else nothing has changed
@@ -51,3 +55,67 @@ pub record Files (x : Entry) (digest : List ℕ) (before : Entries) (old new : S
   pub has : HasContent (new.now.trees contents_tree) digest x.octets
   pub kept : (d o : List ℕ) → HasContent (old.now.trees contents_tree) d o → HasContent (new.now.trees contents_tree) d o
   pub from : (d o : List ℕ) → HasContent (new.now.trees contents_tree) d o → HasContent (old.now.trees contents_tree) d o ⊎ ((d ≡ digest) × (o ≡ x.octets))
+
+-- in a transaction: the user has another last number
+pub record Claims (user : List ℕ) (last : ℕ) (before : Entries) (old new : State) : Type 0 where
+  pub was_open : IsTrue old.is_open
+  pub stands : Stands new.now (with_last user last before)
+  pub committed : new.committed ≡ old.committed
+  pub contents : new.now.trees contents_tree ≡ old.now.trees contents_tree
+
+-- a draft's octets are under its digest
+abbrev pub HasDraft : Trees → Draft → Type 0
+HasDraft db d = HasContent (db contents_tree) (sha256 d.octets) d.octets
+
+-- content comes from one of the drafts
+abbrev pub IsOfDraft : List Draft → List ℕ → List ℕ → Type 0
+IsOfDraft drafts digest octets = (d : Draft) × Has drafts d × (digest ≡ sha256 d.octets) × (octets ≡ d.octets)
+
+-- an earlier draft has the digest and other octets
+abbrev pub IsAmongOthers : List Draft → Draft → Type 0
+IsAmongOthers earlier d = (x : Draft) × Has earlier x × (sha256 x.octets ≡ sha256 d.octets) × (x.octets ≢ d.octets)
+
+-- another content, stored or earlier in the list, has the digest of a draft and other octets
+pub record Collides (db : Trees) (drafts : List Draft) : Type 0 where
+  pub earlier : List Draft
+  pub draft : Draft
+  pub later : List Draft
+  pub place : drafts ≡ earlier ++ draft ∷ later
+  pub other : IsOther db (sha256 draft.octets) draft.octets ⊎ IsAmongOthers earlier draft
+
+-- so many numbers after this one were claimed, and none of them was given
+pub record CanFile (e : Entries) (user : List ℕ) (last count : ℕ) : Type 0 where
+  pub claimed : last + count ≤ e.lasts user
+  pub free : (y : Entry) → Has e.entries y → y.user ≡ user → y.number ≤ last
+
+-- in a transaction: the drafts are filed under the numbers after this one, and their octets are under their digests
+pub record FilesAll (user : List ℕ) (last : ℕ) (drafts : List Draft) (before : Entries) (old new : State) : Type 0 where
+  pub stands : Stands new.now (record before { entries = before.entries ++ numbered user (last + 1) drafts })
+  pub committed : new.committed ≡ old.committed
+  pub has : (d : Draft) → Has drafts d → HasDraft new.now.trees d
+  pub kept : (g o : List ℕ) → HasContent (old.now.trees contents_tree) g o → HasContent (new.now.trees contents_tree) g o
+  pub from : (g o : List ℕ) → HasContent (new.now.trees contents_tree) g o → HasContent (old.now.trees contents_tree) g o ⊎ IsOfDraft drafts g o
+
+-- in a transaction: the drafts have become the user's entries, and none of them collides
+pub record Enters (user : List ℕ) (drafts : List Draft) (before : Entries) (old new : State) : Type 0 where
+  pub was_open : IsTrue old.is_open
+  pub stands : Stands new.now (with_entries user drafts before)
+  pub committed : new.committed ≡ old.committed
+  pub apart : Collides old.now.trees drafts → ⊥
+
+-- the numbers that the user has left suffice for so many entries
+abbrev pub HasRoom : Entries → List ℕ → ℕ → Type 0
+HasRoom e user count = e.lasts user + count ≤ max_entry_number
+
+-- in a transaction: what adding the drafts comes to
+abbrev pub Adds : List ℕ → List Draft → State → State → Adding → Type 0
+Adds user drafts old new (From first) =
+    (before : Entries) → Stands old.now before → HasRoom before user (length drafts) × (first ≡ before.lasts user + 1) × (Collides old.now.trees drafts → ⊥)
+    × Stands new.now (with_entries user drafts before) × (new.committed ≡ old.committed)
+Adds user drafts old new NumberFull = (before : Entries) → Stands old.now before → max_entry_number < before.lasts user + length drafts
+Adds user drafts old new Collision = (before : Entries) → Stands old.now before → HasRoom before user (length drafts) × Collides old.now.trees drafts
+
+abbrev pub IsFrom : Adding → Type 0
+IsFrom (From first) = Unit {0}
+IsFrom NumberFull = ⊥
+IsFrom Collision = ⊥

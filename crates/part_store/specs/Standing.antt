@@ -13,7 +13,9 @@ use Rattle.part_store.specs.Tables.{store_schema}
 use Rattle.part_store.specs.Changes.{users_tree, contents_tree, entries_tree, equals, is_entry, IsTaken}
 use Rattle.part_store.specs.declared.entry.Kind.{Kind}
 use Rattle.part_store.specs.declared.entry.Kind.TheVariants.{Message, Part}
-use Rattle.part_store.specs.Entries.{Entry, Entries, Draft}
+use Rattle.part_store.specs.Entries.{Entry, Entries, Draft, Listing}
+use Rattle.part_store.specs.declared.entry.EntryRow.{EntryRow}
+use Rattle.part_store.specs.declared.listing.Parts.{Parts}
 use Rattle.part_store.specs.declared.entry.NewEntry.{NewEntry}
 
 abbrev pub kind_number : Kind → ℕ
@@ -112,3 +114,26 @@ pub record IsTidied (digest : List ℕ) (old new : State) : Type 0 where
   pub change :
       ((r : Row) × Has (old.now.trees entries_tree) r × (equals 7 (Blob digest) r ≡ true) × (new.now.trees ≡ old.now.trees))
       ⊎ (((r : Row) → Has (old.now.trees entries_tree) r → equals 7 (Blob digest) r ≡ false) × IsTaken contents_tree (equals 1 (Blob digest)) old.now.trees new.now.trees)
+
+-- an entry that is there, as the definitions see it
+abbrev pub listed : EntryRow → Listing
+listed row = record { number = row.number; kind = row.kind; folder = row.folder.items; name = row.name.items; media = row.media.items; octets = row.octets }
+
+-- a row of the answer to a listing shows the entry
+abbrev pub Shows : Trees → Row → Entry → Type 0
+Shows db row x =
+    (digest : List ℕ) × (row ≡ Int (pos x.number) ∷ Int (pos (kind_number x.kind)) ∷ Blob x.folder ∷ Blob x.name ∷ Blob x.media ∷ Blob digest ∷ []) × HasContent (db contents_tree) digest x.octets
+
+-- what was read of a row that shows an entry is of that entry
+pub record ArePartsOf (parts : Parts) (x : Entry) (named : List ℕ) : Type 0 where
+  pub number : parts.number ≡ x.number
+  pub kind : parts.kind ≡ x.kind
+  pub folder : parts.folder.items ≡ x.folder
+  pub name : parts.name.items ≡ x.name
+  pub media : parts.media.items ≡ x.media
+  pub digest : parts.digest.items ≡ named
+
+abbrev pub IsParts : Row → Parts → Type 0
+IsParts row parts =
+    (x : Entry) (digest : List ℕ) → row ≡ Int (pos x.number) ∷ Int (pos (kind_number x.kind)) ∷ Blob x.folder ∷ Blob x.name ∷ Blob x.media ∷ Blob digest ∷ []
+    → ArePartsOf parts x digest

@@ -1,12 +1,12 @@
 //! How entries are filed.
-ghost use Rattle.std.specs.Prelude.{◌≡◌, true, false, string_bytes, IsTrue, IfOk, OnOk};
+ghost use Rattle.std.specs.Prelude.{◌≡◌, map, true, false, string_bytes, IsTrue, IfOk, OnOk};
 ghost use Rattle.sqlite.specs.Held.{state};
 ghost use Rattle.sqlite.specs.State.{HasCleanDisk, KeepsCommit, Survives};
 ghost use Rattle.sha2.specs.Sha256.{sha256};
 ghost use Rattle.part_store.specs.Tables.{store_schema};
 ghost use Rattle.part_store.specs.Entries.{entry_of};
-ghost use Rattle.part_store.specs.Standing.{Stands, kind_number, draft_of};
-ghost use Rattle.part_store.specs.Filing.{Stocks, IsOther, IsNext, Files};
+ghost use Rattle.part_store.specs.Standing.{Stands, Stays, kind_number, draft_of};
+ghost use Rattle.part_store.specs.Filing.{Collides, Stocks, IsOther, IsNext, Files};
 
 use crate::entry::{Kind, NewEntry};
 use crate::{contents, entries};
@@ -34,6 +34,47 @@ fn stock<S: Alter>(tx: &mut Transaction<'_, S>, digest: &[u8], octets: &[u8]) ->
     }
 }
 
+/// Whether other octets are under the digest of one of the entries.
+pub(crate) fn any_differs<S: Alter>(
+    tx: &mut Transaction<'_, S>,
+    entries: &[NewEntry],
+) -> Result<bool, Error>
+    ensures same_reference { tx.new.conn.ghost_name ≡ tx.old.conn.ghost_name }
+    ensures other { HasCleanDisk (state S.Store tx.new.conn.now) → IfOk result (λ found. found ≡ true → (before : _) → Stands (state S.Store tx.old.conn.now).now before → Collides (state S.Store tx.old.conn.now).now.trees (map draft_of entries.now)) }
+    ensures same { HasCleanDisk (state S.Store tx.new.conn.now) → OnOk result (Stays (state S.Store tx.old.conn.now) (state S.Store tx.new.conn.now)) }
+    ensures kept { HasCleanDisk (state S.Store tx.new.conn.now) → (state S.Store tx.old.conn.now).now.schema ≡ store_schema → KeepsCommit (state S.Store tx.old.conn.now) (state S.Store tx.new.conn.now) }
+    ensures survives { Survives (state S.Store tx.old.conn.now) (state S.Store tx.new.conn.now) (λ _. ⊥) }
+{
+    for entry in entries {
+        let digest = Sha256::digest(entry.octets.as_slice());
+        if differs(tx, &digest, entry.octets.as_slice())? {
+            return Ok(true);
+        }
+    }
+    Ok(false)
+}
+
+/// Whether other octets than these are under the digest.
+fn differs<S: Alter>(
+    tx: &mut Transaction<'_, S>,
+    digest: &[u8],
+    octets: &[u8],
+) -> Result<bool, Error>
+    ensures same_reference { tx.new.conn.ghost_name ≡ tx.old.conn.ghost_name }
+    ensures other { HasCleanDisk (state S.Store tx.new.conn.now) → IfOk result (λ found. found ≡ true → (before : _) → Stands (state S.Store tx.old.conn.now).now before → IsOther (state S.Store tx.old.conn.now).now.trees digest.now octets.now) }
+    ensures same { HasCleanDisk (state S.Store tx.new.conn.now) → OnOk result (Stays (state S.Store tx.old.conn.now) (state S.Store tx.new.conn.now)) }
+    ensures kept { HasCleanDisk (state S.Store tx.new.conn.now) → (state S.Store tx.old.conn.now).now.schema ≡ store_schema → KeepsCommit (state S.Store tx.old.conn.now) (state S.Store tx.new.conn.now) }
+    ensures survives { Survives (state S.Store tx.old.conn.now) (state S.Store tx.new.conn.now) (λ _. ⊥) }
+{
+    match contents::find(tx, digest)? {
+        Some(row) => {
+            let under: Vec<u8> = row.get(0)?;
+            Ok(under.as_slice() != octets)
+        }
+        None => Ok(false),
+    }
+}
+
 fn kind_number(kind: Kind) -> u32
     ensures { result ≡ kind_number kind }
 {
@@ -54,6 +95,7 @@ pub(crate) fn file_entry<S: Alter>(
     ensures filed { HasCleanDisk (state S.Store tx.new.conn.now) → IfOk result (λ done. done ≡ true → (before : _) → Stands (state S.Store tx.old.conn.now).now before → IsNext before (entry_of user.now number (draft_of entry.now))
         → Files (entry_of user.now number (draft_of entry.now)) (sha256 entry.now.octets.items) before (state S.Store tx.old.conn.now) (state S.Store tx.new.conn.now)) }
     ensures other { HasCleanDisk (state S.Store tx.new.conn.now) → IfOk result (λ done. done ≡ false → (before : _) → Stands (state S.Store tx.old.conn.now).now before → IsOther (state S.Store tx.old.conn.now).now.trees (sha256 entry.now.octets.items) entry.now.octets.items) }
+    ensures inside { HasCleanDisk (state S.Store tx.new.conn.now) → IfOk result (λ done. done ≡ true → IsTrue (state S.Store tx.new.conn.now).in_transaction) }
     ensures schema { HasCleanDisk (state S.Store tx.new.conn.now) → OnOk result ((state S.Store tx.old.conn.now).now.schema ≡ store_schema → (state S.Store tx.new.conn.now).now.schema ≡ store_schema) }
     ensures kept { HasCleanDisk (state S.Store tx.new.conn.now) → (state S.Store tx.old.conn.now).now.schema ≡ store_schema → KeepsCommit (state S.Store tx.old.conn.now) (state S.Store tx.new.conn.now) }
     ensures survives { Survives (state S.Store tx.old.conn.now) (state S.Store tx.new.conn.now) (λ _. ⊥) }

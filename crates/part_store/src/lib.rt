@@ -2,15 +2,16 @@
 //!
 //! What the store holds is in `specs/Entries`, which has no digest, and how the tables stand for it in `specs/Standing`.
 //! Each call of [`PartStore`] is one transaction: its step on what the tables stand for, or a refusal that leaves them as
-//! they were. Octets are kept once under their SHA-256, and as long as an entry names them. No call adds or lists entries
-//! so far.
+//! they were. Octets are kept once under their SHA-256, and as long as an entry names them.
 #![tactic(auto)]
 
+mod adding;
 mod contents;
 mod entries;
 mod entry;
 mod error;
 mod filing;
+mod listing;
 mod store;
 mod tables;
 mod users;

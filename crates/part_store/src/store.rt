@@ -1,16 +1,20 @@
 //! The store and its calls.
-ghost use Rattle.std.specs.Prelude.{◌≡◌, ◌⊎◌, ◌↔◌, true, false, IsTrue, option_map, MatchOption, IfOk, IfErr, OnOk, OnErr};
+ghost use Rattle.std.specs.Prelude.{◌≡◌, ◌⊎◌, ◌↔◌, ◌+◌, ◌<◌, length, map, true, false, IsTrue, option_map, MatchOption, IfOk, IfErr, OnOk, OnErr};
 ghost use Rattle.sqlite.specs.Held.{state};
 ghost use Rattle.sqlite.specs.State.{HasCleanDisk, KeepsCommit, Survives};
 ghost use Rattle.part_store.specs.Tables.{no_schema, store_schema};
-ghost use Rattle.part_store.specs.Entries.{no_entries, with_program, without_entry};
-ghost use Rattle.part_store.specs.Standing.{last_in, Brings, Makes, Spares, Stays, Stands, StandsFor, HasContent, IsEntryAt, HasNone, NamesDigest, IsTidied};
-ghost use Rattle.part_store.specs.declared.error.StoreError.TheVariants.{Memory, NoSuchEntry, Database};
+ghost use Rattle.part_store.specs.Entries.{entries_of, listing_of, no_entries, with_entries, with_program, without_entry};
+ghost use Rattle.part_store.specs.Standing.{last_in, Brings, Makes, Spares, Stays, Stands, StandsFor, HasContent, IsEntryAt, HasNone, NamesDigest, IsTidied, draft_of, listed};
+ghost use Rattle.part_store.specs.declared.error.StoreError.TheVariants.{Memory, NoSuchEntry, NumberFull, Collision, Database};
 ghost use Rattle.part_store.specs.Changes.{contents_tree};
+ghost use Rattle.part_store.specs.Filing.{Collides, HasRoom};
 ghost use Rattle.sqlite.specs.Steps.{over_memory};
 ghost use Rattle.part_store.specs.Opening.{IsReady};
 
+use crate::adding::{Adding, put_entries};
+use crate::entry::{EntryRow, NewEntry};
 use crate::error::StoreError;
+use crate::listing::list_all;
 use crate::{contents, entries, tables, users};
 use sqlite::{Alter, Connection, Error, File, FileStore, MemStore, Row, Transaction};
 use sqlite_schema::schema::Schema;
@@ -200,6 +204,29 @@ fn take_entry<S: Alter>(tx: &mut Transaction<'_, S>, user: &str, number: u32) ->
 }
 
 impl<S: Alter> PartStore<S> {
+    /// Takes an open connection that has no tables, or those of a store; they are made where there are none. A refusal, `Memory` or
+    /// `Database`, hands the connection back.
+    pub fn adopt(conn: Connection<S>) -> Result<PartStore<S>, (StoreError, Connection<S>)>
+        ensures made { IfOk result (λ s. HasCleanDisk (state S.Store s) → (state S.Store conn).now.schema ≡ no_schema → Stands (state S.Store s).now no_entries) }
+        ensures same { IfOk result (λ s. HasCleanDisk (state S.Store s) → (before : _) → Stands (state S.Store conn).now before → Stands (state S.Store s).now before) }
+        ensures spared { IfErr result (λ e. HasCleanDisk (state S.Store e.1) → IsTrue (state S.Store e.1).is_open → (state S.Store e.1).now ≡ (state S.Store conn).now) }
+        ensures refused { IfErr result (λ e. (e.0 ≡ Memory) ⊎ (e.0 ≡ Database)) }
+    {
+        let mut conn = conn;
+        match ready_tables(&mut conn) {
+            Ok(()) => Ok(PartStore { conn }),
+            Err(error) => Err((error, conn)),
+        }
+    }
+
+    /// Gives the connection back.
+    pub fn release(self) -> Connection<S>
+        ensures { result ≡ self }
+    {
+        let PartStore { conn } = self;
+        conn
+    }
+
     /// Stores the user's program in place of the one before. Refuses `Memory` and `Database`.
     pub fn set_program(&mut self, user: &str, program: &[u8]) -> Result<(), StoreError>
         ensures made { HasCleanDisk (state S.Store self.new) → OnOk result (Makes (with_program user.now program.now) (state S.Store self.old) (state S.Store self.new)) }
@@ -228,6 +255,49 @@ impl<S: Alter> PartStore<S> {
         }
         let mut tx = self.conn.transaction();
         Ok(read_program(&mut tx, user)?)
+    }
+
+    /// Adds the entries, of which there is at least one, in order, under the user's next numbers, and answers the first of
+    /// these. Refuses `Memory`, `NumberFull` exactly where the numbers that are left don't suffice, else `Collision` exactly where
+    /// another content, stored or earlier among the entries, has the digest of one and other octets, and `Database`.
+    pub fn add_entries(&mut self, user: &str, entries: &[NewEntry]) -> Result<u32, StoreError>
+        requires { 0 < length entries.now }
+        ensures made { HasCleanDisk (state S.Store self.new) → OnOk result (Makes (with_entries user.now (map draft_of entries.now)) (state S.Store self.old) (state S.Store self.new)) }
+        ensures first { HasCleanDisk (state S.Store self.new) → IfOk result (λ first. (before : _) → Stands (state S.Store self.old).now before → first ≡ before.lasts user.now + 1) }
+        ensures room { HasCleanDisk (state S.Store self.new) → OnOk result ((before : _) → Stands (state S.Store self.old).now before → HasRoom before user.now (length entries.now)) }
+        ensures apart { HasCleanDisk (state S.Store self.new) → OnOk result ((before : _) → Stands (state S.Store self.old).now before → Collides (state S.Store self.old).now.trees (map draft_of entries.now) → ⊥) }
+        ensures full { HasCleanDisk (state S.Store self.new) → IfErr result (λ e. e ≡ NumberFull → (before : _) → Stands (state S.Store self.old).now before → HasRoom before user.now (length entries.now) → ⊥) }
+        ensures collision { HasCleanDisk (state S.Store self.new) → IfErr result (λ e. e ≡ Collision → (before : _) → Stands (state S.Store self.old).now before → HasRoom before user.now (length entries.now) × Collides (state S.Store self.old).now.trees (map draft_of entries.now)) }
+        ensures spared { HasCleanDisk (state S.Store self.new) → OnErr result (Spares (state S.Store self.old) (state S.Store self.new)) }
+        ensures refused { IfErr result (λ e. (e ≡ Memory) ⊎ ((e ≡ NumberFull) ⊎ ((e ≡ Collision) ⊎ (e ≡ Database)))) }
+        ensures survives { Survives (state S.Store self.old) (state S.Store self.new) (λ trees. (before : _) → Stands (state S.Store self.old).now before → StandsFor trees (with_entries user.now (map draft_of entries.now) before)) }
+    {
+        if !self.conn.is_autocommit() {
+            return Err(StoreError::Database);
+        }
+        let mut tx = self.conn.transaction();
+        match put_entries(&mut tx, user, entries)? {
+            Adding::From(first) => {
+                tx.commit()?;
+                Ok(first)
+            }
+            Adding::NumberFull => Err(StoreError::NumberFull),
+            Adding::Collision => Err(StoreError::Collision),
+        }
+    }
+
+    /// The user's entries, by their numbers. Refuses `Memory` and `Database`.
+    pub fn entries_of(&mut self, user: &str) -> Result<Vec<EntryRow>, StoreError>
+        ensures told { HasCleanDisk (state S.Store self.new) → IfOk result (λ rows. (before : _) → Stands (state S.Store self.old).now before → map listed rows.items ≡ map listing_of (entries_of user.now before)) }
+        ensures spared { HasCleanDisk (state S.Store self.new) → Spares (state S.Store self.old) (state S.Store self.new) }
+        ensures refused { IfErr result (λ e. (e ≡ Memory) ⊎ (e ≡ Database)) }
+        ensures survives { Survives (state S.Store self.old) (state S.Store self.new) (λ _. ⊥) }
+    {
+        if !self.conn.is_autocommit() {
+            return Err(StoreError::Database);
+        }
+        let mut tx = self.conn.transaction();
+        list_all(&mut tx, user)
     }
 
     /// The octets of the user's entry of that number. Refuses `Memory`, `NoSuchEntry` exactly where he has none, and

@@ -91,8 +91,9 @@ fn all_named(alloc: Global, rows: &[(&[u8], u8, usize)]) -> bool {
 
 #[test]
 fn faults_of_require(rt: HostRuntime) {
-    let rows: [(&[u8], u8, usize); 18] = [
+    let rows: [(&[u8], u8, usize); 19] = [
         (b"require \"regex\";", 17, 0),
+        (b"require \"\x00\xff\";", 17, 0),
         (b"require [\"fileinto\", \"regex\"];", 17, 0),
         (b"require \"FileInto\";", 17, 0),
         (b"require \"\";", 17, 0),
@@ -142,7 +143,7 @@ fn faults_of_other_commands(rt: HostRuntime) {
     let rows: [(&[u8], u8, usize); 11] = [
         (b"vacation;", 15, 0),
         (b"keep; vacation;", 15, 2),
-        (b"fileinto \"a\";", 15, 0),
+        (b"fileinto \"a\";", 16, 0),
         (b"foreverypart {}", 15, 0),
         (b"keep {}", 18, 0),
         (b"keep 1;", 18, 0),
@@ -159,7 +160,7 @@ fn faults_of_other_commands(rt: HostRuntime) {
 fn faults_of_tests(rt: HostRuntime) {
     let rows: [(&[u8], u8, usize); 22] = [
         (b"if vacation {}", 15, 1),
-        (b"if header \"a\" \"b\" {}", 15, 1),
+        (b"if string \"a\" \"b\" {}", 15, 1),
         (b"if keep {}", 15, 1),
         (b"if not {}", 18, 1),
         (b"if not (true) {}", 18, 1),

@@ -6,6 +6,8 @@ mod checker;
 #[cfg(test)]
 mod compiler;
 #[cfg(test)]
+mod filters;
+#[cfg(test)]
 mod large;
 #[cfg(test)]
 mod lexer;
@@ -15,3 +17,5 @@ mod meaning;
 mod parser;
 #[cfg(test)]
 mod repeated;
+#[cfg(test)]
+mod strings;

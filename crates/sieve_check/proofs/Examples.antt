@@ -1,16 +1,19 @@
 -- Rows that were worked out by hand.
-use Rattle.std.proofs.Common.{◌≡◌, ℕ, [], ◌∷◌, Some, None, true, refl}
+use Rattle.std.proofs.Common.{◌≡◌, ℕ, zero, suc, ◌+◌, List, [], ◌∷◌, ◌++◌, Some, None, true, refl}
 use Rattle.std.specs.Prelude.{codes}
+use Rattle.glob_match.specs.declared.comparator.Comparator.TheVariants.{Octet, Casemap}
+use Rattle.glob_match.specs.declared.match_type.MatchType.TheVariants.{Is, Contains}
 use Rattle.sieve_parser.specs.Tree.{text, text_list, amount, label, InvocationTree, invocation, no_test, one_test, test_list, last, next, CommandsTree, simple, block, no_command, command}
-use Rattle.sieve_check.specs.declared.error.CheckError.TheVariants.{UnknownCommand, UnknownCapability, BadArguments}
+use Rattle.sieve_check.specs.declared.error.CheckError.TheVariants.{UnknownCommand, MissingCapability, UnknownCapability, BadArguments, Limit}
+use Rattle.sieve_check.specs.declared.error.Fault.TheVariants as fault
 use Rattle.sieve_check.specs.declared.names.Capability.TheVariants.{Mime, FileInto}
-use Rattle.sieve_check.specs.declared.names.TestName.TheVariants.{Size}
+use Rattle.sieve_check.specs.declared.names.TestName.TheVariants.{Header, Exists, Size}
 use Rattle.sieve_check.specs.declared.typed.Order.TheVariants.{Over}
 use Rattle.sieve_check.specs.FormOf.{IsFormOf, form_of, test_form_of}
-use Rattle.sieve_check.specs.Rules.{fault_of, after_invocation}
-use Rattle.sieve_check.specs.Signatures.{Read, reading, test_signature}
+use Rattle.sieve_check.specs.Rules.{Visit, first_fault, fault_of, after_invocation}
+use Rattle.sieve_check.specs.Signatures.{Read, no_tag, reading, test_signature}
 use Rattle.sieve_check.specs.Surroundings.{at_start, lacks}
-use Rattle.sieve_check.specs.Typed.{constant, size, keep, stop, choice, otherwise, branch}
+use Rattle.sieve_check.specs.Typed.{constant, header, exists, size, keep, file_into, stop, choice, otherwise, branch}
 use Rattle.sieve_check.specs.Typed as typed
 
 abbrev keep_at : ℕ → CommandsTree → CommandsTree
@@ -22,6 +25,21 @@ true_at n = invocation n (codes "true") [] no_test
 -- vacation;
 unknown : fault_of (command (simple (invocation 0 (codes "vacation") [] no_test)) no_command) ≡ Some (UnknownCommand 0)
 unknown = refl
+
+-- fileinto "x";
+filed_without : fault_of (command (simple (invocation 0 (codes "fileinto") (text (codes "x") ∷ []) no_test)) no_command) ≡ Some (MissingCapability 0)
+filed_without = refl
+
+-- require "fileinto"; fileinto "x"; fileinto ["x"];
+abbrev filing : CommandsTree → CommandsTree
+filing others =
+    command (simple (invocation 0 (codes "require") (text (codes "fileinto") ∷ []) no_test)) (command (simple (invocation 3 (codes "fileinto") (text (codes "x") ∷ []) no_test)) others)
+
+filed_list : fault_of (filing (command (simple (invocation 6 (codes "fileinto") (text_list (codes "x") [] ∷ []) no_test)) no_command)) ≡ Some (BadArguments 6)
+filed_list = refl
+
+filed_form : IsFormOf (filing no_command) (typed.command (file_into (codes "x")) typed.no_command)
+filed_form = refl
 
 -- require "regex";
 not_required : fault_of (command (simple (invocation 0 (codes "require") (text (codes "regex") ∷ []) no_test)) no_command) ≡ Some (UnknownCapability 0)
@@ -74,7 +92,7 @@ not_all_required : lacks (after_invocation at_start (invocation 0 (codes "requir
 not_all_required = refl
 
 -- size :over 10, with one tag, with none, with two, and with the tag behind the number
-over_read : reading (test_signature Size) (label (codes "over") ∷ amount 10 ∷ []) ≡ Some (let r : Read = record { tags = record { order = Some Over }; positional = amount 10 ∷ [] } in r)
+over_read : reading (test_signature Size) (label (codes "over") ∷ amount 10 ∷ []) ≡ Some (let r : Read = record { tags = record no_tag { order = Some Over }; positional = amount 10 ∷ [] } in r)
 over_read = refl
 
 no_tag_read : reading (test_signature Size) (amount 10 ∷ []) ≡ None
@@ -103,3 +121,77 @@ one_form = refl
 -- keep; else {}
 no_form : form_of (keep_at 0 (command (block (invocation 2 (codes "else") [] no_test) no_command) no_command)) ≡ None
 no_form = refl
+
+-- so many names, none the same as another
+abbrev names_numbered : ℕ → List (List ℕ)
+names_numbered zero = []
+names_numbered (suc n) = ((128 + n) ∷ []) ∷ names_numbered n
+
+abbrev brings : ℕ → List (List ℕ) → Visit
+brings token names = record { token = token; names = names; fault = None }
+
+-- 128 names, of which some come again, in another case too
+enough_names : first_fault [] (brings 0 (names_numbered 127) ∷ brings 4 (codes "a" ∷ codes "A" ∷ names_numbered 9) ∷ brings 7 (codes "a" ∷ []) ∷ []) ≡ None
+enough_names = refl
+
+-- the 129th is named where it comes, and a fault of the same visit before it
+too_many_names : first_fault [] (brings 0 (names_numbered 127) ∷ brings 4 (codes "a" ∷ []) ∷ brings 7 (codes "b" ∷ []) ∷ brings 9 (codes "c" ∷ []) ∷ []) ≡ Some (Limit 7)
+too_many_names = refl
+
+least_fault : first_fault [] (brings 0 (names_numbered 128) ∷ record { token = 4; names = codes "a" ∷ []; fault = Some fault.BadArguments } ∷ []) ≡ Some (BadArguments 4)
+least_fault = refl
+
+-- ---- strings in tests
+
+-- so many empty strings
+abbrev strings_numbered : ℕ → List (List ℕ)
+strings_numbered zero = []
+strings_numbered (suc n) = [] ∷ strings_numbered n
+
+abbrev if_test : InvocationTree → CommandsTree
+if_test t = command (block (invocation 0 (codes "if") [] (one_test t)) no_command) no_command
+
+-- header "a" ["b", "c"]
+plain_header : test_form_of (invocation 1 (codes "header") (text (codes "a") ∷ text_list (codes "b") (codes "c" ∷ []) ∷ []) no_test)
+    ≡ Some (header (record { kind = Is; comparator = Casemap }) (codes "a" ∷ []) (codes "b" ∷ codes "c" ∷ []))
+plain_header = refl
+
+-- header :Comparator "i;octet" :contains ["a"] "b", and with its tags the other way round
+tagged_header : test_form_of (invocation 1 (codes "header") (label (codes "Comparator") ∷ text (codes "i;octet") ∷ label (codes "contains") ∷ text_list (codes "a") [] ∷ text (codes "b") ∷ []) no_test)
+    ≡ Some (header (record { kind = Contains; comparator = Octet }) (codes "a" ∷ []) (codes "b" ∷ []))
+tagged_header = refl
+
+turned_header : test_form_of (invocation 1 (codes "header") (label (codes "contains") ∷ label (codes "comparator") ∷ text (codes "i;octet") ∷ text (codes "a") ∷ text (codes "b") ∷ []) no_test)
+    ≡ Some (header (record { kind = Contains; comparator = Octet }) (codes "a" ∷ []) (codes "b" ∷ []))
+turned_header = refl
+
+-- exists ["a", "b"]
+two_exist : test_form_of (invocation 1 (codes "exists") (text_list (codes "a") (codes "b" ∷ []) ∷ []) no_test) ≡ Some (exists (codes "a" ∷ codes "b" ∷ []))
+two_exist = refl
+
+-- a tag behind a positional argument, an unknown comparator, one in brackets, and one that isn't there
+tag_between : reading (test_signature Header) (text (codes "a") ∷ label (codes "is") ∷ text (codes "b") ∷ []) ≡ None
+tag_between = refl
+
+unknown_comparator : reading (test_signature Header) (label (codes "comparator") ∷ text (codes "I;OCTET") ∷ text (codes "a") ∷ text (codes "b") ∷ []) ≡ None
+unknown_comparator = refl
+
+bracketed_comparator : reading (test_signature Header) (label (codes "comparator") ∷ text_list (codes "i;octet") [] ∷ text (codes "a") ∷ text (codes "b") ∷ []) ≡ None
+bracketed_comparator = refl
+
+no_comparator : reading (test_signature Header) (label (codes "comparator") ∷ []) ≡ None
+no_comparator = refl
+
+-- two tags of one group, and a tag of another test
+two_kinds : reading (test_signature Header) (label (codes "is") ∷ label (codes "contains") ∷ text (codes "a") ∷ text (codes "b") ∷ []) ≡ None
+two_kinds = refl
+
+kind_of_exists : reading (test_signature Exists) (label (codes "is") ∷ text (codes "a") ∷ []) ≡ None
+kind_of_exists = refl
+
+-- 512 strings in both lists, beside that of a comparator, and one more
+enough_strings : fault_of (if_test (invocation 1 (codes "header") (label (codes "comparator") ∷ text (codes "i;octet") ∷ text_list [] (strings_numbered 255) ∷ text_list [] (strings_numbered 255) ∷ []) no_test)) ≡ None
+enough_strings = refl
+
+too_many_strings : fault_of (if_test (invocation 1 (codes "header") (text_list [] (strings_numbered 255) ∷ text_list [] (strings_numbered 256) ∷ []) no_test)) ≡ Some (Limit 1)
+too_many_strings = refl

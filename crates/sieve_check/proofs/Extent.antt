@@ -1,24 +1,26 @@
--- A typed form has no more tokens than the commands that are written so.
-use Rattle.std.proofs.Common.{◌≡◌, ℕ, ◌+◌, ◌≤◌, suc, List, [], ◌∷◌, ◌++◌, Option, Some, None, arith, length, length-append, ap, subst, ◌∙◌}
+-- A typed form has no more octets than the commands that are written so.
+use Rattle.std.proofs.Common.{◌≡◌, ℕ, ◌+◌, ◌≤◌, suc, List, [], ◌∷◌, ◌++◌, Option, Some, None, arith, ap, subst, ◌∙◌}
 use Rattle.std.proofs.lemmas.Option.{same_Some}
+use Rattle.octets.specs.Limits.{max_script}
 use Rattle.sieve_parser.specs.Tree.{ArgumentTree, text, text_list, amount, label, InvocationTree, invocation, TestsTree, no_test, one_test, test_list, MoreTests, last as no_more, next, CommandTree, simple, block, CommandsTree, no_command as no_tree, command as tree}
-use Rattle.sieve_parser.specs.Lexemes.{semicolon, closing_parenthesis, opening_brace, closing_brace}
-use Rattle.sieve_parser.specs.Grammar.{at_depth, arguments_spelled, argument_spelled, invocation_spelled, tests_spelled, more_tests_spelled, command_spelled, commands_spelled}
+use Rattle.sieve_parser.specs.Lexemes.{semicolon, closing_parenthesis, closing_bracket, opening_brace, closing_brace}
+use Rattle.sieve_parser.specs.Grammar.{at_depth, more_strings_spelled, arguments_spelled, argument_spelled, invocation_spelled, tests_spelled, more_tests_spelled, command_spelled, commands_spelled}
 use Rattle.sieve_parser.specs.Scripts.{IsTree}
-use Rattle.sieve_parser.proofs.Extent.{tree_fits}
+use Rattle.sieve_parser.proofs.Extent.{octets_of, octets-append, octets_fit}
+use Rattle.glob_match.specs.declared.match_type.Match.{Match}
 use Rattle.sieve_check.specs.declared.names.CommandName.{CommandName}
-use Rattle.sieve_check.specs.declared.names.CommandName.TheVariants.{Require, If, Elsif, Else, Stop, Keep, Discard}
+use Rattle.sieve_check.specs.declared.names.CommandName.TheVariants.{Require, If, Elsif, Else, Stop, Keep, Discard, FileInto}
 use Rattle.sieve_check.specs.declared.names.TestName.{TestName}
-use Rattle.sieve_check.specs.declared.names.TestName.TheVariants.{Constant, Not, AllOf, AnyOf, Size}
+use Rattle.sieve_check.specs.declared.names.TestName.TheVariants.{Constant, Not, AllOf, AnyOf, Header, Exists, Size}
 use Rattle.sieve_check.specs.declared.typed.Order.{Order}
+use Rattle.sieve_check.specs.declared.names.Tag.{Tag}
 use Rattle.sieve_check.specs.declared.signature.Signature.{Signature}
 use Rattle.sieve_check.specs.declared.signature.Tags.{Tags}
 use Rattle.sieve_check.specs.Names.{command_named, test_named, tag_named}
-use Rattle.sieve_check.specs.Signatures.{Read, no_tag, add_tag, tags_read, is_complete, reading, command_signature, test_signature}
-use Rattle.sieve_check.specs.Typed.{TestForm, constant, negation, all_of, any_of, size, TestForms, no_test as no_other, test, keep, discard, stop, CommandForms, no_command, command, BranchForms, no_branch, otherwise, branch}
-use Rattle.sieve_check.specs.Bounded.{IsBounded}
-use Rattle.sieve_check.specs.Extent.{test_extent, tests_extent, command_extent, commands_extent, branches_extent}
-use Rattle.sieve_check.specs.FormOf.{InnerForms, none, one, bracketed, number_in, test_of, test_form_of, inner_forms_of, more_forms_of, PartForm, nothing, action, first, next_branch, last, simple_of, block_of, simple_part, block_part, Forms, closed, closed_by, after_none, put, part_of, forms_of, IsFormOf}
+use Rattle.sieve_check.specs.Signatures.{Read, no_tag, add_tag, awaited, with_argument, tags_read, is_complete, reading, command_signature, test_signature}
+use Rattle.sieve_check.specs.Typed.{TestForm, constant, negation, all_of, any_of, header, exists, size, TestForms, no_test as no_other, test, keep, discard, file_into, stop, CommandForms, no_command, command, BranchForms, no_branch, otherwise, branch}
+use Rattle.sieve_check.specs.Extent.{string_extent, strings_extent, test_extent, tests_extent, command_extent, commands_extent, branches_extent}
+use Rattle.sieve_check.specs.FormOf.{InnerForms, none, one, bracketed, number_in, text_in, list_in, of_list, of_lists, match_of, test_of, test_form_of, inner_forms_of, more_forms_of, PartForm, nothing, action, first, next_branch, last, simple_of, block_of, simple_part, block_part, Forms, closed, closed_by, after_none, put, part_of, forms_of, IsFormOf}
 use Rattle.sieve_check.proofs.Options.{step_some, map_some, if_some}
 
 -- an order that was given, as a number
@@ -30,56 +32,124 @@ one_at_most : (o : Option Order) → given o ≤ 1
 one_at_most None = omega arith
 one_at_most (Some order) = omega arith
 
+-- how many octets arguments have, at least
+abbrev argument_extent : ArgumentTree → ℕ
+argument_extent (text s) = string_extent s
+argument_extent (text_list s ss) = strings_extent (s ∷ ss)
+argument_extent (amount n) = 1
+argument_extent (label name) = 1
+
+abbrev arguments_extent : List ArgumentTree → ℕ
+arguments_extent [] = 0
+arguments_extent (a ∷ args) = argument_extent a + arguments_extent args
+
+argument_some : (a : ArgumentTree) → 1 ≤ argument_extent a
+argument_some (text s) = omega arith
+argument_some (text_list s ss) = omega arith
+argument_some (amount n) = omega arith
+argument_some (label name) = omega arith
+
 -- each tag that was read is an argument
-tags_fit : (signature : Signature) (tags : Tags) (args : List ArgumentTree) (read : Read) → tags_read signature tags args ≡ Some read → given read.tags.order + length read.positional ≤ given tags.order + length args
-tags_fit signature tags [] read h = subst (λ (r : Read). given r.tags.order + length r.positional ≤ given tags.order + 0) (same_Some _ read h) (omega arith)
-tags_fit signature tags (text s ∷ args) read h = subst (λ (r : Read). given r.tags.order + length r.positional ≤ given tags.order + length (text s ∷ args)) (same_Some _ read h) (omega arith)
-tags_fit signature tags (text_list s ss ∷ args) read h = subst (λ (r : Read). given r.tags.order + length r.positional ≤ given tags.order + length (text_list s ss ∷ args)) (same_Some _ read h) (omega arith)
-tags_fit signature tags (amount n ∷ args) read h = subst (λ (r : Read). given r.tags.order + length r.positional ≤ given tags.order + length (amount n ∷ args)) (same_Some _ read h) (omega arith)
-tags_fit signature tags (label name ∷ args) read h =
+tags_fit : (signature : Signature) (tags : Tags) (last : Option Tag) (args : List ArgumentTree) (read : Read) → tags_read signature tags last args ≡ Some read
+    → given read.tags.order + arguments_extent read.positional ≤ given tags.order + arguments_extent args
+tags_fit signature tags None [] read h = subst (λ (r : Read). given r.tags.order + arguments_extent r.positional ≤ given tags.order + 0) (same_Some _ read h) (omega arith)
+tags_fit signature tags None (text s ∷ args) read h = subst (λ (r : Read). given r.tags.order + arguments_extent r.positional ≤ given tags.order + arguments_extent (text s ∷ args)) (same_Some _ read h) (omega arith)
+tags_fit signature tags None (text_list s ss ∷ args) read h = subst (λ (r : Read). given r.tags.order + arguments_extent r.positional ≤ given tags.order + arguments_extent (text_list s ss ∷ args)) (same_Some _ read h) (omega arith)
+tags_fit signature tags None (amount n ∷ args) read h = subst (λ (r : Read). given r.tags.order + arguments_extent r.positional ≤ given tags.order + arguments_extent (amount n ∷ args)) (same_Some _ read h) (omega arith)
+tags_fit signature tags None (label name ∷ args) read h =
     let tag = step_some (tag_named name) _ read h in
     let more = step_some (add_tag signature tag.0 tags) _ read tag.2 in
-    omega (arith, tags_fit signature more.0 args read more.2, one_at_most more.0.order)
+    omega (arith, tags_fit signature more.0 (awaited tag.0) args read more.2, one_at_most more.0.order)
+tags_fit signature tags (Some tag) [] read h = absurd (cc)
+tags_fit signature tags (Some tag) (a ∷ args) read h =
+    let more = step_some (with_argument tag a tags) _ read h in
+    omega (arith, tags_fit signature more.0 None args read more.2, one_at_most more.0.order, argument_some a)
+
+-- the arguments behind the tags, as they were read
+positional_fits : (signature : Signature) (args : List ArgumentTree) (read : Read) → reading signature args ≡ Some read → arguments_extent read.positional ≤ arguments_extent args
+positional_fits signature args read h =
+    let r = step_some (tags_read signature no_tag None args) _ read h in
+    let same = same_Some r.0 read (if_some (is_complete signature r.0) r.0 read r.2).1 in
+    omega (arith, tags_fit signature no_tag None args read (r.1 ∙ ap Some same))
+
+text_fits : (xs : List ArgumentTree) (s : List ℕ) → text_in xs ≡ Some s → string_extent s ≤ arguments_extent xs
+text_fits (text t ∷ []) s h = subst (λ x. string_extent x ≤ arguments_extent (text t ∷ [])) (same_Some t s h) (omega arith)
+text_fits [] s h = absurd (cc)
+text_fits (text_list t ss ∷ xs) s h = absurd (cc)
+text_fits (amount n ∷ xs) s h = absurd (cc)
+text_fits (label name ∷ xs) s h = absurd (cc)
+text_fits (text t ∷ x ∷ xs) s h = absurd (cc)
+
+list_fits : (a : ArgumentTree) (l : List (List ℕ)) → list_in a ≡ Some l → strings_extent l ≤ argument_extent a
+list_fits (text s) l h = subst (λ x. strings_extent x ≤ string_extent s) (same_Some (s ∷ []) l h) (omega arith)
+list_fits (text_list s ss) l h = subst (λ x. strings_extent x ≤ strings_extent (s ∷ ss)) (same_Some (s ∷ ss) l h) (omega arith)
+list_fits (amount n) l h = absurd (cc)
+list_fits (label name) l h = absurd (cc)
+
+exists_fits : (xs : List ArgumentTree) (f : TestForm) → of_list exists xs ≡ Some f → test_extent f ≤ 1 + arguments_extent xs
+exists_fits [] f h = absurd (cc)
+exists_fits (a ∷ []) f h =
+    let l = map_some (list_in a) exists f h in
+    subst (λ x. test_extent x ≤ 1 + arguments_extent (a ∷ [])) (same_Some (exists l.0) f l.2) (omega (arith, list_fits a l.0 l.1))
+exists_fits (a ∷ b ∷ xs) f h = absurd (cc)
+
+header_fits : (m : Match) (xs : List ArgumentTree) (f : TestForm) → of_lists (header m) xs ≡ Some f → test_extent f ≤ 1 + arguments_extent xs
+header_fits m [] f h = absurd (cc)
+header_fits m (a ∷ []) f h = absurd (cc)
+header_fits m (a ∷ b ∷ []) f h =
+    let names = step_some (list_in a) _ f h in
+    let keys = map_some (list_in b) (header m names.0) f names.2 in
+    subst (λ x. test_extent x ≤ 1 + arguments_extent (a ∷ b ∷ [])) (same_Some (header m names.0 keys.0) f keys.2) (omega (arith, list_fits a names.0 names.1, list_fits b keys.0 keys.1))
+header_fits m (a ∷ b ∷ c ∷ xs) f h = absurd (cc)
 
 -- arguments by which a size was read
-size_args : (args : List ArgumentTree) (read : Read) (order : Order) (n : ℕ) → reading (test_signature Size) args ≡ Some read → read.tags.order ≡ Some order → number_in read.positional ≡ Some n → 2 ≤ length args
+size_args : (args : List ArgumentTree) (read : Read) (order : Order) (n : ℕ) → reading (test_signature Size) args ≡ Some read → read.tags.order ≡ Some order → number_in read.positional ≡ Some n → 2 ≤ arguments_extent args
 size_args args read order n h is number =
-    let r = step_some (tags_read (test_signature Size) no_tag args) _ read h in
+    let r = step_some (tags_read (test_signature Size) no_tag None args) _ read h in
     let same = same_Some r.0 read (if_some (is_complete (test_signature Size) r.0) r.0 read r.2).1 in
-    let fits = tags_fit (test_signature Size) no_tag args read (r.1 ∙ ap Some same) in
+    let fits = tags_fit (test_signature Size) no_tag None args read (r.1 ∙ ap Some same) in
     let some : given read.tags.order ≡ 1 = ap given is in
     omega (arith, fits, some, positional read.positional n number)
   where
-    positional : (xs : List ArgumentTree) (n : ℕ) → number_in xs ≡ Some n → 1 ≤ length xs
+    positional : (xs : List ArgumentTree) (n : ℕ) → number_in xs ≡ Some n → 1 ≤ arguments_extent xs
     positional [] n h = absurd (cc)
-    positional (x ∷ xs) n h = omega arith
+    positional (amount m ∷ xs) n h = omega arith
+    positional (text s ∷ xs) n h = absurd (cc)
+    positional (text_list s ss ∷ xs) n h = absurd (cc)
+    positional (label name ∷ xs) n h = absurd (cc)
 
-argument_some : (d : ℕ) (a : ArgumentTree) → 1 ≤ length (argument_spelled d a)
-argument_some d (text s) = omega arith
-argument_some d (text_list s ss) = omega arith
-argument_some d (amount n) = omega arith
-argument_some d (label name) = omega arith
+more_strings_fit : (d : ℕ) (ss : List (List ℕ)) → strings_extent ss ≤ octets_of (more_strings_spelled d ss)
+more_strings_fit d [] = omega arith
+more_strings_fit d (s ∷ ss) = omega (arith, more_strings_fit d ss)
 
-arguments_fit : (d : ℕ) (args : List ArgumentTree) → length args ≤ length (arguments_spelled d args)
+argument_fits : (d : ℕ) (a : ArgumentTree) → argument_extent a ≤ octets_of (argument_spelled d a)
+argument_fits d (text s) = omega arith
+argument_fits d (text_list s ss) = omega (arith, more_strings_fit d ss, octets-append (more_strings_spelled d ss) (at_depth d closing_bracket ∷ []))
+argument_fits d (amount n) = omega arith
+argument_fits d (label name) = omega arith
+
+arguments_fit : (d : ℕ) (args : List ArgumentTree) → arguments_extent args ≤ octets_of (arguments_spelled d args)
 arguments_fit d [] = omega arith
-arguments_fit d (a ∷ args) = omega (arith, arguments_fit d args, argument_some d a, length-append (argument_spelled d a) (arguments_spelled d args))
+arguments_fit d (a ∷ args) = omega (arith, arguments_fit d args, argument_fits d a, octets-append (argument_spelled d a) (arguments_spelled d args))
 
--- how many tokens tests behind arguments have, at least
+-- how many octets tests behind arguments have, at least
 abbrev inner_extent : InnerForms → ℕ
 inner_extent none = 0
 inner_extent (one f) = test_extent f
 inner_extent (bracketed f fs) = 2 + test_extent f + tests_extent fs
 
 test_of_fits : (name : TestName) (args : List ArgumentTree) (read : Read) (inner : InnerForms) (f : TestForm) → reading (test_signature name) args ≡ Some read → test_of name read inner ≡ Some f
-    → test_extent f ≤ 1 + length args + inner_extent inner
-test_of_fits (Constant b) args read none f h is = subst (λ x. test_extent x ≤ 1 + length args + 0) (same_Some (constant b) f is) (omega arith)
-test_of_fits Not args read (one t) f h is = subst (λ x. test_extent x ≤ 1 + length args + test_extent t) (same_Some (negation t) f is) (omega arith)
-test_of_fits AllOf args read (bracketed t ts) f h is = subst (λ x. test_extent x ≤ 1 + length args + (2 + test_extent t + tests_extent ts)) (same_Some (all_of t ts) f is) (omega arith)
-test_of_fits AnyOf args read (bracketed t ts) f h is = subst (λ x. test_extent x ≤ 1 + length args + (2 + test_extent t + tests_extent ts)) (same_Some (any_of t ts) f is) (omega arith)
+    → test_extent f ≤ 1 + arguments_extent args + inner_extent inner
+test_of_fits (Constant b) args read none f h is = subst (λ x. test_extent x ≤ 1 + arguments_extent args + 0) (same_Some (constant b) f is) (omega arith)
+test_of_fits Not args read (one t) f h is = subst (λ x. test_extent x ≤ 1 + arguments_extent args + test_extent t) (same_Some (negation t) f is) (omega arith)
+test_of_fits AllOf args read (bracketed t ts) f h is = subst (λ x. test_extent x ≤ 1 + arguments_extent args + (2 + test_extent t + tests_extent ts)) (same_Some (all_of t ts) f is) (omega arith)
+test_of_fits AnyOf args read (bracketed t ts) f h is = subst (λ x. test_extent x ≤ 1 + arguments_extent args + (2 + test_extent t + tests_extent ts)) (same_Some (any_of t ts) f is) (omega arith)
 test_of_fits Size args read none f h is =
     let order = step_some read.tags.order _ f is in
     let n = step_some (number_in read.positional) _ f order.2 in
-    subst (λ x. test_extent x ≤ 1 + length args + 0) (same_Some (size order.0 n.0) f n.2) (omega (arith, size_args args read order.0 n.0 h order.1 n.1))
+    subst (λ x. test_extent x ≤ 1 + arguments_extent args + 0) (same_Some (size order.0 n.0) f n.2) (omega (arith, size_args args read order.0 n.0 h order.1 n.1))
+test_of_fits Header args read none f h is = omega (arith, header_fits (match_of read.tags) read.positional f is, positional_fits (test_signature Header) args read h)
+test_of_fits Exists args read none f h is = omega (arith, exists_fits read.positional f is, positional_fits (test_signature Exists) args read h)
 test_of_fits (Constant b) args read (one t) f h is = absurd (cc)
 test_of_fits (Constant b) args read (bracketed t ts) f h is = absurd (cc)
 test_of_fits Not args read none f h is = absurd (cc)
@@ -88,11 +158,15 @@ test_of_fits AllOf args read none f h is = absurd (cc)
 test_of_fits AllOf args read (one t) f h is = absurd (cc)
 test_of_fits AnyOf args read none f h is = absurd (cc)
 test_of_fits AnyOf args read (one t) f h is = absurd (cc)
+test_of_fits Header args read (one t) f h is = absurd (cc)
+test_of_fits Header args read (bracketed t ts) f h is = absurd (cc)
+test_of_fits Exists args read (one t) f h is = absurd (cc)
+test_of_fits Exists args read (bracketed t ts) f h is = absurd (cc)
 test_of_fits Size args read (one t) f h is = absurd (cc)
 test_of_fits Size args read (bracketed t ts) f h is = absurd (cc)
 
 mutual
-  test_fits : (i : InvocationTree) (f : TestForm) (d : ℕ) → test_form_of i ≡ Some f → test_extent f ≤ length (invocation_spelled d i)
+  test_fits : (i : InvocationTree) (f : TestForm) (d : ℕ) → test_form_of i ≡ Some f → test_extent f ≤ octets_of (invocation_spelled d i)
   test_fits (invocation token word args tests) f d h =
       let inner = step_some (inner_forms_of tests) _ f h in
       let name = step_some (test_named word) _ f inner.2 in
@@ -102,38 +176,38 @@ mutual
         test_of_fits name.0 args read.0 inner.0 f read.1 read.2,
         inner_fits tests inner.0 d inner.1,
         arguments_fit d args,
-        length-append (arguments_spelled d args) (tests_spelled d tests),
+        octets-append (arguments_spelled d args) (tests_spelled d tests),
       )
 
-  inner_fits : (tests : TestsTree) (inner : InnerForms) (d : ℕ) → inner_forms_of tests ≡ Some inner → inner_extent inner ≤ length (tests_spelled d tests)
+  inner_fits : (tests : TestsTree) (inner : InnerForms) (d : ℕ) → inner_forms_of tests ≡ Some inner → inner_extent inner ≤ octets_of (tests_spelled d tests)
   inner_fits no_test inner d h = subst (λ x. inner_extent x ≤ 0) (same_Some none inner h) (omega arith)
   inner_fits (one_test t) inner d h =
       let f = map_some (test_form_of t) one inner h in
-      subst (λ x. inner_extent x ≤ length (invocation_spelled (suc d) t)) (same_Some (one f.0) inner f.2) (test_fits t f.0 (suc d) f.1)
+      subst (λ x. inner_extent x ≤ octets_of (invocation_spelled (suc d) t)) (same_Some (one f.0) inner f.2) (test_fits t f.0 (suc d) f.1)
   inner_fits (test_list t ts) inner d h =
       let f = step_some (test_form_of t) _ inner h in
       let fs = map_some (more_forms_of ts) (bracketed f.0) inner f.2 in
-      subst (λ x. inner_extent x ≤ length (tests_spelled d (test_list t ts))) (same_Some (bracketed f.0 fs.0) inner fs.2) (omega (
+      subst (λ x. inner_extent x ≤ octets_of (tests_spelled d (test_list t ts))) (same_Some (bracketed f.0 fs.0) inner fs.2) (omega (
         arith,
         test_fits t f.0 (suc d) f.1,
         more_fit ts fs.0 d fs.1,
-        length-append (invocation_spelled (suc d) t) (more_tests_spelled d ts ++ at_depth d closing_parenthesis ∷ []),
-        length-append (more_tests_spelled d ts) (at_depth d closing_parenthesis ∷ []),
+        octets-append (invocation_spelled (suc d) t) (more_tests_spelled d ts ++ at_depth d closing_parenthesis ∷ []),
+        octets-append (more_tests_spelled d ts) (at_depth d closing_parenthesis ∷ []),
       ))
 
-  more_fit : (ts : MoreTests) (fs : TestForms) (d : ℕ) → more_forms_of ts ≡ Some fs → tests_extent fs ≤ length (more_tests_spelled d ts)
+  more_fit : (ts : MoreTests) (fs : TestForms) (d : ℕ) → more_forms_of ts ≡ Some fs → tests_extent fs ≤ octets_of (more_tests_spelled d ts)
   more_fit no_more fs d h = subst (λ x. tests_extent x ≤ 0) (same_Some no_other fs h) (omega arith)
   more_fit (next t ts) fs d h =
       let f = step_some (test_form_of t) _ fs h in
       let others = map_some (more_forms_of ts) (test f.0) fs f.2 in
-      subst (λ x. tests_extent x ≤ length (more_tests_spelled d (next t ts))) (same_Some (test f.0 others.0) fs others.2) (omega (
+      subst (λ x. tests_extent x ≤ octets_of (more_tests_spelled d (next t ts))) (same_Some (test f.0 others.0) fs others.2) (omega (
         arith,
         test_fits t f.0 (suc d) f.1,
         more_fit ts others.0 d others.1,
-        length-append (invocation_spelled (suc d) t) (more_tests_spelled d ts),
+        octets-append (invocation_spelled (suc d) t) (more_tests_spelled d ts),
       ))
 
--- how many tokens a part has, at least
+-- how many octets a part has, at least
 abbrev part_extent : PartForm → ℕ
 part_extent nothing = 0
 part_extent (action c) = command_extent c
@@ -141,28 +215,33 @@ part_extent (first f body) = 3 + test_extent f + commands_extent body
 part_extent (next_branch f body) = 3 + test_extent f + commands_extent body
 part_extent (last body) = 3 + commands_extent body
 
-simple_fits : (name : CommandName) (inner : InnerForms) (p : PartForm) → simple_of name inner ≡ Some p → part_extent p ≤ 2
-simple_fits Require none p h = subst (λ x. part_extent x ≤ 2) (same_Some nothing p h) (omega arith)
-simple_fits Stop none p h = subst (λ x. part_extent x ≤ 2) (same_Some (action stop) p h) (omega arith)
-simple_fits Keep none p h = subst (λ x. part_extent x ≤ 2) (same_Some (action keep) p h) (omega arith)
-simple_fits Discard none p h = subst (λ x. part_extent x ≤ 2) (same_Some (action discard) p h) (omega arith)
-simple_fits Require (one f) p h = absurd (cc)
-simple_fits Require (bracketed f fs) p h = absurd (cc)
-simple_fits If none p h = absurd (cc)
-simple_fits If (one f) p h = absurd (cc)
-simple_fits If (bracketed f fs) p h = absurd (cc)
-simple_fits Elsif none p h = absurd (cc)
-simple_fits Elsif (one f) p h = absurd (cc)
-simple_fits Elsif (bracketed f fs) p h = absurd (cc)
-simple_fits Else none p h = absurd (cc)
-simple_fits Else (one f) p h = absurd (cc)
-simple_fits Else (bracketed f fs) p h = absurd (cc)
-simple_fits Stop (one f) p h = absurd (cc)
-simple_fits Stop (bracketed f fs) p h = absurd (cc)
-simple_fits Keep (one f) p h = absurd (cc)
-simple_fits Keep (bracketed f fs) p h = absurd (cc)
-simple_fits Discard (one f) p h = absurd (cc)
-simple_fits Discard (bracketed f fs) p h = absurd (cc)
+simple_fits : (name : CommandName) (args : List ArgumentTree) (read : Read) (inner : InnerForms) (p : PartForm) → reading (command_signature name) args ≡ Some read → simple_of name read inner ≡ Some p → part_extent p ≤ 2 + arguments_extent args
+simple_fits Require args read none p r h = subst (λ x. part_extent x ≤ 2 + arguments_extent args) (same_Some nothing p h) (omega arith)
+simple_fits Stop args read none p r h = subst (λ x. part_extent x ≤ 2 + arguments_extent args) (same_Some (action stop) p h) (omega arith)
+simple_fits Keep args read none p r h = subst (λ x. part_extent x ≤ 2 + arguments_extent args) (same_Some (action keep) p h) (omega arith)
+simple_fits Discard args read none p r h = subst (λ x. part_extent x ≤ 2 + arguments_extent args) (same_Some (action discard) p h) (omega arith)
+simple_fits FileInto args read none p r h =
+    let folder = map_some (text_in read.positional) (λ folder. action (file_into folder)) p h in
+    subst (λ x. part_extent x ≤ 2 + arguments_extent args) (same_Some (action (file_into folder.0)) p folder.2) (omega (arith, text_fits read.positional folder.0 folder.1, positional_fits (command_signature FileInto) args read r))
+simple_fits Require args read (one f) p r h = absurd (cc)
+simple_fits Require args read (bracketed f fs) p r h = absurd (cc)
+simple_fits If args read none p r h = absurd (cc)
+simple_fits If args read (one f) p r h = absurd (cc)
+simple_fits If args read (bracketed f fs) p r h = absurd (cc)
+simple_fits Elsif args read none p r h = absurd (cc)
+simple_fits Elsif args read (one f) p r h = absurd (cc)
+simple_fits Elsif args read (bracketed f fs) p r h = absurd (cc)
+simple_fits Else args read none p r h = absurd (cc)
+simple_fits Else args read (one f) p r h = absurd (cc)
+simple_fits Else args read (bracketed f fs) p r h = absurd (cc)
+simple_fits Stop args read (one f) p r h = absurd (cc)
+simple_fits Stop args read (bracketed f fs) p r h = absurd (cc)
+simple_fits Keep args read (one f) p r h = absurd (cc)
+simple_fits Keep args read (bracketed f fs) p r h = absurd (cc)
+simple_fits Discard args read (one f) p r h = absurd (cc)
+simple_fits Discard args read (bracketed f fs) p r h = absurd (cc)
+simple_fits FileInto args read (one f) p r h = absurd (cc)
+simple_fits FileInto args read (bracketed f fs) p r h = absurd (cc)
 
 block_fits : (name : CommandName) (inner : InnerForms) (body : CommandForms) (p : PartForm) → block_of name inner body ≡ Some p → part_extent p ≤ 3 + inner_extent inner + commands_extent body
 block_fits If (one f) body p h = subst (λ x. part_extent x ≤ 3 + test_extent f + commands_extent body) (same_Some (first f body) p h) (omega arith)
@@ -186,6 +265,9 @@ block_fits Keep (bracketed f fs) body p h = absurd (cc)
 block_fits Discard none body p h = absurd (cc)
 block_fits Discard (one f) body p h = absurd (cc)
 block_fits Discard (bracketed f fs) body p h = absurd (cc)
+block_fits FileInto none body p h = absurd (cc)
+block_fits FileInto (one f) body p h = absurd (cc)
+block_fits FileInto (bracketed f fs) body p h = absurd (cc)
 
 abbrev forms_extent : Forms → ℕ
 forms_extent r = branches_extent r.branches + commands_extent r.commands
@@ -208,14 +290,14 @@ put_fits (last body) rest r h =
     let cs = map_some (closed rest) (λ cs. let x : Forms = record { branches = otherwise body; commands = cs } in x) r h in
     subst (λ x. forms_extent x ≤ part_extent (last body) + forms_extent rest) (same_Some _ r cs.2) (omega (arith, closed_fits rest.branches rest.commands cs.0 cs.1))
 
-simple_part_fits : (i : InvocationTree) (p : PartForm) (d : ℕ) → simple_part i ≡ Some p → part_extent p ≤ length (command_spelled d (simple i))
+simple_part_fits : (i : InvocationTree) (p : PartForm) (d : ℕ) → simple_part i ≡ Some p → part_extent p ≤ octets_of (command_spelled d (simple i))
 simple_part_fits (invocation token word args tests) p d h =
     let inner = step_some (inner_forms_of tests) _ p h in
     let name = step_some (command_named word) _ p inner.2 in
     let read = step_some (reading (command_signature name.0) args) _ p name.2 in
-    omega (arith, simple_fits name.0 inner.0 p read.2, length-append (invocation_spelled d (invocation token word args tests)) (at_depth d semicolon ∷ []))
+    omega (arith, simple_fits name.0 args read.0 inner.0 p read.1 read.2, arguments_fit d args, octets-append (arguments_spelled d args) (tests_spelled d tests), octets-append (invocation_spelled d (invocation token word args tests)) (at_depth d semicolon ∷ []))
 
-block_part_fits : (i : InvocationTree) (body : CommandForms) (p : PartForm) (d : ℕ) → block_part i body ≡ Some p → part_extent p ≤ 2 + length (invocation_spelled d i) + commands_extent body
+block_part_fits : (i : InvocationTree) (body : CommandForms) (p : PartForm) (d : ℕ) → block_part i body ≡ Some p → part_extent p ≤ 2 + octets_of (invocation_spelled d i) + commands_extent body
 block_part_fits (invocation token word args tests) body p d h =
     let inner = step_some (inner_forms_of tests) _ p h in
     let name = step_some (command_named word) _ p inner.2 in
@@ -224,11 +306,11 @@ block_part_fits (invocation token word args tests) body p d h =
       arith,
       block_fits name.0 inner.0 body p read.2,
       inner_fits tests inner.0 d inner.1,
-      length-append (arguments_spelled d args) (tests_spelled d tests),
+      octets-append (arguments_spelled d args) (tests_spelled d tests),
     )
 
 mutual
-  part_fits : (c : CommandTree) (p : PartForm) (d : ℕ) → part_of c ≡ Some p → part_extent p ≤ length (command_spelled d c)
+  part_fits : (c : CommandTree) (p : PartForm) (d : ℕ) → part_of c ≡ Some p → part_extent p ≤ octets_of (command_spelled d c)
   part_fits (simple i) p d h = simple_part_fits i p d h
   part_fits (block i cs) p d h =
       let forms = step_some (forms_of cs) _ p h in
@@ -238,18 +320,19 @@ mutual
         block_part_fits i body.0 p d body.2,
         closed_fits forms.0.branches forms.0.commands body.0 body.1,
         forms_fit cs forms.0 (suc d) forms.1,
-        length-append (invocation_spelled d i) (at_depth (suc d) opening_brace ∷ (commands_spelled (suc d) cs ++ at_depth (suc d) closing_brace ∷ [])),
-        length-append (commands_spelled (suc d) cs) (at_depth (suc d) closing_brace ∷ []),
+        octets-append (invocation_spelled d i) (at_depth (suc d) opening_brace ∷ (commands_spelled (suc d) cs ++ at_depth (suc d) closing_brace ∷ [])),
+        octets-append (commands_spelled (suc d) cs) (at_depth (suc d) closing_brace ∷ []),
       )
 
-  forms_fit : (cs : CommandsTree) (r : Forms) (d : ℕ) → forms_of cs ≡ Some r → forms_extent r ≤ length (commands_spelled d cs)
+  forms_fit : (cs : CommandsTree) (r : Forms) (d : ℕ) → forms_of cs ≡ Some r → forms_extent r ≤ octets_of (commands_spelled d cs)
   forms_fit no_tree r d h = subst (λ x. forms_extent x ≤ 0) (same_Some (after_none no_command) r h) (omega arith)
   forms_fit (tree c cs) r d h =
       let rest = step_some (forms_of cs) _ r h in
       let p = step_some (part_of c) _ r rest.2 in
-      omega (arith, put_fits p.0 rest.0 r p.2, part_fits c p.0 d p.1, forms_fit cs rest.0 d rest.1, length-append (command_spelled d c) (commands_spelled d cs))
+      omega (arith, put_fits p.0 rest.0 r p.2, part_fits c p.0 d p.1, forms_fit cs rest.0 d rest.1, octets-append (command_spelled d c) (commands_spelled d cs))
 
-pub script_form_fits : (cs : CommandsTree) (form : CommandForms) → IsTree cs → IsFormOf cs form → IsBounded form
-script_form_fits cs form (script, parsed) is =
+-- commands with the form of a script
+pub form_fits : (cs : CommandsTree) (form : CommandForms) → IsTree cs → IsFormOf cs form → commands_extent form ≤ max_script
+form_fits cs form (script, parsed) is =
     let forms = step_some (forms_of cs) closed form is in
-    record { octets = omega (arith, closed_fits forms.0.branches forms.0.commands form forms.2, forms_fit cs forms.0 0 forms.1, tree_fits script cs parsed, parsed.0) }
+    omega (arith, closed_fits forms.0.branches forms.0.commands form forms.2, forms_fit cs forms.0 0 forms.1, octets_fit script cs parsed, parsed.0)

@@ -1,5 +1,5 @@
 -- The fault of tests and commands, piece by piece.
-use Rattle.std.proofs.Common.{◌≡◌, ℕ, ◌+◌, ◌<◌, List, ◌∷◌, map, drop, length, get_or, Option, Some, None, sym, ap, ◌∙◌, add-one}
+use Rattle.std.proofs.Common.{◌≡◌, ℕ, ◌+◌, ◌<◌, List, [], ◌∷◌, map, drop, length, get_or, Option, Some, None, sym, ap, ◌∙◌, add-one}
 use Rattle.std.specs.Global.{Vec, Box}
 use Rattle.std.specs.Option.{option_or}
 use Rattle.std.proofs.Math.Seq.{drop-cons}
@@ -14,11 +14,10 @@ use Rattle.sieve_parser.proofs.TestSteps.{tree_tests}
 use Rattle.sieve_parser.proofs.CommandSteps.{tree_block}
 use Rattle.sieve_check.specs.declared.error.CheckError.{CheckError}
 use Rattle.sieve_check.specs.declared.signature.Tests.TheVariants.{Bracketed}
-use Rattle.sieve_check.specs.declared.signature.Ending.{Ending}
 use Rattle.sieve_check.specs.declared.signature.Ending.TheVariants.{Block}
-use Rattle.sieve_check.specs.declared.surroundings.Surroundings.{Surroundings}
-use Rattle.sieve_check.specs.Rules.{arguments_of, test_visit, command_visit, refusal_of, first_fault, test_visits, more_visits, head_visits, command_visits, commands_visits, invocation_of, after_invocation}
-use Rattle.sieve_check.specs.Surroundings.{in_block}
+use Rattle.sieve_check.specs.Rules.{arguments_of, test_visit, test_visits, more_visits, head_visits, command_visits, commands_visits, invocation_of, after_invocation}
+use Rattle.sieve_check.specs.Refusing.{refusal_of, first_own_fault}
+use Rattle.sieve_check.specs.Surroundings.{Context, in_block}
 use Rattle.sieve_check.proofs.Visits.{fault_of_both}
 
 -- the trees of a list of tests after its first
@@ -42,44 +41,43 @@ first_of_two a b e is = ap (λ o. option_or o b) is
 pub second_of_two : (a b : Option CheckError) → a ≡ None → option_or a b ≡ b
 second_of_two a b none = ap (λ o. option_or o b) none
 
--- a test and a command with tests in round brackets
-module _ (s : Surroundings) (i : Invocation) (h : Head) (t : Box Invocation) (ts : Vec Invocation) (is : i ≡ WithTests h t ts) where
-  pub list_faults :
-      first_fault (test_visits s (invocation_tree i))
+-- a test with tests in round brackets
+module _ (s : Context) (i : Invocation) (h : Head) (t : Box Invocation) (ts : Vec Invocation) (is : i ≡ WithTests h t ts) where
+  list_faults :
+      first_own_fault (test_visits s (invocation_tree i))
       ≡ option_or (refusal_of (test_visit s h.token h.name (arguments_of h) Bracketed))
-      (option_or (first_fault (test_visits s (invocation_tree t.value))) (first_fault (more_visits s (others_of ts.items))))
+      (option_or (first_own_fault (test_visits s (invocation_tree t.value))) (first_own_fault (more_visits s (others_of ts.items))))
   list_faults =
-      ap (λ x. first_fault (test_visits s x)) (ap invocation_tree is ∙ tree_tests h t ts)
+      ap (λ x. first_own_fault (test_visits s x)) (ap invocation_tree is ∙ tree_tests h t ts)
       ∙ ap (option_or (refusal_of (test_visit s h.token h.name (arguments_of h) Bracketed))) (fault_of_both (test_visits s (invocation_tree t.value)) (more_visits s (others_of ts.items)))
 
-  pub head_list_faults : (ending : Ending) →
-      first_fault (head_visits s (invocation_tree i) ending)
-      ≡ option_or (refusal_of (command_visit s h.token h.name (arguments_of h) Bracketed ending))
-      (option_or (first_fault (test_visits s (invocation_tree t.value))) (first_fault (more_visits s (others_of ts.items))))
-  head_list_faults ending =
-      ap (λ x. first_fault (head_visits s x ending)) (ap invocation_tree is ∙ tree_tests h t ts)
-      ∙ ap (option_or (refusal_of (command_visit s h.token h.name (arguments_of h) Bracketed ending))) (fault_of_both (test_visits s (invocation_tree t.value)) (more_visits s (others_of ts.items)))
+  -- where nothing is wrong with the test itself, and where nothing is with its first test either
+  pub first_inside : (e : CheckError) → refusal_of (test_visit s h.token h.name (arguments_of h) Bracketed) ≡ None → first_own_fault (test_visits s (invocation_tree t.value)) ≡ Some e → first_own_fault (test_visits s (invocation_tree i)) ≡ Some e
+  first_inside e none here = list_faults ∙ second_of_three _ _ _ e none here
+
+  pub others_inside : refusal_of (test_visit s h.token h.name (arguments_of h) Bracketed) ≡ None → first_own_fault (test_visits s (invocation_tree t.value)) ≡ None → first_own_fault (test_visits s (invocation_tree i)) ≡ first_own_fault (more_visits s (others_of ts.items))
+  others_inside none here = list_faults ∙ third_of_three _ _ _ none here
 
 -- the tests of a list from an index on
-pub rest_faults : (s : Surroundings) (list : List Invocation) (i : ℕ) (x : Invocation) → i < length list → x ≡ get_or list i x →
-    first_fault (more_visits s (others_of (drop i list)))
-    ≡ option_or (first_fault (test_visits s (invocation_tree x))) (first_fault (more_visits s (others_of (drop (i + 1) list))))
+pub rest_faults : (s : Context) (list : List Invocation) (i : ℕ) (x : Invocation) → i < length list → x ≡ get_or list i x →
+    first_own_fault (more_visits s (others_of (drop i list)))
+    ≡ option_or (first_own_fault (test_visits s (invocation_tree x))) (first_own_fault (more_visits s (others_of (drop (i + 1) list))))
 rest_faults s list i x lt is =
-    ap (λ xs. first_fault (more_visits s (others_of xs))) (split_at list i x lt is)
+    ap (λ xs. first_own_fault (more_visits s (others_of xs))) (split_at list i x lt is)
     ∙ fault_of_both (test_visits s (invocation_tree x)) (more_visits s (others_of (drop (i + 1) list)))
 
 -- a command with a block
-pub block_faults : (s : Surroundings) (tree : Tree) (i : Invocation) (cs : Vec Tree) → tree ≡ trees.Block i cs →
-    first_fault (command_visits s (command_tree tree))
-    ≡ option_or (first_fault (head_visits s (invocation_tree i) Block)) (first_fault (commands_visits (in_block s) (commands_tree cs.items)))
+pub block_faults : (s : Context) (tree : Tree) (i : Invocation) (cs : Vec Tree) → tree ≡ trees.Block i cs →
+    first_own_fault (command_visits s (command_tree tree))
+    ≡ option_or (first_own_fault (head_visits s (invocation_tree i) Block)) (first_own_fault (commands_visits (in_block [] s) (commands_tree cs.items)))
 block_faults s tree i cs is =
-    ap (λ x. first_fault (command_visits s x)) (ap command_tree is ∙ tree_block i cs)
-    ∙ fault_of_both (head_visits s (invocation_tree i) Block) (commands_visits (in_block s) (commands_tree cs.items))
+    ap (λ x. first_own_fault (command_visits s x)) (ap command_tree is ∙ tree_block i cs)
+    ∙ fault_of_both (head_visits s (invocation_tree i) Block) (commands_visits (in_block [] s) (commands_tree cs.items))
 
 -- the commands from an index on
-pub next_faults : (s : Surroundings) (list : List Tree) (i : ℕ) (x : Tree) → i < length list → x ≡ get_or list i x →
-    first_fault (commands_visits s (commands_tree (drop i list)))
-    ≡ option_or (first_fault (command_visits s (command_tree x))) (first_fault (commands_visits (after_invocation s (invocation_of (command_tree x))) (commands_tree (drop (i + 1) list))))
+pub next_faults : (s : Context) (list : List Tree) (i : ℕ) (x : Tree) → i < length list → x ≡ get_or list i x →
+    first_own_fault (commands_visits s (commands_tree (drop i list)))
+    ≡ option_or (first_own_fault (command_visits s (command_tree x))) (first_own_fault (commands_visits (after_invocation s (invocation_of (command_tree x))) (commands_tree (drop (i + 1) list))))
 next_faults s list i x lt is =
-    ap (λ xs. first_fault (commands_visits s (commands_tree xs))) (split_at list i x lt is)
+    ap (λ xs. first_own_fault (commands_visits s (commands_tree xs))) (split_at list i x lt is)
     ∙ fault_of_both (command_visits s (command_tree x)) (commands_visits (after_invocation s (invocation_of (command_tree x))) (commands_tree (drop (i + 1) list)))

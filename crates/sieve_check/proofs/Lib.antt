@@ -7,5 +7,6 @@ pub mod FormSteps
 pub mod Requiring
 pub mod Options
 pub mod Extent
+pub mod Lists
 pub mod Existence
 pub mod Examples

@@ -1,5 +1,5 @@
 -- Steps that may have no answer, one after another.
-use Rattle.std.proofs.Common.{◌≡◌, Bool, true, false, ◌&&◌, not, if◌then◌else◌, Option, Some, None, option_map, refl}
+use Rattle.std.proofs.Common.{◌≡◌, Bool, true, false, ◌&&◌, ◌||◌, not, if◌then◌else◌, Option, Some, None, option_map, refl, ap, ◌∙◌}
 use Rattle.std.specs.Prelude.{is_some}
 use Rattle.std.specs.Option.{option_or}
 use Rattle.sieve_check.specs.Signatures.{◌>>=◌}
@@ -11,6 +11,12 @@ step_some (Some x) g y h = (x, refl, h)
 pub map_some : {A B : Type 0} (o : Option A) (g : A → B) (y : B) → option_map g o ≡ Some y → (x : A) × (o ≡ Some x) × (Some (g x) ≡ Some y)
 map_some None g y h = absurd (cc)
 map_some (Some x) g y h = (x, refl, h)
+
+-- three steps, of which the third goes by the second
+pub all_taken : {A B C D : Type 0} (o : Option A) (x : A) (p : Option B) (y : B) (q : B → Option C) (z : C) (f : A → B → C → Option D) → o ≡ Some x → p ≡ Some y → q y ≡ Some z
+    → (o >>= λ a. p >>= λ b. q b >>= λ c. f a b c) ≡ f x y z
+all_taken o x p y q z f h k l =
+    ap (λ o. o >>= λ a. p >>= λ b. q b >>= λ c. f a b c) h ∙ ap (λ p. p >>= λ b. q b >>= λ c. f x b c) k ∙ ap (λ r. r >>= λ c. f x y c) l
 
 pub step_none : {A B : Type 0} (o : Option A) (g : A → Option B) → ((x : A) → g x ≡ None) → (o >>= g) ≡ None
 step_none None g h = refl
@@ -35,6 +41,10 @@ not_false false h = absurd (cc)
 pub both_true : (a b : Bool) → (a && b) ≡ true → (a ≡ true) × (b ≡ true)
 both_true true b h = (refl, h)
 both_true false b h = absurd (cc)
+
+pub either_false : (a b : Bool) → (a || b) ≡ false → (a ≡ false) × (b ≡ false)
+either_false false b h = (refl, h)
+either_false true b h = absurd (cc)
 
 pub some_of : {A : Type 0} (o : Option A) → is_some o ≡ true → (x : A) × (o ≡ Some x)
 some_of None h = absurd (cc)

@@ -1,14 +1,25 @@
--- How many tokens a typed form is written with, at least.
-use Rattle.std.specs.Prelude.{ℕ, ◌+◌}
-use Rattle.sieve_check.specs.Typed.{TestForm, constant, negation, all_of, any_of, size, TestForms, no_test, test, CommandForm, keep, discard, stop, choice, CommandForms, no_command, command, BranchForms, no_branch, otherwise, branch}
+-- How many octets a typed form is written with, at least. A name, a number, a tag and a sign count for one, however long they are.
+use Rattle.std.specs.Prelude.{ℕ, ◌+◌, List, [], ◌∷◌, length}
+use Rattle.sieve_check.specs.Typed.{TestForm, constant, negation, all_of, any_of, header, exists, size, TestForms, no_test, test, CommandForm, keep, discard, file_into, stop, choice, CommandForms, no_command, command, BranchForms, no_branch, otherwise, branch}
+
+-- a string in quotes
+abbrev pub string_extent : List ℕ → ℕ
+string_extent s = 2 + length s
+
+-- strings, without brackets and commas
+abbrev pub strings_extent : List (List ℕ) → ℕ
+strings_extent [] = 0
+strings_extent (s ∷ ss) = string_extent s + strings_extent ss
 
 abbrev mutual
-  -- a name, then its number with its tag, its test, or its tests in brackets with the commas between them
+  -- a name, then its number with its tag, its strings, its test, or its tests in brackets with the commas between them
   pub test_extent : TestForm → ℕ
   test_extent (constant b) = 1
   test_extent (negation t) = 1 + test_extent t
   test_extent (all_of t ts) = 3 + test_extent t + tests_extent ts
   test_extent (any_of t ts) = 3 + test_extent t + tests_extent ts
+  test_extent (header matching names keys) = 1 + strings_extent names + strings_extent keys
+  test_extent (exists names) = 1 + strings_extent names
   test_extent (size order number) = 3
 
   -- each with the comma before it
@@ -17,10 +28,11 @@ abbrev mutual
   tests_extent (test t ts) = 1 + test_extent t + tests_extent ts
 
 abbrev mutual
-  -- a name and a semicolon, or branches
+  -- a name, perhaps a string, and a semicolon; or branches
   pub command_extent : CommandForm → ℕ
   command_extent keep = 2
   command_extent discard = 2
+  command_extent (file_into folder) = 2 + string_extent folder
   command_extent stop = 2
   command_extent (choice branches) = branches_extent branches
 

@@ -1,13 +1,17 @@
 -- The typed form of a script.
-use Rattle.std.specs.Prelude.{◌≡◌, ℕ, List, [], ◌∷◌, Option, Some, None, option_map}
-use Rattle.sieve_parser.specs.Tree.{ArgumentTree, amount, InvocationTree, invocation, TestsTree, no_test, one_test, test_list, MoreTests, last as no_more, next, CommandTree, simple, block, CommandsTree, no_command as no_tree, command as tree}
+use Rattle.std.specs.Prelude.{◌≡◌, ℕ, List, [], ◌∷◌, Option, Some, None, option_map, unwrap_or}
+use Rattle.sieve_parser.specs.Tree.{ArgumentTree, text, text_list, amount, label, InvocationTree, invocation, TestsTree, no_test, one_test, test_list, MoreTests, last as no_more, next, CommandTree, simple, block, CommandsTree, no_command as no_tree, command as tree}
+use Rattle.glob_match.specs.declared.comparator.Comparator.TheVariants.{Casemap}
+use Rattle.glob_match.specs.declared.match_type.Match.{Match}
+use Rattle.glob_match.specs.declared.match_type.MatchType.TheVariants.{Is}
 use Rattle.sieve_check.specs.declared.names.CommandName.{CommandName}
-use Rattle.sieve_check.specs.declared.names.CommandName.TheVariants.{Require, If, Elsif, Else, Stop, Keep, Discard}
+use Rattle.sieve_check.specs.declared.names.CommandName.TheVariants.{Require, If, Elsif, Else, Stop, Keep, Discard, FileInto}
 use Rattle.sieve_check.specs.declared.names.TestName.{TestName}
-use Rattle.sieve_check.specs.declared.names.TestName.TheVariants.{Constant, Not, AllOf, AnyOf, Size}
+use Rattle.sieve_check.specs.declared.names.TestName.TheVariants.{Constant, Not, AllOf, AnyOf, Header, Exists, Size}
+use Rattle.sieve_check.specs.declared.signature.Tags.{Tags}
 use Rattle.sieve_check.specs.Names.{command_named, test_named}
 use Rattle.sieve_check.specs.Signatures.{◌>>=◌, Read, reading, command_signature, test_signature}
-use Rattle.sieve_check.specs.Typed.{TestForm, constant, negation, all_of, any_of, size, TestForms, no_test as no_other, test, CommandForm, keep, discard, stop, choice, CommandForms, no_command, command, BranchForms, no_branch, otherwise, branch}
+use Rattle.sieve_check.specs.Typed.{TestForm, constant, negation, all_of, any_of, header, exists, size, TestForms, no_test as no_other, test, CommandForm, keep, discard, file_into, stop, choice, CommandForms, no_command, command, BranchForms, no_branch, otherwise, branch}
 
 -- the forms of the tests behind arguments: none, one, or a first and others in brackets
 pub data InnerForms : Type 0 where
@@ -19,13 +23,43 @@ abbrev pub number_in : List ArgumentTree → Option ℕ
 number_in (amount n ∷ []) = Some n
 number_in _ = None
 
+abbrev pub text_in : List ArgumentTree → Option (List ℕ)
+text_in (text s ∷ []) = Some s
+text_in _ = None
+
+-- the strings of a list, which may be one string without brackets
+abbrev pub list_in : ArgumentTree → Option (List (List ℕ))
+list_in (text s) = Some (s ∷ [])
+list_in (text_list s ss) = Some (s ∷ ss)
+list_in (amount n) = None
+list_in (label name) = None
+
+-- what is made of one list, and of two
+abbrev pub of_list : {A : Type 0} → (List (List ℕ) → A) → List ArgumentTree → Option A
+of_list make (a ∷ []) = option_map make (list_in a)
+of_list make _ = None
+
+abbrev pub of_lists : {A : Type 0} → (List (List ℕ) → List (List ℕ) → A) → List ArgumentTree → Option A
+of_lists make (a ∷ b ∷ []) = list_in a >>= λ first. option_map (make first) (list_in b)
+of_lists make _ = None
+
+-- how values and keys are matched: without a tag by `:is`, and by `i;ascii-casemap`
+abbrev pub match_of : Tags → Match
+match_of tags = record { kind = unwrap_or tags.kind Is; comparator = unwrap_or tags.comparator Casemap }
+
+-- the comparison of a size
+abbrev pub size_of : Tags → List ArgumentTree → Option TestForm
+size_of tags args = tags.order >>= λ order. number_in args >>= λ n. Some (size order n)
+
 -- a test of this name, with the arguments that were read and the tests behind them
 abbrev pub test_of : TestName → Read → InnerForms → Option TestForm
 test_of (Constant b) read none = Some (constant b)
 test_of Not read (one f) = Some (negation f)
 test_of AllOf read (bracketed f fs) = Some (all_of f fs)
 test_of AnyOf read (bracketed f fs) = Some (any_of f fs)
-test_of Size read none = read.tags.order >>= λ order. number_in read.positional >>= λ n. Some (size order n)
+test_of Header read none = of_lists (header (match_of read.tags)) read.positional
+test_of Exists read none = of_list exists read.positional
+test_of Size read none = size_of read.tags read.positional
 test_of _ _ _ = None
 
 abbrev mutual
@@ -49,13 +83,14 @@ pub data PartForm : Type 0 where
   next_branch : TestForm → CommandForms → PartForm
   last : CommandForms → PartForm
 
--- a command of this name that ends in a semicolon
-abbrev pub simple_of : CommandName → InnerForms → Option PartForm
-simple_of Require none = Some nothing
-simple_of Stop none = Some (action stop)
-simple_of Keep none = Some (action keep)
-simple_of Discard none = Some (action discard)
-simple_of _ _ = None
+-- a command of this name that ends in a semicolon, with the arguments that were read
+abbrev pub simple_of : CommandName → Read → InnerForms → Option PartForm
+simple_of Require read none = Some nothing
+simple_of Stop read none = Some (action stop)
+simple_of Keep read none = Some (action keep)
+simple_of Discard read none = Some (action discard)
+simple_of FileInto read none = option_map (λ folder. action (file_into folder)) (text_in read.positional)
+simple_of _ _ _ = None
 
 -- a command of this name that ends in a block
 abbrev pub block_of : CommandName → InnerForms → CommandForms → Option PartForm
@@ -91,7 +126,7 @@ put (last body) rest = option_map (λ cs. record { branches = otherwise body; co
 -- a command that ends in a semicolon
 abbrev pub simple_part : InvocationTree → Option PartForm
 simple_part (invocation token word args tests) =
-    inner_forms_of tests >>= λ inner. command_named word >>= λ name. reading (command_signature name) args >>= λ read. simple_of name inner
+    inner_forms_of tests >>= λ inner. command_named word >>= λ name. reading (command_signature name) args >>= λ read. simple_of name read inner
 
 -- a command that ends in a block, which has that form
 abbrev pub block_part : InvocationTree → CommandForms → Option PartForm

@@ -17,7 +17,7 @@ head_test head inner = test_named head.name >>= λ name. reading (test_signature
 
 -- the command of a head, which ends in a semicolon, and which ends in a block
 abbrev pub head_simple : Head → InnerForms → Option PartForm
-head_simple head inner = command_named head.name >>= λ name. reading (command_signature name) (arguments_of head) >>= λ read. simple_of name inner
+head_simple head inner = command_named head.name >>= λ name. reading (command_signature name) (arguments_of head) >>= λ read. simple_of name read inner
 
 abbrev pub head_block : Head → InnerForms → CommandForms → Option PartForm
 head_block head inner body = command_named head.name >>= λ name. reading (command_signature name) (arguments_of head) >>= λ read. block_of name inner body

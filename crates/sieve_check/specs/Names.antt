@@ -1,15 +1,18 @@
--- What commands, tests, tags and capabilities are called.
+-- What commands, tests, tags, capabilities and comparators are called.
 use Rattle.std.specs.Prelude.{ℕ, Bool, true, false, if◌then◌else◌, List, Option, Some, None, bytes_eq, codes}
 use Rattle.octets.specs.Ascii.{lowercase_of}
+use Rattle.glob_match.specs.declared.comparator.Comparator.{Comparator as ComparatorName}
+use Rattle.glob_match.specs.declared.comparator.Comparator.TheVariants.{Octet, Casemap}
+use Rattle.glob_match.specs.declared.match_type.MatchType.TheVariants.{Is, Contains, Matches}
 use Rattle.sieve_check.specs.declared.typed.Order.TheVariants.{Over, Under}
 use Rattle.sieve_check.specs.declared.names.CommandName.{CommandName}
-use Rattle.sieve_check.specs.declared.names.CommandName.TheVariants.{Require, If, Elsif, Else, Stop, Keep, Discard}
+use Rattle.sieve_check.specs.declared.names.CommandName.TheVariants.{Require, If, Elsif, Else, Stop, Keep, Discard, FileInto}
 use Rattle.sieve_check.specs.declared.names.TestName.{TestName}
-use Rattle.sieve_check.specs.declared.names.TestName.TheVariants.{Constant, Not, AllOf, AnyOf, Size}
+use Rattle.sieve_check.specs.declared.names.TestName.TheVariants.{Constant, Not, AllOf, AnyOf, Header, Exists, Size}
 use Rattle.sieve_check.specs.declared.names.Tag.{Tag}
-use Rattle.sieve_check.specs.declared.names.Tag.TheVariants.{Order}
+use Rattle.sieve_check.specs.declared.names.Tag.TheVariants.{Order, Kind, Comparator}
 use Rattle.sieve_check.specs.declared.names.Capability.{Capability}
-use Rattle.sieve_check.specs.declared.names.Capability.TheVariants.{FileInto, Variables, Mime, ForEveryPart, Depot, OctetComparator, CasemapComparator}
+use Rattle.sieve_check.specs.declared.names.Capability.TheVariants.{FileInto as FileIntoCapability, Variables, Mime, ForEveryPart, Depot, OctetComparator, CasemapComparator}
 
 -- the texts are equal but for the case of ASCII letters
 abbrev pub is_word : List ℕ → List ℕ → Bool
@@ -25,6 +28,7 @@ command_named name =
     if is_word name (codes "stop") then Some Stop else
     if is_word name (codes "keep") then Some Keep else
     if is_word name (codes "discard") then Some Discard else
+    if is_word name (codes "fileinto") then Some FileInto else
     None
 
 -- the test of that name, if it is known
@@ -35,6 +39,8 @@ test_named name =
     if is_word name (codes "not") then Some Not else
     if is_word name (codes "allof") then Some AllOf else
     if is_word name (codes "anyof") then Some AnyOf else
+    if is_word name (codes "header") then Some Header else
+    if is_word name (codes "exists") then Some Exists else
     if is_word name (codes "size") then Some Size else
     None
 
@@ -43,16 +49,27 @@ abbrev pub tag_named : List ℕ → Option Tag
 tag_named name =
     if is_word name (codes "over") then Some (Order Over) else
     if is_word name (codes "under") then Some (Order Under) else
+    if is_word name (codes "is") then Some (Kind Is) else
+    if is_word name (codes "contains") then Some (Kind Contains) else
+    if is_word name (codes "matches") then Some (Kind Matches) else
+    if is_word name (codes "comparator") then Some Comparator else
     None
 
 -- the capability of that name, if it is known; capabilities are taken as they are written
 abbrev pub capability_named : List ℕ → Option Capability
 capability_named name =
-    if bytes_eq name (codes "fileinto") then Some FileInto else
+    if bytes_eq name (codes "fileinto") then Some FileIntoCapability else
     if bytes_eq name (codes "variables") then Some Variables else
     if bytes_eq name (codes "mime") then Some Mime else
     if bytes_eq name (codes "foreverypart") then Some ForEveryPart else
     if bytes_eq name (codes "vnd.depot") then Some Depot else
     if bytes_eq name (codes "comparator-i;octet") then Some OctetComparator else
     if bytes_eq name (codes "comparator-i;ascii-casemap") then Some CasemapComparator else
+    None
+
+-- the comparator of that name, if it is known; comparators are taken as they are written
+abbrev pub comparator_named : List ℕ → Option ComparatorName
+comparator_named name =
+    if bytes_eq name (codes "i;octet") then Some Octet else
+    if bytes_eq name (codes "i;ascii-casemap") then Some Casemap else
     None

@@ -1,8 +1,9 @@
 -- What is wrong with the commands and tests of a script, and which fault is named.
-use Rattle.std.specs.Prelude.{ℕ, Bool, true, false, ◌&&◌, not, nat_lt, if◌then◌else◌, List, [], ◌∷◌, ◌++◌, map, length, flat_map, Option, Some, None, is_some, option_map}
+use Rattle.std.specs.Prelude.{ℕ, Bool, true, false, ◌&&◌, ◌||◌, not, nat_lt, if◌then◌else◌, List, [], ◌∷◌, ◌++◌, map, length, flat_map, Option, Some, None, is_some, option_map}
 use Rattle.std.specs.List.{list_any}
 use Rattle.std.specs.Option.{option_or}
-use Rattle.octets.specs.Limits.{max_string}
+use Rattle.octets.specs.Limits.{max_string, max_variables}
+use Rattle.octets.specs.Once.{with_more}
 use Rattle.sieve_parser.specs.Tree.{ArgumentTree, text, text_list, amount, label, InvocationTree, invocation, TestsTree, no_test, one_test, test_list, MoreTests, last, next, CommandTree, simple, block, CommandsTree, no_command, command}
 use Rattle.sieve_parser.specs.View.{argument_tree}
 use Rattle.sieve_parser.specs.declared.tree.Head.{Head}
@@ -11,10 +12,11 @@ use Rattle.sieve_check.specs.declared.error.CheckError.TheVariants as refused
 use Rattle.sieve_check.specs.declared.error.Fault.{Fault}
 use Rattle.sieve_check.specs.declared.error.Fault.TheVariants.{UnknownCommand, MissingCapability, UnknownCapability, BadArguments, Limit}
 use Rattle.sieve_check.specs.declared.names.Capability.{Capability}
+use Rattle.sieve_check.specs.declared.names.Capability.TheVariants as capability
 use Rattle.sieve_check.specs.declared.names.CommandName.{CommandName}
-use Rattle.sieve_check.specs.declared.names.CommandName.TheVariants.{Require, If, Elsif, Else, Stop, Keep, Discard}
+use Rattle.sieve_check.specs.declared.names.CommandName.TheVariants.{Require, If, Elsif, Else, Stop, Keep, Discard, FileInto}
 use Rattle.sieve_check.specs.declared.names.TestName.{TestName}
-use Rattle.sieve_check.specs.declared.names.TestName.TheVariants.{Constant, Not, AllOf, AnyOf, Size}
+use Rattle.sieve_check.specs.declared.names.TestName.TheVariants.{Constant, Not, AllOf, AnyOf, Header, Exists, Size}
 use Rattle.sieve_check.specs.declared.rules.StringFault.{StringFault}
 use Rattle.sieve_check.specs.declared.rules.StringFault.TheVariants.{Unknown, Long}
 use Rattle.sieve_check.specs.declared.signature.Tests.{Tests}
@@ -22,10 +24,9 @@ use Rattle.sieve_check.specs.declared.signature.Tests.TheVariants.{Nothing, One,
 use Rattle.sieve_check.specs.declared.signature.Ending.{Ending}
 use Rattle.sieve_check.specs.declared.signature.Ending.TheVariants.{Semicolon, Block}
 use Rattle.sieve_check.specs.declared.signature.Signature.{Signature}
-use Rattle.sieve_check.specs.declared.surroundings.Surroundings.{Surroundings}
-use Rattle.sieve_check.specs.Names.{capability_named, command_named, test_named}
-use Rattle.sieve_check.specs.Signatures.{command_signature, ending_of, test_signature, reading}
-use Rattle.sieve_check.specs.Surroundings.{at_start, following, in_block, lacks}
+use Rattle.sieve_check.specs.Names.{is_word, capability_named, command_named, test_named}
+use Rattle.sieve_check.specs.Signatures.{Read, command_signature, ending_of, test_signature, reading}
+use Rattle.sieve_check.specs.Surroundings.{Context, at_start, following, in_block, lacks}
 
 -- the strings of arguments, with those in brackets
 abbrev pub strings_in : ArgumentTree → List (List ℕ)
@@ -40,7 +41,7 @@ strings_of args = flat_map strings_in args
 abbrev pub arguments_of : Head → List ArgumentTree
 arguments_of head = map argument_tree head.arguments.items
 
--- the capability that a command or test needs: none, for those that have come
+-- the capability that a command or test needs, if it needs one
 abbrev pub command_needs : CommandName → Option Capability
 command_needs Require = None
 command_needs If = None
@@ -49,16 +50,19 @@ command_needs Else = None
 command_needs Stop = None
 command_needs Keep = None
 command_needs Discard = None
+command_needs FileInto = Some capability.FileInto
 
 abbrev pub test_needs : TestName → Option Capability
 test_needs (Constant b) = None
 test_needs Not = None
 test_needs AllOf = None
 test_needs AnyOf = None
+test_needs Header = None
+test_needs Exists = None
 test_needs Size = None
 
 -- where each command may stand: a require at the top level after nothing else, an elsif and an else directly after an if or elsif
-abbrev pub may_stand : Surroundings → CommandName → Bool
+abbrev pub may_stand : Context → CommandName → Bool
 may_stand s Require = s.takes_require
 may_stand s If = true
 may_stand s Elsif = s.after_if
@@ -66,6 +70,7 @@ may_stand s Else = s.after_if
 may_stand s Stop = true
 may_stand s Keep = true
 may_stand s Discard = true
+may_stand s FileInto = true
 
 -- what may be wrong with a string: it is no capability, or longer than the limit
 abbrev pub string_has : StringFault → List ℕ → Bool
@@ -80,6 +85,15 @@ has_unknown_capability _ args = false
 -- a string is longer than the limit
 abbrev pub has_long_string : List ArgumentTree → Bool
 has_long_string args = list_any (string_has Long) (strings_of args)
+
+-- the most strings in the lists of one test
+abbrev pub max_test_strings : ℕ
+max_test_strings = 512
+
+-- arguments that were read have more strings behind the tags than one test may have
+abbrev pub has_many_strings : Option Read → Bool
+has_many_strings None = false
+has_many_strings (Some read) = nat_lt max_test_strings (length (strings_of read.positional))
 
 abbrev pub same_tests : Tests → Tests → Bool
 same_tests Nothing Nothing = true
@@ -97,7 +111,7 @@ abbrev pub is_well_formed : Signature → List ArgumentTree → Tests → Bool
 is_well_formed signature args tests = same_tests signature.tests tests && is_some (reading signature args)
 
 -- the fault of least number of a command that is known by that name
-abbrev pub known_command_fault : Surroundings → CommandName → List ArgumentTree → Tests → Ending → Option Fault
+abbrev pub known_command_fault : Context → CommandName → List ArgumentTree → Tests → Ending → Option Fault
 known_command_fault s name args tests ending =
     if lacks s (command_needs name) then Some MissingCapability
     else if has_unknown_capability name args then Some UnknownCapability
@@ -106,11 +120,11 @@ known_command_fault s name args tests ending =
     else None
 
 -- the fault of least number of a test that is known by that name
-abbrev pub known_test_fault : Surroundings → TestName → List ArgumentTree → Tests → Option Fault
+abbrev pub known_test_fault : Context → TestName → List ArgumentTree → Tests → Option Fault
 known_test_fault s name args tests =
     if lacks s (test_needs name) then Some MissingCapability
     else if not (is_well_formed (test_signature name) args tests) then Some BadArguments
-    else if has_long_string args then Some Limit
+    else if has_long_string args || has_many_strings (reading (test_signature name) args) then Some Limit
     else None
 
 -- the fault of a command or test, by what its name is known as, if it is known
@@ -118,16 +132,29 @@ abbrev pub fault_by_name : {Name : Type 0} → (Name → Option Fault) → Optio
 fault_by_name fault None = Some UnknownCommand
 fault_by_name fault (Some name) = fault name
 
--- a visited command or test: the number of its identifier's token, and its fault, if it has one
+-- the names of the variables in the strings of a command or test: none, since no string is expanded yet
+abbrev pub names_in : Context → List ArgumentTree → List (List ℕ)
+names_in s args = []
+
+-- a visited command or test: the number of its identifier's token, the names of variables that it brings, and its fault, if it has one by itself
 pub record Visit : Type 0 where
   pub token : ℕ
+  pub names : List (List ℕ)
   pub fault : Option Fault
 
-abbrev pub command_visit : Surroundings → ℕ → List ℕ → List ArgumentTree → Tests → Ending → Visit
-command_visit s token name args tests ending = record { token = token; fault = fault_by_name (λ known. known_command_fault s known args tests ending) (command_named name) }
+abbrev pub command_visit : Context → ℕ → List ℕ → List ArgumentTree → Tests → Ending → Visit
+command_visit s token name args tests ending = record {
+  token = token;
+  names = names_in s args;
+  fault = fault_by_name (λ known. known_command_fault s known args tests ending) (command_named name);
+}
 
-abbrev pub test_visit : Surroundings → ℕ → List ℕ → List ArgumentTree → Tests → Visit
-test_visit s token name args tests = record { token = token; fault = fault_by_name (λ known. known_test_fault s known args tests) (test_named name) }
+abbrev pub test_visit : Context → ℕ → List ℕ → List ArgumentTree → Tests → Visit
+test_visit s token name args tests = record {
+  token = token;
+  names = names_in s args;
+  fault = fault_by_name (λ known. known_test_fault s known args tests) (test_named name);
+}
 
 abbrev pub kind_of : TestsTree → Tests
 kind_of no_test = Nothing
@@ -136,39 +163,43 @@ kind_of (test_list t ts) = Bracketed
 
 abbrev mutual
   -- the visits of a test, before those of its own tests
-  pub test_visits : Surroundings → InvocationTree → List Visit
+  pub test_visits : Context → InvocationTree → List Visit
   test_visits s (invocation token name args tests) = test_visit s token name args (kind_of tests) ∷ tests_visits s tests
 
   -- the visits of tests, in order
-  pub tests_visits : Surroundings → TestsTree → List Visit
+  pub tests_visits : Context → TestsTree → List Visit
   tests_visits s no_test = []
   tests_visits s (one_test t) = test_visits s t
   tests_visits s (test_list t ts) = test_visits s t ++ more_visits s ts
 
-  pub more_visits : Surroundings → MoreTests → List Visit
+  pub more_visits : Context → MoreTests → List Visit
   more_visits s last = []
   more_visits s (next t ts) = test_visits s t ++ more_visits s ts
 
 -- a command itself, and then its tests
-abbrev pub head_visits : Surroundings → InvocationTree → Ending → List Visit
+abbrev pub head_visits : Context → InvocationTree → Ending → List Visit
 head_visits s (invocation token name args tests) ending = command_visit s token name args (kind_of tests) ending ∷ tests_visits s tests
 
 abbrev pub invocation_of : CommandTree → InvocationTree
 invocation_of (simple i) = i
 invocation_of (block i cs) = i
 
+-- the loop that a command opens around its block: none of those that there are opens one
+abbrev pub loops_opened : InvocationTree → List (Option (List ℕ))
+loops_opened i = []
+
 -- after a command
-abbrev pub after_invocation : Surroundings → InvocationTree → Surroundings
+abbrev pub after_invocation : Context → InvocationTree → Context
 after_invocation s (invocation token name args tests) = following s (command_named name) (strings_of args)
 
 abbrev mutual
   -- the visits of a command: itself, its tests, its block
-  pub command_visits : Surroundings → CommandTree → List Visit
+  pub command_visits : Context → CommandTree → List Visit
   command_visits s (simple i) = head_visits s i Semicolon
-  command_visits s (block i cs) = head_visits s i Block ++ commands_visits (in_block s) cs
+  command_visits s (block i cs) = head_visits s i Block ++ commands_visits (in_block (loops_opened i) s) cs
 
   -- the visits of commands, in order
-  pub commands_visits : Surroundings → CommandsTree → List Visit
+  pub commands_visits : Context → CommandsTree → List Visit
   commands_visits s no_command = []
   commands_visits s (command c cs) = command_visits s c ++ commands_visits (after_invocation s (invocation_of c)) cs
 
@@ -180,15 +211,19 @@ refusal place UnknownCapability = refused.UnknownCapability place
 refusal place BadArguments = refused.BadArguments place
 refusal place Limit = refused.Limit place
 
--- what a visit is refused as, where there is a fault
-abbrev pub refusal_of : Visit → Option CheckError
-refusal_of visit = option_map (refusal visit.token) visit.fault
+-- the names so far, with those of a visit: each once, without regard to case
+abbrev pub names_with : List (List ℕ) → Visit → List (List ℕ)
+names_with names visit = with_more is_word names visit.names
 
--- the refusal of the first visit that has a fault
-abbrev pub first_fault : List Visit → Option CheckError
-first_fault [] = None
-first_fault (v ∷ vs) = option_or (refusal_of v) (first_fault vs)
+-- the fault of a visit after names: its own, or else that the script has too many names with it
+abbrev pub visit_fault : List (List ℕ) → Visit → Option Fault
+visit_fault names visit = option_or visit.fault (if nat_lt max_variables (length (names_with names visit)) then Some Limit else None)
+
+-- the refusal of the first visit that has a fault, after names
+abbrev pub first_fault : List (List ℕ) → List Visit → Option CheckError
+first_fault names [] = None
+first_fault names (v ∷ vs) = option_or (option_map (refusal v.token) (visit_fault names v)) (first_fault (names_with names v) vs)
 
 -- the fault of a script that is named, if it has one
 abbrev pub fault_of : CommandsTree → Option CheckError
-fault_of script = first_fault (commands_visits at_start script)
+fault_of script = first_fault [] (commands_visits at_start script)

@@ -1,12 +1,12 @@
 -- What commands and tests take, and how their arguments are read (RFC 5228, section 2.6).
-use Rattle.std.specs.Prelude.{Bool, true, false, not, ◌&&◌, ◌||◌, if◌then◌else◌, List, [], ◌∷◌, Option, Some, None, is_some}
+use Rattle.std.specs.Prelude.{Bool, true, false, not, ◌&&◌, ◌||◌, if◌then◌else◌, List, [], ◌∷◌, Option, Some, None, is_some, option_map}
 use Rattle.sieve_parser.specs.Tree.{ArgumentTree, text, text_list, amount, label}
 use Rattle.sieve_check.specs.declared.names.CommandName.{CommandName}
-use Rattle.sieve_check.specs.declared.names.CommandName.TheVariants.{Require, If, Elsif, Else, Stop, Keep, Discard}
+use Rattle.sieve_check.specs.declared.names.CommandName.TheVariants.{Require, If, Elsif, Else, Stop, Keep, Discard, FileInto}
 use Rattle.sieve_check.specs.declared.names.TestName.{TestName}
-use Rattle.sieve_check.specs.declared.names.TestName.TheVariants.{Constant, Not, AllOf, AnyOf, Size}
+use Rattle.sieve_check.specs.declared.names.TestName.TheVariants.{Constant, Not, AllOf, AnyOf, Header, Exists, Size}
 use Rattle.sieve_check.specs.declared.names.Tag.{Tag}
-use Rattle.sieve_check.specs.declared.names.Tag.TheVariants.{Order}
+use Rattle.sieve_check.specs.declared.names.Tag.TheVariants.{Order, Kind, Comparator}
 use Rattle.sieve_check.specs.declared.signature.Positional.{Positional}
 use Rattle.sieve_check.specs.declared.signature.Positional.TheVariants as positional
 use Rattle.sieve_check.specs.declared.signature.Tests.{Tests}
@@ -15,7 +15,7 @@ use Rattle.sieve_check.specs.declared.signature.Ending.{Ending}
 use Rattle.sieve_check.specs.declared.signature.Ending.TheVariants.{Semicolon, Block}
 use Rattle.sieve_check.specs.declared.signature.Signature.{Signature}
 use Rattle.sieve_check.specs.declared.signature.Tags.{Tags}
-use Rattle.sieve_check.specs.Names.{tag_named}
+use Rattle.sieve_check.specs.Names.{tag_named, comparator_named}
 
 infixl 10 ◌>>=◌
 abbrev pub ◌>>=◌ : {A B : Type 0} → Option A → (A → Option B) → Option B
@@ -24,17 +24,18 @@ None >>= f = None
 
 -- no argument, and these tests
 abbrev pub bare : Tests → Signature
-bare after = record { order = false; positional = positional.Nothing; tests = after }
+bare after = record { order = false; matching = false; positional = positional.Nothing; tests = after }
 
 -- what each command takes, and how it ends
 abbrev pub command_signature : CommandName → Signature
-command_signature Require = record { order = false; positional = positional.Strings; tests = tests.Nothing }
+command_signature Require = record (bare tests.Nothing) { positional = positional.OneList }
 command_signature If = bare tests.One
 command_signature Elsif = bare tests.One
 command_signature Else = bare tests.Nothing
 command_signature Stop = bare tests.Nothing
 command_signature Keep = bare tests.Nothing
 command_signature Discard = bare tests.Nothing
+command_signature FileInto = record (bare tests.Nothing) { positional = positional.Text }
 
 abbrev pub ending_of : CommandName → Ending
 ending_of Require = Semicolon
@@ -44,6 +45,7 @@ ending_of Else = Block
 ending_of Stop = Semicolon
 ending_of Keep = Semicolon
 ending_of Discard = Semicolon
+ending_of FileInto = Semicolon
 
 -- what each test takes
 abbrev pub test_signature : TestName → Signature
@@ -51,7 +53,9 @@ test_signature (Constant b) = bare tests.Nothing
 test_signature Not = bare tests.One
 test_signature AllOf = bare tests.Bracketed
 test_signature AnyOf = bare tests.Bracketed
-test_signature Size = record { order = true; positional = positional.Number; tests = tests.Nothing }
+test_signature Header = record (bare tests.Nothing) { matching = true; positional = positional.TwoLists }
+test_signature Exists = record (bare tests.Nothing) { positional = positional.OneList }
+test_signature Size = record (bare tests.Nothing) { order = true; positional = positional.Number }
 
 -- arguments that were read: the tags, one of each group at most, and those behind them
 pub record Read : Type 0 where
@@ -59,23 +63,55 @@ pub record Read : Type 0 where
   pub positional : List ArgumentTree
 
 abbrev pub no_tag : Tags
-no_tag = record { order = None }
+no_tag = record { order = None; kind = None; comparator = None }
 
--- one more tag, if it is taken and none of its group was given
+-- the signature takes the tag, and none of its group was given
+abbrev pub takes_tag : Signature → Tag → Tags → Bool
+takes_tag signature (Order order) tags = signature.order && not (is_some tags.order)
+takes_tag signature (Kind kind) tags = signature.matching && not (is_some tags.kind)
+takes_tag signature Comparator tags = signature.matching && not (is_some tags.comparator)
+
+-- with one more tag; what one with an argument says comes with that
+abbrev pub with_tag : Tag → Tags → Tags
+with_tag (Order order) tags = record tags { order = Some order }
+with_tag (Kind kind) tags = record tags { kind = Some kind }
+with_tag Comparator tags = tags
+
 abbrev pub add_tag : Signature → Tag → Tags → Option Tags
-add_tag signature (Order order) tags = if signature.order && not (is_some tags.order) then Some (record { order = Some order }) else None
+add_tag signature tag tags = if takes_tag signature tag tags then Some (with_tag tag tags) else None
 
--- after these tags, those that are still to come, and the arguments behind them
-abbrev pub tags_read : Signature → Tags → List ArgumentTree → Option Read
-tags_read signature tags (label name ∷ args) = tag_named name >>= λ tag. add_tag signature tag tags >>= λ more. tags_read signature more args
-tags_read signature tags args = Some (record { tags = tags; positional = args })
+-- the tag, if it takes an argument
+abbrev pub awaited : Tag → Option Tag
+awaited (Order order) = None
+awaited (Kind kind) = None
+awaited Comparator = Some Comparator
+
+-- a tag's argument: of a comparator one string, its name
+abbrev pub with_argument : Tag → ArgumentTree → Tags → Option Tags
+with_argument Comparator (text s) tags = option_map (λ comparator. record tags { comparator = Some comparator }) (comparator_named s)
+with_argument _ _ tags = None
+
+-- after these tags, of which the last may await its argument: those that are still to come, and the arguments behind them
+abbrev pub tags_read : Signature → Tags → Option Tag → List ArgumentTree → Option Read
+tags_read signature tags None (label name ∷ args) = tag_named name >>= λ tag. add_tag signature tag tags >>= λ more. tags_read signature more (awaited tag) args
+tags_read signature tags None args = Some (record { tags = tags; positional = args })
+tags_read signature tags (Some tag) (a ∷ args) = with_argument tag a tags >>= λ more. tags_read signature more None args
+tags_read signature tags (Some tag) [] = None
+
+-- one string, or one list of strings in square brackets
+abbrev pub is_list : ArgumentTree → Bool
+is_list (text s) = true
+is_list (text_list s ss) = true
+is_list (amount n) = false
+is_list (label name) = false
 
 -- the arguments are those that have to stand behind the tags
 abbrev pub is_positional : Positional → List ArgumentTree → Bool
 is_positional positional.Nothing [] = true
 is_positional positional.Number (amount n ∷ []) = true
-is_positional positional.Strings (text s ∷ []) = true
-is_positional positional.Strings (text_list s ss ∷ []) = true
+is_positional positional.Text (text s ∷ []) = true
+is_positional positional.OneList (a ∷ []) = is_list a
+is_positional positional.TwoLists (a ∷ b ∷ []) = is_list a && is_list b
 is_positional _ _ = false
 
 -- of each group that needs one a tag was given, and the arguments behind them are right
@@ -84,4 +120,4 @@ is_complete signature read = (not signature.order || is_some read.tags.order) &&
 
 -- the arguments, read by a signature: tags in any order, then the others
 abbrev pub reading : Signature → List ArgumentTree → Option Read
-reading signature args = tags_read signature no_tag args >>= λ read. if is_complete signature read then Some read else None
+reading signature args = tags_read signature no_tag None args >>= λ read. if is_complete signature read then Some read else None

@@ -1,12 +1,21 @@
--- What surrounds a command or test: what was required before it, and where it stands.
-use Rattle.std.specs.Prelude.{ℕ, Bool, true, false, not, List, [], ◌∷◌, Option, Some, None}
+-- What surrounds a command or test.
+use Rattle.std.specs.Prelude.{ℕ, Bool, true, false, not, List, [], ◌∷◌, ◌++◌, Option, Some, None}
 use Rattle.sieve_check.specs.declared.names.Capability.{Capability}
 use Rattle.sieve_check.specs.declared.names.Capability.TheVariants.{FileInto, Variables, Mime, ForEveryPart, Depot, OctetComparator, CasemapComparator}
 use Rattle.sieve_check.specs.declared.names.CommandName.{CommandName}
 use Rattle.sieve_check.specs.declared.names.CommandName.TheVariants.{Require, If, Elsif}
 use Rattle.sieve_check.specs.declared.surroundings.Capabilities.{Capabilities}
-use Rattle.sieve_check.specs.declared.surroundings.Surroundings.{Surroundings}
 use Rattle.sieve_check.specs.Names.{capability_named}
+
+-- what surrounds a command or test: what was required before it, the loops that are open around it, and where the command stands
+pub record Context : Type 0 where
+  pub required : Capabilities
+  -- each with its name, if it has one; the innermost first
+  pub loops : List (Option (List ℕ))
+  -- at the top level, and after no other command than require
+  pub takes_require : Bool
+  -- directly after an if or elsif of the same block
+  pub after_if : Bool
 
 -- the capability was required; the comparators are always there
 abbrev pub has_capability : Capability → Capabilities → Bool
@@ -19,7 +28,7 @@ has_capability OctetComparator all = true
 has_capability CasemapComparator all = true
 
 -- the capability is needed and isn't there
-abbrev pub lacks : Surroundings → Option Capability → Bool
+abbrev pub lacks : Context → Option Capability → Bool
 lacks s None = false
 lacks s (Some capability) = not (has_capability capability s.required)
 
@@ -47,19 +56,20 @@ requiring [] all = all
 requiring (name ∷ names) all = requiring names (with_required name all)
 
 -- before the first command of a script
-abbrev pub at_start : Surroundings
+abbrev pub at_start : Context
 at_start = record {
   required = record { file_into = false; variables = false; mime = false; for_every_part = false; depot = false };
+  loops = [];
   takes_require = true;
   after_if = false;
 }
 
--- before the first command of a block
-abbrev pub in_block : Surroundings → Surroundings
-in_block s = record s { takes_require = false; after_if = false }
+-- before the first command of a block, around which these loops were opened
+abbrev pub in_block : List (Option (List ℕ)) → Context → Context
+in_block opened s = record s { loops = opened ++ s.loops; takes_require = false; after_if = false }
 
 -- after a command that is known by that name, and has these strings
-abbrev pub following : Surroundings → Option CommandName → List (List ℕ) → Surroundings
+abbrev pub following : Context → Option CommandName → List (List ℕ) → Context
 following s (Some Require) strings = record s { required = requiring strings s.required; after_if = false }
 following s (Some If) strings = record s { takes_require = false; after_if = true }
 following s (Some Elsif) strings = record s { takes_require = false; after_if = true }

@@ -1,14 +1,17 @@
 -- The typed form of scripts.
-use Rattle.std.specs.Prelude.{ℕ, Bool}
+use Rattle.std.specs.Prelude.{ℕ, Bool, List}
+use Rattle.glob_match.specs.declared.match_type.Match.{Match}
 use Rattle.sieve_check.specs.declared.typed.Order.{Order}
 
--- a test, the lists of tests by their first and the others; tests in order
+-- a test: the lists of tests by their first and the others, a header's names and then its keys; tests in order
 mutual
   pub data TestForm : Type 0 where
     constant : Bool → TestForm
     negation : TestForm → TestForm
     all_of : TestForm → TestForms → TestForm
     any_of : TestForm → TestForms → TestForm
+    header : Match → List (List ℕ) → List (List ℕ) → TestForm
+    exists : List (List ℕ) → TestForm
     size : Order → ℕ → TestForm
 
   pub data TestForms : Type 0 where
@@ -20,6 +23,7 @@ mutual
   pub data CommandForm : Type 0 where
     keep : CommandForm
     discard : CommandForm
+    file_into : List ℕ → CommandForm
     stop : CommandForm
     choice : BranchForms → CommandForm
 

@@ -1,13 +1,13 @@
 -- The code's typed scripts as forms.
 use Rattle.std.specs.Prelude.{List, [], ◌∷◌, map, Option, Some, None}
 use Rattle.std.specs.Global.{Vec}
-use Rattle.sieve_check.specs.Typed.{TestForm, constant, negation, all_of, any_of, size, TestForms, no_test, test, CommandForm, keep, discard, stop, choice, CommandForms, no_command, command, BranchForms, no_branch, otherwise, branch}
+use Rattle.sieve_check.specs.Typed.{TestForm, constant, negation, all_of, any_of, header, exists, size, TestForms, no_test, test, CommandForm, keep, discard, file_into, stop, choice, CommandForms, no_command, command, BranchForms, no_branch, otherwise, branch}
 use Rattle.sieve_check.specs.declared.typed.Test.{Test}
-use Rattle.sieve_check.specs.declared.typed.Test.TheOpen.{Test-F, Constant, Not, AllOf, AnyOf, Size}
+use Rattle.sieve_check.specs.declared.typed.Test.TheOpen.{Test-F, Constant, Not, AllOf, AnyOf, Header, Exists, Size}
 use Rattle.sieve_check.specs.declared.typed.Test.TheFolds.{fold-Test}
 use Rattle.sieve_check.specs.declared.typed.Command.{Command}
 use Rattle.sieve_check.specs.declared.typed.Branch.{Branch}
-use Rattle.sieve_check.specs.declared.typed.Command.TheOpen.{Command-F, Keep, Discard, Stop, If, Branch-F}
+use Rattle.sieve_check.specs.declared.typed.Command.TheOpen.{Command-F, Keep, Discard, FileInto, Stop, If, Branch-F}
 use Rattle.sieve_check.specs.declared.typed.Command.TheFolds.{fold-Command, fold-Branch}
 
 -- tests in order
@@ -20,6 +20,8 @@ test_step (Constant b) = constant b
 test_step (Not t) = negation t.value
 test_step (AllOf t ts) = all_of t.value (tests_of ts.items)
 test_step (AnyOf t ts) = any_of t.value (tests_of ts.items)
+test_step (Header matching names keys) = header matching names.items keys.items
+test_step (Exists names) = exists names.items
 test_step (Size order number) = size order number
 
 -- a test
@@ -49,6 +51,7 @@ branches_of (b ∷ bs) last = branch b.test b.block (branches_of bs last)
 abbrev pub command_step : Command-F CommandForm GuardedForm → CommandForm
 command_step Keep = keep
 command_step Discard = discard
+command_step (FileInto folder) = file_into folder
 command_step Stop = stop
 command_step (If branches else_block) = choice (branches_of branches.items (else_of else_block))
 

@@ -8,7 +8,6 @@ ghost use Rattle.sieve_check.specs.TypedView.{commands_form};
 
 use crate::checked::Checked;
 use crate::error::CheckError;
-use crate::surroundings::Surroundings;
 use crate::{forming, rules};
 use sieve_parser::Script;
 use std::alloc::Global;
@@ -17,17 +16,19 @@ use std::alloc::Global;
 ///
 /// Commands are looked at in order, each before its tests and these before its block. The first command or test
 /// of which something is wrong is refused, at the number of its identifier's token: as
-/// [`CheckError::UnknownCommand`] where its name isn't known; else as [`CheckError::UnknownCapability`] where a
-/// `require` names something else than a capability; else as [`CheckError::BadArguments`] where it stands at a
-/// wrong place, or has other arguments, tests or another end than it takes. The other faults don't come with the
-/// commands that there are. [`CheckError::Memory`] comes only where memory was refused.
+/// [`CheckError::UnknownCommand`] where its name isn't known; else as [`CheckError::MissingCapability`] where it
+/// needs a capability that wasn't required; else as [`CheckError::UnknownCapability`] where a `require` names
+/// something else than a capability; else as [`CheckError::BadArguments`] where it stands at a wrong place, or has
+/// other arguments, tests or another end than it takes; else as [`CheckError::Limit`] where one of its strings has
+/// too many octets, or the lists of a test have too many strings. [`CheckError::Memory`] comes only where memory was
+/// refused.
 pub fn check(alloc: Global, script: Script) -> Result<Checked, CheckError>
     ensures script { IfOk result (λ checked. checked.script ≡ script) }
     ensures form { IfOk result (λ checked. IsFormOf (commands_tree script) (commands_form checked.commands)) }
     ensures faultless { OnOk result (fault_of (commands_tree script) ≡ None) }
     ensures refused { IfErr result (λ e. IsCheckRefusal (commands_tree script) e) }
 {
-    rules::commands(Surroundings::at_start(), script.commands())?;
+    rules::script(script.commands())?;
     match forming::commands(alloc, script.commands())? {
         Some(commands) => Ok(Checked::of(script, commands)),
         None => unreachable!(),

@@ -23,7 +23,7 @@ pub enum CheckError {
     /// The command or test stands at a wrong place, or with other arguments, tests or another end than it takes.
     #[error("refused 18 BadArguments at {place}")]
     BadArguments { place: usize },
-    /// A string of the command or test has more octets than the limit.
+    /// A string of the command or test has more octets than the limit, or the lists of a test have more strings.
     #[error("refused 19 Limit at {place}")]
     Limit { place: usize },
 }

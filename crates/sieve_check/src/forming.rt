@@ -1,16 +1,18 @@
 // The typed form of scripts. Nothing is answered where something isn't written as it has to be.
-ghost use Rattle.std.specs.Prelude.{◌≡◌, IfOk, map, option_map, Some, None, if◌then◌else◌};
+ghost use Rattle.std.specs.Prelude.{◌≡◌, ◌∷◌, IfOk, map, option_map, Some, None, if◌then◌else◌};
 ghost use Rattle.sieve_parser.specs.View.{argument_tree, command_tree, commands_tree, invocation_tree, more_tests_of};
-ghost use Rattle.sieve_check.specs.FormOf.{none, one, bracketed, block_part, form_of, more_forms_of, number_in, part_of, simple_part, test_form_of};
+ghost use Rattle.sieve_check.specs.FormOf.{none, one, bracketed, action, block_part, form_of, list_in, match_of, more_forms_of, number_in, of_list, of_lists, part_of, simple_part, size_of, test_form_of, text_in};
 ghost use Rattle.sieve_check.specs.Forming.{head_block, head_simple, head_test, joined_by, opened_by};
 ghost use Rattle.sieve_check.specs.Sequences.{part_form};
-ghost use Rattle.sieve_check.specs.Typed.{CommandForms, TestForm, TestForms, negation};
+ghost use Rattle.sieve_check.specs.Typed.{CommandForms, TestForm, TestForms, exists, file_into, header, negation};
 ghost use Rattle.sieve_check.specs.TypedView.{commands_form, test_form, tests_of};
 
 use crate::names::{CommandName, TestName, command_named, test_named};
 use crate::sequence::{Part, Sequence};
-use crate::signature::{command_signature, test_signature};
+use crate::signature::{Tags, command_signature, test_signature};
 use crate::typed::{Branch, Command, Test};
+use glob_match::{Comparator, Match, MatchType};
+use octets::Octets;
 use sieve_parser::{Argument, Command as Tree, Head, Invocation};
 use std::alloc::{AllocError, Global};
 
@@ -24,19 +26,90 @@ fn number_in(arguments: &[Argument]) -> Option<u64>
     }
 }
 
-// A test after whose arguments no test stands.
-fn plain_test(head: &Head) -> Option<Test>
-    ensures { option_map test_form result ≡ head_test head.now none }
+// The strings, copied.
+fn strings(alloc: Global, first: &Octets, others: &[Octets]) -> Result<Vec<Octets>, AllocError>
+    ensures { IfOk result (λ all. all.items ≡ first.now ∷ others.now) }
 {
-    let name = test_named(head.name.as_slice())?;
-    let reading = test_signature(name).read(&head.arguments)?;
+    let mut all = Vec::new(alloc);
+    all.push(first.clone()?)?;
+    for string in others {
+        all.push(string.clone()?)?;
+    }
+    Ok(all)
+}
+
+// The strings of a list, copied; one string is a list, too.
+fn list_in(alloc: Global, argument: &Argument) -> Result<Option<Vec<Octets>>, AllocError>
+    ensures { IfOk result (λ list. option_map (λ all. all.items) list ≡ list_in (argument_tree argument.now)) }
+{
+    match argument {
+        Argument::Text(string) => Ok(Some(strings(alloc, string, &[])?)),
+        Argument::TextList(first, others) => Ok(Some(strings(alloc, first, others)?)),
+        Argument::Number(_) | Argument::Tag(_) => Ok(None),
+    }
+}
+
+// The test of a header's names and keys, which the arguments are.
+fn header(alloc: Global, tags: Tags, arguments: &[Argument]) -> Result<Option<Test>, AllocError>
+    ensures { IfOk result (λ t. option_map test_form t ≡ of_lists (header (match_of tags)) (map argument_tree arguments.now)) }
+{
+    let [names, keys] = arguments else {
+        return Ok(None);
+    };
+    let Some(names) = list_in(alloc, names)? else {
+        return Ok(None);
+    };
+    let Some(keys) = list_in(alloc, keys)? else {
+        return Ok(None);
+    };
+    let matching = Match {
+        kind: tags.kind.unwrap_or(MatchType::Is),
+        comparator: tags.comparator.unwrap_or(Comparator::Casemap),
+    };
+    Ok(Some(Test::Header {
+        matching,
+        names,
+        keys,
+    }))
+}
+
+// The test that there are fields of the names, which the arguments are.
+fn exists(alloc: Global, arguments: &[Argument]) -> Result<Option<Test>, AllocError>
+    ensures { IfOk result (λ t. option_map test_form t ≡ of_list exists (map argument_tree arguments.now)) }
+{
+    let [names] = arguments else {
+        return Ok(None);
+    };
+    match list_in(alloc, names)? {
+        Some(names) => Ok(Some(Test::Exists(names))),
+        None => Ok(None),
+    }
+}
+
+// The comparison of a size.
+fn size(tags: Tags, arguments: &[Argument]) -> Option<Test>
+    ensures { option_map test_form result ≡ size_of tags (map argument_tree arguments.now) }
+{
+    let order = tags.order?;
+    Some(Test::Size(order, number_in(arguments)?))
+}
+
+// A test after whose arguments no test stands.
+fn plain_test(alloc: Global, head: &Head) -> Result<Option<Test>, AllocError>
+    ensures { IfOk result (λ t. option_map test_form t ≡ head_test head.now none) }
+{
+    let Some(name) = test_named(head.name.as_slice()) else {
+        return Ok(None);
+    };
+    let Some(reading) = test_signature(name).read(&head.arguments) else {
+        return Ok(None);
+    };
     match name {
-        TestName::Constant(value) => Some(Test::Constant(value)),
-        TestName::Size => {
-            let order = reading.tags.order?;
-            Some(Test::Size(order, number_in(reading.positional)?))
-        }
-        TestName::Not | TestName::AllOf | TestName::AnyOf => None,
+        TestName::Constant(value) => Ok(Some(Test::Constant(value))),
+        TestName::Header => header(alloc, reading.tags, reading.positional),
+        TestName::Exists => exists(alloc, reading.positional),
+        TestName::Size => Ok(size(reading.tags, reading.positional)),
+        TestName::Not | TestName::AllOf | TestName::AnyOf => Ok(None),
     }
 }
 
@@ -68,7 +141,11 @@ fn combining(head: &Head) -> Option<Junction>
     match name {
         TestName::AllOf => Some(Junction::All),
         TestName::AnyOf => Some(Junction::Any),
-        TestName::Constant(_) | TestName::Not | TestName::Size => None,
+        TestName::Constant(_)
+        | TestName::Not
+        | TestName::Header
+        | TestName::Exists
+        | TestName::Size => None,
     }
 }
 
@@ -106,7 +183,7 @@ fn test(alloc: Global, invocation: &Invocation) -> Result<Option<Test>, AllocErr
     ensures { IfOk result (λ t. option_map test_form t ≡ test_form_of (invocation_tree invocation.now)) }
 {
     match invocation {
-        Invocation::Plain(head) => Ok(plain_test(head)),
+        Invocation::Plain(head) => plain_test(alloc, head),
         Invocation::WithTest(head, inner) => match test(alloc, inner)? {
             Some(inner) => negated(alloc, head, inner),
             None => Ok(None),
@@ -138,18 +215,33 @@ fn tests(alloc: Global, list: &[Invocation]) -> Result<Option<Vec<Test>>, AllocE
     Ok(Some(tests))
 }
 
-// A command that ends in a semicolon, and after whose arguments no test stands.
-fn plain_part(head: &Head) -> Option<Part>
-    ensures { option_map part_form result ≡ head_simple head.now none }
+// The command that files into the folder which the arguments are.
+fn file_into(arguments: &[Argument]) -> Result<Option<Part>, AllocError>
+    ensures { IfOk result (λ part. option_map part_form part ≡ option_map (λ folder. action (file_into folder)) (text_in (map argument_tree arguments.now))) }
 {
-    let name = command_named(head.name.as_slice())?;
-    command_signature(name).read(&head.arguments)?;
+    match arguments {
+        [Argument::Text(folder)] => Ok(Some(Part::Action(Command::FileInto(folder.clone()?)))),
+        _ => Ok(None),
+    }
+}
+
+// A command that ends in a semicolon, and after whose arguments no test stands.
+fn plain_part(head: &Head) -> Result<Option<Part>, AllocError>
+    ensures { IfOk result (λ part. option_map part_form part ≡ head_simple head.now none) }
+{
+    let Some(name) = command_named(head.name.as_slice()) else {
+        return Ok(None);
+    };
+    let Some(reading) = command_signature(name).read(&head.arguments) else {
+        return Ok(None);
+    };
     match name {
-        CommandName::Require => Some(Part::Nothing),
-        CommandName::Stop => Some(Part::Action(Command::Stop)),
-        CommandName::Keep => Some(Part::Action(Command::Keep)),
-        CommandName::Discard => Some(Part::Action(Command::Discard)),
-        CommandName::If | CommandName::Elsif | CommandName::Else => None,
+        CommandName::Require => Ok(Some(Part::Nothing)),
+        CommandName::Stop => Ok(Some(Part::Action(Command::Stop))),
+        CommandName::Keep => Ok(Some(Part::Action(Command::Keep))),
+        CommandName::Discard => Ok(Some(Part::Action(Command::Discard))),
+        CommandName::FileInto => file_into(reading.positional),
+        CommandName::If | CommandName::Elsif | CommandName::Else => Ok(None),
     }
 }
 
@@ -175,7 +267,8 @@ fn opened(head: &Head) -> Option<Opening>
         | CommandName::Else
         | CommandName::Stop
         | CommandName::Keep
-        | CommandName::Discard => None,
+        | CommandName::Discard
+        | CommandName::FileInto => None,
     }
 }
 
@@ -203,7 +296,8 @@ fn last_part(head: &Head, block: Vec<Command>) -> Option<Part>
         | CommandName::Elsif
         | CommandName::Stop
         | CommandName::Keep
-        | CommandName::Discard => None,
+        | CommandName::Discard
+        | CommandName::FileInto => None,
     }
 }
 
@@ -226,12 +320,12 @@ fn block_part(
 }
 
 // A command without a block, as a part of the commands around it.
-fn simple_part(invocation: &Invocation) -> Option<Part>
-    ensures { option_map part_form result ≡ simple_part (invocation_tree invocation.now) }
+fn simple_part(invocation: &Invocation) -> Result<Option<Part>, AllocError>
+    ensures { IfOk result (λ part. option_map part_form part ≡ simple_part (invocation_tree invocation.now)) }
 {
     match invocation {
         Invocation::Plain(head) => plain_part(head),
-        Invocation::WithTest(_, _) | Invocation::WithTests(_, _, _) => None,
+        Invocation::WithTest(_, _) | Invocation::WithTests(_, _, _) => Ok(None),
     }
 }
 
@@ -241,7 +335,7 @@ fn part(alloc: Global, tree: &Tree) -> Result<Option<Part>, AllocError>
     ensures { IfOk result (λ part. option_map part_form part ≡ part_of (command_tree tree.now)) }
 {
     match tree {
-        Tree::Simple(invocation) => Ok(simple_part(invocation)),
+        Tree::Simple(invocation) => simple_part(invocation),
         Tree::Block(invocation, block) => match commands(alloc, block)? {
             Some(body) => block_part(alloc, invocation, body),
             None => Ok(None),

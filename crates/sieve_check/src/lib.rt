@@ -3,6 +3,7 @@
 //! [`check`] gives a script as [`Checked`], or names the fault that `specs/Rules` says. What a script means, and
 //! its code, go by its typed form alone (`specs/Typed`), which `specs/FormOf` reads off the tree. What each command and
 //! test takes is a table in `specs/Signatures`. `laws` says that a script has a typed form where nothing is wrong with it.
+//! How large a typed form and its strings and lists are at most stands in `specs/Bounded`.
 #![tactic(auto)]
 
 mod checked;

@@ -1,8 +1,9 @@
-// What commands, tests, tags and capabilities are called. ASCII case is ignored but in capabilities.
+// What commands, tests, tags, capabilities and comparators are called. ASCII case is ignored but in the last two.
 ghost use Rattle.std.specs.Prelude.{◌≡◌};
-ghost use Rattle.sieve_check.specs.Names.{capability_named, command_named, is_word, tag_named, test_named};
+ghost use Rattle.sieve_check.specs.Names.{capability_named, command_named, comparator_named, is_word, tag_named, test_named};
 
 use crate::typed::Order;
+use glob_match::{Comparator, MatchType};
 use octets::equal_ignoring_case;
 
 /// The commands that are known.
@@ -22,6 +23,8 @@ pub enum CommandName {
     Keep,
     /// `discard` (RFC 5228, section 4.4).
     Discard,
+    /// `fileinto` (RFC 5228, section 4.1).
+    FileInto,
 }
 
 /// The tests that are known.
@@ -35,6 +38,10 @@ pub enum TestName {
     AllOf,
     /// `anyof` (RFC 5228, section 5.3).
     AnyOf,
+    /// `header` (RFC 5228, section 5.7).
+    Header,
+    /// `exists` (RFC 5228, section 5.5).
+    Exists,
     /// `size` (RFC 5228, section 5.9).
     Size,
 }
@@ -44,6 +51,10 @@ pub enum TestName {
 pub enum Tag {
     /// `:over` and `:under` (RFC 5228, section 5.9).
     Order(Order),
+    /// `:is`, `:contains` and `:matches` (RFC 5228, section 2.7.1).
+    Kind(MatchType),
+    /// `:comparator`, which takes the comparator's name (RFC 5228, section 2.7.3).
+    Comparator,
 }
 
 /// The capabilities that can be required.
@@ -90,6 +101,8 @@ pub fn command_named(name: &[u8]) -> Option<CommandName>
         Some(CommandName::Keep)
     } else if is_word(name, b"discard") {
         Some(CommandName::Discard)
+    } else if is_word(name, b"fileinto") {
+        Some(CommandName::FileInto)
     } else {
         None
     }
@@ -109,6 +122,10 @@ pub fn test_named(name: &[u8]) -> Option<TestName>
         Some(TestName::AllOf)
     } else if is_word(name, b"anyof") {
         Some(TestName::AnyOf)
+    } else if is_word(name, b"header") {
+        Some(TestName::Header)
+    } else if is_word(name, b"exists") {
+        Some(TestName::Exists)
     } else if is_word(name, b"size") {
         Some(TestName::Size)
     } else {
@@ -124,6 +141,14 @@ pub fn tag_named(name: &[u8]) -> Option<Tag>
         Some(Tag::Order(Order::Over))
     } else if is_word(name, b"under") {
         Some(Tag::Order(Order::Under))
+    } else if is_word(name, b"is") {
+        Some(Tag::Kind(MatchType::Is))
+    } else if is_word(name, b"contains") {
+        Some(Tag::Kind(MatchType::Contains))
+    } else if is_word(name, b"matches") {
+        Some(Tag::Kind(MatchType::Matches))
+    } else if is_word(name, b"comparator") {
+        Some(Tag::Comparator)
     } else {
         None
     }
@@ -147,6 +172,19 @@ pub fn capability_named(name: &[u8]) -> Option<Capability>
         Some(Capability::OctetComparator)
     } else if name == b"comparator-i;ascii-casemap".as_slice() {
         Some(Capability::CasemapComparator)
+    } else {
+        None
+    }
+}
+
+/// The comparator of that name, if it is known; its octets are compared as they are.
+pub fn comparator_named(name: &[u8]) -> Option<Comparator>
+    ensures { result ≡ comparator_named name.now }
+{
+    if name == b"i;octet".as_slice() {
+        Some(Comparator::Octet)
+    } else if name == b"i;ascii-casemap".as_slice() {
+        Some(Comparator::Casemap)
     } else {
         None
     }

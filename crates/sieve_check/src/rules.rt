@@ -1,9 +1,10 @@
 // The static rules: what is wrong with commands and tests (RFC 5228, section 8.2, and each command's own section).
-ghost use Rattle.std.specs.Prelude.{◌≡◌, map, option_map};
+ghost use Rattle.std.specs.Prelude.{◌≡◌, map, length, nat_lt, option_map};
 ghost use Rattle.sieve_parser.specs.Tree.{TestsTree};
-ghost use Rattle.sieve_parser.specs.View.{command_tree, commands_tree, head_tree, invocation_tree, more_tests_of};
-ghost use Rattle.sieve_check.specs.Rules.{after_invocation, arguments_of, command_needs, command_visit, command_visits, commands_visits, first_fault, head_visits, invocation_of, is_well_formed, known_command_fault, known_test_fault, may_stand, more_visits, refusal, refusal_of, test_needs, test_visit, test_visits};
-ghost use Rattle.sieve_check.specs.Refusing.{Refuses};
+ghost use Rattle.sieve_parser.specs.View.{argument_tree, command_tree, commands_tree, head_tree, invocation_tree, more_tests_of};
+ghost use Rattle.sieve_check.specs.Rules.{after_invocation, arguments_of, command_needs, command_visit, command_visits, commands_visits, fault_of, has_many_strings, head_visits, invocation_of, is_well_formed, known_command_fault, known_test_fault, max_test_strings, may_stand, more_visits, refusal, strings_in, strings_of, test_needs, test_visit, test_visits};
+ghost use Rattle.sieve_check.specs.Signatures.{reading};
+ghost use Rattle.sieve_check.specs.Refusing.{Refuses, context_of, first_own_fault, refusal_of};
 
 use crate::error::{CheckError, Fault};
 use crate::names::{
@@ -17,7 +18,10 @@ use sieve_parser::{Argument, Command, Head, Invocation};
 /// The most octets of a string.
 const MAX_STRING: usize = 16_384;
 
-// The capability that a command needs: none of those that there are.
+/// The most strings in the lists of one test.
+const MAX_TEST_STRINGS: usize = 512;
+
+// The capability that a command needs, if it needs one.
 fn command_needs(name: CommandName) -> Option<Capability>
     ensures { result ≡ command_needs name }
 {
@@ -29,6 +33,7 @@ fn command_needs(name: CommandName) -> Option<Capability>
         | CommandName::Stop
         | CommandName::Keep
         | CommandName::Discard => None,
+        CommandName::FileInto => Some(Capability::FileInto),
     }
 }
 
@@ -41,6 +46,8 @@ fn test_needs(name: TestName) -> Option<Capability>
         | TestName::Not
         | TestName::AllOf
         | TestName::AnyOf
+        | TestName::Header
+        | TestName::Exists
         | TestName::Size => None,
     }
 }
@@ -106,6 +113,42 @@ impl StringFault {
     }
 }
 
+// How many strings the argument has.
+fn string_count(argument: &Argument) -> usize
+    ensures { result ≡ length (strings_in (argument_tree argument.now)) }
+{
+    match argument {
+        Argument::Text(_) => 1,
+        Argument::TextList(_, others) => others.len() + 1,
+        Argument::Number(_) | Argument::Tag(_) => 0,
+    }
+}
+
+// Whether the arguments have more strings than one test may have.
+fn are_many(arguments: &[Argument]) -> bool
+    ensures { result ≡ nat_lt max_test_strings (length (strings_of (map argument_tree arguments.now))) }
+{
+    let mut left = MAX_TEST_STRINGS;
+    for argument in arguments {
+        let count = string_count(argument);
+        if count > left {
+            return true;
+        }
+        left -= count;
+    }
+    false
+}
+
+// Whether the arguments, as the signature reads them, have more strings than one test may have.
+fn has_many_strings(signature: Signature, head: &Head) -> bool
+    ensures { result ≡ has_many_strings (reading signature (arguments_of head.now)) }
+{
+    match signature.read(&head.arguments) {
+        Some(reading) => are_many(reading.positional),
+        None => false,
+    }
+}
+
 // Whether arguments and tests are what the signature says.
 fn is_well_formed(signature: Signature, head: &Head, tests: Tests) -> bool
     ensures { result ≡ is_well_formed signature (arguments_of head.now) tests }
@@ -115,12 +158,16 @@ fn is_well_formed(signature: Signature, head: &Head, tests: Tests) -> bool
 
 // Whether the command may stand there.
 fn may_stand(name: CommandName, surroundings: Surroundings) -> bool
-    ensures { result ≡ may_stand surroundings name }
+    ensures { result ≡ may_stand (context_of surroundings) name }
 {
     match name {
         CommandName::Require => surroundings.takes_require,
         CommandName::Elsif | CommandName::Else => surroundings.after_if,
-        CommandName::If | CommandName::Stop | CommandName::Keep | CommandName::Discard => true,
+        CommandName::If
+        | CommandName::Stop
+        | CommandName::Keep
+        | CommandName::Discard
+        | CommandName::FileInto => true,
     }
 }
 
@@ -132,7 +179,7 @@ fn known_command_fault(
     tests: Tests,
     ending: Ending,
 ) -> Option<Fault>
-    ensures { result ≡ known_command_fault surroundings name (arguments_of head.now) tests ending }
+    ensures { result ≡ known_command_fault (context_of surroundings) name (arguments_of head.now) tests ending }
 {
     if surroundings.lacks(command_needs(name)) {
         Some(Fault::MissingCapability)
@@ -157,13 +204,14 @@ fn known_test_fault(
     head: &Head,
     tests: Tests,
 ) -> Option<Fault>
-    ensures { result ≡ known_test_fault surroundings name (arguments_of head.now) tests }
+    ensures { result ≡ known_test_fault (context_of surroundings) name (arguments_of head.now) tests }
 {
+    let signature = test_signature(name);
     if surroundings.lacks(test_needs(name)) {
         Some(Fault::MissingCapability)
-    } else if !is_well_formed(test_signature(name), head, tests) {
+    } else if !is_well_formed(signature, head, tests) {
         Some(Fault::BadArguments)
-    } else if StringFault::Long.is_in_some(&head.arguments) {
+    } else if StringFault::Long.is_in_some(&head.arguments) || has_many_strings(signature, head) {
         Some(Fault::Limit)
     } else {
         None
@@ -187,7 +235,7 @@ fn command_alone(
     tests: Tests,
     ending: Ending,
 ) -> Result<(), CheckError>
-    ensures { Refuses (refusal_of (command_visit surroundings head.now.token head.now.name (arguments_of head.now) tests ending)) result }
+    ensures { Refuses (refusal_of (command_visit (context_of surroundings) head.now.token head.now.name (arguments_of head.now) tests ending)) result }
 {
     let fault = match command_named(head.name.as_slice()) {
         Some(name) => known_command_fault(surroundings, name, head, tests, ending),
@@ -198,7 +246,7 @@ fn command_alone(
 
 // Nothing, where nothing is wrong with a test, apart from its own tests.
 fn test_alone(surroundings: Surroundings, head: &Head, tests: Tests) -> Result<(), CheckError>
-    ensures { Refuses (refusal_of (test_visit surroundings head.now.token head.now.name (arguments_of head.now) tests)) result }
+    ensures { Refuses (refusal_of (test_visit (context_of surroundings) head.now.token head.now.name (arguments_of head.now) tests)) result }
 {
     let fault = match test_named(head.name.as_slice()) {
         Some(name) => known_test_fault(surroundings, name, head, tests),
@@ -210,7 +258,7 @@ fn test_alone(surroundings: Surroundings, head: &Head, tests: Tests) -> Result<(
 // Nothing, where nothing is wrong with a test and its own tests.
 #[cycle(tests)]
 fn test(surroundings: Surroundings, invocation: &Invocation) -> Result<(), CheckError>
-    ensures { Refuses (first_fault (test_visits surroundings (invocation_tree invocation.now))) result }
+    ensures { Refuses (first_own_fault (test_visits (context_of surroundings) (invocation_tree invocation.now))) result }
 {
     match invocation {
         Invocation::Plain(head) => test_alone(surroundings, head, Tests::Nothing),
@@ -229,7 +277,7 @@ fn test(surroundings: Surroundings, invocation: &Invocation) -> Result<(), Check
 // The same of the tests of a list after its first.
 #[cycle(tests)]
 fn tests(surroundings: Surroundings, list: &[Invocation]) -> Result<(), CheckError>
-    ensures { Refuses (first_fault (more_visits surroundings (more_tests_of (map invocation_tree list.now)))) result }
+    ensures { Refuses (first_own_fault (more_visits (context_of surroundings) (more_tests_of (map invocation_tree list.now)))) result }
 {
     'list: for invocation in list {
         test(surroundings, invocation)?;
@@ -243,7 +291,7 @@ fn head(
     invocation: &Invocation,
     ending: Ending,
 ) -> Result<(), CheckError>
-    ensures { Refuses (first_fault (head_visits surroundings (invocation_tree invocation.now) ending)) result }
+    ensures { Refuses (first_own_fault (head_visits (context_of surroundings) (invocation_tree invocation.now) ending)) result }
 {
     match invocation {
         Invocation::Plain(head) => command_alone(surroundings, head, Tests::Nothing, ending),
@@ -262,7 +310,7 @@ fn head(
 // Nothing, where nothing is wrong with a command and what stands below it.
 #[cycle(commands)]
 fn command(surroundings: Surroundings, tree: &Command) -> Result<(), CheckError>
-    ensures { Refuses (first_fault (command_visits surroundings (command_tree tree.now))) result }
+    ensures { Refuses (first_own_fault (command_visits (context_of surroundings) (command_tree tree.now))) result }
 {
     match tree {
         Command::Simple(invocation) => head(surroundings, invocation, Ending::Semicolon),
@@ -286,7 +334,7 @@ fn head_in(invocation: &Invocation) -> &Head
 
 // What surrounds the command after this one.
 fn after(surroundings: Surroundings, command: &Command) -> Surroundings
-    ensures { result ≡ after_invocation surroundings (invocation_of (command_tree command.now)) }
+    ensures { context_of result ≡ after_invocation (context_of surroundings) (invocation_of (command_tree command.now)) }
 {
     match command {
         Command::Simple(invocation) => surroundings.following(head_in(invocation)),
@@ -294,10 +342,10 @@ fn after(surroundings: Surroundings, command: &Command) -> Surroundings
     }
 }
 
-/// Nothing, where nothing is wrong with the commands of a script or block; else the fault that is named.
+// Nothing, where nothing is wrong with the commands of a script or block.
 #[cycle(commands)]
-pub fn commands(surroundings: Surroundings, trees: &[Command]) -> Result<(), CheckError>
-    ensures { Refuses (first_fault (commands_visits surroundings (commands_tree trees.now))) result }
+fn commands(surroundings: Surroundings, trees: &[Command]) -> Result<(), CheckError>
+    ensures { Refuses (first_own_fault (commands_visits (context_of surroundings) (commands_tree trees.now))) result }
 {
     let mut around = surroundings;
     'trees: for tree in trees {
@@ -305,4 +353,11 @@ pub fn commands(surroundings: Surroundings, trees: &[Command]) -> Result<(), Che
         around = after(around, tree);
     }
     Ok(())
+}
+
+/// Nothing, where nothing is wrong with the commands of a script; else the fault that is named.
+pub fn script(trees: &[Command]) -> Result<(), CheckError>
+    ensures { Refuses (fault_of (commands_tree trees.now)) result }
+{
+    commands(Surroundings::at_start(), trees)
 }

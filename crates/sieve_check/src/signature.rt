@@ -1,11 +1,13 @@
 // What commands and tests take, and how their arguments are read (RFC 5228, section 2.6).
-ghost use Rattle.std.specs.Prelude.{◌≡◌, map};
+ghost use Rattle.std.specs.Prelude.{◌≡◌, map, Some};
 ghost use Rattle.sieve_parser.specs.View.{argument_tree};
-ghost use Rattle.sieve_check.specs.Signatures.{bare, command_signature, ending_of, test_signature};
-ghost use Rattle.sieve_check.specs.Reading.{FirstTag};
+ghost use Rattle.sieve_check.specs.Signatures.{awaited, bare, command_signature, ending_of, is_list, test_signature};
+ghost use Rattle.sieve_check.specs.Reading.{FirstTag, FirstText, Settles};
 
-use crate::names::{CommandName, Tag, TestName, tag_named};
+use crate::names::{CommandName, Tag, TestName, comparator_named, tag_named};
 use crate::typed::Order;
+use glob_match::{Comparator, MatchType};
+use octets::Octets;
 use sieve_parser::Argument;
 
 /// The arguments behind the tags.
@@ -14,8 +16,12 @@ pub enum Positional {
     Nothing,
     /// One number.
     Number,
-    /// One string, or one list of strings in square brackets.
-    Strings,
+    /// One string, without brackets.
+    Text,
+    /// One list: a string, or strings in square brackets.
+    OneList,
+    /// Two lists.
+    TwoLists,
 }
 
 /// The tests behind the arguments.
@@ -40,6 +46,8 @@ pub enum Ending {
 pub struct Signature {
     /// Takes exactly one of `:over` and `:under`.
     pub order: bool,
+    /// Takes at most one of `:is`, `:contains` and `:matches`, and perhaps `:comparator`.
+    pub matching: bool,
     pub positional: Positional,
     pub tests: Tests,
 }
@@ -48,6 +56,8 @@ pub struct Signature {
 #[derive(Clone, Copy, Debug, PartialEq, Eq)]
 pub struct Tags {
     pub order: Option<Order>,
+    pub kind: Option<MatchType>,
+    pub comparator: Option<Comparator>,
 }
 
 /// Arguments that were read by a signature.
@@ -64,6 +74,7 @@ fn bare(tests: Tests) -> Signature
 {
     Signature {
         order: false,
+        matching: false,
         positional: Positional::Nothing,
         tests,
     }
@@ -75,7 +86,11 @@ pub fn command_signature(name: CommandName) -> Signature
 {
     match name {
         CommandName::Require => Signature {
-            positional: Positional::Strings,
+            positional: Positional::OneList,
+            ..bare(Tests::Nothing)
+        },
+        CommandName::FileInto => Signature {
+            positional: Positional::Text,
             ..bare(Tests::Nothing)
         },
         CommandName::If | CommandName::Elsif => bare(Tests::One),
@@ -91,9 +106,11 @@ pub fn ending_of(name: CommandName) -> Ending
 {
     match name {
         CommandName::If | CommandName::Elsif | CommandName::Else => Ending::Block,
-        CommandName::Require | CommandName::Stop | CommandName::Keep | CommandName::Discard => {
-            Ending::Semicolon
-        }
+        CommandName::Require
+        | CommandName::Stop
+        | CommandName::Keep
+        | CommandName::Discard
+        | CommandName::FileInto => Ending::Semicolon,
     }
 }
 
@@ -105,10 +122,19 @@ pub fn test_signature(name: TestName) -> Signature
         TestName::Constant(_) => bare(Tests::Nothing),
         TestName::Not => bare(Tests::One),
         TestName::AllOf | TestName::AnyOf => bare(Tests::Bracketed),
+        TestName::Header => Signature {
+            matching: true,
+            positional: Positional::TwoLists,
+            ..bare(Tests::Nothing)
+        },
+        TestName::Exists => Signature {
+            positional: Positional::OneList,
+            ..bare(Tests::Nothing)
+        },
         TestName::Size => Signature {
             order: true,
             positional: Positional::Number,
-            tests: Tests::Nothing,
+            ..bare(Tests::Nothing)
         },
     }
 }
@@ -123,25 +149,72 @@ fn first_tag(arguments: &[Argument]) -> Option<(&[u8], &[Argument])>
     }
 }
 
+// The first argument and the arguments after it, where it is one string.
+fn first_text(arguments: &[Argument]) -> Option<(&Octets, &[Argument])>
+    ensures { FirstText (map argument_tree arguments.now) result }
+{
+    match arguments {
+        [Argument::Text(text), rest @ ..] => Some((text, rest)),
+        _ => None,
+    }
+}
+
+// The tags with the argument that the last one takes, and the arguments after that.
+fn settle(tag: Tag, tags: Tags, arguments: &[Argument]) -> Option<(Tags, &[Argument])>
+    ensures { Settles tags (awaited tag) (map argument_tree arguments.now) result }
+{
+    match tag {
+        Tag::Order(_) | Tag::Kind(_) => Some((tags, arguments)),
+        Tag::Comparator => {
+            let (name, rest) = first_text(arguments)?;
+            let comparator = comparator_named(name.as_slice())?;
+            let tags = Tags {
+                comparator: Some(comparator),
+                ..tags
+            };
+            Some((tags, rest))
+        }
+    }
+}
+
+// Whether the argument is a list.
+fn is_list(argument: &Argument) -> bool
+    ensures { result ≡ is_list (argument_tree argument.now) }
+{
+    matches!(argument, Argument::Text(_) | Argument::TextList(_, _))
+}
+
 impl Signature {
     ghost use Rattle.std.specs.Prelude.{◌≡◌, map};
     ghost use Rattle.sieve_parser.specs.View.{argument_tree};
-    ghost use Rattle.sieve_check.specs.Signatures.{add_tag, is_complete, is_positional, reading};
+    ghost use Rattle.sieve_check.specs.Signatures.{add_tag, is_complete, is_positional, reading, takes_tag};
     ghost use Rattle.sieve_check.specs.Reading.{Reads};
+
+    // Whether the tag is taken, and none of its group was given.
+    fn takes(self, tag: Tag, tags: Tags) -> bool
+        ensures { result ≡ takes_tag self tag tags }
+    {
+        match tag {
+            Tag::Order(_) => self.order && tags.order.is_none(),
+            Tag::Kind(_) => self.matching && tags.kind.is_none(),
+            Tag::Comparator => self.matching && tags.comparator.is_none(),
+        }
+    }
 
     // One more tag, where it is taken and none of its group was given.
     fn add(self, tag: Tag, tags: Tags) -> Option<Tags>
         ensures { result ≡ add_tag self tag tags }
     {
-        match tag {
-            Tag::Order(order) => {
-                if self.order && tags.order.is_none() {
-                    Some(Tags { order: Some(order) })
-                } else {
-                    None
-                }
-            }
+        if !self.takes(tag, tags) {
+            return None;
         }
+        let mut tags = tags;
+        match tag {
+            Tag::Order(order) => tags.order = Some(order),
+            Tag::Kind(kind) => tags.kind = Some(kind),
+            Tag::Comparator => {}
+        }
+        Some(tags)
     }
 
     // Whether the arguments are those that have to stand behind the tags.
@@ -151,10 +224,15 @@ impl Signature {
         match self.positional {
             Positional::Nothing => arguments.is_empty(),
             Positional::Number => matches!(arguments, [Argument::Number(_)]),
-            Positional::Strings => matches!(
-                arguments,
-                [Argument::Text(_) | Argument::TextList(_, _)]
-            ),
+            Positional::Text => matches!(arguments, [Argument::Text(_)]),
+            Positional::OneList => match arguments {
+                [list] => is_list(list),
+                _ => false,
+            },
+            Positional::TwoLists => match arguments {
+                [first, second] => is_list(first) && is_list(second),
+                _ => false,
+            },
         }
     }
 
@@ -169,12 +247,18 @@ impl Signature {
     pub fn read(self, arguments: &[Argument]) -> Option<Reading>
         ensures { Reads (reading self (map argument_tree arguments.now)) result }
     {
-        let mut tags = Tags { order: None };
+        let mut tags = Tags {
+            order: None,
+            kind: None,
+            comparator: None,
+        };
         let mut rest = arguments;
         'tags: while let Some((name, more)) = first_tag(rest) {
             let tag = tag_named(name)?;
-            tags = self.add(tag, tags)?;
-            rest = more;
+            let added = self.add(tag, tags)?;
+            let (settled, after) = settle(tag, added, more)?;
+            tags = settled;
+            rest = after;
         }
         if self.is_complete(tags, rest) {
             Some(Reading {

@@ -105,15 +105,16 @@ pub struct Surroundings {
 }
 
 impl Surroundings {
-    ghost use Rattle.std.specs.Prelude.{◌≡◌, map};
+    ghost use Rattle.std.specs.Prelude.{◌≡◌, [], map};
     ghost use Rattle.sieve_parser.specs.View.{argument_tree};
     ghost use Rattle.sieve_check.specs.Rules.{arguments_of, strings_of};
     ghost use Rattle.sieve_check.specs.Names.{command_named};
+    ghost use Rattle.sieve_check.specs.Refusing.{context_of};
     ghost use Rattle.sieve_check.specs.Surroundings.{at_start, following, in_block, lacks};
 
     /// Those of the first command of a script.
     pub fn at_start() -> Surroundings
-        ensures { result ≡ at_start }
+        ensures { context_of result ≡ at_start }
     {
         Surroundings {
             required: Capabilities {
@@ -130,7 +131,7 @@ impl Surroundings {
 
     /// Those of the first command of a block.
     pub fn in_block(self) -> Surroundings
-        ensures { result ≡ in_block self }
+        ensures { context_of result ≡ in_block [] (context_of self) }
     {
         Surroundings {
             takes_require: false,
@@ -141,7 +142,7 @@ impl Surroundings {
 
     /// Those of the command after this one.
     pub fn following(self, head: &Head) -> Surroundings
-        ensures { result ≡ following self (command_named head.now.name) (strings_of (arguments_of head.now)) }
+        ensures { context_of result ≡ following (context_of self) (command_named head.now.name) (strings_of (arguments_of head.now)) }
     {
         let after = self.in_block();
         let Some(name) = command_named(head.name.as_slice()) else {
@@ -157,15 +158,17 @@ impl Surroundings {
                 after_if: true,
                 ..after
             },
-            CommandName::Else | CommandName::Stop | CommandName::Keep | CommandName::Discard => {
-                after
-            }
+            CommandName::Else
+            | CommandName::Stop
+            | CommandName::Keep
+            | CommandName::Discard
+            | CommandName::FileInto => after,
         }
     }
 
     /// Whether a capability is needed and wasn't required.
     pub fn lacks(self, needed: Option<Capability>) -> bool
-        ensures { result ≡ lacks self needed }
+        ensures { result ≡ lacks (context_of self) needed }
     {
         match needed {
             Some(capability) => !self.required.has(capability),

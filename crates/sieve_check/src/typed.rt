@@ -1,4 +1,6 @@
 // Scripts that were checked, in typed form: what they mean, without how they are written.
+use glob_match::Match;
+use octets::Octets;
 
 /// How a size is compared (RFC 5228, section 5.9).
 #[derive(Clone, Copy, Debug, PartialEq, Eq)]
@@ -20,6 +22,14 @@ pub enum Test {
     AllOf(Box<Test>, Vec<Test>),
     /// `anyof`: the first test, and those after it.
     AnyOf(Box<Test>, Vec<Test>),
+    /// `header`: whether a field of one of the names has a value that matches one of the keys.
+    Header {
+        matching: Match,
+        names: Vec<Octets>,
+        keys: Vec<Octets>,
+    },
+    /// `exists`: whether there is a field of each of the names.
+    Exists(Vec<Octets>),
     /// `size`.
     Size(Order, u64),
 }
@@ -40,6 +50,8 @@ pub enum Command {
     Keep,
     /// `discard`.
     Discard,
+    /// `fileinto`, with the folder.
+    FileInto(Octets),
     /// `stop`.
     Stop,
     /// `if` and each `elsif` after it, as tests with their blocks; and the block of `else`, if there is one.

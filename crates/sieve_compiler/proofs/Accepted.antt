@@ -1,5 +1,5 @@
 -- The code of a script is accepted.
-use Rattle.std.proofs.Common.{◌≡◌, ℕ, zero, suc, ◌+◌, ◌-◌, ◌<◌, ◌≤◌, Bool, true, false, not, ◌&&◌, ◌||◌, ◌==◌, nat_le, List, [], ◌∷◌, Option, Some, None, is_some, is_none, slice_get, get_or, length, refl, sym, ap, subst, ◌∙◌, inl, inr, arith}
+use Rattle.std.proofs.Common.{◌≡◌, ℕ, zero, suc, ◌+◌, ◌-◌, ◌<◌, ◌≤◌, true, false, not, ◌&&◌, ◌||◌, ◌==◌, nat_le, List, [], ◌∷◌, Option, Some, None, is_some, is_none, slice_get, get_or, length, refl, sym, ap, subst, ◌∙◌, inl, inr, arith}
 use Rattle.std.proofs.lemmas.Bool.{cases_Bool, cases_lt, cases_eq, ne_eqb, lt-leb}
 use Rattle.std.proofs.lemmas.List.{length-append, append-nil}
 use Rattle.std.proofs.Math.Bool.{and-false}
@@ -9,16 +9,16 @@ use Rattle.bytecode_format.specs.declared.operation.Operation.{Operation}
 use Rattle.bytecode_format.specs.declared.operation.Operation.TheVariants.{Halt, Literal, Variable, Capture, Join, Set, Bool as BoolOp, Not, Jump, JumpIfTrue, JumpIfFalse, Header, Exists, String, Size, PartSize, PartBody, PartDigest, Keep, Discard, File, Store, Each, Next, Break}
 use Rattle.bytecode_format.specs.Operations.{operation_of}
 use Rattle.bytecode_format.specs.Code.{Code}
-use Rattle.bytecode_verifier.specs.declared.shape.Entry.TheVariants.{Truth}
 use Rattle.bytecode_verifier.specs.Acceptance.{IsAccepted}
 use Rattle.bytecode_verifier.specs.Loops.{loops, same_loops}
 use Rattle.bytecode_verifier.specs.Places.{holds_at}
 use Rattle.bytecode_verifier.specs.Rules.{misses_index, is_halt, breaks_form, breaks_end, breaks_stack}
 use Rattle.std.specs.Option.{option_and_then}
 use Rattle.bytecode_verifier.specs.Rows.{row_of, row_named, is_jump}
-use Rattle.bytecode_verifier.specs.Shape.{Entries, is_target, shape_after, shape_at}
+use Rattle.bytecode_verifier.specs.Shape.{Entries, is_empty, is_target, shape_at}
 use Rattle.bytecode_verifier.proofs.Ends.{nowhere, past_stack}
 use Rattle.bytecode_verifier.proofs.Loopless.{needs_no_part, misses_no_loop, no_loops}
+use Rattle.sieve_check.specs.Bounded.{AreBoundedCommands}
 use Rattle.sieve_check.specs.Typed.{CommandForms}
 use Rattle.sieve_compiler.specs.Tables.{Tables, tables_of}
 use Rattle.sieve_compiler.specs.Lengths.{commands_length}
@@ -26,7 +26,7 @@ use Rattle.sieve_compiler.specs.Coding.{plain, commands_code, code_of}
 use Rattle.sieve_compiler.proofs.Standing.{Stands, stands_right, stands_first}
 use Rattle.sieve_compiler.proofs.CodeLengths.{commands_code_length}
 use Rattle.sieve_compiler.proofs.Known.{tables_have}
-use Rattle.sieve_compiler.proofs.Sound.{pushes, takes, is_emitted, follows_push, IsSound, AreSound, sound_both, plain_sound, commands_end, commands_sound}
+use Rattle.sieve_compiler.proofs.Sound.{standing, IsKnown, IsSound, AreSound, sound_both, halt_sound, commands_end, commands_sound}
 
 sound_at : (all : List Instruction) (tables : Tables) (last place : ℕ) (piece : List Instruction) (k : ℕ) (i : Instruction) → AreSound all tables last place piece → slice_get piece k ≡ Some i → IsSound all tables last (place + k) i
 sound_at all tables last place [] k i h e = absurd (cc)
@@ -38,74 +38,50 @@ sound_at all tables last place (j ∷ piece) (suc k) i h e =
     let here : suc place + k ≡ place + suc k = omega arith in
     subst (λ p. IsSound all tables last p i) here (sound_at all tables last (suc place) piece k i h.1 e)
 
-index_kept : (code : Code) (o : Option Operation) (i : Instruction) → (o ≡ Some Size → i.c < length code.numbers) → misses_index code (option_and_then (row_of code.version) o) i ≡ false
-index_kept code None i h = refl
-index_kept code (Some Halt) i h = refl
-index_kept code (Some Literal) i h = refl
-index_kept code (Some Variable) i h = refl
-index_kept code (Some Capture) i h = refl
-index_kept code (Some Join) i h = refl
-index_kept code (Some Set) i h = refl
-index_kept code (Some BoolOp) i h = refl
-index_kept code (Some Not) i h = refl
-index_kept code (Some Jump) i h = refl
-index_kept code (Some JumpIfTrue) i h = refl
-index_kept code (Some JumpIfFalse) i h = refl
-index_kept code (Some Header) i h = refl
-index_kept code (Some Exists) i h = refl
-index_kept code (Some String) i h = refl
-index_kept code (Some Size) i h = let lt = h refl in lt-leb (length code.numbers) i.c lt
-index_kept code (Some PartSize) i h = refl
-index_kept code (Some PartBody) i h = refl
-index_kept code (Some PartDigest) i h = refl
-index_kept code (Some Keep) i h = refl
-index_kept code (Some Discard) i h = refl
-index_kept code (Some File) i h = refl
-index_kept code (Some Store) i h = refl
-index_kept code (Some Each) i h = refl
-index_kept code (Some Next) i h = refl
-index_kept code (Some Break) i h = refl
-
--- what stands on the stack where a truth value was left, or not
-abbrev left : Bool → Entries
-left true = Truth ∷ []
-left false = []
-
-shape_kept : (code : Code) (targeted : Bool) (o : Option Operation) (i : Instruction) → is_emitted o ≡ true → (targeted && takes o) ≡ false → shape_after code targeted o i (left (takes o)) ≡ Some (left (pushes o))
-shape_kept code true (Some Halt) i h e = refl
-shape_kept code false (Some Halt) i h e = refl
-shape_kept code true (Some BoolOp) i h e = refl
-shape_kept code false (Some BoolOp) i h e = refl
-shape_kept code true (Some Jump) i h e = refl
-shape_kept code false (Some Jump) i h e = refl
-shape_kept code true (Some JumpIfTrue) i h e = absurd (cc)
-shape_kept code false (Some JumpIfTrue) i h e = refl
-shape_kept code true (Some JumpIfFalse) i h e = absurd (cc)
-shape_kept code false (Some JumpIfFalse) i h e = refl
-shape_kept code true (Some Size) i h e = refl
-shape_kept code false (Some Size) i h e = refl
-shape_kept code true (Some Keep) i h e = refl
-shape_kept code false (Some Keep) i h e = refl
-shape_kept code true (Some Discard) i h e = refl
-shape_kept code false (Some Discard) i h e = refl
-shape_kept code targeted _ i h e = absurd (cc)
+index_kept : (code : Code) (tables : Tables) (o : Option Operation) (i : Instruction) → (code.numbers ≡ tables.numbers) × (code.strings ≡ tables.strings) → IsKnown tables o i → misses_index code (option_and_then (row_of code.version) o) i ≡ false
+index_kept code tables None i same h = refl
+index_kept code tables (Some Halt) i same h = refl
+index_kept code tables (Some Literal) i same h = let lt = slice_get_within tables.strings i.c h.0 h.1 in rw same.1 (lt-leb (length tables.strings) i.c lt)
+index_kept code tables (Some Variable) i same h = refl
+index_kept code tables (Some Capture) i same h = refl
+index_kept code tables (Some Join) i same h = refl
+index_kept code tables (Some Set) i same h = refl
+index_kept code tables (Some BoolOp) i same h = refl
+index_kept code tables (Some Not) i same h = refl
+index_kept code tables (Some Jump) i same h = refl
+index_kept code tables (Some JumpIfTrue) i same h = refl
+index_kept code tables (Some JumpIfFalse) i same h = refl
+index_kept code tables (Some Header) i same h = refl
+index_kept code tables (Some Exists) i same h = refl
+index_kept code tables (Some String) i same h = refl
+index_kept code tables (Some Size) i same h = let lt = slice_get_within tables.numbers i.c h.0 h.1 in rw same.0 (lt-leb (length tables.numbers) i.c lt)
+index_kept code tables (Some PartSize) i same h = refl
+index_kept code tables (Some PartBody) i same h = refl
+index_kept code tables (Some PartDigest) i same h = refl
+index_kept code tables (Some Keep) i same h = refl
+index_kept code tables (Some Discard) i same h = refl
+index_kept code tables (Some File) i same h = refl
+index_kept code tables (Some Store) i same h = refl
+index_kept code tables (Some Each) i same h = refl
+index_kept code tables (Some Next) i same h = refl
+index_kept code tables (Some Break) i same h = refl
 
 goes_on : (before after : Option Entries) (entries : Entries) → after ≡ Some entries → (is_some before && is_none after) ≡ false
 goes_on before after entries e = rw e (and-false (is_some before))
 
--- no jump leads to where a truth value is left
-no_target : (all : List Instruction) (tables : Tables) (last from : ℕ) (piece : List Instruction) (place : ℕ) → AreSound all tables last from piece → follows_push all place ≡ true → is_target 1 piece place ≡ false
-no_target all tables last from [] place h left_there = refl
-no_target all tables last from (i ∷ piece) place h left_there =
-    let rest = no_target all tables last (suc from) piece place h.1 left_there in
+-- no jump leads to where entries stand
+no_target : (all : List Instruction) (tables : Tables) (last from : ℕ) (piece : List Instruction) (place : ℕ) → AreSound all tables last from piece → is_empty (standing tables all place) ≡ false → is_target 1 piece place ≡ false
+no_target all tables last from [] place h some = refl
+no_target all tables last from (i ∷ piece) place h some =
+    let rest = no_target all tables last (suc from) piece place h.1 some in
     elim (cases_Bool (is_jump (row_named 1 i.op))) [
       | inl jump ↦
-          let elsewhere : (i.c ≡ place → ⊥) = (λ (same : i.c ≡ place). let both : false ≡ true = sym (h.0.jump jump).between ∙ ap (follows_push all) same ∙ left_there in absurd (cc)) in
+          let elsewhere : (i.c ≡ place → ⊥) = (λ (same : i.c ≡ place). let both : true ≡ false = ap is_empty (sym (h.0.jump jump).between) ∙ ap (λ p. is_empty (standing tables all p)) same ∙ some in absurd (cc)) in
           rw (jump, ne_eqb i.c place elsewhere) rest
       | inr none ↦ rw none rest
     ]
 
-module _ (script : CommandForms) where
+module _ (script : CommandForms) (bounded : AreBoundedCommands script) where
   abbrev code : Code
   code = code_of script
 
@@ -124,8 +100,8 @@ module _ (script : CommandForms) where
   body_stands : Stands all 0 body
   body_stands = (plain Halt ∷ [], refl)
 
-  body_ends : follows_push all last ≡ false
-  body_ends = let same : 0 + last ≡ last = omega arith in subst (λ p. follows_push all p ≡ false) same (commands_end all tables last script 0 body_stands refl)
+  body_ends : standing tables all last ≡ []
+  body_ends = let same : 0 + last ≡ last = omega arith in subst (λ p. standing tables all p ≡ []) same (commands_end all tables last script 0 body_stands refl)
 
   halt_stands : Stands all (0 + last) (plain Halt ∷ [])
   halt_stands = stands_right all 0 last body (plain Halt ∷ []) (commands_code_length tables script 0) ([], sym (append-nil all))
@@ -139,29 +115,26 @@ module _ (script : CommandForms) where
   all_sound : AreSound all tables last 0 all
   all_sound =
       let le : 0 + last ≤ last = omega arith in
-      let halt = plain_sound all tables last (0 + last) Halt refl refl refl (λ e. absurd (cc)) refl refl (commands_end all tables last script 0 body_stands refl) in
-      sound_both all tables last body (plain Halt ∷ []) 0 last (commands_code_length tables script 0) (commands_sound all tables last script 0 body_stands (tables_have script) refl le) (halt, tt)
+      let halt = halt_sound all tables last (0 + last) (commands_end all tables last script 0 body_stands refl) in
+      sound_both all tables last body (plain Halt ∷ []) 0 last (commands_code_length tables script 0) (commands_sound all tables last script 0 body_stands (tables_have script) bounded refl le) (halt, tt)
 
   pub sound : (place : ℕ) (i : Instruction) → slice_get all place ≡ Some i → IsSound all tables last place i
   sound place i e = let same : 0 + place ≡ place = omega arith in subst (λ p. IsSound all tables last p i) same (sound_at all tables last 0 all place i all_sound e)
 
-  shape_known : (place : ℕ) → place ≤ length all → shape_at code place ≡ Some (left (follows_push all place))
+  shape_known : (place : ℕ) → place ≤ length all → shape_at code place ≡ Some (standing tables all place)
   shape_known zero le = refl
   shape_known (suc place) le =
       let before = shape_known place (omega (arith, le)) in
       let here = slice_get-get_or all place (plain Halt) (omega (arith, le)) in
       let i = get_or all place (plain Halt) in
       let s = sound place i here in
-      let free : (is_target 1 all place && takes (operation_of i.op)) ≡ false =
-      elim (cases_Bool (takes (operation_of i.op))) [
-        | inl taken ↦ rw (no_target all tables last 0 all place all_sound (s.stack ∙ taken)) refl
-        | inr none ↦ rw none (and-false (is_target 1 all place))
+      let entries = standing tables all place in
+      let free : (is_target 1 all place && not (is_empty entries)) ≡ false =
+      elim (cases_Bool (is_empty entries)) [
+        | inl none ↦ rw none (and-false (is_target 1 all place))
+        | inr some ↦ rw (no_target all tables last 0 all place all_sound some) refl
       ] in
-      let kept = shape_kept code (is_target 1 all place) (operation_of i.op) i s.emitted free in
-      rw (before, here, s.stack) kept
-
-  known_index : (place : ℕ) (i : Instruction) → slice_get all place ≡ Some i → operation_of i.op ≡ Some Size → i.c < length code.numbers
-  known_index place i e size = let n = (sound place i e).index size in slice_get_within code.numbers i.c n.0 n.1
+      rw (before, here, free) (s.stack code refl)
 
   formed : (place : ℕ) → breaks_form code place ≡ false
   formed place = nowhere code place _ (λ i e. ap not (sound place i e).form)
@@ -198,7 +171,7 @@ module _ (script : CommandForms) where
 
   pub code_accepted : IsAccepted code
   code_accepted = record {
-    index = λ place. nowhere code place _ (λ i e. index_kept code (operation_of i.op) i (known_index place i e));
+    index = λ place. nowhere code place _ (λ i e. index_kept code tables (operation_of i.op) i (refl, refl) (sound place i e).index);
     form = formed;
     end = ended;
     loop = λ place. nowhere code place _ (λ i e. misses_no_loop code place (operation_of i.op) i (sound place i e).form);

@@ -1,15 +1,18 @@
 -- The code of each piece is as long as is said.
 use Rattle.std.proofs.Common.{◌≡◌, ℕ, ◌+◌, Bool, false, List, ◌++◌, refl, arith, length}
-use Rattle.std.proofs.lemmas.List.{length-append}
-use Rattle.sieve_check.specs.Typed.{TestForm, constant, negation, all_of, any_of, size, TestForms, no_test, test, CommandForm, keep, discard, stop, choice, CommandForms, no_command, command, BranchForms, no_branch, otherwise, branch}
+use Rattle.std.proofs.lemmas.List.{length-append, length-map}
+use Rattle.sieve_check.specs.Typed.{TestForm, constant, negation, all_of, any_of, size, header, exists, TestForms, no_test, test, CommandForm, keep, discard, file_into, stop, choice, CommandForms, no_command, command, BranchForms, no_branch, otherwise, branch}
 use Rattle.sieve_compiler.specs.Tables.{Tables}
 use Rattle.sieve_compiler.specs.Lengths.{test_length, tests_length, leave_length, command_length, commands_length, branches_length}
-use Rattle.sieve_compiler.specs.Coding.{test_code, tests_code, leave_code, command_code, commands_code, branches_code}
+use Rattle.sieve_compiler.specs.Coding.{push_string, push_strings, test_code, tests_code, leave_code, command_code, commands_code, branches_code}
 
 pub length_two : {A : Type 0} (a b : List A) (m n : ℕ) → length a ≡ m → length b ≡ n → length (a ++ b) ≡ m + n
 length_two a b m n e f = let all = length-append a b in omega (arith, all, e, f)
 
 module _ (tables : Tables) where
+  pub strings_length : (ss : List (List ℕ)) → length (push_strings tables ss) ≡ length ss
+  strings_length ss = length-map ss (push_string tables)
+
   mutual
     pub test_code_length : (t : TestForm) (place : ℕ) (asked : Bool) (target : ℕ) → length (test_code tables place t asked target) ≡ test_length t
     test_code_length (constant b) place asked target = refl
@@ -17,6 +20,9 @@ module _ (tables : Tables) where
     test_code_length (all_of t ts) place asked target = length_two _ _ _ _ (test_code_length t place _ _) (tests_code_length ts (place + test_length t) _ _ _ target)
     test_code_length (any_of t ts) place asked target = length_two _ _ _ _ (test_code_length t place _ _) (tests_code_length ts (place + test_length t) _ _ _ target)
     test_code_length (size order number) place asked target = refl
+    test_code_length (header how names keys) place asked target =
+        length_two (push_strings tables names ++ push_strings tables keys) _ (length names + length keys) 2 (length_two (push_strings tables names) (push_strings tables keys) _ _ (strings_length names) (strings_length keys)) refl
+    test_code_length (exists names) place asked target = length_two (push_strings tables names) _ (length names) 2 (strings_length names) refl
 
     pub tests_code_length : (ts : TestForms) (place : ℕ) (deciding asked : Bool) (following target : ℕ) → length (tests_code tables place ts deciding asked following target) ≡ tests_length ts
     tests_code_length no_test place deciding asked following target = refl
@@ -31,6 +37,7 @@ module _ (tables : Tables) where
     pub command_code_length : (c : CommandForm) (place : ℕ) → length (command_code tables place c) ≡ command_length c
     command_code_length keep place = refl
     command_code_length discard place = refl
+    command_code_length (file_into folder) place = refl
     command_code_length stop place = refl
     command_code_length (choice bs) place = branches_code_length bs place _
 

@@ -1,26 +1,39 @@
--- The code of a script of at most 65,536 tokens is within the limits of a program.
-use Rattle.std.proofs.Common.{◌≡◌, ℕ, ◌+◌, ◌-◌, ◌<◌, ◌≤◌, ◌^◌, nat_eq, Bool, true, false, not, [], ◌∷◌, ◌++◌, length, All, refl, arith}
+-- The code of a script of at most 65,536 octets is within the limits of a program.
+use Rattle.std.proofs.Common.{◌≡◌, ℕ, ◌+◌, ◌-◌, ◌<◌, ◌≤◌, ◌^◌, nat_eq, bytes_eq, Bool, true, false, not, List, [], ◌∷◌, ◌++◌, filter, if◌then◌else◌, length, All, refl, ap, ◌∙◌, arith}
 use Rattle.std.proofs.lemmas.List.{length-append}
 use Rattle.std.proofs.lemmas.List.Elements.{All-nil, All-cons, All-append}
 use Rattle.bytecode_format.specs.declared.instruction.Instruction.{Instruction}
 use Rattle.bytecode_format.specs.declared.operation.Operation.{Operation}
-use Rattle.bytecode_format.specs.declared.operation.Operation.TheVariants.{Halt, Bool as BoolOp, Jump, JumpIfTrue, JumpIfFalse, Size, Keep, Discard}
+use Rattle.bytecode_format.specs.declared.operation.Operation.TheVariants.{Halt, Literal, Bool as BoolOp, Jump, JumpIfTrue, JumpIfFalse, Size, Keep, Discard, File}
 use Rattle.bytecode_format.specs.Operations.{octet_of}
-use Rattle.bytecode_format.specs.Spelling.{Fits, IsProgram}
+use Rattle.std.specs.List.{flat_map}
+use Rattle.std.proofs.lemmas.List.Concat.{flat_map-cons}
+use Rattle.bytecode_format.specs.Spelling.{Fits, IsProgram, string, two_octets}
 use Rattle.bytecode_format.proofs.Lengths.{length-spelling}
 use Rattle.sieve_check.specs.declared.typed.Order.{Order}
 use Rattle.sieve_check.specs.declared.typed.Order.TheVariants.{Over, Under}
-use Rattle.sieve_check.specs.Typed.{TestForm, constant, negation, all_of, any_of, size, TestForms, no_test, test, CommandForm, keep, discard, stop, choice, CommandForms, no_command, command, BranchForms, no_branch, otherwise, branch}
-use Rattle.sieve_check.specs.Bounded.{IsBounded}
-use Rattle.sieve_check.specs.Extent.{test_extent, tests_extent, command_extent, commands_extent, branches_extent}
-use Rattle.sieve_compiler.specs.Tables.{Tables, tables_of, place_of_number}
+use Rattle.sieve_check.specs.Typed.{TestForm, constant, negation, all_of, any_of, size, header, exists, TestForms, no_test, test, CommandForm, keep, discard, file_into, stop, choice, CommandForms, no_command, command, BranchForms, no_branch, otherwise, branch}
+use Rattle.glob_match.specs.declared.comparator.Comparator.{Comparator}
+use Rattle.glob_match.specs.declared.comparator.Comparator.TheVariants.{Octet, Casemap}
+use Rattle.glob_match.specs.declared.match_type.Match.{Match}
+use Rattle.glob_match.specs.declared.match_type.MatchType.{MatchType}
+use Rattle.glob_match.specs.declared.match_type.MatchType.TheVariants.{Is, Contains, Matches}
+use Rattle.octets.specs.Once.{each_once}
+use Rattle.sieve_check.specs.Bounded.{IsShort, IsBoundedTest, AreBoundedTests, IsBoundedCommand, AreBoundedCommands, AreBoundedBranches, IsBounded}
+use Rattle.sieve_compiler.specs.Strings.{test_strings, tests_strings, command_strings, commands_strings, branches_strings}
+use Rattle.sieve_check.specs.Extent.{string_extent, strings_extent, test_extent, tests_extent, command_extent, commands_extent, branches_extent}
+use Rattle.sieve_compiler.specs.Tables.{Tables, tables_of, place_of_number, place_of_string}
 use Rattle.sieve_compiler.specs.Lengths.{test_length, tests_length, leave_length, command_length, commands_length, branches_length}
 use Rattle.sieve_compiler.specs.Numbers.{test_numbers, tests_numbers, command_numbers, commands_numbers, branches_numbers}
-use Rattle.sieve_compiler.specs.Coding.{instruction, plain, jump_if, push_bool, push_size, asked_of, aim_of, test_code, tests_code, leave_code, command_code, commands_code, branches_code, code_of}
+use Rattle.sieve_compiler.specs.Coding.{instruction, plain, jump_if, push_bool, push_size, push_string, push_strings, kind_number, comparator_number, match_fields, find_fields, asked_of, aim_of, test_code, tests_code, leave_code, command_code, commands_code, branches_code, code_of}
 use Rattle.octets.proofs.Once.{place_within, each_once_within, each_once_all}
 use Rattle.sieve_compiler.proofs.CodeLengths.{commands_code_length}
 
 -- ---- lengths
+
+strings_within : (ss : List (List ℕ)) → length ss ≤ strings_extent ss
+strings_within [] = omega arith
+strings_within (s ∷ ss) = omega (arith, strings_within ss)
 
 mutual
   pub test_within : (t : TestForm) → test_length t ≤ test_extent t + 1
@@ -29,6 +42,8 @@ mutual
   test_within (all_of t ts) = omega (arith, test_within t, tests_within ts)
   test_within (any_of t ts) = omega (arith, test_within t, tests_within ts)
   test_within (size order number) = omega arith
+  test_within (header how names keys) = omega (arith, strings_within names, strings_within keys)
+  test_within (exists names) = omega (arith, strings_within names)
 
   pub tests_within : (ts : TestForms) → tests_length ts ≤ tests_extent ts
   tests_within no_test = omega arith
@@ -43,10 +58,11 @@ mutual
   command_within : (c : CommandForm) → command_length c ≤ command_extent c - 1
   command_within keep = omega arith
   command_within discard = omega arith
+  command_within (file_into folder) = omega arith
   command_within stop = omega arith
   command_within (choice bs) = branches_within bs
 
-  -- the code of commands has fewer instructions than they have tokens, if any
+  -- the code of commands has fewer instructions than they have octets, if any
   pub commands_within : (cs : CommandForms) → commands_length cs ≤ commands_extent cs - 1
   commands_within no_command = omega arith
   commands_within (command c cs) = omega (arith, command_within c, commands_within cs)
@@ -65,6 +81,8 @@ mutual
   test_uses (all_of t ts) = omega (arith, length-append (test_numbers t) (tests_numbers ts), test_uses t, tests_use ts)
   test_uses (any_of t ts) = omega (arith, length-append (test_numbers t) (tests_numbers ts), test_uses t, tests_use ts)
   test_uses (size order number) = omega arith
+  test_uses (header how names keys) = omega arith
+  test_uses (exists names) = omega arith
 
   tests_use : (ts : TestForms) → length (tests_numbers ts) ≤ tests_length ts
   tests_use no_test = omega arith
@@ -74,6 +92,7 @@ mutual
   command_uses : (c : CommandForm) → length (command_numbers c) ≤ command_length c
   command_uses keep = omega arith
   command_uses discard = omega arith
+  command_uses (file_into folder) = omega arith
   command_uses stop = omega arith
   command_uses (choice bs) = branches_use bs
 
@@ -89,6 +108,133 @@ mutual
 -- the table has at most as many numbers as the commands have instructions
 pub table_within : (cs : CommandForms) → length (tables_of cs).numbers ≤ commands_length cs
 table_within cs = omega (arith, each_once_within nat_eq (commands_numbers cs), commands_use cs)
+
+-- ---- strings
+
+-- strings as a program spells them
+spelt : (ss : List (List ℕ)) → length (flat_map string ss) ≡ strings_extent ss
+spelt [] = refl
+spelt (s ∷ ss) =
+    let step : length (flat_map string (s ∷ ss)) ≡ length (string s) + length (flat_map string ss) = ap length (flat_map-cons string s ss) ∙ length-append (string s) (flat_map string ss) in
+    let own : length (string s) ≡ 2 + length s = length-append (two_octets (length s)) s in
+    omega (arith, step, own, spelt ss)
+
+both_extent : (a b : List (List ℕ)) → strings_extent (a ++ b) ≡ strings_extent a + strings_extent b
+both_extent [] b = omega arith
+both_extent (s ∷ a) b = omega (arith, both_extent a b)
+
+fewer_extent : (p : List ℕ → Bool) (ss : List (List ℕ)) → strings_extent (filter p ss) ≤ strings_extent ss
+fewer_extent p [] = omega arith
+fewer_extent p (s ∷ ss) = step (p s) (fewer_extent p ss)
+  where
+    step : (b : Bool) → strings_extent (filter p ss) ≤ strings_extent ss → strings_extent (if b then s ∷ filter p ss else filter p ss) ≤ string_extent s + strings_extent ss
+    step true h = omega (arith, h)
+    step false h = omega (arith, h)
+
+once_extent : (ss : List (List ℕ)) → strings_extent (each_once bytes_eq ss) ≤ strings_extent ss
+once_extent [] = omega arith
+once_extent (s ∷ ss) = omega (arith, fewer_extent (λ y. not (bytes_eq s y)) (each_once bytes_eq ss), once_extent ss)
+
+-- the strings of a piece take no more octets than it does, and are no more than its instructions, and none is too long
+mutual
+  test_spells : (t : TestForm) → strings_extent (test_strings t) ≤ test_extent t
+  test_spells (constant b) = omega arith
+  test_spells (negation t) = omega (arith, test_spells t)
+  test_spells (all_of t ts) = omega (arith, both_extent (test_strings t) (tests_strings ts), test_spells t, tests_spell ts)
+  test_spells (any_of t ts) = omega (arith, both_extent (test_strings t) (tests_strings ts), test_spells t, tests_spell ts)
+  test_spells (size order number) = omega arith
+  test_spells (header how names keys) = omega (arith, both_extent names keys)
+  test_spells (exists names) = omega arith
+
+  tests_spell : (ts : TestForms) → strings_extent (tests_strings ts) ≤ tests_extent ts
+  tests_spell no_test = omega arith
+  tests_spell (test t ts) = omega (arith, both_extent (test_strings t) (tests_strings ts), test_spells t, tests_spell ts)
+
+mutual
+  command_spells : (c : CommandForm) → strings_extent (command_strings c) ≤ command_extent c
+  command_spells keep = omega arith
+  command_spells discard = omega arith
+  command_spells (file_into folder) = omega arith
+  command_spells stop = omega arith
+  command_spells (choice bs) = branches_spell bs
+
+  commands_spell : (cs : CommandForms) → strings_extent (commands_strings cs) ≤ commands_extent cs
+  commands_spell no_command = omega arith
+  commands_spell (command c cs) = omega (arith, both_extent (command_strings c) (commands_strings cs), command_spells c, commands_spell cs)
+
+  branches_spell : (bs : BranchForms) → strings_extent (branches_strings bs) ≤ branches_extent bs
+  branches_spell no_branch = omega arith
+  branches_spell (otherwise cs) = omega (arith, commands_spell cs)
+  branches_spell (branch t cs bs) = omega (arith, both_extent (test_strings t ++ commands_strings cs) (branches_strings bs), both_extent (test_strings t) (commands_strings cs), test_spells t, commands_spell cs, branches_spell bs)
+
+mutual
+  test_pushes : (t : TestForm) → length (test_strings t) ≤ test_length t
+  test_pushes (constant b) = omega arith
+  test_pushes (negation t) = test_pushes t
+  test_pushes (all_of t ts) = omega (arith, length-append (test_strings t) (tests_strings ts), test_pushes t, tests_push ts)
+  test_pushes (any_of t ts) = omega (arith, length-append (test_strings t) (tests_strings ts), test_pushes t, tests_push ts)
+  test_pushes (size order number) = omega arith
+  test_pushes (header how names keys) = omega (arith, length-append names keys)
+  test_pushes (exists names) = omega arith
+
+  tests_push : (ts : TestForms) → length (tests_strings ts) ≤ tests_length ts
+  tests_push no_test = omega arith
+  tests_push (test t ts) = omega (arith, length-append (test_strings t) (tests_strings ts), test_pushes t, tests_push ts)
+
+mutual
+  command_pushes : (c : CommandForm) → length (command_strings c) ≤ command_length c
+  command_pushes keep = omega arith
+  command_pushes discard = omega arith
+  command_pushes (file_into folder) = omega arith
+  command_pushes stop = omega arith
+  command_pushes (choice bs) = branches_push bs
+
+  commands_push : (cs : CommandForms) → length (commands_strings cs) ≤ commands_length cs
+  commands_push no_command = omega arith
+  commands_push (command c cs) = omega (arith, length-append (command_strings c) (commands_strings cs), command_pushes c, commands_push cs)
+
+  branches_push : (bs : BranchForms) → length (branches_strings bs) ≤ branches_length bs
+  branches_push no_branch = omega arith
+  branches_push (otherwise cs) = commands_push cs
+  branches_push (branch t cs bs) = omega (arith, length-append (test_strings t ++ commands_strings cs) (branches_strings bs), length-append (test_strings t) (commands_strings cs), test_pushes t, commands_push cs, branches_push bs)
+
+mutual
+  test_short : (t : TestForm) → IsBoundedTest t → All IsShort (test_strings t)
+  test_short (constant v) b = All-nil IsShort
+  test_short (negation t) b = test_short t b
+  test_short (all_of t ts) b = All-append IsShort _ _ (test_short t b.0) (tests_short ts b.1)
+  test_short (any_of t ts) b = All-append IsShort _ _ (test_short t b.0) (tests_short ts b.1)
+  test_short (size order number) b = All-nil IsShort
+  test_short (header how names keys) b = All-append IsShort _ _ b.short_first b.short_second
+  test_short (exists names) b = b.short
+
+  tests_short : (ts : TestForms) → AreBoundedTests ts → All IsShort (tests_strings ts)
+  tests_short no_test b = All-nil IsShort
+  tests_short (test t ts) b = All-append IsShort _ _ (test_short t b.0) (tests_short ts b.1)
+
+mutual
+  command_short : (c : CommandForm) → IsBoundedCommand c → All IsShort (command_strings c)
+  command_short keep b = All-nil IsShort
+  command_short discard b = All-nil IsShort
+  command_short (file_into folder) b = All-cons IsShort folder [] b (All-nil IsShort)
+  command_short stop b = All-nil IsShort
+  command_short (choice bs) b = branches_short bs b
+
+  commands_short : (cs : CommandForms) → AreBoundedCommands cs → All IsShort (commands_strings cs)
+  commands_short no_command b = All-nil IsShort
+  commands_short (command c cs) b = All-append IsShort _ _ (command_short c b.0) (commands_short cs b.1)
+
+  branches_short : (bs : BranchForms) → AreBoundedBranches bs → All IsShort (branches_strings bs)
+  branches_short no_branch b = All-nil IsShort
+  branches_short (otherwise cs) b = commands_short cs b
+  branches_short (branch t cs bs) b = All-append IsShort _ _ (All-append IsShort _ _ (test_short t b.0) (commands_short cs b.1)) (branches_short bs b.2)
+
+-- the table has at most as many strings as the commands have instructions, and they take no more octets than these
+pub strings_few : (cs : CommandForms) → length (tables_of cs).strings ≤ commands_length cs
+strings_few cs = omega (arith, each_once_within bytes_eq (commands_strings cs), commands_push cs)
+
+strings_small : (cs : CommandForms) → length (flat_map string (tables_of cs).strings) ≤ commands_extent cs
+strings_small cs = omega (arith, spelt (tables_of cs).strings, once_extent (commands_strings cs), commands_spell cs)
 
 -- ---- fields
 
@@ -123,26 +269,56 @@ aim_within false false (test u us) following target b t = t
 aim_within true false (test u us) following target b t = b
 aim_within false true (test u us) following target b t = b
 
-mutual
-  fits_test : (tables : Tables) (place : ℕ) (t : TestForm) (asked : Bool) (target : ℕ) → length tables.numbers < 2 ^ 32 → place + test_length t < 2 ^ 32 → target < 2 ^ 32 → All Fits (test_code tables place t asked target)
-  fits_test tables place (constant b) asked target few room small = fits_simple (push_bool b) asked target (fits_push_bool b) small
-  fits_test tables place (negation t) asked target few room small = fits_test tables place t (not asked) target few room small
-  fits_test tables place (all_of t ts) asked target few room small =
-      let following : ℕ = place + (test_length t + tests_length ts) in
-      All-append Fits _ _ (fits_test tables place t (asked_of false asked ts) (aim_of false asked ts following target) few (omega (arith, room)) (aim_within false asked ts following target room small))
-      (fits_tests tables (place + test_length t) ts false asked following target few (omega (arith, room)) room small)
-  fits_test tables place (any_of t ts) asked target few room small =
-      let following : ℕ = place + (test_length t + tests_length ts) in
-      All-append Fits _ _ (fits_test tables place t (asked_of true asked ts) (aim_of true asked ts following target) few (omega (arith, room)) (aim_within true asked ts following target room small))
-      (fits_tests tables (place + test_length t) ts true asked following target few (omega (arith, room)) room small)
-  fits_test tables place (size order number) asked target few room small =
-      fits_simple (push_size order (place_of_number tables number)) asked target (fits_push_size order (place_of_number tables number) (omega (arith, place_within nat_eq tables.numbers number, few))) small
+-- the places of both tables are numbers of 32 bits
+abbrev pub AreFew : Tables → Type 0
+AreFew tables = (length tables.numbers < 2 ^ 32) × (length tables.strings < 2 ^ 32)
 
-  fits_tests : (tables : Tables) (place : ℕ) (ts : TestForms) (deciding asked : Bool) (following target : ℕ) → length tables.numbers < 2 ^ 32 → place + tests_length ts < 2 ^ 32 → following < 2 ^ 32 → target < 2 ^ 32 → All Fits (tests_code tables place ts deciding asked following target)
-  fits_tests tables place no_test deciding asked following target few room b small = All-nil Fits
-  fits_tests tables place (test t ts) deciding asked following target few room b small =
-      All-append Fits _ _ (fits_test tables place t (asked_of deciding asked ts) (aim_of deciding asked ts following target) few (omega (arith, room)) (aim_within deciding asked ts following target b small))
-      (fits_tests tables (place + test_length t) ts deciding asked following target few (omega (arith, room)) b small)
+fits_string : (tables : Tables) (s : List ℕ) → AreFew tables → Fits (push_string tables s)
+fits_string tables s few = fits_instruction Literal 0 (place_of_string tables s) (omega arith) (omega arith) (omega (arith, place_within bytes_eq tables.strings s, few.1))
+
+fits_strings : (tables : Tables) (ss : List (List ℕ)) → AreFew tables → All Fits (push_strings tables ss)
+fits_strings tables [] few = All-nil Fits
+fits_strings tables (s ∷ ss) few = All-cons Fits (push_string tables s) (push_strings tables ss) (fits_string tables s few) (fits_strings tables ss few)
+
+match_small : (kind : MatchType) (comparator : Comparator) → kind_number kind + comparator_number comparator < 2 ^ 8
+match_small Is Casemap = omega arith
+match_small Is Octet = omega arith
+match_small Contains Casemap = omega arith
+match_small Contains Octet = omega arith
+match_small Matches Casemap = omega arith
+match_small Matches Octet = omega arith
+
+fits_fields : (how : Match) (names keys : ℕ) → names + keys ≤ 512 → Fits (match_fields how names keys)
+fits_fields how names keys few = record { op = omega arith; a = match_small how.kind how.comparator; b = omega (arith, few); c = omega (arith, few) }
+
+fits_names : (names : ℕ) → names ≤ 512 → Fits (find_fields names)
+fits_names names few = record { op = omega arith; a = omega arith; b = omega (arith, few); c = omega arith }
+
+mutual
+  fits_test : (tables : Tables) (place : ℕ) (t : TestForm) (asked : Bool) (target : ℕ) → AreFew tables → IsBoundedTest t → place + test_length t < 2 ^ 32 → target < 2 ^ 32 → All Fits (test_code tables place t asked target)
+  fits_test tables place (constant v) asked target few b room small = fits_simple (push_bool v) asked target (fits_push_bool v) small
+  fits_test tables place (negation t) asked target few b room small = fits_test tables place t (not asked) target few b room small
+  fits_test tables place (all_of t ts) asked target few b room small =
+      let following : ℕ = place + (test_length t + tests_length ts) in
+      All-append Fits _ _ (fits_test tables place t (asked_of false asked ts) (aim_of false asked ts following target) few b.0 (omega (arith, room)) (aim_within false asked ts following target room small))
+      (fits_tests tables (place + test_length t) ts false asked following target few b.1 (omega (arith, room)) room small)
+  fits_test tables place (any_of t ts) asked target few b room small =
+      let following : ℕ = place + (test_length t + tests_length ts) in
+      All-append Fits _ _ (fits_test tables place t (asked_of true asked ts) (aim_of true asked ts following target) few b.0 (omega (arith, room)) (aim_within true asked ts following target room small))
+      (fits_tests tables (place + test_length t) ts true asked following target few b.1 (omega (arith, room)) room small)
+  fits_test tables place (header how names keys) asked target few b room small =
+      All-append Fits _ _ (All-append Fits _ _ (fits_strings tables names few) (fits_strings tables keys few))
+      (fits_simple (match_fields how (length names) (length keys)) asked target (fits_fields how (length names) (length keys) b.few) small)
+  fits_test tables place (exists names) asked target few b room small =
+      All-append Fits _ _ (fits_strings tables names few) (fits_simple (find_fields (length names)) asked target (fits_names (length names) b.few) small)
+  fits_test tables place (size order number) asked target few b room small =
+      fits_simple (push_size order (place_of_number tables number)) asked target (fits_push_size order (place_of_number tables number) (omega (arith, place_within nat_eq tables.numbers number, few.0))) small
+
+  fits_tests : (tables : Tables) (place : ℕ) (ts : TestForms) (deciding asked : Bool) (following target : ℕ) → AreFew tables → AreBoundedTests ts → place + tests_length ts < 2 ^ 32 → following < 2 ^ 32 → target < 2 ^ 32 → All Fits (tests_code tables place ts deciding asked following target)
+  fits_tests tables place no_test deciding asked following target few b room inside small = All-nil Fits
+  fits_tests tables place (test t ts) deciding asked following target few b room inside small =
+      All-append Fits _ _ (fits_test tables place t (asked_of deciding asked ts) (aim_of deciding asked ts following target) few b.0 (omega (arith, room)) (aim_within deciding asked ts following target inside small))
+      (fits_tests tables (place + test_length t) ts deciding asked following target few b.1 (omega (arith, room)) inside small)
 
 fits_leave : (bs : BranchForms) (end : ℕ) → end < 2 ^ 32 → All Fits (leave_code bs end)
 fits_leave no_branch end small = All-nil Fits
@@ -150,25 +326,26 @@ fits_leave (otherwise cs) end small = one (instruction Jump 0 end) (fits_instruc
 fits_leave (branch t cs bs) end small = one (instruction Jump 0 end) (fits_instruction Jump 0 end (omega arith) (omega arith) small)
 
 mutual
-  fits_command : (tables : Tables) (place : ℕ) (c : CommandForm) → length tables.numbers < 2 ^ 32 → place + command_length c < 2 ^ 32 → All Fits (command_code tables place c)
-  fits_command tables place keep few room = fits_plain Keep (omega arith)
-  fits_command tables place discard few room = fits_plain Discard (omega arith)
-  fits_command tables place stop few room = fits_plain Halt (omega arith)
-  fits_command tables place (choice bs) few room = fits_branches tables place bs (place + branches_length bs) few room room
+  fits_command : (tables : Tables) (place : ℕ) (c : CommandForm) → AreFew tables → IsBoundedCommand c → place + command_length c < 2 ^ 32 → All Fits (command_code tables place c)
+  fits_command tables place keep few b room = fits_plain Keep (omega arith)
+  fits_command tables place discard few b room = fits_plain Discard (omega arith)
+  fits_command tables place (file_into folder) few b room = All-cons Fits (push_string tables folder) (plain File ∷ []) (fits_string tables folder few) (fits_plain File (omega arith))
+  fits_command tables place stop few b room = fits_plain Halt (omega arith)
+  fits_command tables place (choice bs) few b room = fits_branches tables place bs (place + branches_length bs) few b room room
 
-  fits_commands : (tables : Tables) (place : ℕ) (cs : CommandForms) → length tables.numbers < 2 ^ 32 → place + commands_length cs < 2 ^ 32 → All Fits (commands_code tables place cs)
-  fits_commands tables place no_command few room = All-nil Fits
-  fits_commands tables place (command c cs) few room =
-      All-append Fits _ _ (fits_command tables place c few (omega (arith, room))) (fits_commands tables (place + command_length c) cs few (omega (arith, room)))
+  fits_commands : (tables : Tables) (place : ℕ) (cs : CommandForms) → AreFew tables → AreBoundedCommands cs → place + commands_length cs < 2 ^ 32 → All Fits (commands_code tables place cs)
+  fits_commands tables place no_command few b room = All-nil Fits
+  fits_commands tables place (command c cs) few b room =
+      All-append Fits _ _ (fits_command tables place c few b.0 (omega (arith, room))) (fits_commands tables (place + command_length c) cs few b.1 (omega (arith, room)))
 
-  fits_branches : (tables : Tables) (place : ℕ) (bs : BranchForms) (end : ℕ) → length tables.numbers < 2 ^ 32 → place + branches_length bs < 2 ^ 32 → end < 2 ^ 32 → All Fits (branches_code tables place bs end)
-  fits_branches tables place no_branch end few room small = All-nil Fits
-  fits_branches tables place (otherwise cs) end few room small = fits_commands tables place cs few room
-  fits_branches tables place (branch t cs bs) end few room small =
+  fits_branches : (tables : Tables) (place : ℕ) (bs : BranchForms) (end : ℕ) → AreFew tables → AreBoundedBranches bs → place + branches_length bs < 2 ^ 32 → end < 2 ^ 32 → All Fits (branches_code tables place bs end)
+  fits_branches tables place no_branch end few b room small = All-nil Fits
+  fits_branches tables place (otherwise cs) end few b room small = fits_commands tables place cs few b room
+  fits_branches tables place (branch t cs bs) end few b room small =
       let block : ℕ = place + test_length t in
       let next : ℕ = block + commands_length cs + leave_length bs in
-      All-append Fits _ _ (All-append Fits _ _ (All-append Fits _ _ (fits_test tables place t false next few (omega (arith, room)) (omega (arith, room))) (fits_commands tables block cs few (omega (arith, room)))) (fits_leave bs end small))
-      (fits_branches tables next bs end few (omega (arith, room)) small)
+      All-append Fits _ _ (All-append Fits _ _ (All-append Fits _ _ (fits_test tables place t false next few b.0 (omega (arith, room)) (omega (arith, room))) (fits_commands tables block cs few b.1 (omega (arith, room)))) (fits_leave bs end small))
+      (fits_branches tables next bs end few b.2 (omega (arith, room)) small)
 
 -- ---- the program
 
@@ -181,16 +358,18 @@ pub is_program : (cs : CommandForms) → IsBounded cs → All (λ n. n < 2 ^ 64)
 is_program cs short numbers =
     let commands : commands_length cs ≤ commands_extent cs - 1 = commands_within cs in
     let few : length (tables_of cs).numbers ≤ commands_length cs = table_within cs in
+    let strings : length (tables_of cs).strings ≤ commands_length cs = strings_few cs in
+    let both : AreFew (tables_of cs) = (omega (arith, commands, few, short.octets), omega (arith, commands, strings, short.octets)) in
     record {
       version = refl;
       variables = omega arith;
       numbers = omega (arith, commands, few, short.octets);
       each_number = numbers;
-      strings = omega arith;
-      each_string = All-nil _;
+      strings = omega (arith, commands, strings, short.octets);
+      each_string = each_once_all bytes_eq IsShort (commands_strings cs) (commands_short cs short.commands);
       instructions = omega (arith, length_code cs, commands, short.octets);
-      each_instruction = All-append Fits _ _ (fits_commands (tables_of cs) 0 cs (omega (arith, commands, few, short.octets)) (omega (arith, commands, short.octets))) (fits_plain Halt (omega arith));
-      octets = omega (arith, length-spelling (code_of cs), length_code cs, commands, few, short.octets);
+      each_instruction = All-append Fits _ _ (fits_commands (tables_of cs) 0 cs both short.commands (omega (arith, commands, short.octets))) (fits_plain Halt (omega arith));
+      octets = omega (arith, length-spelling (code_of cs), length_code cs, commands, few, strings_small cs, short.octets);
     }
 
 -- the same, by the numbers of the script

@@ -1,15 +1,20 @@
 -- The code of a script: of each piece the instructions, from the place on where the piece begins.
-use Rattle.std.specs.Prelude.{ℕ, ◌+◌, Bool, true, false, not, List, [], ◌∷◌, ◌++◌, length}
+use Rattle.std.specs.Prelude.{ℕ, ◌+◌, Bool, true, false, not, List, [], ◌∷◌, ◌++◌, length, map}
 use Rattle.bytecode_format.specs.declared.instruction.Instruction.{Instruction}
 use Rattle.bytecode_format.specs.declared.operation.Operation.{Operation}
-use Rattle.bytecode_format.specs.declared.operation.Operation.TheVariants.{Halt, Bool as BoolOp, Jump, JumpIfTrue, JumpIfFalse, Size, Keep, Discard}
+use Rattle.bytecode_format.specs.declared.operation.Operation.TheVariants.{Halt, Literal, Bool as BoolOp, Jump, JumpIfTrue, JumpIfFalse, Header, Exists, Size, Keep, Discard, File}
 use Rattle.bytecode_format.specs.Operations.{octet_of}
 use Rattle.bytecode_format.specs.Code.{Code}
+use Rattle.glob_match.specs.declared.comparator.Comparator.{Comparator}
+use Rattle.glob_match.specs.declared.comparator.Comparator.TheVariants.{Octet, Casemap}
+use Rattle.glob_match.specs.declared.match_type.Match.{Match}
+use Rattle.glob_match.specs.declared.match_type.MatchType.{MatchType}
+use Rattle.glob_match.specs.declared.match_type.MatchType.TheVariants.{Is, Contains, Matches}
 use Rattle.sieve_check.specs.declared.typed.Order.{Order}
 use Rattle.sieve_check.specs.declared.typed.Order.TheVariants.{Over, Under}
-use Rattle.sieve_check.specs.Typed.{TestForm, constant, negation, all_of, any_of, size, TestForms, no_test, test, CommandForm, keep, discard, stop, choice, CommandForms, no_command, command, BranchForms, no_branch, otherwise, branch}
+use Rattle.sieve_check.specs.Typed.{TestForm, constant, negation, all_of, any_of, size, header, exists, TestForms, no_test, test, CommandForm, keep, discard, file_into, stop, choice, CommandForms, no_command, command, BranchForms, no_branch, otherwise, branch}
 use Rattle.sieve_compiler.specs.Lengths.{test_length, tests_length, commands_length, command_length, leave_length, branches_length}
-use Rattle.sieve_compiler.specs.Tables.{Tables, tables_of, place_of_number}
+use Rattle.sieve_compiler.specs.Tables.{Tables, tables_of, place_of_number, place_of_string}
 
 -- an instruction with its fields a and c
 abbrev pub instruction : Operation → ℕ → ℕ → Instruction
@@ -33,6 +38,35 @@ push_bool false = instruction BoolOp 0 0
 abbrev pub push_size : Order → ℕ → Instruction
 push_size Over place = instruction Size 0 place
 push_size Under place = instruction Size 1 place
+
+-- a string, by its place in the table
+abbrev pub push_string : Tables → List ℕ → Instruction
+push_string tables string = instruction Literal 0 (place_of_string tables string)
+
+-- strings, one after the other
+abbrev pub push_strings : Tables → List (List ℕ) → List Instruction
+push_strings tables strings = map (push_string tables) strings
+
+-- the number of a match: what it asks in bits 0 and 1, and the comparator in bit 2
+abbrev pub kind_number : MatchType → ℕ
+kind_number Is = 0
+kind_number Contains = 1
+kind_number Matches = 2
+
+abbrev pub comparator_number : Comparator → ℕ
+comparator_number Casemap = 0
+comparator_number Octet = 4
+
+abbrev pub match_number : Match → ℕ
+match_number how = kind_number how.kind + comparator_number how.comparator
+
+-- the values of the message's fields of so many names, against so many keys
+abbrev pub match_fields : Match → ℕ → ℕ → Instruction
+match_fields how names keys = record { op = octet_of Header; a = match_number how; b = names; c = keys }
+
+-- whether the message has fields of so many names
+abbrev pub find_fields : ℕ → Instruction
+find_fields names = record { op = octet_of Exists; a = 0; b = names; c = 0 }
 
 -- a test of a list jumps where it decides the list alone, as a false one does of allof and a true one of anyof;
 -- the last one, after which nothing stands, jumps where the list has the value that is asked for
@@ -60,6 +94,9 @@ abbrev mutual
       let following = place + (test_length t + tests_length ts) in
       test_code tables place t (asked_of true asked ts) (aim_of true asked ts following target) ++ tests_code tables (place + test_length t) ts true asked following target
   test_code tables place (size order number) asked target = push_size order (place_of_number tables number) ∷ jump_if asked target ∷ []
+  test_code tables place (header how names keys) asked target =
+      push_strings tables names ++ push_strings tables keys ++ match_fields how (length names) (length keys) ∷ jump_if asked target ∷ []
+  test_code tables place (exists names) asked target = push_strings tables names ++ find_fields (length names) ∷ jump_if asked target ∷ []
 
   -- the tests of a list after its first
   pub tests_code : Tables → ℕ → TestForms → Bool → Bool → ℕ → ℕ → List Instruction
@@ -77,6 +114,7 @@ abbrev mutual
   pub command_code : Tables → ℕ → CommandForm → List Instruction
   command_code tables place keep = plain Keep ∷ []
   command_code tables place discard = plain Discard ∷ []
+  command_code tables place (file_into folder) = push_string tables folder ∷ plain File ∷ []
   command_code tables place stop = plain Halt ∷ []
   command_code tables place (choice bs) = branches_code tables place bs (place + branches_length bs)
 

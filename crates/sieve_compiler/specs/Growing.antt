@@ -1,6 +1,10 @@
--- A table of numbers as it grows.
-use Rattle.std.specs.Prelude.{ℕ, nat_eq, List, Option}
+-- Tables as they grow.
+use Rattle.std.specs.Prelude.{ℕ, nat_eq, bytes_eq, List, ◌++◌, Option}
 use Rattle.octets.specs.Once as once
+use Rattle.sieve_check.specs.Typed.{TestForm, TestForms, CommandForm, CommandForms, BranchForms}
+use Rattle.sieve_compiler.specs.Numbers.{test_numbers, tests_numbers, command_numbers, commands_numbers, branches_numbers}
+use Rattle.sieve_compiler.specs.Strings.{test_strings, tests_strings, command_strings, commands_strings, branches_strings}
+use Rattle.sieve_compiler.specs.Tables.{Tables}
 
 -- where the number stands in the table, if it does
 abbrev pub found_in : List ℕ → ℕ → Option ℕ
@@ -10,6 +14,41 @@ found_in table n = once.found_in nat_eq table n
 abbrev pub with_number : List ℕ → ℕ → List ℕ
 with_number table n = once.with_one nat_eq table n
 
--- the table with more numbers, one after the other
-abbrev pub with_numbers : List ℕ → List ℕ → List ℕ
-with_numbers table ns = once.with_more nat_eq table ns
+-- the same of strings
+abbrev pub string_in : List (List ℕ) → List ℕ → Option ℕ
+string_in table s = once.found_in bytes_eq table s
+
+abbrev pub with_string : List (List ℕ) → List ℕ → List (List ℕ)
+with_string table s = once.with_one bytes_eq table s
+
+-- the numbers and strings of a piece, as they stand in it
+pub record Uses : Type 0 where
+  pub numbers : List ℕ
+  pub strings : List (List ℕ)
+
+abbrev pub uses_with : List ℕ → List (List ℕ) → Uses
+uses_with numbers strings = record { numbers = numbers; strings = strings }
+
+-- those of one piece, and of another after it
+abbrev pub joined : Uses → Uses → Uses
+joined a b = uses_with (a.numbers ++ b.numbers) (a.strings ++ b.strings)
+
+abbrev pub test_uses : TestForm → Uses
+test_uses t = uses_with (test_numbers t) (test_strings t)
+
+abbrev pub tests_uses : TestForms → Uses
+tests_uses ts = uses_with (tests_numbers ts) (tests_strings ts)
+
+abbrev pub command_uses : CommandForm → Uses
+command_uses c = uses_with (command_numbers c) (command_strings c)
+
+abbrev pub commands_uses : CommandForms → Uses
+commands_uses cs = uses_with (commands_numbers cs) (commands_strings cs)
+
+abbrev pub branches_uses : BranchForms → Uses
+branches_uses bs = uses_with (branches_numbers bs) (branches_strings bs)
+
+-- the tables with what a piece uses
+abbrev pub with_uses : Tables → Uses → Tables
+with_uses tables uses =
+    record tables { numbers = once.with_more nat_eq tables.numbers uses.numbers; strings = once.with_more bytes_eq tables.strings uses.strings }

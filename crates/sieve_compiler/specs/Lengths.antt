@@ -1,15 +1,17 @@
 -- How many instructions the code of each piece has.
-use Rattle.std.specs.Prelude.{ℕ, ◌+◌}
-use Rattle.sieve_check.specs.Typed.{TestForm, constant, negation, all_of, any_of, size, TestForms, no_test, test, CommandForm, keep, discard, stop, choice, CommandForms, no_command, command, BranchForms, no_branch, otherwise, branch}
+use Rattle.std.specs.Prelude.{ℕ, ◌+◌, length}
+use Rattle.sieve_check.specs.Typed.{TestForm, constant, negation, all_of, any_of, size, header, exists, TestForms, no_test, test, CommandForm, keep, discard, file_into, stop, choice, CommandForms, no_command, command, BranchForms, no_branch, otherwise, branch}
 
 abbrev mutual
-  -- a simple test is one instruction and its jump
+  -- a simple test is its strings, one instruction, and its jump
   pub test_length : TestForm → ℕ
   test_length (constant b) = 2
   test_length (negation t) = test_length t
   test_length (all_of t ts) = test_length t + tests_length ts
   test_length (any_of t ts) = test_length t + tests_length ts
   test_length (size order number) = 2
+  test_length (header how names keys) = length names + length keys + 2
+  test_length (exists names) = length names + 2
 
   pub tests_length : TestForms → ℕ
   tests_length no_test = 0
@@ -25,6 +27,7 @@ abbrev mutual
   pub command_length : CommandForm → ℕ
   command_length keep = 1
   command_length discard = 1
+  command_length (file_into folder) = 2
   command_length stop = 1
   command_length (choice bs) = branches_length bs
 

@@ -1,6 +1,6 @@
 -- The numbers of a script, as they stand in it.
 use Rattle.std.specs.Prelude.{ℕ, List, [], ◌∷◌, ◌++◌}
-use Rattle.sieve_check.specs.Typed.{TestForm, constant, negation, all_of, any_of, size, TestForms, no_test, test, CommandForm, keep, discard, stop, choice, CommandForms, no_command, command, BranchForms, no_branch, otherwise, branch}
+use Rattle.sieve_check.specs.Typed.{TestForm, constant, negation, all_of, any_of, size, header, exists, TestForms, no_test, test, CommandForm, keep, discard, file_into, stop, choice, CommandForms, no_command, command, BranchForms, no_branch, otherwise, branch}
 
 abbrev mutual
   -- the numbers of a test as they stand in it
@@ -10,6 +10,8 @@ abbrev mutual
   test_numbers (all_of t ts) = test_numbers t ++ tests_numbers ts
   test_numbers (any_of t ts) = test_numbers t ++ tests_numbers ts
   test_numbers (size order number) = number ∷ []
+  test_numbers (header how names keys) = []
+  test_numbers (exists names) = []
 
   pub tests_numbers : TestForms → List ℕ
   tests_numbers no_test = []
@@ -20,6 +22,7 @@ abbrev mutual
   pub command_numbers : CommandForm → List ℕ
   command_numbers keep = []
   command_numbers discard = []
+  command_numbers (file_into folder) = []
   command_numbers stop = []
   command_numbers (choice bs) = branches_numbers bs
 

@@ -2,31 +2,35 @@
 ghost use Rattle.std.specs.Prelude.{◌≡◌, ◌<◌, ◌^◌, length};
 
 use crate::exits::{Exit, ListExit};
-use crate::instructions::{instruction, jump_if, push_bool, push_size};
+use crate::instructions::{find_fields, instruction, jump_if, match_fields, push_bool, push_size};
 use crate::lengths::{command_length, commands_length, is_left, test_length, tests_length};
 use crate::tables::Tables;
 use bytecode_format::{Instruction, Operation};
+use octets::Octets;
 use sieve_check::{Branch, Command, Test};
 use std::alloc::{AllocError, Global};
 
 /// The code so far, and the tables of the whole script.
 #[derive(Drop)]
-pub struct Coder<'a> {
-    pub tables: &'a Tables,
+pub struct Coder<'t, 's> {
+    pub tables: &'t Tables<'s>,
     pub instructions: Vec<Instruction>,
-    ghost few: { length tables.now.numbers < 2 ^ 32 },
+    ghost numbers: { length tables.now.numbers < 2 ^ 32 },
+    ghost strings: { length tables.now.strings < 2 ^ 32 },
 }
 
-impl<'a> Coder<'a> {
+impl<'t, 's> Coder<'t, 's> {
     ghost use Rattle.std.specs.Prelude.{◌≡◌, ◌+◌, ◌<◌, ◌^◌, false, [], ◌∷◌, ◌++◌, length, map, OnOk};
     ghost use Rattle.sieve_check.specs.TypedView.{test_form, tests_of, command_form, commands_form, branch_forms, else_form};
     ghost use Rattle.sieve_compiler.specs.Lengths.{test_length, tests_length, leave_length, command_length, commands_length};
-    ghost use Rattle.sieve_compiler.specs.Coding.{jump_if, test_code, tests_code, leave_code, command_code, commands_code};
+    ghost use Rattle.sieve_check.specs.Bounded.{IsBoundedTest, AreBoundedTests, IsBoundedCommand, AreBoundedCommands};
+    ghost use Rattle.sieve_compiler.specs.Coding.{jump_if, push_string, push_strings, test_code, tests_code, leave_code, command_code, commands_code};
     ghost use Rattle.sieve_compiler.specs.Putting.{Puts};
 
     /// No code. Takes no memory.
-    pub fn new(alloc: Global, tables: &'a Tables) -> Coder<'a>
-        requires { length tables.now.numbers < 2 ^ 32 }
+    pub fn new(alloc: Global, tables: &'t Tables<'s>) -> Coder<'t, 's>
+        requires numbers { length tables.now.numbers < 2 ^ 32 }
+        requires strings { length tables.now.strings < 2 ^ 32 }
         ensures tables { result.tables.now ≡ tables.now }
         ensures instructions { result.instructions.items ≡ [] }
     {
@@ -53,6 +57,26 @@ impl<'a> Coder<'a> {
         Ok(())
     }
 
+    // Pushes a string.
+    fn put_string(&mut self, text: &[u8]) -> Result<(), AllocError>
+        ensures code { OnOk result (Puts self.old self.new (push_string self.old.tables.now text.now ∷ [])) }
+        ensures room { OnOk result (length self.new.instructions.items ≡ length self.old.instructions.items + 1) }
+    {
+        let place = self.tables.place_of_string(text) as u32;
+        self.put(instruction(Operation::Literal, 0, place))
+    }
+
+    // Pushes strings, one after the other.
+    fn put_strings(&mut self, strings: &[Octets]) -> Result<(), AllocError>
+        ensures code { OnOk result (Puts self.old self.new (push_strings self.old.tables.now strings.now)) }
+        ensures room { OnOk result (length self.new.instructions.items ≡ length self.old.instructions.items + length strings.now) }
+    {
+        for text in strings {
+            self.put_string(text.as_slice())?;
+        }
+        Ok(())
+    }
+
     // Puts a simple test and its jump.
     fn put_simple(&mut self, test: Instruction, exit: Exit) -> Result<(), AllocError>
         ensures code { OnOk result (Puts self.old self.new (test ∷ jump_if exit.asked exit.target ∷ [])) }
@@ -66,7 +90,8 @@ impl<'a> Coder<'a> {
     /// Puts the code of a test, which jumps as the exit says.
     #[cycle(tests)]
     pub fn put_test(&mut self, test: &Test, exit: Exit) -> Result<(), AllocError>
-        requires { length self.old.instructions.items + test_length (test_form test.now) < 2 ^ 32 }
+        requires room { length self.old.instructions.items + test_length (test_form test.now) < 2 ^ 32 }
+        requires bounded { IsBoundedTest (test_form test.now) }
         ensures code { OnOk result (Puts self.old self.new (test_code self.old.tables.now (length self.old.instructions.items) (test_form test.now) exit.asked exit.target)) }
         ensures room { OnOk result (length self.new.instructions.items ≡ length self.old.instructions.items + test_length (test_form test.now)) }
     {
@@ -91,6 +116,20 @@ impl<'a> Coder<'a> {
                 self.put_tests(others, list)?;
                 Ok(())
             }
+            Test::Header {
+                matching,
+                names,
+                keys,
+            } => {
+                self.put_strings(names)?;
+                self.put_strings(keys)?;
+                let test = match_fields(*matching, names.len() as u16, keys.len() as u32);
+                self.put_simple(test, exit)
+            }
+            Test::Exists(names) => {
+                self.put_strings(names)?;
+                self.put_simple(find_fields(names.len() as u16), exit)
+            }
             Test::Size(order, number) => {
                 let place = self.tables.place_of_number(*number) as u32;
                 self.put_simple(push_size(*order, place), exit)
@@ -101,7 +140,8 @@ impl<'a> Coder<'a> {
     // Puts the code of the tests of a list after its first.
     #[cycle(tests)]
     fn put_tests(&mut self, others: &[Test], list: ListExit) -> Result<(), AllocError>
-        requires { length self.old.instructions.items + tests_length (tests_of (map test_form others.now)) < 2 ^ 32 }
+        requires room { length self.old.instructions.items + tests_length (tests_of (map test_form others.now)) < 2 ^ 32 }
+        requires bounded { AreBoundedTests (tests_of (map test_form others.now)) }
         ensures code { OnOk result (Puts self.old self.new (tests_code self.old.tables.now (length self.old.instructions.items) (tests_of (map test_form others.now)) list.deciding list.exit.asked list.following list.exit.target)) }
         ensures room { OnOk result (length self.new.instructions.items ≡ length self.old.instructions.items + tests_length (tests_of (map test_form others.now))) }
     {
@@ -128,13 +168,18 @@ impl<'a> Coder<'a> {
     // Puts the code of a command.
     #[cycle(commands)]
     fn put_command(&mut self, command: &Command) -> Result<(), AllocError>
-        requires { length self.old.instructions.items + command_length (command_form command.now) < 2 ^ 32 }
+        requires room { length self.old.instructions.items + command_length (command_form command.now) < 2 ^ 32 }
+        requires bounded { IsBoundedCommand (command_form command.now) }
         ensures code { OnOk result (Puts self.old self.new (command_code self.old.tables.now (length self.old.instructions.items) (command_form command.now))) }
         ensures room { OnOk result (length self.new.instructions.items ≡ length self.old.instructions.items + command_length (command_form command.now)) }
     {
         match command {
             Command::Keep => self.put(instruction(Operation::Keep, 0, 0))?,
             Command::Discard => self.put(instruction(Operation::Discard, 0, 0))?,
+            Command::FileInto(folder) => {
+                self.put_string(folder.as_slice())?;
+                self.put(instruction(Operation::File, 0, 0))?;
+            }
             Command::Stop => self.put(instruction(Operation::Halt, 0, 0))?,
             Command::If(branches, otherwise) => {
                 let end = self.place() + command_length(command);
@@ -156,7 +201,8 @@ impl<'a> Coder<'a> {
     /// Puts the code of commands, one after the other.
     #[cycle(commands)]
     pub fn put_commands(&mut self, commands: &[Command]) -> Result<(), AllocError>
-        requires { length self.old.instructions.items + commands_length (commands_form commands.now) < 2 ^ 32 }
+        requires room { length self.old.instructions.items + commands_length (commands_form commands.now) < 2 ^ 32 }
+        requires bounded { AreBoundedCommands (commands_form commands.now) }
         ensures code { OnOk result (Puts self.old self.new (commands_code self.old.tables.now (length self.old.instructions.items) (commands_form commands.now))) }
         ensures room { OnOk result (length self.new.instructions.items ≡ length self.old.instructions.items + commands_length (commands_form commands.now)) }
     {

@@ -7,11 +7,12 @@ ghost use Rattle.sieve_vm.specs.Ending.{IsOutcome};
 ghost use Rattle.sieve_check.specs.TypedView.{commands_form};
 ghost use Rattle.sieve_check.specs.Bounded.{IsBounded};
 ghost use Rattle.sieve_compiler.specs.Coding.{code_of};
+ghost use Rattle.sieve_compiler.specs.Tables.{tables_of};
 
 use crate::coder::Coder;
 use crate::instructions::instruction;
 use crate::tables::Tables;
-use bytecode_format::{Operation, Program};
+use bytecode_format::{Instruction, Operation, Program};
 use sieve_check::{Checked, Command};
 use std::alloc::{AllocError, Global};
 
@@ -34,10 +35,24 @@ fn compile_commands(alloc: Global, commands: &[Command]) -> Result<Program, Allo
     ensures code { IfOk result (λ p. p ≡ code_of (commands_form commands.now)) }
 {
     let tables = Tables::of_script(alloc, commands)?;
-    let mut coder = Coder::new(alloc, &tables);
+    let instructions = code_with(alloc, &tables, commands)?;
+    let strings = tables.strings(alloc)?;
+    let numbers = tables.into_numbers();
+    Ok(Program::build(1, 0, numbers, strings, instructions).unwrap())
+}
+
+// The instructions of a script's commands, with its tables.
+fn code_with<'t, 's>(
+    alloc: Global,
+    tables: &'t Tables<'s>,
+    commands: &[Command],
+) -> Result<Vec<Instruction>, AllocError>
+    requires bounded { IsBounded (commands_form commands.now) }
+    requires tables { tables.now ≡ tables_of (commands_form commands.now) }
+    ensures code { IfOk result (λ code. code.items ≡ (code_of (commands_form commands.now)).instructions) }
+{
+    let mut coder = Coder::new(alloc, tables);
     coder.put_commands(commands)?;
     coder.put(instruction(Operation::Halt, 0, 0))?;
-    let instructions = coder.instructions;
-    let numbers = tables.into_numbers();
-    Ok(Program::build(1, 0, numbers, Vec::new(alloc), instructions).unwrap())
+    Ok(coder.instructions)
 }

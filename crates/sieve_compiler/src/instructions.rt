@@ -1,9 +1,10 @@
 // The instructions of which code is made.
 ghost use Rattle.std.specs.Prelude.{◌≡◌};
-ghost use Rattle.sieve_compiler.specs.Coding.{instruction, jump_if, push_bool, push_size};
+ghost use Rattle.sieve_compiler.specs.Coding.{comparator_number, find_fields, instruction, jump_if, kind_number, match_fields, match_number, push_bool, push_size};
 
 use crate::exits::Exit;
 use bytecode_format::{Instruction, Operation};
+use glob_match::{Comparator, Match, MatchType};
 use sieve_check::Order;
 
 /// An instruction with its fields a and c.
@@ -44,5 +45,57 @@ pub fn push_size(order: Order, place: u32) -> Instruction
     match order {
         Order::Over => instruction(Operation::Size, 0, place),
         Order::Under => instruction(Operation::Size, 1, place),
+    }
+}
+
+/// Compares the values of the message's fields of so many names with so many keys.
+pub fn match_fields(how: Match, names: u16, keys: u32) -> Instruction
+    ensures { result ≡ match_fields how names keys }
+{
+    Instruction {
+        op: Operation::Header.octet(),
+        a: match_number(how),
+        b: names,
+        c: keys,
+    }
+}
+
+/// Says whether the message has fields of so many names.
+pub fn find_fields(names: u16) -> Instruction
+    ensures { result ≡ find_fields names }
+{
+    Instruction {
+        op: Operation::Exists.octet(),
+        a: 0,
+        b: names,
+        c: 0,
+    }
+}
+
+// The number of a match.
+fn match_number(how: Match) -> u8
+    ensures { result ≡ match_number how }
+{
+    kind_number(how.kind) + comparator_number(how.comparator)
+}
+
+// What it asks, in bits 0 and 1.
+fn kind_number(kind: MatchType) -> u8
+    ensures { result ≡ kind_number kind }
+{
+    match kind {
+        MatchType::Is => 0,
+        MatchType::Contains => 1,
+        MatchType::Matches => 2,
+    }
+}
+
+// The comparator, in bit 2.
+fn comparator_number(comparator: Comparator) -> u8
+    ensures { result ≡ comparator_number comparator }
+{
+    match comparator {
+        Comparator::Casemap => 0,
+        Comparator::Octet => 4,
     }
 }

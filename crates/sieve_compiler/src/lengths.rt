@@ -16,6 +16,8 @@ pub fn test_length(test: &Test) -> u32
 {
     match test {
         Test::Constant(_) | Test::Size(_, _) => 2,
+        Test::Header { names, keys, .. } => names.len() as u32 + keys.len() as u32 + 2,
+        Test::Exists(names) => names.len() as u32 + 2,
         Test::Not(inner) => test_length(inner),
         Test::AllOf(first, others) | Test::AnyOf(first, others) => {
             test_length(first) + tests_length(others)
@@ -51,6 +53,7 @@ pub fn command_length(command: &Command) -> u32
 {
     match command {
         Command::Keep | Command::Discard | Command::Stop => 1,
+        Command::FileInto(_) => 2,
         Command::If(branches, otherwise) => {
             let mut total = 0;
             'branches: for (i, branch) in branches.iter().enumerate() {

@@ -1,7 +1,7 @@
 //! The compiler: a checked script as a program.
 //!
 //! `specs/Coding` says what the code of each command and test is, by recursion on the typed form. [`compile`] answers
-//! exactly the program of that code: no instruction more or less, each number of the script once in the table, in the
+//! exactly the program of that code: no instruction more or less, each number and each string of the script once in its table, in the
 //! order of their first use. It refuses nothing but for memory. The laws say that the code is accepted, and that on
 //! every message its run ends with the final actions of the script's meaning.
 #![tactic(auto)]
@@ -14,6 +14,7 @@ pub mod laws;
 mod lengths;
 mod numbering;
 mod numbers;
+mod strings;
 mod tables;
 
 pub use compiler::compile;

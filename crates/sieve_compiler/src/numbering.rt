@@ -1,32 +1,42 @@
-// The first pass over a script: its numbers.
+// The first pass over a script: its numbers and its strings.
 ghost use Rattle.std.specs.Prelude.{◌≡◌};
 
-use crate::numbers::Numbers;
+use crate::tables::Tables;
+use octets::Octets;
 use sieve_check::{Command, Test};
 use std::alloc::{AllocError, Global};
 
-impl Numbers {
-    ghost use Rattle.std.specs.Prelude.{◌≡◌, nat_eq, map, OnOk, IfOk};
-    ghost use Rattle.octets.specs.Once.{each_once};
+impl<'a> Tables<'a> {
+    ghost use Rattle.std.specs.Prelude.{◌≡◌, [], map, OnOk, IfOk};
     ghost use Rattle.sieve_check.specs.TypedView.{test_form, tests_of, command_form, commands_form};
-    ghost use Rattle.sieve_compiler.specs.Numbers.{test_numbers, tests_numbers, command_numbers, commands_numbers};
-    ghost use Rattle.sieve_compiler.specs.Growing.{with_numbers};
+    ghost use Rattle.sieve_compiler.specs.Tables.{tables_of};
+    ghost use Rattle.sieve_compiler.specs.Growing.{uses_with, test_uses, tests_uses, command_uses, commands_uses, with_uses};
 
-    /// The different numbers of a script, in the order of their first use.
+    /// The tables of a script: each of its numbers and of its strings once, in the order of their first use.
     ///
     /// An error comes only where memory was refused.
-    pub fn of_script(alloc: Global, commands: &[Command]) -> Result<Numbers, AllocError>
-        ensures { IfOk result (λ numbers. numbers ≡ each_once nat_eq (commands_numbers (commands_form commands.now))) }
+    pub fn of_script(alloc: Global, commands: &'a [Command]) -> Result<Tables<'a>, AllocError>
+        ensures { IfOk result (λ tables. tables ≡ tables_of (commands_form commands.now)) }
     {
-        let mut numbers = Numbers::new(alloc);
-        numbers.add_commands(commands)?;
-        Ok(numbers)
+        let mut tables = Tables::new(alloc);
+        tables.add_commands(commands)?;
+        Ok(tables)
     }
 
-    #[cycle(test_numbers)]
-    #[tactic(auto, using(crate::proofs::NumberingLemmas::numbers_after))]
-    fn add_test(&mut self, test: &Test) -> Result<(), AllocError>
-        ensures { OnOk result (self.new ≡ with_numbers self.old (test_numbers (test_form test.now))) }
+    // Adds strings, one after the other.
+    fn add_strings(&mut self, strings: &'a [Octets]) -> Result<(), AllocError>
+        ensures { OnOk result (self.new ≡ with_uses self.old (uses_with [] strings.now)) }
+    {
+        for text in strings {
+            self.strings.add(text.as_slice())?;
+        }
+        Ok(())
+    }
+
+    #[cycle(test_uses)]
+    #[tactic(auto, using(crate::proofs::NumberingLemmas::uses_after))]
+    fn add_test(&mut self, test: &'a Test) -> Result<(), AllocError>
+        ensures { OnOk result (self.new ≡ with_uses self.old (test_uses (test_form test.now))) }
     {
         match test {
             Test::Constant(_) => Ok(()),
@@ -35,14 +45,19 @@ impl Numbers {
                 self.add_test(first)?;
                 self.add_tests(others)
             }
-            Test::Size(_, number) => self.add(*number),
+            Test::Header { names, keys, .. } => {
+                self.add_strings(names)?;
+                self.add_strings(keys)
+            }
+            Test::Exists(names) => self.add_strings(names),
+            Test::Size(_, number) => self.numbers.add(*number),
         }
     }
 
-    #[cycle(test_numbers)]
-    #[tactic(auto, using(crate::proofs::NumberingLemmas::numbers_after))]
-    fn add_tests(&mut self, tests: &[Test]) -> Result<(), AllocError>
-        ensures { OnOk result (self.new ≡ with_numbers self.old (tests_numbers (tests_of (map test_form tests.now)))) }
+    #[cycle(test_uses)]
+    #[tactic(auto, using(crate::proofs::NumberingLemmas::uses_after))]
+    fn add_tests(&mut self, tests: &'a [Test]) -> Result<(), AllocError>
+        ensures { OnOk result (self.new ≡ with_uses self.old (tests_uses (tests_of (map test_form tests.now)))) }
     {
         'tests: for test in tests {
             self.add_test(test)?;
@@ -50,27 +65,31 @@ impl Numbers {
         Ok(())
     }
 
-    #[cycle(command_numbers)]
-    #[tactic(auto, using(crate::proofs::NumberingLemmas::numbers_after))]
-    fn add_command(&mut self, command: &Command) -> Result<(), AllocError>
-        ensures { OnOk result (self.new ≡ with_numbers self.old (command_numbers (command_form command.now))) }
+    #[cycle(command_uses)]
+    #[tactic(auto, using(crate::proofs::NumberingLemmas::uses_after))]
+    fn add_command(&mut self, command: &'a Command) -> Result<(), AllocError>
+        ensures { OnOk result (self.new ≡ with_uses self.old (command_uses (command_form command.now))) }
     {
-        if let Command::If(branches, otherwise) = command {
-            'branches: for branch in branches {
-                self.add_test(&branch.test)?;
-                self.add_commands(&branch.block)?;
-            }
-            if let Some(block) = otherwise {
-                self.add_commands(block)?;
+        match command {
+            Command::Keep | Command::Discard | Command::Stop => {}
+            Command::FileInto(folder) => self.strings.add(folder.as_slice())?,
+            Command::If(branches, otherwise) => {
+                'branches: for branch in branches {
+                    self.add_test(&branch.test)?;
+                    self.add_commands(&branch.block)?;
+                }
+                if let Some(block) = otherwise {
+                    self.add_commands(block)?;
+                }
             }
         }
         Ok(())
     }
 
-    #[cycle(command_numbers)]
-    #[tactic(auto, using(crate::proofs::NumberingLemmas::numbers_after))]
-    fn add_commands(&mut self, commands: &[Command]) -> Result<(), AllocError>
-        ensures { OnOk result (self.new ≡ with_numbers self.old (commands_numbers (commands_form commands.now))) }
+    #[cycle(command_uses)]
+    #[tactic(auto, using(crate::proofs::NumberingLemmas::uses_after))]
+    fn add_commands(&mut self, commands: &'a [Command]) -> Result<(), AllocError>
+        ensures { OnOk result (self.new ≡ with_uses self.old (commands_uses (commands_form commands.now))) }
     {
         'commands: for command in commands {
             self.add_command(command)?;

@@ -2,39 +2,40 @@
 ghost use Rattle.std.specs.Prelude.{◌≡◌, ◌<◌, ◌≤◌, ◌^◌, length, All, IfOk};
 
 use crate::numbers::Numbers;
-use sieve_check::Command;
+use crate::strings::Strings;
+use octets::Octets;
 use std::alloc::{AllocError, Global};
 use std::marker::Model;
 
-/// What the instructions of a script name by its place: so far its numbers alone.
+/// What the instructions of a script name by its place: its numbers and its strings.
 ///
 /// A contract sees the tables of the definition.
 #[derive(Drop)]
-pub struct Tables {
-    numbers: Numbers,
+pub struct Tables<'a> {
+    pub numbers: Numbers,
+    pub strings: Strings<'a>,
 }
 
-impl Model for Tables {
+impl<'a> Model for Tables<'a> {
     ghost use Rattle.sieve_compiler.specs.Tables.{Tables, tables_with};
 
     ghost Value = { Tables };
 
-    ghost view = { λ t. tables_with t.numbers };
+    ghost view = { λ t. tables_with t.numbers t.strings };
 }
 
-impl Tables {
-    ghost use Rattle.sieve_check.specs.TypedView.{commands_form};
-    ghost use Rattle.sieve_compiler.specs.Tables.{tables_of, place_of_number};
+impl<'a> Tables<'a> {
+    ghost use Rattle.std.specs.Prelude.{[]};
+    ghost use Rattle.sieve_compiler.specs.Tables.{tables_with, place_of_number, place_of_string};
 
-    /// The tables of a script.
-    ///
-    /// An error comes only where memory was refused.
-    pub fn of_script(alloc: Global, commands: &[Command]) -> Result<Tables, AllocError>
-        ensures { IfOk result (λ tables. tables ≡ tables_of (commands_form commands.now)) }
+    /// No number and no string. Takes no memory.
+    pub fn new(alloc: Global) -> Tables<'a>
+        ensures { result ≡ tables_with [] [] }
     {
-        Ok(Tables {
-            numbers: Numbers::of_script(alloc, commands)?,
-        })
+        Tables {
+            numbers: Numbers::new(alloc),
+            strings: Strings::new(alloc),
+        }
     }
 
     /// The place of the number; the table's end, where it isn't there.
@@ -45,9 +46,26 @@ impl Tables {
         self.numbers.place_of(number)
     }
 
+    /// The place of the string; the table's end, where it isn't there.
+    pub fn place_of_string(&self, text: &[u8]) -> usize
+        ensures place { result ≡ place_of_string self.now text.now }
+        ensures within { result ≤ length self.now.strings }
+    {
+        self.strings.place_of(text)
+    }
+
+    /// The strings in order, as copies.
+    ///
+    /// An error comes only where memory was refused.
+    pub fn strings(&self, alloc: Global) -> Result<Vec<Octets>, AllocError>
+        ensures { IfOk result (λ list. list.items ≡ self.now.strings) }
+    {
+        self.strings.to_list(alloc)
+    }
+
     /// The numbers in order.
     pub fn into_numbers(self) -> Vec<u64>
-        ensures list { result.items ≡ self.numbers }
+        ensures list { result.items ≡ self.entry.numbers }
         ensures numbers { All (λ n. n < 2 ^ 64) result.items }
     {
         self.numbers.into_list()

@@ -5,7 +5,7 @@ use Rattle.bytecode_format.specs.Code.{Code}
 use Rattle.bytecode_verifier.specs.declared.error.Refusal.{Refusal as BrokenRule}
 use Rattle.bytecode_verifier.specs.declared.error.Refusal.TheVariants.{Memory, Index, Form, End, Loop, Jump, NoPart, Stack}
 use Rattle.bytecode_verifier.specs.Acceptance.{refusal_of}
-use Rattle.mime_decode.specs.Mail.{Mail, IsReadable, mail_of}
+use Rattle.mime_decode.specs.Mail.{Mail, IsMail, IsReadable, mail_of}
 use Rattle.mime_decode.proofs.MailLemmas.{is_mail}
 use Rattle.sieve_vm.specs.Ending.{IsOutcome}
 use Rattle.sieve_vm.specs.Potential.{limit_of}
@@ -37,7 +37,7 @@ reported message code mail actions charged limit accepted readable is outcome va
     record {
       read = readable;
       outcome = subst (λ (m : Mail). IsOutcome code m actions charged) is outcome;
-      within = omega (arith, ends_within code mail accepted outcome.end outcome.over, outcome.charge_is, value);
+      within = omega (arith, ends_within code mail accepted (subst IsMail (sym is) (is_mail message readable)) outcome.end outcome.over, outcome.charge_is, value);
       budget = value ∙ ap (limit_of code) is;
     }
 

@@ -5,3 +5,4 @@ pub mod Beginnings
 pub mod Once
 pub mod Numbers
 pub mod Answered
+pub mod Extent

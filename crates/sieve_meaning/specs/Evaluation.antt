@@ -1,15 +1,21 @@
 -- How the evaluator's fields stand for what a script has done.
-use Rattle.std.specs.Prelude.{◌≡◌}
+use Rattle.std.specs.Prelude.{◌≡◌, Bool}
+use Rattle.mail_matching.specs.FirstMatch.{captures_of}
 use Rattle.bytecode_format.specs.Actions.{first_occurrences}
 use Rattle.sieve_meaning.specs.declared.evaluator.Evaluator.{Evaluator}
 use Rattle.sieve_meaning.specs.declared.evaluator.Flow.{Flow}
 use Rattle.sieve_meaning.specs.declared.evaluator.Flow.TheVariants.{GoesOn, Stopped}
-use Rattle.sieve_meaning.specs.Meaning.{Effects, Ending, normal, stopped}
+use Rattle.sieve_meaning.specs.Meaning.{Effects, Verdict, Ending, normal, stopped}
 
 -- the evaluator stands for these effects
 pub record StandsFor (effects : Effects) (evaluator : Evaluator) : Type 0 where
   pub actions : evaluator.actions ≡ first_occurrences effects.actions
   pub implicit_keep : evaluator.implicit_keep ≡ effects.implicit_keep
+  pub captures : captures_of evaluator.captures ≡ effects.captures
+
+-- the evaluator gives this verdict
+abbrev pub Gives : Verdict → Bool → Evaluator → Type 0
+Gives verdict value evaluator = (verdict.value ≡ value) × StandsFor verdict.effects evaluator
 
 -- the evaluator stands for this ending
 abbrev pub StandsAt : Ending → Flow → Evaluator → Type 0

@@ -1,12 +1,15 @@
 -- What a script means.
-use Rattle.std.specs.Prelude.{ℕ, Bool, true, false, not, nat_lt, List, [], ◌∷◌, ◌++◌, replicate, Option, None, if◌then◌else◌}
+use Rattle.std.specs.Prelude.{ℕ, Bool, true, false, not, nat_lt, List, [], ◌∷◌, ◌++◌, Option, None, Some, if◌then◌else◌}
 use Rattle.bytecode_format.specs.declared.action.Action.{Action}
-use Rattle.bytecode_format.specs.declared.action.Action.TheVariants.{Keep}
+use Rattle.bytecode_format.specs.declared.action.Action.TheVariants.{Keep, File}
 use Rattle.bytecode_format.specs.Actions.{final_actions}
+use Rattle.mail_matching.specs.FirstMatch.{no_captures}
+use Rattle.mail_matching.specs.HeaderTests.{exists_in, header_match}
 use Rattle.mime_decode.specs.Mail.{Mail, size_of}
+use Rattle.mime_decode.specs.Scope.{Root, Value}
 use Rattle.sieve_check.specs.declared.typed.Order.{Order}
 use Rattle.sieve_check.specs.declared.typed.Order.TheVariants.{Over, Under}
-use Rattle.sieve_check.specs.Typed.{TestForm, constant, negation, all_of, any_of, size, TestForms, no_test, test, CommandForm, keep, discard, stop, choice, CommandForms, no_command, command, BranchForms, no_branch, otherwise, branch}
+use Rattle.sieve_check.specs.Typed.{TestForm, constant, negation, all_of, any_of, header, exists, size, TestForms, no_test, test, CommandForm, keep, discard, file_into, stop, choice, CommandForms, no_command, command, BranchForms, no_branch, otherwise, branch}
 
 -- what a script has done so far: the values of variables by their names in lower case, the captures of the last match that set
 -- them, the actions, and whether the implicit keep stands
@@ -18,7 +21,7 @@ pub record Effects : Type 0 where
 
 -- nothing yet: variables and captures are empty, and the implicit keep stands
 abbrev pub no_effects : Effects
-no_effects = record { variables = λ name. []; captures = replicate 10 []; actions = []; implicit_keep = true }
+no_effects = record { variables = λ name. []; captures = no_captures; actions = []; implicit_keep = true }
 
 -- a test's truth value, and what was done by then
 pub record Verdict : Type 0 where
@@ -61,6 +64,11 @@ abbrev pub is_size : Order → ℕ → ℕ → Bool
 is_size Over number octets = nat_lt number octets
 is_size Under number octets = nat_lt octets number
 
+-- what a test of values comes to, from the captures after their first match, if there is one; where there is none, nothing changes
+abbrev pub matched : Option (List (List ℕ)) → Effects → Verdict
+matched None effects = verdict false effects
+matched (Some captures) effects = verdict true (record effects { captures = captures })
+
 -- Below, the current part is that of the innermost loop, none outside of loops.
 
 abbrev mutual
@@ -70,6 +78,9 @@ abbrev mutual
   test_does mail part (negation t) effects = turned (test_does mail part t effects)
   test_does mail part (all_of t ts) effects = and_then (test_does mail part t effects) (λ e. all_do mail part ts e)
   test_does mail part (any_of t ts) effects = or_else (test_does mail part t effects) (λ e. any_do mail part ts e)
+  -- without `:mime` these two look at the message's own header alone
+  test_does mail part (header how names keys) effects = matched (header_match how Root part Value names keys mail effects.captures) effects
+  test_does mail part (exists names) effects = verdict (exists_in Root part names mail) effects
   test_does mail part (size order number) effects = verdict (is_size order number (size_of mail)) effects
 
   -- whether all tests are true, from left to right up to the first that isn't
@@ -87,6 +98,7 @@ abbrev mutual
   pub command_does : Mail → Option ℕ → CommandForm → Effects → Ending
   command_does mail part keep effects = normal (record effects { actions = effects.actions ++ Keep ∷ []; implicit_keep = false })
   command_does mail part discard effects = normal (record effects { implicit_keep = false })
+  command_does mail part (file_into folder) effects = normal (record effects { actions = effects.actions ++ File folder ∷ []; implicit_keep = false })
   command_does mail part stop effects = stopped effects
   command_does mail part (choice branches) effects = choice_does mail part branches effects
 

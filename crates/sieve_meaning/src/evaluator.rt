@@ -1,17 +1,19 @@
 // Scripts evaluated.
 ghost use Rattle.std.specs.Prelude.{◌≡◌, IfOk};
 
-use crate::tests_hold::is_true;
 use bytecode_format::{Action, ActionList};
+use mail_matching::Captured;
 use mime_decode::Message;
 use sieve_check::{Checked, Command};
 use std::alloc::{AllocError, Global};
 
 /// What was done so far.
 #[derive(Drop)]
-pub struct Evaluator {
+pub struct Evaluator<'m> {
     pub actions: ActionList,
     pub implicit_keep: bool,
+    /// Those that the last match has set, if one has.
+    pub captures: Option<Captured<'m>>,
 }
 
 /// Whether the script goes on after a command.
@@ -21,48 +23,57 @@ pub enum Flow {
     Stopped,
 }
 
-impl Evaluator {
+impl<'m> Evaluator<'m> {
     ghost use Rattle.std.specs.Prelude.{◌≡◌, ◌∷◌, [], ◌++◌, false, map, IfOk, OnOk, None};
+    ghost use Rattle.sieve_check.specs.Bounded.{IsBoundedCommand, AreBoundedCommands};
     ghost use Rattle.sieve_check.specs.TypedView.{command_form, commands_form};
     ghost use Rattle.sieve_meaning.specs.Meaning.{Effects, no_effects, command_does, commands_do};
     ghost use Rattle.sieve_meaning.specs.Evaluation.{StandsFor, StandsAt};
 
     /// Before the first command.
-    pub fn new(alloc: Global) -> Evaluator
+    pub fn new(alloc: Global) -> Evaluator<'m>
         ensures { StandsFor no_effects result }
     {
         Evaluator {
             actions: ActionList::new(alloc),
             implicit_keep: true,
+            captures: None,
         }
     }
 
-    // Lists Keep, and takes the implicit keep away.
-    fn keep(&mut self) -> Result<(), AllocError>
-        ensures { (e : Effects) → StandsFor e self.old → OnOk result (StandsFor (record e { actions = e.actions ++ Action.Keep ∷ []; implicit_keep = false }) self.new) }
+    // Lists an action, and takes the implicit keep away.
+    fn list(&mut self, action: Action) -> Result<(), AllocError>
+        ensures { (e : Effects) → StandsFor e self.old → OnOk result (StandsFor (record e { actions = e.actions ++ action ∷ []; implicit_keep = false }) self.new) }
     {
-        self.actions.push(Action::Keep)?;
+        self.actions.push(action)?;
         self.implicit_keep = false;
         Ok(())
     }
 
     /// Does what a command does.
     #[cycle(commands)]
-    fn command(&mut self, command: &Command, message: &Message<'_>) -> Result<Flow, AllocError>
+    fn command(
+        &mut self,
+        alloc: Global,
+        command: &Command,
+        message: &Message<'m>,
+    ) -> Result<Flow, AllocError>
+        requires { IsBoundedCommand (command_form command.now) }
         ensures { (e : Effects) → StandsFor e self.old → IfOk result (λ flow. StandsAt (command_does message.now None (command_form command.now) e) flow self.new) }
     {
         match command {
-            Command::Keep => self.keep()?,
+            Command::Keep => self.list(Action::Keep)?,
             Command::Discard => self.implicit_keep = false,
+            Command::FileInto(folder) => self.list(Action::File(folder.clone()?))?,
             Command::Stop => return Ok(Flow::Stopped),
             Command::If(branches, otherwise) => {
                 'branches: for branch in branches {
-                    if is_true(&branch.test, message) {
-                        return self.commands(&branch.block, message);
+                    if self.is_true(alloc, &branch.test, message)? {
+                        return self.commands(alloc, &branch.block, message);
                     }
                 }
                 if let Some(block) = otherwise {
-                    return self.commands(block, message);
+                    return self.commands(alloc, block, message);
                 }
             }
         }
@@ -73,13 +84,15 @@ impl Evaluator {
     #[cycle(commands)]
     pub fn commands(
         &mut self,
+        alloc: Global,
         commands: &[Command],
-        message: &Message<'_>,
+        message: &Message<'m>,
     ) -> Result<Flow, AllocError>
+        requires { AreBoundedCommands (commands_form commands.now) }
         ensures { (e : Effects) → StandsFor e self.old → IfOk result (λ flow. StandsAt (commands_do message.now None (commands_form commands.now) e) flow self.new) }
     {
         'commands: for command in commands {
-            match self.command(command, message)? {
+            match self.command(alloc, command, message)? {
                 Flow::GoesOn => {}
                 Flow::Stopped => return Ok(Flow::Stopped),
             }
@@ -88,6 +101,7 @@ impl Evaluator {
     }
 }
 
+ghost use Rattle.sieve_check.specs.Bounded.{AreBoundedCommands};
 ghost use Rattle.sieve_check.specs.TypedView.{commands_form};
 ghost use Rattle.sieve_meaning.specs.Meaning.{meaning};
 
@@ -97,10 +111,11 @@ fn eval_commands(
     commands: &[Command],
     message: &Message<'_>,
 ) -> Result<Vec<Action>, AllocError>
+    requires { AreBoundedCommands (commands_form commands.now) }
     ensures { IfOk result (λ actions. actions.items ≡ meaning message.now (commands_form commands.now)) }
 {
     let mut evaluator = Evaluator::new(alloc);
-    let _flow = evaluator.commands(commands, message)?;
+    let _flow = evaluator.commands(alloc, commands, message)?;
     evaluator.actions.into_final(evaluator.implicit_keep)
 }
 

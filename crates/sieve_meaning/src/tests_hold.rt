@@ -1,49 +1,124 @@
 // Whether tests are true.
-ghost use Rattle.std.specs.Prelude.{◌≡◌, map, None};
-ghost use Rattle.sieve_check.specs.TypedView.{test_form, tests_of};
-ghost use Rattle.sieve_meaning.specs.Meaning.{Effects, verdict, test_does, all_do, any_do, is_size};
+ghost use Rattle.std.specs.Prelude.{◌≡◌};
+ghost use Rattle.sieve_meaning.specs.Meaning.{is_size};
 
+use crate::evaluator::Evaluator;
+use glob_match::Match;
+use mail_matching::{Answer, Outcome, exists, header};
 use mime_decode::Message;
+use octets::Octets;
 use sieve_check::{Order, Test};
+use std::alloc::{AllocError, Global};
 
-/// Whether the test is true of the message. It has no other effect.
-#[cycle(tests)]
-pub fn is_true(test: &Test, message: &Message<'_>) -> bool
-    ensures { (e : Effects) → test_does message.now None (test_form test.now) e ≡ verdict result e }
-{
-    match test {
-        Test::Constant(value) => *value,
-        Test::Not(inner) => !is_true(inner, message),
-        Test::AllOf(first, others) => is_true(first, message) && all_true(others, message),
-        Test::AnyOf(first, others) => is_true(first, message) || any_true(others, message),
-        Test::Size(order, number) => is_size(*order, *number, message.size() as u64),
-    }
-}
+impl<'m> Evaluator<'m> {
+    ghost use Rattle.std.specs.Prelude.{IfOk, None, map};
+    ghost use Rattle.mime_decode.specs.Scope.{Root, Value};
+    ghost use Rattle.mail_matching.specs.HeaderTests.{header_match};
+    ghost use Rattle.mail_matching.specs.Texts.{AreTexts};
+    ghost use Rattle.sieve_check.specs.Bounded.{IsBoundedTest, AreBoundedTests};
+    ghost use Rattle.sieve_check.specs.TypedView.{test_form, tests_of};
+    ghost use Rattle.sieve_meaning.specs.Meaning.{Effects, all_do, any_do, matched, test_does};
+    ghost use Rattle.sieve_meaning.specs.Evaluation.{Gives, StandsFor};
 
-// Whether all tests are true, up to the first that isn't.
-#[cycle(tests)]
-fn all_true(list: &[Test], message: &Message<'_>) -> bool
-    ensures { (e : Effects) → all_do message.now None (tests_of (map test_form list.now)) e ≡ verdict result e }
-{
-    'list: for test in list {
-        if !is_true(test, message) {
-            return false;
+    /// Whether the test is true of the message.
+    ///
+    /// An error comes only where memory was refused.
+    #[cycle(tests)]
+    pub fn is_true(
+        &mut self,
+        alloc: Global,
+        test: &Test,
+        message: &Message<'m>,
+    ) -> Result<bool, AllocError>
+        requires { IsBoundedTest (test_form test.now) }
+        ensures { (e : Effects) → StandsFor e self.old → IfOk result (λ value. Gives (test_does message.now None (test_form test.now) e) value self.new) }
+    {
+        match test {
+            Test::Constant(value) => Ok(*value),
+            Test::Not(inner) => Ok(!self.is_true(alloc, inner, message)?),
+            Test::AllOf(first, others) => {
+                if !self.is_true(alloc, first, message)? {
+                    return Ok(false);
+                }
+                self.all_true(alloc, others, message)
+            }
+            Test::AnyOf(first, others) => {
+                if self.is_true(alloc, first, message)? {
+                    return Ok(true);
+                }
+                self.any_true(alloc, others, message)
+            }
+            Test::Header {
+                matching,
+                names,
+                keys,
+            } => self.matches(alloc, *matching, names, keys, message),
+            Test::Exists(names) => Ok(exists(message, names).0),
+            Test::Size(order, number) => Ok(is_size(*order, *number, message.size() as u64)),
         }
     }
-    true
-}
 
-// Whether a test is true, up to the first that is.
-#[cycle(tests)]
-fn any_true(list: &[Test], message: &Message<'_>) -> bool
-    ensures { (e : Effects) → any_do message.now None (tests_of (map test_form list.now)) e ≡ verdict result e }
-{
-    'list: for test in list {
-        if is_true(test, message) {
-            return true;
+    // Whether all tests are true, up to the first that isn't.
+    #[cycle(tests)]
+    fn all_true(
+        &mut self,
+        alloc: Global,
+        list: &[Test],
+        message: &Message<'m>,
+    ) -> Result<bool, AllocError>
+        requires { AreBoundedTests (tests_of (map test_form list.now)) }
+        ensures { (e : Effects) → StandsFor e self.old → IfOk result (λ value. Gives (all_do message.now None (tests_of (map test_form list.now)) e) value self.new) }
+    {
+        'list: for test in list {
+            if !self.is_true(alloc, test, message)? {
+                return Ok(false);
+            }
+        }
+        Ok(true)
+    }
+
+    // Whether a test is true, up to the first that is.
+    #[cycle(tests)]
+    fn any_true(
+        &mut self,
+        alloc: Global,
+        list: &[Test],
+        message: &Message<'m>,
+    ) -> Result<bool, AllocError>
+        requires { AreBoundedTests (tests_of (map test_form list.now)) }
+        ensures { (e : Effects) → StandsFor e self.old → IfOk result (λ value. Gives (any_do message.now None (tests_of (map test_form list.now)) e) value self.new) }
+    {
+        'list: for test in list {
+            if self.is_true(alloc, test, message)? {
+                return Ok(true);
+            }
+        }
+        Ok(false)
+    }
+
+    // Whether a value of the fields of these names matches a key. A match may set captures.
+    fn matches(
+        &mut self,
+        alloc: Global,
+        how: Match,
+        names: &Vec<Octets>,
+        keys: &Vec<Octets>,
+        message: &Message<'m>,
+    ) -> Result<bool, AllocError>
+        requires names { AreTexts names.now.items }
+        requires keys { AreTexts keys.now.items }
+        ensures { (e : Effects) → StandsFor e self.old → IfOk result (λ value. Gives (matched (header_match how Root None Value names.now.items keys.now.items message.now e.captures) e) value self.new) }
+    {
+        let Answer { outcome, .. } = header(alloc, message, names, keys, how)?;
+        match outcome {
+            Outcome::Fails => Ok(false),
+            Outcome::Holds => Ok(true),
+            Outcome::Captures(captures) => {
+                self.captures = Some(captures);
+                Ok(true)
+            }
         }
     }
-    false
 }
 
 // Whether the octets are over or under the number.

@@ -2,25 +2,25 @@
 use Rattle.std.proofs.Common.{◌≡◌, ◌≢◌, ℕ, zero, suc, ◌+◌, ◌<◌, ◌≤◌, length, refl, sym, subst, ◌∙◌, arith}
 use Rattle.bytecode_format.specs.Code.{Code}
 use Rattle.bytecode_verifier.specs.Acceptance.{IsAccepted}
-use Rattle.mime_decode.specs.Mail.{Mail}
+use Rattle.mime_decode.specs.Mail.{Mail, IsMail}
 use Rattle.sieve_vm.specs.State.{State, Turn, goes, ends, traps, start}
 use Rattle.sieve_vm.specs.Machine.{step}
 use Rattle.sieve_vm.specs.Runs.{Run, RunEnds}
 use Rattle.sieve_vm.specs.Potential.{potential, limit_of}
-use Rattle.sieve_vm.proofs.Reached.{IsReached, IsSound, step_is_sound, start_is_reached, runs_are_reached}
-use Rattle.sieve_vm.proofs.Falls.{potential-forward, potential-positive, potential-start}
+use Rattle.sieve_vm.proofs.Reached.{IsReached, IsSound, Costs, step_is_sound, start_is_reached, runs_are_reached}
+use Rattle.sieve_vm.proofs.Falls.{potential-forward, potential-here, potential-start}
 
 -- a run with one more step
 pub Run-push : (code : Code) (mail : Mail) (n : ℕ) (from to next : State) → Run code mail n from to → step code mail to ≡ goes next → Run code mail (suc n) from next
 Run-push code mail zero from to next run one = (next, subst (λ s. step code mail s ≡ goes next) (sym run) one, refl)
 Run-push code mail (suc n) from to next run one = (run.0, run.1, Run-push code mail n run.0 to next run.2 one)
 
-module _ (code : Code) (mail : Mail) (is : IsAccepted code) where
+module _ (code : Code) (mail : Mail) (is : IsAccepted code) (known : IsMail mail) where
   pub reached : (n : ℕ) (s : State) → Run code mail n (start code) s → IsReached code s
-  reached n s run = runs_are_reached code mail is n (start code) s (start_is_reached code mail is) run
+  reached n s run = runs_are_reached code mail is known n (start code) s (start_is_reached code mail is) run
 
-  sound : (s : State) (turn : Turn) → IsReached code s → step code mail s ≡ turn → IsSound code s turn
-  sound s turn there e = subst (IsSound code s) e (step_is_sound code mail is s there)
+  sound : (s : State) (turn : Turn) → IsReached code s → step code mail s ≡ turn → IsSound code mail s turn
+  sound s turn there e = subst (IsSound code mail s) e (step_is_sound code mail is known s there)
 
   pub never_traps : (n : ℕ) (s : State) → Run code mail n (start code) s → step code mail s ≢ traps
   never_traps n s run e = sound s traps (reached n s run) e
@@ -28,21 +28,23 @@ module _ (code : Code) (mail : Mail) (is : IsAccepted code) where
   falls : (s after : State) → IsReached code s → step code mail s ≡ goes after → potential code mail after + after.charge ≤ potential code mail s + s.charge
   falls s after there e =
       let turn = sound s (goes after) there e in
-      omega (arith, potential-forward code mail is s after there.outside turn.0.outside there.within turn.1, turn.2)
+      omega (arith, potential-forward code mail is s after there.outside turn.0.outside there.within turn.1, turn.2.within)
 
   pub falls_along : (n : ℕ) (s after : State) → Run code mail n (start code) s → step code mail s ≡ goes after → potential code mail after + after.charge ≤ potential code mail s + s.charge
   falls_along n s after run e = falls s after (reached n s run) e
 
   last_falls : (s end : State) → IsReached code s → step code mail s ≡ ends end → end.charge ≤ potential code mail s + s.charge
-  last_falls s end there e = omega (arith, potential-positive code mail is s there.outside there.within, sound s (ends end) there e)
+  last_falls s end there e =
+      let costs : Costs code mail s end.charge = sound s (ends end) there e in
+      omega (arith, potential-here code mail is s there.outside there.within, costs.within)
 
   pub falls_at_end : (n : ℕ) (s end : State) → Run code mail n (start code) s → step code mail s ≡ ends end → end.charge ≤ potential code mail s + s.charge
   falls_at_end n s end run e = last_falls s end (reached n s run) e
 
-  -- along a run the potential and the charge together never rise, and each step costs one
+  -- along a run the potential and the charge together never rise, and each step costs one at least
   record Spends (n : ℕ) (from to : State) : Type 0 where
     pub kept : potential code mail to + to.charge ≤ potential code mail from + from.charge
-    pub cost : to.charge ≡ from.charge + n
+    pub cost : from.charge + n ≤ to.charge
     pub moved : from.place + n ≤ to.place
 
   spends : (n : ℕ) (from to : State) → IsReached code from → Run code mail n from to → Spends n from to
@@ -50,9 +52,9 @@ module _ (code : Code) (mail : Mail) (is : IsAccepted code) where
   spends (suc n) from to there run =
       let turn = sound from (goes run.0) there run.1 in
       let rest = spends n run.0 to turn.0 run.2 in
-      record { kept = omega (arith, falls from run.0 there run.1, rest.kept); cost = omega (arith, turn.2, rest.cost); moved = omega (arith, turn.1, rest.moved) }
+      record { kept = omega (arith, falls from run.0 there run.1, rest.kept); cost = omega (arith, turn.2.dearer, rest.cost); moved = omega (arith, turn.1, rest.moved) }
 
-  pub spent : (n : ℕ) (s : State) → Run code mail n (start code) s → (potential code mail s + s.charge ≤ limit_of code mail) × (s.charge ≡ n) × (n ≤ s.place)
+  pub spent : (n : ℕ) (s : State) → Run code mail n (start code) s → (potential code mail s + s.charge ≤ limit_of code mail) × (n ≤ s.charge) × (n ≤ s.place)
   spent n s run =
       let all = spends n (start code) s (start_is_reached code mail is) run in
       let free : (start code).charge ≡ 0 = refl in
@@ -62,8 +64,8 @@ module _ (code : Code) (mail : Mail) (is : IsAccepted code) where
   pub last_step : (n : ℕ) (s end : State) → Run code mail n (start code) s → step code mail s ≡ ends end → suc n ≤ limit_of code mail
   last_step n s end run e =
       let all = spent n s run in
-      let cost : end.charge ≡ s.charge + 1 = sound s (ends end) (reached n s run) e in
-      omega (arith, all.0, all.1, falls_at_end n s end run e, cost)
+      let costs : Costs code mail s end.charge = sound s (ends end) (reached n s run) e in
+      omega (arith, all.0, all.1, falls_at_end n s end run e, costs.dearer)
 
   abbrev Finishes : Type 0
   Finishes = (end : State) × RunEnds code mail end × (end.charge ≤ limit_of code mail)
@@ -73,7 +75,7 @@ module _ (code : Code) (mail : Mail) (is : IsAccepted code) where
   finish (suc fuel) n s short run =
       by_turn (step code mail s) refl (sound s (step code mail s) (reached n s run) refl) (λ next forward one. finish fuel (suc n) next (omega arith) (Run-push code mail n (start code) s next run one))
     where
-      by_turn : (turn : Turn) → step code mail s ≡ turn → IsSound code s turn → ((next : State) → s.place < next.place → step code mail s ≡ goes next → Finishes) → Finishes
+      by_turn : (turn : Turn) → step code mail s ≡ turn → IsSound code mail s turn → ((next : State) → s.place < next.place → step code mail s ≡ goes next → Finishes) → Finishes
       by_turn (goes next) e turn on = on next turn.1 e
       by_turn (ends end) e turn on = (end, record { steps = n; last = s; run = run; halts = e }, omega (arith, (spent n s run).0, falls_at_end n s end run e))
       by_turn traps e turn on = absurd turn

@@ -1,7 +1,19 @@
 -- The definitions at small programs, by computation.
-use Rattle.std.proofs.Common.{◌≡◌, ℕ, List, [], ◌∷◌, length, refl}
+use Rattle.std.proofs.Common.{◌≡◌, ℕ, ◌+◌, ◌*◌, true, false, List, [], ◌∷◌, Some, None, length, codes, refl}
+use Rattle.bytecode_format.specs.declared.action.Action.TheVariants as action
+use Rattle.bytecode_format.specs.declared.instruction.Instruction.{Instruction}
+use Rattle.bytecode_format.specs.declared.operation.Operation.{Operation}
+use Rattle.bytecode_format.specs.declared.operation.Operation.TheVariants.{Literal, Header, Exists, File}
+use Rattle.bytecode_format.specs.Operations.{octet_of}
 use Rattle.bytecode_format.specs.Code.{Code}
-use Rattle.sieve_vm.specs.State.{start}
+use Rattle.glob_match.specs.declared.comparator.Comparator.TheVariants.{Octet, Casemap}
+use Rattle.glob_match.specs.declared.match_type.MatchType.TheVariants.{Is, Contains, Matches}
+use Rattle.mime_decode.specs.Mail.{Part, Mail}
+use Rattle.sieve_vm.specs.State.{Value, truth, text, State, start}
+use Rattle.sieve_vm.specs.Stack.{texts_on_top, lists_on_top}
+use Rattle.sieve_vm.specs.MatchNumbers.{match_numbered}
+use Rattle.sieve_vm.specs.Charge.{charge_of}
+use Rattle.sieve_vm.specs.Machine.{on, fails, effect}
 
 -- there are ten captures, and as many variables as the program says
 ten_captures : (code : Code) → length (start code).captures ≡ 10
@@ -9,3 +21,83 @@ ten_captures code = refl
 
 two_variables : (start (record { version = 1; variables = 2; numbers = []; strings = []; instructions = [] })).variables ≡ [] ∷ [] ∷ []
 two_variables = refl
+
+-- ---- texts
+
+is_ignoring_case : match_numbered 0 ≡ record { kind = Is; comparator = Casemap }
+is_ignoring_case = refl
+
+contains_octets : match_numbered 5 ≡ record { kind = Contains; comparator = Octet }
+contains_octets = refl
+
+matches_octets : match_numbered 6 ≡ record { kind = Matches; comparator = Octet }
+matches_octets = refl
+
+-- the text on top was pushed last
+abbrev pushed : List Value
+pushed = text (codes "c") ∷ text (codes "b") ∷ text (codes "a") ∷ truth true ∷ []
+
+two_texts : texts_on_top 2 pushed ≡ Some (record { texts = codes "b" ∷ codes "c" ∷ []; below = text (codes "a") ∷ truth true ∷ [] })
+two_texts = refl
+
+too_many_texts : texts_on_top 4 pushed ≡ None
+too_many_texts = refl
+
+a_name_and_two_keys : lists_on_top 1 2 pushed ≡ Some (record { names = codes "a" ∷ []; keys = codes "b" ∷ codes "c" ∷ []; below = truth true ∷ [] })
+a_name_and_two_keys = refl
+
+-- ---- a message with two fields
+
+module _ (root : Part) where
+  abbrev mail : Mail
+  mail = record {
+    octets = codes "X: b; subject: aa";
+    parts = record root { fields = record { name = codes "X"; value = codes "b" } ∷ record { name = codes "subject"; value = codes "aa" } ∷ [] } ∷ [];
+  }
+
+  abbrev code : Code
+  code = record { version = 1; variables = 0; numbers = []; strings = codes "x" ∷ []; instructions = [] }
+
+  abbrev with_stack : List Value → State
+  with_stack stack = record (start code) { stack = stack }
+
+  abbrev lists : Operation → ℕ → ℕ → ℕ → Instruction
+  lists operation a b c = record { op = octet_of operation; a = a; b = b; c = c }
+
+  literal : effect code mail Literal (lists Literal 0 0 0) (with_stack []) ≡ on (with_stack (text (codes "x") ∷ []))
+  literal = refl
+
+  no_literal : effect code mail Literal (lists Literal 0 0 1) (with_stack []) ≡ fails
+  no_literal = refl
+
+  filed : effect code mail File (lists File 0 0 0) (with_stack (text (codes "x") ∷ [])) ≡ on (record (with_stack []) { actions = action.File (codes "x") ∷ []; implicit_keep = false })
+  filed = refl
+
+  truth_filed : effect code mail File (lists File 0 0 0) (with_stack (truth true ∷ [])) ≡ fails
+  truth_filed = refl
+
+  -- two fields and one more, of a name of 7 octets and one more; a value of 2 octets and one more, of a key of 1 and one more
+  matched : effect code mail Header (lists Header 1 1 1) (with_stack (text (codes "A") ∷ text (codes "Subject") ∷ [])) ≡ on (with_stack (truth true ∷ []))
+  matched = refl
+
+  matched_charge : charge_of code mail Header (lists Header 1 1 1) (with_stack (text (codes "A") ∷ text (codes "Subject") ∷ [])) ≡ 1 + 3 * 8 + 3 * 2
+  matched_charge = refl
+
+  -- the captures of a match: the value, and what its wildcard stands for
+  captured : effect code mail Header (lists Header 2 1 1) (with_stack (text (codes "a*") ∷ text (codes "Subject") ∷ []))
+      ≡ on (record (with_stack (truth true ∷ [])) { captures = codes "aa" ∷ codes "a" ∷ [] ∷ [] ∷ [] ∷ [] ∷ [] ∷ [] ∷ [] ∷ [] ∷ [] })
+  captured = refl
+
+  -- a match that fails leaves them
+  not_captured : effect code mail Header (lists Header 2 1 1) (record (with_stack (text (codes "b*") ∷ text (codes "Subject") ∷ [])) { captures = codes "old" ∷ [] })
+      ≡ on (record (with_stack (truth false ∷ [])) { captures = codes "old" ∷ [] })
+  not_captured = refl
+
+  exists : effect code mail Exists (lists Exists 0 2 0) (with_stack (text (codes "x") ∷ text (codes "Subject") ∷ [])) ≡ on (with_stack (truth true ∷ []))
+  exists = refl
+
+  exists_charge : charge_of code mail Exists (lists Exists 0 2 0) (with_stack (text (codes "x") ∷ text (codes "Subject") ∷ [])) ≡ 1 + 3 * (8 + 2)
+  exists_charge = refl
+
+  not_there : effect code mail Exists (lists Exists 0 2 0) (with_stack (text (codes "y") ∷ text (codes "Subject") ∷ [])) ≡ on (with_stack (truth false ∷ []))
+  not_there = refl

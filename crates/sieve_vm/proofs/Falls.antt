@@ -1,21 +1,17 @@
 -- The potential: the caps of the instructions from a place on.
-use Rattle.std.proofs.Common.{◌≡◌, ℕ, zero, suc, ◌+◌, ◌*◌, ◌^◌, ◌<◌, ◌≤◌, Bool, true, false, nat_le, nat_eq, cond, [], length, get_or, refl, sym, ap, ◌∙◌, inl, inr, arith}
+use Rattle.std.proofs.Common.{◌≡◌, ℕ, zero, suc, ◌+◌, ◌*◌, ◌^◌, ◌<◌, ◌≤◌, Bool, true, false, nat_le, nat_eq, cond, [], length, refl, sym, ap, ◌∙◌, inl, inr, arith}
 use Rattle.std.proofs.lemmas.Bool.{cases_lt, le-leb, leb-true}
-use Rattle.std.proofs.lemmas.Option.{slice_get-get_or}
 use native.Mathlib.Numerals.{unary_clauses}
 use Rattle.bytecode_format.specs.Code.{Code}
 use Rattle.bytecode_verifier.specs.Places.{sum_below}
 use Rattle.bytecode_verifier.specs.Loops.{open_loops}
-use Rattle.bytecode_verifier.specs.Budget.{Cap, cap_at, sum_inside}
-use Rattle.bytecode_cost.specs.Sums.{turns}
+use Rattle.bytecode_verifier.specs.declared.cap.Cap.{Cap}
+use Rattle.bytecode_verifier.specs.Budget.{cap_at, sum_inside}
 use Rattle.bytecode_verifier.specs.Acceptance.{IsAccepted}
-use Rattle.bytecode_format.specs.Operations.{operation_of}
-use Rattle.bytecode_verifier.proofs.Budgets.{cap_one}
 use Rattle.bytecode_verifier.proofs.Loopless.{no_loops}
-use Rattle.bytecode_verifier.proofs.Consequences.{shape_known}
 use Rattle.mime_decode.specs.Mail.{Mail, size_of}
 use Rattle.sieve_vm.specs.State.{State, start}
-use Rattle.sieve_vm.specs.Potential.{cap_value, weight_at, stretch, potential_from, potential, limit_of}
+use Rattle.sieve_vm.specs.Potential.{cap_value, weight_at, stretch, potential, limit_of}
 
 -- ---- sums over places
 
@@ -86,28 +82,23 @@ module _ (code : Code) (mail : Mail) (is : IsAccepted code) where
   no_open : (place : ℕ) → open_loops code place ≡ []
   no_open place = rw (no_loops code is.form) refl
 
-  cap-one : (place : ℕ) → place < length code.instructions → cap_at code place ≡ (let one : Cap = record { fixed = 1; scaled = 0 } in one)
-  cap-one place lt =
-      let shape = shape_known code is place in
-      rw (slice_get-get_or code.instructions place (record { op = 0; a = 0; b = 0; c = 0 }) lt, shape.1) (cap_one (operation_of (get_or code.instructions place (record { op = 0; a = 0; b = 0; c = 0 })).op) (get_or code.instructions place (record { op = 0; a = 0; b = 0; c = 0 })) shape.0)
-
-  weight-one : (place : ℕ) → place < length code.instructions → weight_at code mail 0 place ≡ 1
-  weight-one place lt = rw (cap-one place lt, no_open place) (once (1 + 0 * (size_of mail + 1)) (length mail.parts) ∙ omega arith)
+  weight-cap : (place : ℕ) → weight_at code mail 0 place ≡ cap_value mail (cap_at code place)
+  weight-cap place = rw (no_open place) (once (cap_value mail (cap_at code place)) (length mail.parts))
 
   -- outside all loops what a run may still charge is the rest of the program
   outside_is : (state : State) → state.frames ≡ [] → potential code mail state ≡ stretch code mail 0 state.place (length code.instructions)
   outside_is state free = rw free refl
 
-  -- a step forward from a place lowers the potential by one at least
-  pub potential-forward : (before after : State) → before.frames ≡ [] → after.frames ≡ [] → before.place < length code.instructions → before.place < after.place → potential code mail after + 1 ≤ potential code mail before
+  -- a step forward from a place lowers the potential by the cap of the instruction there at least
+  pub potential-forward : (before after : State) → before.frames ≡ [] → after.frames ≡ [] → before.place < length code.instructions → before.place < after.place → potential code mail after + cap_value mail (cap_at code before.place) ≤ potential code mail before
   potential-forward before after free free_after within forward =
       let weight : ℕ → ℕ = weight_at code mail 0 in
-      omega (arith, outside_is before free, outside_is after free_after, from-first weight before.place (length code.instructions) within, weight-one before.place within, from-later weight (suc before.place) after.place (length code.instructions) forward)
+      omega (arith, outside_is before free, outside_is after free_after, from-first weight before.place (length code.instructions) within, weight-cap before.place, from-later weight (suc before.place) after.place (length code.instructions) forward)
 
-  -- an instruction that is there may still charge
-  pub potential-positive : (state : State) → state.frames ≡ [] → state.place < length code.instructions → 1 ≤ potential code mail state
-  potential-positive state free within =
-      omega (arith, outside_is state free, from-first (weight_at code mail 0) state.place (length code.instructions) within, weight-one state.place within)
+  -- an instruction that is there may still charge its cap
+  pub potential-here : (state : State) → state.frames ≡ [] → state.place < length code.instructions → cap_value mail (cap_at code state.place) ≤ potential code mail state
+  potential-here state free within =
+      omega (arith, outside_is state free, from-first (weight_at code mail 0) state.place (length code.instructions) within, weight-cap state.place)
 
   outside : (part : Cap → ℕ) (k : ℕ) → nat_eq 0 k ≡ false → sum_inside part code k ≡ 0
   outside part k other =

@@ -1,5 +1,9 @@
+pub mod Taking
+pub mod Pushed
+pub mod Charges
 pub mod Reached
 pub mod Falls
 pub mod Bounds
 pub mod Steps
+pub mod Tests
 pub mod Examples

@@ -4,29 +4,30 @@ use Rattle.std.proofs.lemmas.Bool.{lt-ltb, ltb-true}
 use Rattle.std.proofs.lemmas.Option.{slice_get-get_or}
 use Rattle.bytecode_format.specs.declared.instruction.Instruction.{Instruction}
 use Rattle.bytecode_format.specs.declared.operation.Operation.{Operation}
-use Rattle.bytecode_format.specs.declared.operation.Operation.TheVariants.{Halt, Bool as BoolOp, Not, Jump, JumpIfTrue, JumpIfFalse, Size, Keep, Discard}
+use Rattle.bytecode_format.specs.declared.operation.Operation.TheVariants.{Halt, Literal, Bool as BoolOp, Not, Jump, JumpIfTrue, JumpIfFalse, Header, Exists, Size, Keep, Discard, File}
 use Rattle.bytecode_format.specs.Operations.{operation_of}
 use Rattle.bytecode_format.specs.Code.{Code}
 use Rattle.bytecode_verifier.specs.declared.shape.Entry.{Entry}
 use Rattle.bytecode_verifier.specs.declared.shape.Entry.TheVariants.{Truth, Text}
-use Rattle.std.specs.Option.{option_and_then}
+use Rattle.std.specs.Option.{option_and_then, option_map}
 use Rattle.bytecode_verifier.specs.Rows.{row_of, is_well_formed, is_jump}
-use Rattle.bytecode_verifier.specs.Shape.{Entries, is_empty, has_truth, with_entry, without_truth, shape_at}
+use Rattle.bytecode_verifier.specs.Shape.{Entries, Texts, Lists as ListBounds, is_empty, has_truth, with_entry, with_string, without_truth, take_texts, take_lists, shape_at}
 use Rattle.bytecode_verifier.specs.Rules.{row_in, is_halt}
 use Rattle.bytecode_verifier.specs.Acceptance.{IsAccepted}
-use Rattle.bytecode_verifier.proofs.Consequences.{left_by, well_formed, number_known, not_last, jump_forward, jump_within, jump_same_loops, jump_target, shape_known, shape_next, target_empty}
-use Rattle.mime_decode.specs.Mail.{Mail, size_of}
+use Rattle.bytecode_verifier.proofs.Consequences.{left_by, well_formed, number_known, string_known, not_last, jump_forward, jump_within, jump_same_loops, jump_target, shape_known, shape_next, target_empty}
+use Rattle.mime_decode.specs.Mail.{Mail, IsMail, size_of}
 use Rattle.sieve_vm.specs.State.{Value, truth, text, State, Turn, goes, ends, traps, start}
 use Rattle.sieve_vm.specs.Runs.{Run}
 use Rattle.sieve_vm.specs.Charge.{charge_of}
-use Rattle.sieve_vm.specs.Machine.{Effect, on, jumps, halts, fails, push, branch, with_truth, with_number, is_sound_jump, compares, effect, turn, turn_of, turn_at, step}
-
--- the entries of the shape describe the stack
-abbrev pub Describes : Entries → List Value → Type 0
-Describes [] [] = Unit {0}
-Describes (Truth ∷ es) (truth b ∷ vs) = Describes es vs
-Describes (Text bound ∷ es) (text t ∷ vs) = (length t ≤ bound) × Describes es vs
-Describes _ _ = ⊥
+use Rattle.sieve_vm.specs.Stack.{OnTop, Lists}
+use Rattle.sieve_vm.specs.Machine as machine
+use Rattle.sieve_vm.specs.Machine.{Effect, on, jumps, halts, fails, push, branch, with_truth, with_text, with_texts, with_lists, with_number, file, test_names, tested, test_values, is_sound_jump, compares, effect, turn, turn_of, turn_at, step}
+use Rattle.sieve_vm.specs.Potential.{cap_value}
+use Rattle.bytecode_verifier.specs.Budget.{cap_of, cap_at}
+use Rattle.mime_decode.specs.Scope.{Root}
+use Rattle.mail_matching.specs.HeaderTests.{exists_in}
+use Rattle.sieve_vm.proofs.Charges.{charge_fits}
+use Rattle.sieve_vm.proofs.Taking.{Describes, on_top, lists_are_on_top}
 
 -- a state that a run may reach
 pub record IsReached (code : Code) (state : State) : Type 0 where
@@ -37,11 +38,34 @@ pub record IsReached (code : Code) (state : State) : Type 0 where
   -- no operation opens a loop
   pub outside : state.frames ≡ []
 
--- a turn from a state: it doesn't trap, it costs one, and it goes forward to a state that a run may reach
-abbrev pub IsSound : Code → State → Turn → Type 0
-IsSound code from (goes to) = IsReached code to × (from.place < to.place) × (to.charge ≡ from.charge + 1)
-IsSound code from (ends end) = end.charge ≡ from.charge + 1
-IsSound code from traps = ⊥
+-- what a state has been charged after an instruction: more than before, and no more than the cap of the instruction allows
+pub record Costs (code : Code) (mail : Mail) (from : State) (charge : ℕ) : Type 0 where
+  pub dearer : from.charge < charge
+  pub within : charge ≤ from.charge + cap_value mail (cap_at code from.place)
+
+-- a turn from a state: it doesn't trap, it costs what it may, and it goes forward to a state that a run may reach
+abbrev pub IsSound : Code → Mail → State → Turn → Type 0
+IsSound code mail from (goes to) = IsReached code to × (from.place < to.place) × Costs code mail from to.charge
+IsSound code mail from (ends end) = Costs code mail from end.charge
+IsSound code mail from traps = ⊥
+
+-- an effect from a state: it doesn't fail, charges nothing yet, and leads forward to a state that a run may reach, whatever that was charged
+abbrev pub Leads : Code → State → Effect → Type 0
+Leads code from (on to) = (to.place ≡ from.place) × (to.charge ≡ from.charge) × ((charge : ℕ) → IsReached code (record to { place = suc to.place; charge = charge }))
+Leads code from (jumps target to) = (from.place < target) × (to.charge ≡ from.charge) × ((charge : ℕ) → IsReached code (record to { place = target; charge = charge }))
+Leads code from (halts to) = to.charge ≡ from.charge
+Leads code from fails = ⊥
+
+-- the turn of an effect
+sound_turn : (code : Code) (mail : Mail) (from : State) (cost : ℕ) (e : Effect) → Leads code from e → 1 ≤ cost → cost ≤ cap_value mail (cap_at code from.place) → IsSound code mail from (turn cost e)
+sound_turn code mail from cost (on to) leads some most =
+    let place = leads.0 in let charge = leads.1 in
+    (leads.2 (to.charge + cost), omega arith, record { dearer = omega arith; within = omega arith })
+sound_turn code mail from cost (jumps target to) leads some most =
+    let charge = leads.1 in
+    (leads.2 (to.charge + cost), leads.0, record { dearer = omega arith; within = omega arith })
+sound_turn code mail from cost (halts to) leads some most = record { dearer = omega arith; within = omega arith }
+sound_turn code mail from cost fails leads some most = absurd leads
 
 pub length-described : (entries : Entries) (stack : List Value) → Describes entries stack → length entries ≡ length stack
 length-described [] [] d = refl
@@ -135,112 +159,175 @@ module _ (code : Code) (mail : Mail) (is : IsAccepted code) where
     pub after_of : (o : Option Operation) → operation_of i.op ≡ o → (after : Entries) × (left_by code o i entries ≡ Some after)
     after_of o e = let n = shape_next code is s.place i entries here at in (n.0, ap (λ x. left_by code x i entries) (sym e) ∙ n.1)
 
-    -- the turn of an instruction that has its form
-    formed : (o : Operation) → operation_of i.op ≡ Some o → IsSound code s (turn (charge_of code mail o i s) (effect code mail o i s)) → IsSound code s (turn_of code mail (Some o) i s)
-    formed o e sound =
-        subst (λ (b : Bool). IsSound code s (cond b (turn (charge_of code mail o i s) (effect code mail o i s)) traps)) (sym (well_formed code is s.place i here)) sound
-
-    not_formed : (o : Operation) → operation_of i.op ≡ Some o → is_well_formed (row_of code.version o) i ≡ false → IsSound code s (turn_of code mail (Some o) i s)
+    -- the instruction has its form, so its octet names an operation that has come
+    not_formed : (o : Operation) → operation_of i.op ≡ Some o → is_well_formed (row_of code.version o) i ≡ false → ⊥
     not_formed o e f =
-        absurd (let g : false ≡ true = sym f ∙ ap (λ x. is_well_formed (option_and_then (row_of code.version) x) i) (sym e) ∙ well_formed code is s.place i here in cc)
+        let g : false ≡ true = sym f ∙ ap (λ x. is_well_formed (option_and_then (row_of code.version) x) i) (sym e) ∙ well_formed code is s.place i here in cc
 
-    -- an entry pushed where the shape has room
-    pushes : (v : Value) (entry : Entry) (after : Entries) → is_halt (operation_of i.op) ≡ false → left_by code (operation_of i.op) i entries ≡ Some after → with_entry entry entries ≡ Some after → Describes (entry ∷ entries) (v ∷ s.stack) → IsSound code s (turn 1 (push v s))
-    pushes v entry after goes_on shape room describes =
-        let w = with_entry-some entry entries after room in
-        let fits : nat_lt (length s.stack) 1024 ≡ true = lt-ltb _ _ (omega (arith, w.0, length-described entries s.stack d)) in
-        subst (λ (b : Bool). IsSound code s (turn 1 (cond b (on (record s { stack = v ∷ s.stack })) fails))) (sym fits)
-        (reached_next (record s { place = suc s.place; stack = v ∷ s.stack; charge = s.charge + 1 }) after refl goes_on shape (subst (λ (x : Entries). Describes x (v ∷ s.stack)) w.1 describes) free, omega arith, refl)
+    -- the shape goes on to these entries
+    abbrev LeavesBy : Operation → Entries → Type 0
+    LeavesBy o after = left_by code (Some o) i entries ≡ Some after
 
-    sound_bool : operation_of i.op ≡ Some BoolOp → IsSound code s (turn 1 (effect code mail BoolOp i s))
-    sound_bool e =
+    left : (o : Operation) (after : Entries) → operation_of i.op ≡ Some o → LeavesBy o after → left_by code (operation_of i.op) i entries ≡ Some after
+    left o after e leaves = ap (λ x. left_by code x i entries) e ∙ leaves
+
+    -- an entry pushed on what an instruction has left of the stack
+    pushes : (o : Operation) (t : State) (v : Value) (entry : Entry) (below after : Entries) → operation_of i.op ≡ Some o → is_halt (Some o) ≡ false → LeavesBy o after → with_entry entry below ≡ Some after
+        → t.place ≡ s.place → t.charge ≡ s.charge → t.frames ≡ [] → Describes below t.stack → Describes (entry ∷ below) (v ∷ t.stack) → Leads code s (push v t)
+    pushes o t v entry below after e goes_on leaves room place charge outside there described =
+        let w = with_entry-some entry below after room in
+        let fits : nat_lt (length t.stack) 1024 ≡ true = lt-ltb _ _ (omega (arith, w.0, length-described below t.stack there)) in
+        subst (λ (b : Bool). Leads code s (cond b (on (record t { stack = v ∷ t.stack })) fails)) (sym fits)
+        (place, charge, λ n. reached_next (record t { place = suc t.place; stack = v ∷ t.stack; charge = n }) after (ap suc place) (ap is_halt e ∙ goes_on) (left o after e leaves) (subst (λ (x : Entries). Describes x (v ∷ t.stack)) w.1 described) outside)
+
+    leads_bool : operation_of i.op ≡ Some BoolOp → Leads code s (effect code mail BoolOp i s)
+    leads_bool e =
         let a = after_of (Some BoolOp) e in
-        pushes (truth (i.a == 1)) Truth a.0 (ap is_halt e) (ap (λ x. left_by code x i entries) e ∙ a.1) a.1 d
+        pushes BoolOp s (truth (i.a == 1)) Truth entries a.0 e refl a.1 a.1 refl refl free d d
 
-    sound_size : operation_of i.op ≡ Some Size → IsSound code s (turn 1 (effect code mail Size i s))
-    sound_size e =
+    leads_size : operation_of i.op ≡ Some Size → Leads code s (effect code mail Size i s)
+    leads_size e =
         let a = after_of (Some Size) e in
         let number : slice_get code.numbers i.c ≡ Some (get_or code.numbers i.c 0) = slice_get-get_or code.numbers i.c 0 (number_known code is s.place i here e) in
-        subst (λ (o : Option ℕ). IsSound code s (turn 1 (with_number i mail s o))) (sym number)
-        (pushes (truth (compares i (get_or code.numbers i.c 0) (size_of mail))) Truth a.0 (ap is_halt e) (ap (λ x. left_by code x i entries) e ∙ a.1) a.1 d)
+        subst (λ (o : Option ℕ). Leads code s (with_number i mail s o)) (sym number)
+        (pushes Size s (truth (compares i (get_or code.numbers i.c 0) (size_of mail))) Truth entries a.0 e refl a.1 a.1 refl refl free d d)
 
-    sound_not : operation_of i.op ≡ Some Not → IsSound code s (turn 1 (effect code mail Not i s))
-    sound_not e =
+    leads_literal : operation_of i.op ≡ Some Literal → Leads code s (effect code mail Literal i s)
+    leads_literal e =
+        let a = after_of (Some Literal) e in
+        let octets : List ℕ = get_or code.strings i.c [] in
+        let string : slice_get code.strings i.c ≡ Some octets = slice_get-get_or code.strings i.c [] (string_known code is s.place i here e) in
+        let room : with_entry (Text (length octets)) entries ≡ Some a.0 = ap (λ o. with_string o entries) (sym string) ∙ a.1 in
+        subst (λ (o : Option (List ℕ)). Leads code s (machine.with_string s o)) (sym string)
+        (pushes Literal s (text octets) (Text (length octets)) entries a.0 e refl a.1 room refl refl free d (omega arith, d))
+
+    leads_exists : operation_of i.op ≡ Some Exists → Leads code s (effect code mail Exists i s)
+    leads_exists e = let a = after_of (Some Exists) e in go a.0 a.1 (take_texts i.b entries) refl a.1
+      where
+        go : (after : Entries) → LeavesBy Exists after → (o : Option Texts) → take_texts i.b entries ≡ o → option_and_then (λ (names : Texts). with_entry Truth names.rest) o ≡ Some after → Leads code s (effect code mail Exists i s)
+        go after leaves None h f = absurd cc
+        go after leaves (Some bounds) h f =
+            let names = on_top i.b entries bounds s.stack h d in
+            subst (λ (o : Option OnTop). Leads code s (with_texts (test_names mail) s o)) (sym names.is)
+            (pushes Exists (record s { stack = names.top.below }) (truth (exists_in Root None names.top.texts mail)) Truth bounds.rest after e refl leaves f refl refl free names.below names.below)
+
+    -- a test's captures change neither the place nor the stack
+    leads_tested : (t : State) (below after : Entries) (o : Option (List (List ℕ))) → operation_of i.op ≡ Some Header → LeavesBy Header after → with_entry Truth below ≡ Some after
+        → t.place ≡ s.place → t.charge ≡ s.charge → t.frames ≡ [] → Describes below t.stack → Leads code s (tested t o)
+    leads_tested t below after None e leaves room place charge outside there = pushes Header t (truth false) Truth below after e refl leaves room place charge outside there there
+    leads_tested t below after (Some captures) e leaves room place charge outside there = pushes Header (record t { captures = captures }) (truth true) Truth below after e refl leaves room place charge outside there there
+
+    leads_header : operation_of i.op ≡ Some Header → Leads code s (effect code mail Header i s)
+    leads_header e = let a = after_of (Some Header) e in go a.0 a.1 (take_lists i.b i.c entries) refl a.1
+      where
+        go : (after : Entries) → LeavesBy Header after → (o : Option ListBounds) → take_lists i.b i.c entries ≡ o → option_and_then (λ (lists : ListBounds). with_entry Truth lists.rest) o ≡ Some after → Leads code s (effect code mail Header i s)
+        go after leaves None h f = absurd cc
+        go after leaves (Some bounds) h f =
+            let lists = lists_are_on_top i.b i.c entries bounds s.stack h d in
+            subst (λ (o : Option Lists). Leads code s (with_lists (test_values mail i.a) s o)) (sym lists.is)
+            (leads_tested (record s { stack = lists.top.below }) bounds.rest after _ e leaves f refl refl free lists.below)
+
+    leads_file : operation_of i.op ≡ Some File → Leads code s (effect code mail File i s)
+    leads_file e = let a = after_of (Some File) e in go entries s.stack a.0 d (left File a.0 e a.1) a.1
+      where
+        go : (es : Entries) (stack : List Value) (after : Entries) → Describes es stack → left_by code (operation_of i.op) i entries ≡ Some after → option_map (λ (folder : Texts). folder.rest) (take_texts 1 es) ≡ Some after
+            → Leads code s (with_text file s stack)
+        go [] stack after h leaves f = absurd cc
+        go (Truth ∷ es) stack after h leaves f = absurd cc
+        go (Text bound ∷ es) [] after h leaves f = absurd h
+        go (Text bound ∷ es) (truth b ∷ vs) after h leaves f = absurd h
+        go (Text bound ∷ es) (text folder ∷ vs) after h leaves f =
+            let same : es ≡ after = cc in
+            (refl, refl, λ n. reached_next _ after refl (ap is_halt e) leaves (subst (λ (x : Entries). Describes x vs) same h.1) free)
+
+    leads_not : operation_of i.op ≡ Some Not → Leads code s (effect code mail Not i s)
+    leads_not e =
         let a = after_of (Some Not) e in
         let t = has_truth-some entries a.0 a.1 in
         let top = top_truth t.0 s.stack (subst (λ (x : Entries). Describes x s.stack) t.1 d) in
         let described : Describes a.0 (truth (not top.value) ∷ top.rest) = subst (λ (x : Entries). Describes x (truth (not top.value) ∷ top.rest)) (sym t.1 ∙ t.2) top.below in
-        subst (λ (v : List Value). IsSound code s (turn 1 (with_truth (λ b s'. on (record s' { stack = truth (not b) ∷ s'.stack })) s v))) (sym top.is)
-        (reached_next (record s { place = suc s.place; stack = truth (not top.value) ∷ top.rest; charge = s.charge + 1 }) a.0 refl (ap is_halt e) (ap (λ x. left_by code x i entries) e ∙ a.1) described free, omega arith, refl)
+        subst (λ (v : List Value). Leads code s (with_truth (λ b s'. on (record s' { stack = truth (not b) ∷ s'.stack })) s v)) (sym top.is)
+        (refl, refl, λ n. reached_next (record s { place = suc s.place; stack = truth (not top.value) ∷ top.rest; charge = n }) a.0 refl (ap is_halt e) (left Not a.0 e a.1) described free)
 
     -- an instruction that leaves the stack alone
-    sound_still : (o : Operation) (to : State) → operation_of i.op ≡ Some o → is_halt (Some o) ≡ false → ((x : Entries) → left_by code (Some o) i x ≡ Some x) → to.place ≡ suc s.place → to.stack ≡ s.stack → to.frames ≡ [] → to.charge ≡ s.charge + 1 → IsReached code to × (s.place < to.place) × (to.charge ≡ s.charge + 1)
-    sound_still o to e goes_on stays place stack outside cost =
-        (reached_next to entries place (ap is_halt e ∙ goes_on) (ap (λ x. left_by code x i entries) e ∙ stays entries) (rw stack d) outside, omega (arith, place), cost)
+    leads_still : (o : Operation) (to : State) → operation_of i.op ≡ Some o → is_halt (Some o) ≡ false → ((x : Entries) → left_by code (Some o) i x ≡ Some x) → to.place ≡ s.place → to.stack ≡ s.stack → to.frames ≡ [] → to.charge ≡ s.charge → Leads code s (on to)
+    leads_still o to e goes_on stays place stack outside charge =
+        (place, charge, λ n. reached_next (record to { place = suc to.place; charge = n }) entries (ap suc place) (ap is_halt e ∙ goes_on) (left o entries e (stays entries)) (rw stack d) outside)
 
-    sound_halt : operation_of i.op ≡ Some Halt → IsSound code s (turn 1 (effect code mail Halt i s))
-    sound_halt e = refl
-
-    -- the jump's turn, taken or not, when no entry is left
-    branches : (wanted b : Bool) → is_jump (row_in code i) ≡ true → is_halt (operation_of i.op) ≡ false → left_by code (operation_of i.op) i entries ≡ Some [] → IsSound code s (turn 1 (branch i.c wanted b (record s { stack = [] })))
+    -- the jump's effect, taken or not, when no entry is left
+    branches : (wanted b : Bool) → is_jump (row_in code i) ≡ true → is_halt (operation_of i.op) ≡ false → left_by code (operation_of i.op) i entries ≡ Some [] → Leads code s (branch i.c wanted b (record s { stack = [] }))
     branches wanted b jump goes_on shape = way (cond wanted b (not b))
       where
-        way : (taken : Bool) → IsSound code s (turn 1 (cond taken (jumps i.c (record s { stack = [] })) (on (record s { stack = [] }))))
-        way true = (reached_target (record s { place = i.c; stack = []; charge = s.charge + 1 }) refl jump refl free, jump_forward code is s.place i here jump, refl)
-        way false = (reached_next (record s { place = suc s.place; stack = []; charge = s.charge + 1 }) [] refl goes_on shape tt free, omega arith, refl)
+        way : (taken : Bool) → Leads code s (cond taken (jumps i.c (record s { stack = [] })) (on (record s { stack = [] })))
+        way true = (jump_forward code is s.place i here jump, refl, λ n. reached_target (record s { place = i.c; stack = []; charge = n }) refl jump refl free)
+        way false = (refl, refl, λ n. reached_next (record s { place = suc s.place; stack = []; charge = n }) [] refl goes_on shape tt free)
 
-    sound_jump_op : operation_of i.op ≡ Some Jump → IsSound code s (turn 1 (effect code mail Jump i s))
-    sound_jump_op e =
+    leads_jump : operation_of i.op ≡ Some Jump → Leads code s (effect code mail Jump i s)
+    leads_jump e =
         let a = after_of (Some Jump) e in
         let jump : is_jump (row_in code i) ≡ true = ap (λ o. is_jump (option_and_then (row_of code.version) o)) e in
         let none : s.stack ≡ [] = no_stack s.stack (subst (λ (x : Entries). Describes x s.stack) (empty-some entries a.0 a.1) d) in
-        subst (λ (b : Bool). IsSound code s (turn 1 (cond b (jumps i.c s) fails))) (sym (sound_jump jump))
-        (reached_target (record s { place = i.c; charge = s.charge + 1 }) refl jump none free, jump_forward code is s.place i here jump, refl)
+        subst (λ (b : Bool). Leads code s (cond b (jumps i.c s) fails)) (sym (sound_jump jump))
+        (jump_forward code is s.place i here jump, refl, λ n. reached_target (record s { place = i.c; charge = n }) refl jump none free)
 
     -- a jump that takes a truth value
-    sound_branch : (o : Operation) (wanted : Bool) → operation_of i.op ≡ Some o → is_jump (row_of code.version o) ≡ true → is_halt (Some o) ≡ false → left_by code (Some o) i entries ≡ without_truth entries
-        → IsSound code s (turn 1 (cond (is_sound_jump code s i) (with_truth (branch i.c wanted) s s.stack) fails))
-    sound_branch o wanted e jump_op goes_on takes =
+    leads_branch : (o : Operation) (wanted : Bool) → operation_of i.op ≡ Some o → is_jump (row_of code.version o) ≡ true → is_halt (Some o) ≡ false → left_by code (Some o) i entries ≡ without_truth entries
+        → Leads code s (cond (is_sound_jump code s i) (with_truth (branch i.c wanted) s s.stack) fails)
+    leads_branch o wanted e jump_op goes_on takes =
         let a = after_of (Some o) e in
         let w = without_truth-some entries a.0 (sym takes ∙ a.1) in
         let jump : is_jump (row_in code i) ≡ true = ap (λ x. is_jump (option_and_then (row_of code.version) x)) e ∙ jump_op in
         let top = top_truth [] s.stack (subst (λ (x : Entries). Describes x s.stack) w.0 d) in
         let alone : s.stack ≡ truth top.value ∷ [] = top.is ∙ ap (λ (r : List Value). truth top.value ∷ r) (no_stack top.rest top.below) in
         let shape : left_by code (operation_of i.op) i entries ≡ Some [] = ap (λ x. left_by code x i entries) e ∙ a.1 ∙ ap (λ (x : Entries). Some x) w.1 in
-        subst (λ (b : Bool). IsSound code s (turn 1 (cond b (with_truth (branch i.c wanted) s s.stack) fails))) (sym (sound_jump jump))
-        (subst (λ (v : List Value). IsSound code s (turn 1 (with_truth (branch i.c wanted) s v))) (sym alone) (branches wanted top.value jump (ap is_halt e ∙ goes_on) shape))
+        subst (λ (b : Bool). Leads code s (cond b (with_truth (branch i.c wanted) s s.stack) fails)) (sym (sound_jump jump))
+        (subst (λ (v : List Value). Leads code s (with_truth (branch i.c wanted) s v)) (sym alone) (branches wanted top.value jump (ap is_halt e ∙ goes_on) shape))
 
-    -- every instruction's turn
-    sound : (o : Option Operation) → operation_of i.op ≡ o → IsSound code s (turn_of code mail o i s)
-    sound None e = absurd (let g : false ≡ true = ap (λ x. is_well_formed (option_and_then (row_of code.version) x) i) (sym e) ∙ well_formed code is s.place i here in cc)
-    sound (Some Halt) e = formed Halt e (sound_halt e)
-    sound (Some BoolOp) e = formed BoolOp e (sound_bool e)
-    sound (Some Not) e = formed Not e (sound_not e)
-    sound (Some Jump) e = formed Jump e (sound_jump_op e)
-    sound (Some JumpIfTrue) e = formed JumpIfTrue e (sound_branch JumpIfTrue true e refl refl refl)
-    sound (Some JumpIfFalse) e = formed JumpIfFalse e (sound_branch JumpIfFalse false e refl refl refl)
-    sound (Some Size) e = formed Size e (sound_size e)
-    sound (Some Keep) e = formed Keep e (sound_still Keep _ e refl (λ x. refl) refl refl free refl)
-    sound (Some Discard) e = formed Discard e (sound_still Discard _ e refl (λ x. refl) refl refl free refl)
-    sound (Some o) e = not_formed o e refl
+    -- every operation's effect
+    pub leads : (o : Operation) → operation_of i.op ≡ Some o → Leads code s (effect code mail o i s)
+    leads Halt e = refl
+    leads Literal e = leads_literal e
+    leads BoolOp e = leads_bool e
+    leads Not e = leads_not e
+    leads Jump e = leads_jump e
+    leads JumpIfTrue e = leads_branch JumpIfTrue true e refl refl refl
+    leads JumpIfFalse e = leads_branch JumpIfFalse false e refl refl refl
+    leads Header e = leads_header e
+    leads Exists e = leads_exists e
+    leads Size e = leads_size e
+    leads Keep e = leads_still Keep _ e refl (λ x. refl) refl refl free refl
+    leads Discard e = leads_still Discard _ e refl (λ x. refl) refl refl free refl
+    leads File e = leads_file e
+    leads o e = absurd (not_formed o e refl)
 
-  -- a step from a state that a run may reach
-  pub step_is_sound : (s : State) → IsReached code s → IsSound code s (step code mail s)
-  step_is_sound s reached =
-      let none : Instruction = record { op = 0; a = 0; b = 0; c = 0 } in
-      let i : Instruction = get_or code.instructions s.place none in
-      let here : slice_get code.instructions s.place ≡ Some i = slice_get-get_or code.instructions s.place none reached.within in
-      subst (λ (o : Option Instruction). IsSound code s (turn_at code mail s o)) (sym here)
-      (sound s i reached.entries here reached.shape reached.describes reached.outside (operation_of i.op) refl)
+    -- the turn of an instruction
+    module _ (known : IsMail mail) where
+      sound : (o : Option Operation) → operation_of i.op ≡ o → IsSound code mail s (turn_of code mail o i s)
+      sound None e = absurd (let g : false ≡ true = ap (λ x. is_well_formed (option_and_then (row_of code.version) x) i) (sym e) ∙ well_formed code is s.place i here in cc)
+      sound (Some o) e =
+          let cost = charge_fits code mail known o i s entries d (after_of (Some o) e).0 (after_of (Some o) e).1 in
+          let cap : cap_at code s.place ≡ cap_of (Some o) i entries = rw (here, at, e) refl in
+          subst (λ (b : Bool). IsSound code mail s (cond b (turn (charge_of code mail o i s) (effect code mail o i s)) traps)) (sym (well_formed code is s.place i here))
+          (sound_turn code mail s (charge_of code mail o i s) (effect code mail o i s) (leads o e) cost.some (rw cap cost.most))
+
+  module _ (known : IsMail mail) where
+    -- a step from a state that a run may reach
+    pub step_is_sound : (s : State) → IsReached code s → IsSound code mail s (step code mail s)
+    step_is_sound s reached =
+        let none : Instruction = record { op = 0; a = 0; b = 0; c = 0 } in
+        let i : Instruction = get_or code.instructions s.place none in
+        let here : slice_get code.instructions s.place ≡ Some i = slice_get-get_or code.instructions s.place none reached.within in
+        subst (λ (o : Option Instruction). IsSound code mail s (turn_at code mail s o)) (sym here)
+        (sound s i reached.entries here reached.shape reached.describes reached.outside known (operation_of i.op) refl)
+
+    -- every state of a run
+    pub runs_are_reached : (n : ℕ) (from to : State) → IsReached code from → Run code mail n from to → IsReached code to
+    runs_are_reached zero from to reached run = subst (IsReached code) run reached
+    runs_are_reached (suc n) from to reached run =
+        let sound_here : IsSound code mail from (goes run.0) = subst (IsSound code mail from) run.1 (step_is_sound from reached) in
+        runs_are_reached n run.0 to sound_here.0 run.2
 
   -- the start
   pub start_is_reached : IsReached code (start code)
   start_is_reached =
       record { within = instructions_there code is; entries = []; shape = refl; describes = tt; outside = refl }
-
-  -- every state of a run
-  pub runs_are_reached : (n : ℕ) (from to : State) → IsReached code from → Run code mail n from to → IsReached code to
-  runs_are_reached zero from to reached run = subst (IsReached code) run reached
-  runs_are_reached (suc n) from to reached run =
-      let sound_here : IsSound code from (goes run.0) = subst (IsSound code from) run.1 (step_is_sound from reached) in
-      runs_are_reached n run.0 to sound_here.0 run.2

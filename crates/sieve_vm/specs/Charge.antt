@@ -1,11 +1,23 @@
 -- What a step costs.
-use Rattle.std.specs.Prelude.{ℕ}
+use Rattle.std.specs.Prelude.{ℕ, ◌+◌, None}
+use Rattle.std.specs.Option.{option_map_or}
 use Rattle.bytecode_format.specs.declared.instruction.Instruction.{Instruction}
 use Rattle.bytecode_format.specs.declared.operation.Operation.{Operation}
 use Rattle.bytecode_format.specs.declared.operation.Operation.TheVariants.{Halt, Literal, Variable, Capture, Join, Set, Bool as BoolOp, Not, Jump, JumpIfTrue, JumpIfFalse, Header, Exists, String, Size, PartSize, PartBody, PartDigest, Keep, Discard, File, Store, Each, Next, Break}
 use Rattle.bytecode_format.specs.Code.{Code}
 use Rattle.mime_decode.specs.Mail.{Mail}
+use Rattle.mime_decode.specs.Scope.{Root, Value as WholeValue}
+use Rattle.mail_matching.specs.HeaderTests.{exists_cost, header_cost}
 use Rattle.sieve_vm.specs.State.{State}
+use Rattle.sieve_vm.specs.Stack.{OnTop, Lists, texts_on_top, lists_on_top, length_on_top}
+
+-- looking for the fields of these names in the message's own header
+abbrev pub cost_of_names : Mail → OnTop → ℕ
+cost_of_names mail names = exists_cost Root None names.texts mail
+
+-- the same, and comparing each of their values with each key
+abbrev pub cost_of_matching : Mail → Lists → ℕ
+cost_of_matching mail lists = header_cost Root None WholeValue lists.names lists.keys mail
 
 -- the charge of an instruction, from the state that it meets
 abbrev pub charge_of : Code → Mail → Operation → Instruction → State → ℕ
@@ -20,8 +32,8 @@ charge_of code mail Not i state = 1
 charge_of code mail Jump i state = 1
 charge_of code mail JumpIfTrue i state = 1
 charge_of code mail JumpIfFalse i state = 1
-charge_of code mail Header i state = 1
-charge_of code mail Exists i state = 1
+charge_of code mail Header i state = 1 + option_map_or (cost_of_matching mail) (lists_on_top i.b i.c state.stack) 0
+charge_of code mail Exists i state = 1 + option_map_or (cost_of_names mail) (texts_on_top i.b state.stack) 0
 charge_of code mail String i state = 1
 charge_of code mail Size i state = 1
 charge_of code mail PartSize i state = 1
@@ -29,7 +41,7 @@ charge_of code mail PartBody i state = 1
 charge_of code mail PartDigest i state = 1
 charge_of code mail Keep i state = 1
 charge_of code mail Discard i state = 1
-charge_of code mail File i state = 1
+charge_of code mail File i state = 1 + length_on_top state.stack
 charge_of code mail Store i state = 1
 charge_of code mail Each i state = 1
 charge_of code mail Next i state = 1

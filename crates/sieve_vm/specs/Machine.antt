@@ -11,7 +11,11 @@ use Rattle.bytecode_verifier.specs.Rows.{is_well_formed}
 use Rattle.bytecode_verifier.specs.Rules.{row_in}
 use Rattle.bytecode_verifier.specs.Loops.{same_loops}
 use Rattle.mime_decode.specs.Mail.{Mail, size_of}
-use Rattle.sieve_vm.specs.State.{Value, truth, State, Turn, goes, ends, traps}
+use Rattle.mime_decode.specs.Scope.{Root, Value as WholeValue}
+use Rattle.mail_matching.specs.HeaderTests.{exists_in, header_match}
+use Rattle.sieve_vm.specs.State.{Value, truth, text, State, Turn, goes, ends, traps}
+use Rattle.sieve_vm.specs.Stack.{OnTop, Lists, texts_on_top, lists_on_top}
+use Rattle.sieve_vm.specs.MatchNumbers.{match_numbered}
 use Rattle.sieve_vm.specs.Charge.{charge_of}
 
 -- what an operation does: the state that it leaves, still at its own place and without its charge, from which the run goes on
@@ -31,6 +35,21 @@ abbrev pub with_truth : (Bool → State → Effect) → State → List Value →
 with_truth go state (truth b ∷ rest) = go b (record state { stack = rest })
 with_truth go state _ = fails
 
+-- with the text on top of the stack, which is taken
+abbrev pub with_text : (List ℕ → State → Effect) → State → List Value → Effect
+with_text go state (text octets ∷ rest) = go octets (record state { stack = rest })
+with_text go state _ = fails
+
+-- with texts on top of the stack, which are taken
+abbrev pub with_texts : (List (List ℕ) → State → Effect) → State → Option OnTop → Effect
+with_texts go state None = fails
+with_texts go state (Some top) = go top.texts (record state { stack = top.below })
+
+-- with names, and the keys above them, which are taken
+abbrev pub with_lists : (List (List ℕ) → List (List ℕ) → State → Effect) → State → Option Lists → Effect
+with_lists go state None = fails
+with_lists go state (Some top) = go top.names top.keys (record state { stack = top.below })
+
 -- a jump is forward, and keeps the open loops
 abbrev pub is_sound_jump : Code → State → Instruction → Bool
 is_sound_jump code state i = nat_lt state.place i.c && same_loops code state.place i.c
@@ -47,10 +66,31 @@ abbrev pub with_number : Instruction → Mail → State → Option ℕ → Effec
 with_number i mail state None = fails
 with_number i mail state (Some number) = push (truth (compares i number (size_of mail))) state
 
+abbrev pub with_string : State → Option (List ℕ) → Effect
+with_string state None = fails
+with_string state (Some string) = push (text string) state
+
+-- the folder is listed, and the implicit keep is taken away
+abbrev pub file : List ℕ → State → Effect
+file folder state = on (record state { actions = state.actions ++ action.File folder ∷ []; implicit_keep = false })
+
+-- whether the message's own header has a field of each name
+abbrev pub test_names : Mail → List (List ℕ) → State → Effect
+test_names mail names state = push (truth (exists_in Root None names mail)) state
+
+-- whether a test has matched, with the captures after it; one that hasn't leaves them
+abbrev pub tested : State → Option (List (List ℕ)) → Effect
+tested state None = push (truth false) state
+tested state (Some captures) = push (truth true) (record state { captures = captures })
+
+-- whether a value of the fields of these names, in the message's own header, matches a key
+abbrev pub test_values : Mail → ℕ → List (List ℕ) → List (List ℕ) → State → Effect
+test_values mail number names keys state = tested state (header_match (match_numbered number) Root None WholeValue names keys mail state.captures)
+
 -- what each operation does; one that hasn't come fails
 abbrev pub effect : Code → Mail → Operation → Instruction → State → Effect
 effect code mail Halt i state = halts state
-effect code mail Literal i state = fails
+effect code mail Literal i state = with_string state (slice_get code.strings i.c)
 effect code mail Variable i state = fails
 effect code mail Capture i state = fails
 effect code mail Join i state = fails
@@ -60,8 +100,8 @@ effect code mail Not i state = with_truth (λ b s. on (record s { stack = truth 
 effect code mail Jump i state = if is_sound_jump code state i then jumps i.c state else fails
 effect code mail JumpIfTrue i state = if is_sound_jump code state i then with_truth (branch i.c true) state state.stack else fails
 effect code mail JumpIfFalse i state = if is_sound_jump code state i then with_truth (branch i.c false) state state.stack else fails
-effect code mail Header i state = fails
-effect code mail Exists i state = fails
+effect code mail Header i state = with_lists (test_values mail i.a) state (lists_on_top i.b i.c state.stack)
+effect code mail Exists i state = with_texts (test_names mail) state (texts_on_top i.b state.stack)
 effect code mail String i state = fails
 effect code mail Size i state = with_number i mail state (slice_get code.numbers i.c)
 effect code mail PartSize i state = fails
@@ -69,7 +109,7 @@ effect code mail PartBody i state = fails
 effect code mail PartDigest i state = fails
 effect code mail Keep i state = on (record state { actions = state.actions ++ action.Keep ∷ []; implicit_keep = false })
 effect code mail Discard i state = on (record state { implicit_keep = false })
-effect code mail File i state = fails
+effect code mail File i state = with_text file state state.stack
 effect code mail Store i state = fails
 effect code mail Each i state = fails
 effect code mail Next i state = fails

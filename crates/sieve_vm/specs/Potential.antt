@@ -3,7 +3,8 @@ use Rattle.std.specs.Prelude.{ℕ, suc, ◌+◌, ◌-◌, ◌*◌, List, [], ◌
 use Rattle.bytecode_format.specs.Code.{Code}
 use Rattle.bytecode_verifier.specs.Places.{sum_below}
 use Rattle.bytecode_verifier.specs.Loops.{open_loops}
-use Rattle.bytecode_verifier.specs.Budget.{Cap, cap_at, budget_of}
+use Rattle.bytecode_verifier.specs.declared.cap.Cap.{Cap}
+use Rattle.bytecode_verifier.specs.Budget.{cap_at, budget_of}
 use Rattle.bytecode_cost.specs.Sums.{turns, budget_at}
 use Rattle.mime_decode.specs.Mail.{Mail, size_of}
 use Rattle.sieve_vm.specs.State.{Frame, State}

@@ -2,6 +2,7 @@
 use Rattle.std.specs.Prelude.{ℕ, Bool, true, List, [], replicate}
 use Rattle.bytecode_format.specs.declared.action.Action.{Action}
 use Rattle.bytecode_format.specs.Code.{Code}
+use Rattle.mail_matching.specs.FirstMatch.{no_captures}
 
 -- an entry of the stack
 pub data Value : Type 0 where
@@ -34,4 +35,4 @@ pub data Turn : Type 0 where
 
 -- before the first instruction: variables and captures are empty, the implicit keep stands, the stack is empty, no loop is open
 abbrev pub start : Code → State
-start code = record { place = 0; stack = []; frames = []; variables = replicate code.variables []; captures = replicate 10 []; actions = []; implicit_keep = true; charge = 0 }
+start code = record { place = 0; stack = []; frames = []; variables = replicate code.variables []; captures = no_captures; actions = []; implicit_keep = true; charge = 0 }

@@ -5,6 +5,7 @@
 //! end; [`run`] is that run.
 #![tactic(auto)]
 
+mod entry;
 pub mod laws;
 mod machine;
 mod outcome;

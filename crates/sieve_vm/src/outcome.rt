@@ -29,7 +29,7 @@ pub fn run(alloc: Global, verified: &Verified, message: &Message<'_>) -> Result<
     let _size = message.size();
     let mut machine = Machine::new(alloc);
     'steps: loop {
-        match machine.advance(program, message)? {
+        match machine.advance(alloc, program, message)? {
             Turn::GoesOn => {}
             Turn::Ends => break 'steps,
         }

@@ -6,7 +6,7 @@ pub returns-clause-start : goal.returns-clause-start
 returns-clause-start c = λ code mail is. potential-start code mail is
 
 pub returns-clause-step : goal.returns-clause-step
-returns-clause-step c = λ code mail is _. falls_along code mail is
+returns-clause-step c = λ code mail is known. falls_along code mail is known
 
 pub returns-clause-end : goal.returns-clause-end
-returns-clause-end c = λ code mail is _. falls_at_end code mail is
+returns-clause-end c = λ code mail is known. falls_at_end code mail is known

@@ -8,7 +8,7 @@ pub steps-smaller : goal.steps-smaller
 steps-smaller c =
     let value = c.program-program.ensures.value in
     let on = c.in_ok-advance.ensures.goes_on c.in-GoesOn.is in
-    let within = running_within c.program-program.result.now c.args.message.now (subst IsAccepted (sym value) c.program-program.ensures.accepted) c.advance.new.self on.running in
+    let within = running_within c.program-program.result.now c.args.message.now (subst IsAccepted (sym value) c.program-program.ensures.accepted) c.size-size.ensures.mail c.advance.new.self on.running in
     omega (arith, on.dearer, within, ap (λ code. limit_of code c.args.message.now) value)
 
 pub returns : goal.returns

@@ -1,42 +1,52 @@
 use Rattle.std.proofs.Common.{◌≡◌, sym, ap, subst, ◌∙◌, drop, IfOk, None}
 use Rattle.sieve_check.specs.TypedView.{branch_forms, else_form, command_form, commands_form}
-use Rattle.sieve_meaning.specs.declared.evaluator.Evaluator.{Evaluator}
-use Rattle.sieve_meaning.specs.Meaning.{Ending, normal, verdict, command_does, choice_does, commands_do}
+use Rattle.sieve_meaning.specs.Meaning.{Ending, normal, command_does, choice_does, commands_do}
 use Rattle.sieve_meaning.specs.declared.evaluator.Flow.TheVariants.{GoesOn}
-use Rattle.sieve_meaning.specs.Evaluation.{StandsFor, StandsAt}
-use Rattle.sieve_meaning.proofs.MeaningLemmas.{does_if, taken, passed, none_left}
+use Rattle.sieve_meaning.specs.Evaluation.{StandsAt}
+use Rattle.sieve_meaning.proofs.MeaningLemmas.{branches_bounded, commands_bounded, commands_on, does_if, none_left, passed}
 use Rattle.sieve_meaning.proofs.evaluator.Evaluator.+commands.Goals as goal
-
-pub command-returns-then-is_true : goal.command-returns-then-is_true
-command-returns-then-is_true t c = λ e stands.
-    let all : command_does c.args.message.now None (command_form c.args.command.now) e ≡ choice_does c.args.message.now None (branch_forms c.deref-branch-items.result.now (else_form c.in-If.otherwise)) e =
-    does_if c.args.message.now c.args.command.now c.in-If.branches c.in-If.otherwise c.in-If.is e ∙ ap (λ bs. choice_does c.args.message.now None (branch_forms bs (else_form c.in-If.otherwise)) e) (sym c.deref-branch-items.ensures.value) in
-    let rest : choice_does c.args.message.now None (branch_forms c.deref-branch-items.result.now (else_form c.in-If.otherwise)) e ≡ choice_does c.args.message.now None (branch_forms (drop c.branches.branch-index c.deref-branch-items.result.now) (else_form c.in-If.otherwise)) e = sym (c.branches.invariant.1 e) in
-    let standing : StandsFor e c.branches.self = subst (λ (m : Evaluator). StandsFor e m) (sym c.branches.invariant.0) stands in
-    let block : choice_does c.args.message.now None (branch_forms (drop c.branches.branch-index c.deref-branch-items.result.now) (else_form c.in-If.otherwise)) e ≡ commands_do c.args.message.now None (commands_form c.deref.result.now) e =
-    taken c.args.message.now c.deref-branch-items.result.now c.branches.branch-index c.branch-item.result (else_form c.in-If.otherwise) e c.branches-test.true c.branch-item.is (c.is_true.ensures e ∙ ap (λ b. verdict b e) c.if-is_true.true) ∙ ap (λ cs. commands_do c.args.message.now None (commands_form cs) e) (sym c.deref.ensures.value) in
-    subst (λ (x : Ending). IfOk c.commands.result (λ flow. StandsAt x flow c.commands.new.self)) (sym (all ∙ rest ∙ block)) (c.commands.ensures e standing)
 
 pub command-branches-preserved : goal.command-branches-preserved
 command-branches-preserved t c =
-    (c.branches.invariant.0, λ e. sym (passed c.args.message.now c.deref-branch-items.result.now c.branches.branch-index c.branch-item.result (else_form c.in-If.otherwise) e c.branches-test.true c.branch-item.is (c.is_true.ensures e ∙ ap (λ b. verdict b e) c.if-is_true.false)) ∙ c.branches.invariant.1 e)
+    let bs = c.deref-branch-items.result.now in
+    let last = else_form c.in-If.otherwise in (
+      branches_bounded bs c.branches.branch-index c.branch-item.result last c.branches-test.true c.branch-item.is c.branches.invariant.0,
+      λ e stands.
+          let before = c.branches.invariant.1 e stands in
+          let after = passed c.args.message.now bs c.branches.branch-index c.branch-item.result last c.in_ok-is_true-in-If.field-0 c.is_true.new.self before.0 c.branches-test.true c.branch-item.is (c.in_ok-is_true-in-If.ensures before.0 before.1) c.if-branch.false in
+          (after.0, after.1, after.2 ∙ before.2),
+    )
 
 pub command-returns-in-Some : goal.command-returns-in-Some
 command-returns-in-Some t c = λ e stands.
-    let all : command_does c.args.message.now None (command_form c.args.command.now) e ≡ choice_does c.args.message.now None (branch_forms c.deref-branch-items.result.now (else_form c.in-If.otherwise)) e =
-    does_if c.args.message.now c.args.command.now c.in-If.branches c.in-If.otherwise c.in-If.is e ∙ ap (λ bs. choice_does c.args.message.now None (branch_forms bs (else_form c.in-If.otherwise)) e) (sym c.deref-branch-items.ensures.value) in
-    let rest : choice_does c.args.message.now None (branch_forms c.deref-branch-items.result.now (else_form c.in-If.otherwise)) e ≡ choice_does c.args.message.now None (branch_forms (drop c.branches.branch-index c.deref-branch-items.result.now) (else_form c.in-If.otherwise)) e = sym (c.branches.invariant.1 e) in
-    let standing : StandsFor e c.branches.self = subst (λ (m : Evaluator). StandsFor e m) (sym c.branches.invariant.0) stands in
-    let block : choice_does c.args.message.now None (branch_forms (drop c.branches.branch-index c.deref-branch-items.result.now) (else_form c.in-If.otherwise)) e ≡ commands_do c.args.message.now None (commands_form c.deref-in-Some.result.now) e =
-    none_left c.args.message.now c.deref-branch-items.result.now c.branches.branch-index (else_form c.in-If.otherwise) e c.branches-test.false ∙ ap (λ o. choice_does c.args.message.now None (else_form o) e) c.in-Some.is ∙ ap (λ cs. commands_do c.args.message.now None (commands_form cs) e) (sym c.deref-in-Some.ensures.value) in
-    subst (λ (x : Ending). IfOk c.commands-in-Some.result (λ flow. StandsAt x flow c.commands-in-Some.new.self)) (sym (all ∙ rest ∙ block)) (c.commands-in-Some.ensures e standing)
+    let mail = c.args.message.now in
+    let bs = c.deref-branch-items.result.now in
+    let last = else_form c.in-If.otherwise in
+    let before = c.branches.invariant.1 e stands in
+    let f = before.0 in
+    let all : command_does mail None (command_form c.args.command.now) e ≡ choice_does mail None (branch_forms bs last) e =
+    does_if mail c.args.command.now c.in-If.branches c.in-If.otherwise c.in-If.is e ∙ ap (λ xs. choice_does mail None (branch_forms xs last) e) (sym c.deref-branch-items.ensures.value) in
+    let block : choice_does mail None (branch_forms (drop c.branches.branch-index bs) last) f ≡ commands_do mail None (commands_form c.deref-in-Some.result.now) f =
+    none_left mail bs c.branches.branch-index last f c.branches-test.false ∙ ap (λ o. choice_does mail None (else_form o) f) c.in-Some.is ∙ ap (λ cs. commands_do mail None (commands_form cs) f) (sym c.deref-in-Some.ensures.value) in
+    subst (λ (x : Ending). IfOk c.commands-in-Some.result (λ flow. StandsAt x flow c.commands-in-Some.new.self)) (sym (all ∙ sym before.2 ∙ block)) (c.commands-in-Some.ensures f before.1)
 
 pub command-returns-in_default : goal.command-returns-in_default
 command-returns-in_default t c = λ e stands.
-    let all : command_does c.args.message.now None (command_form c.args.command.now) e ≡ choice_does c.args.message.now None (branch_forms c.deref-branch-items.result.now (else_form c.in-If.otherwise)) e =
-    does_if c.args.message.now c.args.command.now c.in-If.branches c.in-If.otherwise c.in-If.is e ∙ ap (λ bs. choice_does c.args.message.now None (branch_forms bs (else_form c.in-If.otherwise)) e) (sym c.deref-branch-items.ensures.value) in
-    let rest : choice_does c.args.message.now None (branch_forms c.deref-branch-items.result.now (else_form c.in-If.otherwise)) e ≡ choice_does c.args.message.now None (branch_forms (drop c.branches.branch-index c.deref-branch-items.result.now) (else_form c.in-If.otherwise)) e = sym (c.branches.invariant.1 e) in
-    let standing : StandsFor e c.branches.self = subst (λ (m : Evaluator). StandsFor e m) (sym c.branches.invariant.0) stands in
-    let none : choice_does c.args.message.now None (branch_forms (drop c.branches.branch-index c.deref-branch-items.result.now) (else_form c.in-If.otherwise)) e ≡ normal e =
-    none_left c.args.message.now c.deref-branch-items.result.now c.branches.branch-index (else_form c.in-If.otherwise) e c.branches-test.false ∙ ap (λ o. choice_does c.args.message.now None (else_form o) e) c.in_default.is in
-    subst (λ (x : Ending). StandsAt x GoesOn c.branches.self) (sym (all ∙ rest ∙ none)) standing
+    let mail = c.args.message.now in
+    let bs = c.deref-branch-items.result.now in
+    let last = else_form c.in-If.otherwise in
+    let before = c.branches.invariant.1 e stands in
+    let f = before.0 in
+    let all : command_does mail None (command_form c.args.command.now) e ≡ choice_does mail None (branch_forms bs last) e =
+    does_if mail c.args.command.now c.in-If.branches c.in-If.otherwise c.in-If.is e ∙ ap (λ xs. choice_does mail None (branch_forms xs last) e) (sym c.deref-branch-items.ensures.value) in
+    let none : choice_does mail None (branch_forms (drop c.branches.branch-index bs) last) f ≡ normal f = none_left mail bs c.branches.branch-index last f c.branches-test.false ∙ ap (λ o. choice_does mail None (else_form o) f) c.in_default.is in
+    subst (λ (x : Ending). StandsAt x GoesOn c.branches.self) (sym (all ∙ sym before.2 ∙ none)) before.1
+
+pub commands-commands-preserved : goal.commands-commands-preserved
+commands-commands-preserved t c = (
+  commands_bounded c.args.commands.now c.commands.command-index c.command-item.result c.commands-test.true c.command-item.is c.commands.invariant.0,
+  λ e stands.
+      let before = c.commands.invariant.1 e stands in
+      let after = commands_on c.args.message.now c.args.commands.now c.commands.command-index c.command-item.result c.in_ok-command.field-0 c.command.new.self before.0 c.commands-test.true c.command-item.is (c.in_ok-command.ensures before.0 before.1) c.in-GoesOn.is in
+      (after.0, after.1, after.2 ∙ before.2),
+)

@@ -1,85 +1,94 @@
-use Rattle.std.proofs.Common.{◌≡◌, ◌∙◌, Some, length, slice_get, get_or, refl, sym, ap, subst, arith}
-use Rattle.std.specs.Option.{IsSome}
+use Rattle.std.proofs.Common.{◌≡◌, ◌∙◌, ℕ, ◌+◌, Some, slice_get, get_or, refl, sym, ap, subst, arith}
 use Rattle.std.proofs.lemmas.Option.{slice_get-get_or}
 use Rattle.bytecode_format.specs.declared.instruction.Instruction.{Instruction}
-use Rattle.bytecode_format.specs.Operations.{operation_of}
 use Rattle.sieve_vm.specs.Machine.{Effect, effect}
 use Rattle.sieve_vm.specs.declared.machine.Flow.TheVariants.{On, To, Ends}
-use Rattle.sieve_vm.specs.Standing.{HasHad}
+use Rattle.sieve_vm.specs.Charge.{charge_of}
+use Rattle.sieve_vm.specs.Standing.{GoesFrom}
 use Rattle.sieve_vm.proofs.Steps.{no_instruction, place_within, operation_there, stepped, goes_on, goes_to, comes_to_end, charged_within, still_there, limit_small}
 use Rattle.sieve_vm.proofs.machine.Machine.advance.Goals as goal
 
 pub offset_bounds-instructions-self : goal.offset_bounds-instructions-self
 offset_bounds-instructions-self c =
-    let within = place_within c.args.program.now c.args.message.now c.requires.accepted c.args.self.now c.requires.running.0 c.requires.running.1 in omega (arith, within, c.instructions.ensures.program.instructions)
+    let within = place_within c.args.program.now c.args.message.now c.requires.accepted c.requires.mail c.args.self.now c.requires.running.0 c.requires.running.1 in omega (arith, within, c.instructions.ensures.program.instructions)
 
 pub bounds-instructions-self : goal.bounds-instructions-self
-bounds-instructions-self c = rw c.instructions.ensures.value (place_within c.args.program.now c.args.message.now c.requires.accepted c.args.self.now c.requires.running.0 c.requires.running.1)
+bounds-instructions-self c = rw c.instructions.ensures.value (place_within c.args.program.now c.args.message.now c.requires.accepted c.requires.mail c.args.self.now c.requires.running.0 c.requires.running.1)
 
 pub act-requires-clause-here : goal.act-requires-clause-here
 act-requires-clause-here c =
-    slice_get-get_or c.args.program.now.instructions c.args.self.now.place no_instruction (place_within c.args.program.now c.args.message.now c.requires.accepted c.args.self.now c.requires.running.0 c.requires.running.1)
+    slice_get-get_or c.args.program.now.instructions c.args.self.now.place no_instruction (place_within c.args.program.now c.args.message.now c.requires.accepted c.requires.mail c.args.self.now c.requires.running.0 c.requires.running.1)
     ∙ ap (λ xs. Some (get_or xs c.args.self.now.place no_instruction)) (sym c.instructions.ensures.value)
 
 pub unwrap-operation-requires : goal.unwrap-operation-requires
 unwrap-operation-requires c =
     let here : slice_get c.args.program.now.instructions c.args.self.now.place ≡ Some (get_or c.instructions.result.now c.args.self.now.place no_instruction) =
-    slice_get-get_or c.args.program.now.instructions c.args.self.now.place no_instruction (place_within c.args.program.now c.args.message.now c.requires.accepted c.args.self.now c.requires.running.0 c.requires.running.1)
+    slice_get-get_or c.args.program.now.instructions c.args.self.now.place no_instruction (place_within c.args.program.now c.args.message.now c.requires.accepted c.requires.mail c.args.self.now c.requires.running.0 c.requires.running.1)
     ∙ ap (λ xs. Some (get_or xs c.args.self.now.place no_instruction)) (sym c.instructions.ensures.value) in
-    rw c.of.ensures (operation_there c.args.program.now c.args.message.now c.requires.accepted c.args.self.now c.requires.running.0 c.requires.running.1 (get_or c.instructions.result.now c.args.self.now.place no_instruction) here)
+    rw c.of.ensures (operation_there c.args.program.now c.args.message.now c.requires.accepted c.requires.mail c.args.self.now c.requires.running.0 c.requires.running.1 (get_or c.instructions.result.now c.args.self.now.place no_instruction) here)
 
 pub overflow_add-self : goal.overflow_add-self
 overflow_add-self c =
     let i : Instruction = get_or c.instructions.result.now c.args.self.now.place no_instruction in
     let here : slice_get c.args.program.now.instructions c.args.self.now.place ≡ Some i =
-    slice_get-get_or c.args.program.now.instructions c.args.self.now.place no_instruction (place_within c.args.program.now c.args.message.now c.requires.accepted c.args.self.now c.requires.running.0 c.requires.running.1)
+    slice_get-get_or c.args.program.now.instructions c.args.self.now.place no_instruction (place_within c.args.program.now c.args.message.now c.requires.accepted c.requires.mail c.args.self.now c.requires.running.0 c.requires.running.1)
     ∙ ap (λ xs. Some (get_or xs c.args.self.now.place no_instruction)) (sym c.instructions.ensures.value) in
     let done : Effect = effect c.args.program.now c.args.message.now c.unwrap-operation.result i c.requires.running.0 in
-    let one = stepped c.args.program.now c.args.message.now c.requires.accepted c.args.self.now c.requires.running.0 c.requires.running.1 i here c.unwrap-operation.result (sym c.of.ensures ∙ c.unwrap-operation.ensures) in
-    let within = charged_within c.args.program.now c.args.message.now c.requires.accepted c.args.self.now c.requires.running.0 c.requires.running.1 done one c.act.new.self c.in_ok-flow.flow (c.in_ok-flow.ensures c.requires.running.0 c.requires.running.1) in
+    let cost : ℕ = charge_of c.args.program.now c.args.message.now c.unwrap-operation.result i c.requires.running.0 in
+    let had = c.in_ok-done.ensures c.requires.running.0 c.requires.running.1 in
+    let one = stepped c.args.program.now c.args.message.now c.requires.accepted c.requires.mail c.args.self.now c.requires.running.0 c.requires.running.1 i here c.unwrap-operation.result (sym c.of.ensures ∙ c.unwrap-operation.ensures) in
+    let within = charged_within c.args.program.now c.args.message.now c.requires.accepted c.requires.mail c.args.self.now c.requires.running.0 c.requires.running.1 cost done one c.act.new.self c.in_ok-done.done.flow had.0 in
     let small = limit_small c.args.program.now c.args.message.now c.instructions.ensures.program c.requires.mail in
-    omega (arith, within, small)
+    omega (arith, within, small, had.1)
 
 pub overflow_add-self-in-On : goal.overflow_add-self-in-On
 overflow_add-self-in-On c =
     let i : Instruction = get_or c.instructions.result.now c.args.self.now.place no_instruction in
     let here : slice_get c.args.program.now.instructions c.args.self.now.place ≡ Some i =
-    slice_get-get_or c.args.program.now.instructions c.args.self.now.place no_instruction (place_within c.args.program.now c.args.message.now c.requires.accepted c.args.self.now c.requires.running.0 c.requires.running.1)
+    slice_get-get_or c.args.program.now.instructions c.args.self.now.place no_instruction (place_within c.args.program.now c.args.message.now c.requires.accepted c.requires.mail c.args.self.now c.requires.running.0 c.requires.running.1)
     ∙ ap (λ xs. Some (get_or xs c.args.self.now.place no_instruction)) (sym c.instructions.ensures.value) in
     let done : Effect = effect c.args.program.now c.args.message.now c.unwrap-operation.result i c.requires.running.0 in
-    let one = stepped c.args.program.now c.args.message.now c.requires.accepted c.args.self.now c.requires.running.0 c.requires.running.1 i here c.unwrap-operation.result (sym c.of.ensures ∙ c.unwrap-operation.ensures) in
-    let had : HasHad done On c.act.new.self = subst (λ f. HasHad done f c.act.new.self) c.in-On.is (c.in_ok-flow.ensures c.requires.running.0 c.requires.running.1) in
-    omega (arith, still_there c.args.program.now c.args.message.now c.requires.accepted c.args.self.now c.requires.running.0 c.requires.running.1 done one c.act.new.self had, c.instructions.ensures.program.instructions)
+    let cost : ℕ = charge_of c.args.program.now c.args.message.now c.unwrap-operation.result i c.requires.running.0 in
+    let had = c.in_ok-done.ensures c.requires.running.0 c.requires.running.1 in
+    let one = stepped c.args.program.now c.args.message.now c.requires.accepted c.requires.mail c.args.self.now c.requires.running.0 c.requires.running.1 i here c.unwrap-operation.result (sym c.of.ensures ∙ c.unwrap-operation.ensures) in
+    let went : GoesFrom done On c.act.new.self = subst (λ f. GoesFrom done f c.act.new.self) c.in-On.is had.0 in
+    omega (arith, still_there c.args.program.now c.args.message.now c.requires.accepted c.requires.mail c.args.self.now c.requires.running.0 c.requires.running.1 cost done one c.act.new.self went, c.instructions.ensures.program.instructions)
 
 pub returns-in-On-clause-goes_on : goal.returns-in-On-clause-goes_on
 returns-in-On-clause-goes_on c =
     let i : Instruction = get_or c.instructions.result.now c.args.self.now.place no_instruction in
     let here : slice_get c.args.program.now.instructions c.args.self.now.place ≡ Some i =
-    slice_get-get_or c.args.program.now.instructions c.args.self.now.place no_instruction (place_within c.args.program.now c.args.message.now c.requires.accepted c.args.self.now c.requires.running.0 c.requires.running.1)
+    slice_get-get_or c.args.program.now.instructions c.args.self.now.place no_instruction (place_within c.args.program.now c.args.message.now c.requires.accepted c.requires.mail c.args.self.now c.requires.running.0 c.requires.running.1)
     ∙ ap (λ xs. Some (get_or xs c.args.self.now.place no_instruction)) (sym c.instructions.ensures.value) in
     let done : Effect = effect c.args.program.now c.args.message.now c.unwrap-operation.result i c.requires.running.0 in
-    let one = stepped c.args.program.now c.args.message.now c.requires.accepted c.args.self.now c.requires.running.0 c.requires.running.1 i here c.unwrap-operation.result (sym c.of.ensures ∙ c.unwrap-operation.ensures) in
-    let had : HasHad done On c.act.new.self = subst (λ f. HasHad done f c.act.new.self) c.in-On.is (c.in_ok-flow.ensures c.requires.running.0 c.requires.running.1) in
-    λ _. goes_on c.args.program.now c.args.message.now c.requires.accepted c.args.self.now c.requires.running.0 c.requires.running.1 done one c.act.new.self had _ refl refl refl refl refl
+    let cost : ℕ = charge_of c.args.program.now c.args.message.now c.unwrap-operation.result i c.requires.running.0 in
+    let had = c.in_ok-done.ensures c.requires.running.0 c.requires.running.1 in
+    let one = stepped c.args.program.now c.args.message.now c.requires.accepted c.requires.mail c.args.self.now c.requires.running.0 c.requires.running.1 i here c.unwrap-operation.result (sym c.of.ensures ∙ c.unwrap-operation.ensures) in
+    let went : GoesFrom done On c.act.new.self = subst (λ f. GoesFrom done f c.act.new.self) c.in-On.is had.0 in
+    λ _. goes_on c.args.program.now c.args.message.now c.requires.accepted c.requires.mail c.args.self.now c.requires.running.0 c.requires.running.1 cost done one c.act.new.self went _ refl refl refl refl refl (ap (λ n. c.act.new.self.charged + n) had.1)
 
 pub returns-in-To-clause-goes_on : goal.returns-in-To-clause-goes_on
 returns-in-To-clause-goes_on c =
     let i : Instruction = get_or c.instructions.result.now c.args.self.now.place no_instruction in
     let here : slice_get c.args.program.now.instructions c.args.self.now.place ≡ Some i =
-    slice_get-get_or c.args.program.now.instructions c.args.self.now.place no_instruction (place_within c.args.program.now c.args.message.now c.requires.accepted c.args.self.now c.requires.running.0 c.requires.running.1)
+    slice_get-get_or c.args.program.now.instructions c.args.self.now.place no_instruction (place_within c.args.program.now c.args.message.now c.requires.accepted c.requires.mail c.args.self.now c.requires.running.0 c.requires.running.1)
     ∙ ap (λ xs. Some (get_or xs c.args.self.now.place no_instruction)) (sym c.instructions.ensures.value) in
     let done : Effect = effect c.args.program.now c.args.message.now c.unwrap-operation.result i c.requires.running.0 in
-    let one = stepped c.args.program.now c.args.message.now c.requires.accepted c.args.self.now c.requires.running.0 c.requires.running.1 i here c.unwrap-operation.result (sym c.of.ensures ∙ c.unwrap-operation.ensures) in
-    let had : HasHad done (To c.in-To.place) c.act.new.self = subst (λ f. HasHad done f c.act.new.self) c.in-To.is (c.in_ok-flow.ensures c.requires.running.0 c.requires.running.1) in
-    λ _. goes_to c.args.program.now c.args.message.now c.requires.accepted c.args.self.now c.requires.running.0 c.requires.running.1 done one c.act.new.self c.in-To.place had _ refl refl refl refl refl
+    let cost : ℕ = charge_of c.args.program.now c.args.message.now c.unwrap-operation.result i c.requires.running.0 in
+    let had = c.in_ok-done.ensures c.requires.running.0 c.requires.running.1 in
+    let one = stepped c.args.program.now c.args.message.now c.requires.accepted c.requires.mail c.args.self.now c.requires.running.0 c.requires.running.1 i here c.unwrap-operation.result (sym c.of.ensures ∙ c.unwrap-operation.ensures) in
+    let went : GoesFrom done (To c.in-To.place) c.act.new.self = subst (λ f. GoesFrom done f c.act.new.self) c.in-To.is had.0 in
+    λ _. goes_to c.args.program.now c.args.message.now c.requires.accepted c.requires.mail c.args.self.now c.requires.running.0 c.requires.running.1 cost done one c.act.new.self c.in-To.place went _ refl refl refl refl refl (ap (λ n. c.act.new.self.charged + n) had.1)
 
 pub returns-in-Ends-clause-ends : goal.returns-in-Ends-clause-ends
 returns-in-Ends-clause-ends c =
     let i : Instruction = get_or c.instructions.result.now c.args.self.now.place no_instruction in
     let here : slice_get c.args.program.now.instructions c.args.self.now.place ≡ Some i =
-    slice_get-get_or c.args.program.now.instructions c.args.self.now.place no_instruction (place_within c.args.program.now c.args.message.now c.requires.accepted c.args.self.now c.requires.running.0 c.requires.running.1)
+    slice_get-get_or c.args.program.now.instructions c.args.self.now.place no_instruction (place_within c.args.program.now c.args.message.now c.requires.accepted c.requires.mail c.args.self.now c.requires.running.0 c.requires.running.1)
     ∙ ap (λ xs. Some (get_or xs c.args.self.now.place no_instruction)) (sym c.instructions.ensures.value) in
     let done : Effect = effect c.args.program.now c.args.message.now c.unwrap-operation.result i c.requires.running.0 in
-    let one = stepped c.args.program.now c.args.message.now c.requires.accepted c.args.self.now c.requires.running.0 c.requires.running.1 i here c.unwrap-operation.result (sym c.of.ensures ∙ c.unwrap-operation.ensures) in
-    let had : HasHad done Ends c.act.new.self = subst (λ f. HasHad done f c.act.new.self) c.in-Ends.is (c.in_ok-flow.ensures c.requires.running.0 c.requires.running.1) in
-    λ _. comes_to_end c.args.program.now c.args.message.now c.requires.accepted c.args.self.now c.requires.running.0 c.requires.running.1 done one c.act.new.self had _ refl refl refl refl refl
+    let cost : ℕ = charge_of c.args.program.now c.args.message.now c.unwrap-operation.result i c.requires.running.0 in
+    let had = c.in_ok-done.ensures c.requires.running.0 c.requires.running.1 in
+    let one = stepped c.args.program.now c.args.message.now c.requires.accepted c.requires.mail c.args.self.now c.requires.running.0 c.requires.running.1 i here c.unwrap-operation.result (sym c.of.ensures ∙ c.unwrap-operation.ensures) in
+    let went : GoesFrom done Ends c.act.new.self = subst (λ f. GoesFrom done f c.act.new.self) c.in-Ends.is had.0 in
+    λ _. comes_to_end c.args.program.now c.args.message.now c.requires.accepted c.requires.mail c.args.self.now c.requires.running.0 c.requires.running.1 cost done one c.act.new.self went _ refl refl refl refl refl (ap (λ n. c.act.new.self.charged + n) had.1)

@@ -9,6 +9,6 @@ returns c = λ code mail. (
   record {
     steps = 0;
     run = refl;
-    stands = record { place = refl; stack = ap (λ xs. map value_of (reverse xs)) c.new.ensures.items; actions = c.new-2.ensures; implicit_keep = refl; charge = refl };
+    stands = record { place = refl; stack = ap (λ xs. map value_of (reverse xs)) c.new.ensures.items; captures = refl; actions = c.new-2.ensures; implicit_keep = refl; charge = refl };
   },
 )

@@ -1,0 +1,125 @@
+-- Texts taken from the top of the entries.
+use Rattle.std.proofs.Common.{◌≡◌, ℕ, zero, suc, ◌+◌, ◌-◌, ◌*◌, ◌<◌, ◌≤◌, [], ◌∷◌, Option, Some, None, length, refl, sym, ap, subst, ◌∙◌, arith}
+use Rattle.std.proofs.lemmas.List.Sums.{sum_by-cons}
+use Rattle.std.specs.Option.{option_and_then, option_map}
+use Rattle.bytecode_verifier.specs.declared.shape.Entry.TheVariants.{Truth, Text}
+use Rattle.bytecode_verifier.specs.Shape.{Entries, Texts, Lists, with_text, with_keys, take_texts, take_lists}
+use Rattle.bytecode_verifier.specs.Budget.{one_more_each}
+use Rattle.bytecode_verifier.specs.Pass.{AreShort, Takes}
+
+-- the sum of the bounds with a sum before it, their number with one before it, and the entries below
+pub record Total : Type 0 where
+  pub total : ℕ
+  pub number : ℕ
+  pub rest : Entries
+
+abbrev pub totalled : ℕ → ℕ → Texts → Total
+totalled total number texts = record { total = total + one_more_each texts.bounds; number = number + length texts.bounds; rest = texts.rest }
+
+-- what taking so many further texts comes to
+abbrev pub wanted : ℕ → ℕ → ℕ → Entries → Option Total
+wanted total taken left entries = option_map (totalled total taken) (take_texts left entries)
+
+same_total : (t : Total) (a b : ℕ) (rest : Entries) → t.total ≡ a → t.number ≡ b → t.rest ≡ rest → Some t ≡ Some (let u : Total = record { total = a; number = b; rest = rest } in u)
+same_total t a b rest p q r = rw (← p, ← q, ← r) refl
+
+-- one more text is taken
+pub wanted_more : (total taken left bound : ℕ) (entries : Entries) → wanted total taken (suc left) (Text bound ∷ entries) ≡ wanted (total + bound + 1) (taken + 1) left entries
+wanted_more total taken left bound entries = go (take_texts left entries)
+  where
+    go : (o : Option Texts) → option_map (totalled total taken) (option_map (with_text bound) o) ≡ option_map (totalled (total + bound + 1) (taken + 1)) o
+    go None = refl
+    go (Some texts) =
+        let sums : one_more_each (bound ∷ texts.bounds) ≡ (bound + 1) + one_more_each texts.bounds = sum_by-cons (λ b. b + 1) bound texts.bounds in
+        let number : length (bound ∷ texts.bounds) ≡ suc (length texts.bounds) = refl in
+        same_total (totalled total taken (with_text bound texts)) _ _ _ (omega arith) (omega arith) refl
+
+-- one text is taken from the top
+pub wanted_next : (total taken number bound : ℕ) (entries now old : Entries) → taken < number → entries ≡ Text bound ∷ now → wanted total taken (number - taken) entries ≡ wanted 0 0 number old
+    → wanted (total + (bound + 1)) (taken + 1) (number - (taken + 1)) now ≡ wanted 0 0 number old
+wanted_next total taken number bound entries now old lt top before =
+    let left : number - taken ≡ suc (number - (taken + 1)) = omega arith in
+    let sums : total + (bound + 1) ≡ total + bound + 1 = omega arith in
+    ap (λ t. wanted t (taken + 1) (number - (taken + 1)) now) sums ∙ sym (wanted_more total taken (number - (taken + 1)) bound now)
+    ∙ ap (λ n. wanted total taken n (Text bound ∷ now)) (sym left) ∙ ap (wanted total taken (number - taken)) (sym top) ∙ before
+
+-- what taking texts comes to, when it has come to its end
+pub taken_all : (number total : ℕ) (now old : Entries) → wanted total number 0 now ≡ wanted 0 0 number old → Takes number (Some total) now (take_texts number old)
+taken_all number total now old e = go (take_texts number old) e
+  where
+    go : (o : Option Texts) → wanted total number 0 now ≡ option_map (totalled 0 0) o → Takes number (Some total) now o
+    go None h = absurd cc
+    go (Some texts) h =
+        let same : totalled total number (record { bounds = []; rest = now }) ≡ totalled 0 0 texts = cc in
+        let sums = ap (λ (t : Total). t.total) same in
+        let counts = ap (λ (t : Total). t.number) same in
+        (omega (arith, sums), omega (arith, counts), ap (λ (t : Total). t.rest) same)
+
+-- an entry is missing, or a truth value
+pub wanted_none : (total taken left : ℕ) (entries old : Entries) (number : ℕ) → take_texts left entries ≡ None → wanted total taken left entries ≡ wanted 0 0 number old → take_texts number old ≡ None
+wanted_none total taken left entries old number none e = go (take_texts number old) (sym e ∙ ap (option_map (totalled total taken)) none)
+  where
+    go : (o : Option Texts) → option_map (totalled 0 0) o ≡ None → o ≡ None
+    go None h = refl
+    go (Some texts) h = absurd cc
+
+-- texts that were taken from short entries
+pub record Taken (number : ℕ) (entries : Entries) (texts : Texts) : Type 0 where
+  pub number_is : length texts.bounds ≡ number
+  pub left : number + length texts.rest ≡ length entries
+  pub short : AreShort texts.rest
+  pub total : one_more_each texts.bounds ≤ number * 16385
+
+pub taken : (number : ℕ) (entries : Entries) (texts : Texts) → AreShort entries → take_texts number entries ≡ Some texts → Taken number entries texts
+taken zero entries texts short e =
+    let same : (let t : Texts = record { bounds = []; rest = entries } in t) ≡ texts = cc in
+    subst (Taken 0 entries) same (record { number_is = refl; left = omega arith; short = short; total = omega arith })
+taken (suc n) [] texts short e = absurd cc
+taken (suc n) (Truth ∷ entries) texts short e = absurd cc
+taken (suc n) (Text bound ∷ entries) texts short e = go (take_texts n entries) refl e (λ below h. taken n entries below short.1 h)
+  where
+    go : (o : Option Texts) → take_texts n entries ≡ o → option_map (with_text bound) o ≡ Some texts → ((below : Texts) → take_texts n entries ≡ Some below → Taken n entries below) → Taken (suc n) (Text bound ∷ entries) texts
+    go None h f ih = absurd cc
+    go (Some below) h f ih =
+        let before = ih below h in
+        let same : with_text bound below ≡ texts = cc in
+        let sums : one_more_each (bound ∷ below.bounds) ≡ (bound + 1) + one_more_each below.bounds = sum_by-cons (λ b. b + 1) bound below.bounds in
+        subst (Taken (suc n) (Text bound ∷ entries)) same
+        (record {
+          number_is = ap suc before.number_is;
+          left = omega (arith, before.left);
+          short = before.short;
+          total = omega (arith, sums, before.total, short.0);
+        })
+
+-- two lists that were taken from short entries
+pub record TakenLists (names keys : ℕ) (entries : Entries) (lists : Lists) : Type 0 where
+  pub names_are : length lists.names ≡ names
+  pub keys_are : length lists.keys ≡ keys
+  pub left : keys + names + length lists.rest ≡ length entries
+  pub short : AreShort lists.rest
+  pub names_total : one_more_each lists.names ≤ names * 16385
+  pub keys_total : one_more_each lists.keys ≤ keys * 16385
+
+pub taken_lists : (names keys : ℕ) (entries : Entries) (lists : Lists) → AreShort entries → take_lists names keys entries ≡ Some lists → TakenLists names keys entries lists
+taken_lists names keys entries lists short e = go (take_texts keys entries) refl e
+  where
+    both : (above below : Texts) → Taken keys entries above → Taken names above.rest below → with_keys above.bounds below ≡ lists → TakenLists names keys entries lists
+    both above below k n same =
+        subst (TakenLists names keys entries) same
+        (record {
+          names_are = n.number_is;
+          keys_are = k.number_is;
+          left = omega (arith, n.left, k.left);
+          short = n.short;
+          names_total = n.total;
+          keys_total = k.total;
+        })
+
+    then_names : (above : Texts) → Taken keys entries above → (o : Option Texts) → take_texts names above.rest ≡ o → option_map (with_keys above.bounds) o ≡ Some lists → TakenLists names keys entries lists
+    then_names above k None h f = absurd cc
+    then_names above k (Some below) h f = both above below k (taken names above.rest below k.short h) cc
+
+    go : (o : Option Texts) → take_texts keys entries ≡ o → option_and_then (λ (above : Texts). option_map (with_keys above.bounds) (take_texts names above.rest)) o ≡ Some lists → TakenLists names keys entries lists
+    go None h f = absurd cc
+    go (Some above) h f = then_names above (taken keys entries above short h) (take_texts names above.rest) refl f

@@ -1,0 +1,4 @@
+pub mod Extents
+pub mod Onward
+pub mod Roots
+pub mod TenCaptures

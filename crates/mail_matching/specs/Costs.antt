@@ -1,0 +1,15 @@
+-- What comparing costs. All values and keys count, whether or not an earlier one matches.
+use Rattle.std.specs.Prelude.{ℕ, ◌+◌, ◌*◌, List, length, sum_by}
+use Rattle.header_fields.specs.Fields.{Field}
+
+-- how many octets texts have, and one more for each
+abbrev pub extent_of : List (List ℕ) → ℕ
+extent_of texts = sum_by (λ text. length text + 1) texts
+
+-- the cost of looking for fields by their names: each name with each field, and with one more
+abbrev pub names_cost : List Field → List (List ℕ) → ℕ
+names_cost fields names = (length fields + 1) * extent_of names
+
+-- the cost of comparing each value with each key
+abbrev pub values_cost : List (List ℕ) → List (List ℕ) → ℕ
+values_cost values keys = sum_by (λ value. sum_by (λ key. (length value + 1) * (length key + 1)) keys) values

@@ -1,0 +1,40 @@
+use Rattle.std.proofs.Common.{◌+◌, length, map, sym, ◌∙◌, arith}
+use Rattle.std.proofs.lemmas.List.{length-map}
+use Rattle.sqlite.specs.State.{HasCleanDisk}
+use Rattle.sqlite.specs.Held.{state}
+use Rattle.part_store.specs.Entries.{with_last}
+use Rattle.part_store.specs.Standing.{draft_of}
+use Rattle.part_store.proofs.Entering.{can_file, collides_before, entered, kept_then}
+use Rattle.part_store.proofs.Runs.{if_ok}
+use Rattle.part_store.proofs.adding.claim_and_file.Goals as goal
+
+pub returns-clause-filed : goal.returns-clause-filed
+returns-clause-filed g c clean =
+    let old = state g.S.Store c.args.tx.now.conn.now in
+    let mid = state g.S.Store c.claim.new.tx.conn.now in
+    let new = state g.S.Store c.file_all.new.tx.conn.now in
+    let early : HasCleanDisk mid = omega (arith, c.file_all.ensures.survives.clean) in
+    let user = c.args.user.now in
+    let entries = c.args.entries.now in
+    if_ok c.file_all.result _ _ (λ done files is before stands last_is program_is.
+    let claims = c.in_ok-claim.ensures.claimed early before stands (c.lent.ensures ∙ program_is) (omega (arith, last_is)) in
+    entered old mid new user c.args.last (length entries) (map draft_of entries) before (sym (length-map entries draft_of)) last_is claims
+    (files is (with_last user (c.args.last + length entries) before) claims.stands (can_file old.now before user c.args.last (length entries) stands last_is))) (c.file_all.ensures.filed clean)
+
+pub returns-clause-other : goal.returns-clause-other
+returns-clause-other g c clean =
+    let old = state g.S.Store c.args.tx.now.conn.now in
+    let mid = state g.S.Store c.claim.new.tx.conn.now in
+    let early : HasCleanDisk mid = omega (arith, c.file_all.ensures.survives.clean) in
+    let user = c.args.user.now in
+    let entries = c.args.entries.now in
+    if_ok c.file_all.result _ _ (λ done other is before stands last_is program_is.
+    let claims = c.in_ok-claim.ensures.claimed early before stands (c.lent.ensures ∙ program_is) (omega (arith, last_is)) in
+    collides_before old mid (map draft_of entries) claims.contents
+    (other is (with_last user (c.args.last + length entries) before) claims.stands (can_file old.now before user c.args.last (length entries) stands last_is))) (c.file_all.ensures.other clean)
+
+pub returns-clause-kept : goal.returns-clause-kept
+returns-clause-kept g c clean has =
+    let mid = state g.S.Store c.claim.new.tx.conn.now in
+    let early : HasCleanDisk mid = omega (arith, c.file_all.ensures.survives.clean) in
+    kept_then (state g.S.Store c.args.tx.now.conn.now) mid (state g.S.Store c.file_all.new.tx.conn.now) (c.claim.ensures.kept early has) (c.file_all.ensures.kept clean (c.in_ok-claim.ensures.schema early has))

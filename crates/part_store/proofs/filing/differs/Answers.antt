@@ -1,0 +1,10 @@
+use Rattle.std.proofs.Common.{◌≢◌, rules}
+use Rattle.sqlite.specs.Held.{state}
+use Rattle.part_store.proofs.Filed.{other_found}
+use Rattle.part_store.proofs.filing.differs.Goals as goal
+
+pub returns-in_ok-under-in-Some-clause-other : goal.returns-in_ok-under-in-Some-clause-other
+returns-in_ok-under-in-Some-clause-other g c clean is =
+    let apart : c.in_ok-under-in-Some.under.items ≢ c.args.octets.now = λ same. search rules in
+    other_found (state g.S.Store c.args.tx.now.conn.now) (state g.S.Store c.find.new.tx.conn.now) c.args.digest.now c.args.octets.now c.in-Some.row c.in_ok-under-in-Some.under.items
+    (rw c.in-Some.is at (c.in_ok-row.ensures.step clean)) c.in_ok-under-in-Some.ensures.ok.1 apart

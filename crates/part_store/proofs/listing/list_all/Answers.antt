@@ -1,0 +1,26 @@
+use Rattle.std.proofs.Common.{◌∙◌, arith, sym}
+use Rattle.sqlite.specs.State.{HasCleanDisk}
+use Rattle.sqlite.specs.Held.{state}
+use Rattle.part_store.proofs.Showing.{all_read, one_read}
+use Rattle.part_store.proofs.listing.list_all.Goals as goal
+
+pub loop-row-preserved : goal.loop-row-preserved
+loop-row-preserved g c =
+    let old = state g.S.Store c.list.new.tx.conn.now in
+    let mid = state g.S.Store c.loop-row.tx.conn.now in
+    let new = state g.S.Store c.read_row.new.tx.conn.now in
+    let rows = c.deref-row-items.result.now in
+    record {
+      same_reference = c.read_row.ensures.same_reference ∙ c.loop-row.invariant.same_reference;
+      so_far = one_read rows c.loop-row.row-index c.row-item.result c.loop-row.listed.items c.push.new.self.items c.in_ok-entry.entry old mid new c.loop-row-test.true c.row-item.is c.in_ok-push.ensures.items c.loop-row.invariant.so_far
+          c.read_row.ensures.survives c.in_ok-entry.ensures.same c.read_row.ensures.kept c.in_ok-entry.ensures.told;
+    }
+
+pub returns-clause-told : goal.returns-clause-told
+returns-clause-told g c clean before stands =
+    let old = state g.S.Store c.args.tx.now.conn.now in
+    let mid = state g.S.Store c.list.new.tx.conn.now in
+    let new = state g.S.Store c.loop-row.tx.conn.now in
+    let early : HasCleanDisk mid = omega (arith, c.loop-row.invariant.so_far.survives.clean) in
+    let reads = rw (sym c.deref-row-items.ensures.value) at (c.in_ok-rows.ensures.step early) in
+    all_read old mid new c.args.user.now c.deref-row-items.result.now c.loop-row.row-index c.loop-row.listed.items reads c.loop-row-test.false clean c.loop-row.invariant.so_far before stands

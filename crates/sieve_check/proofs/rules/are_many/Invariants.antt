@@ -1,0 +1,7 @@
+use Rattle.std.proofs.Common.{◌≡◌, ◌+◌, drop, map, length}
+use Rattle.sieve_parser.specs.View.{argument_tree}
+use Rattle.sieve_check.specs.Rules.{max_test_strings, strings_of}
+use Rattle.sieve_check.proofs.rules.are_many.Given as goal
+
+abbrev pub invariant-loop-argument : goal.invariant-loop-argument
+invariant-loop-argument l = l.left + length (strings_of (map argument_tree l.arguments)) ≡ max_test_strings + length (strings_of (map argument_tree (drop l.argument-index l.arguments)))

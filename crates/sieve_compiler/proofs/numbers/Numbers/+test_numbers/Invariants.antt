@@ -1,9 +1,0 @@
-use Rattle.std.proofs.Common.{◌≡◌, map, drop}
-use Rattle.sieve_check.specs.TypedView.{test_form, tests_of}
-use Rattle.sieve_compiler.specs.Numbers.{tests_numbers}
-use Rattle.sieve_compiler.specs.Growing.{with_numbers}
-use Rattle.sieve_compiler.proofs.numbers.Numbers.+test_numbers.Given as goal
-
--- the numbers that are left, after those that were added, give the same table as all of them
-abbrev pub invariant-add_tests-tests : goal.invariant-add_tests-tests
-invariant-add_tests-tests l = with_numbers l.self (tests_numbers (tests_of (map test_form (drop l.test-index l.tests)))) ≡ with_numbers l.initial.self (tests_numbers (tests_of (map test_form l.tests)))
