@@ -22,6 +22,21 @@ max_nesting = 32
 abbrev pub max_string : ℕ
 max_string = 16384
 
+-- strings in the lists of one test
+abbrev pub max_test_strings : ℕ
+max_test_strings = 512
+
+-- references of a string, with the stretches between them; octets of a variable's name
+abbrev pub max_segments : ℕ
+max_segments = 256
+
+abbrev pub max_name : ℕ
+max_name = 32
+
+-- octets of a variable's value, which is cut there, as a capture is
+abbrev pub max_value : ℕ
+max_value = 4096
+
 -- octets of a program, its instructions and its variables
 abbrev pub max_program : ℕ
 max_program = 4194304
