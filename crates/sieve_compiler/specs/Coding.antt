@@ -1,8 +1,10 @@
 -- The code of a script: of each piece the instructions, from the place on where the piece begins.
-use Rattle.std.specs.Prelude.{ℕ, ◌+◌, Bool, true, false, not, List, [], ◌∷◌, ◌++◌, length, map}
+use Rattle.std.specs.Prelude.{ℕ, ◌+◌, Bool, true, false, not, List, [], ◌∷◌, ◌++◌, flat_map, length, map}
 use Rattle.bytecode_format.specs.declared.instruction.Instruction.{Instruction}
 use Rattle.bytecode_format.specs.declared.operation.Operation.{Operation}
-use Rattle.bytecode_format.specs.declared.operation.Operation.TheVariants.{Halt, Literal, Bool as BoolOp, Jump, JumpIfTrue, JumpIfFalse, Header, Exists, Size, Keep, Discard, File}
+use Rattle.bytecode_format.specs.declared.operation.Operation.TheVariants.{Halt, Literal, Variable as VariableOp, Capture as CaptureOp, Join, Set, String, Bool as BoolOp, Jump, JumpIfTrue, JumpIfFalse, Header, Exists, Size, Keep, Discard, File}
+use Rattle.bytecode_format.specs.declared.modifiers.Modifiers.{Modifiers}
+use Rattle.bytecode_format.specs.Modifiers.{modifiers_number}
 use Rattle.bytecode_format.specs.Operations.{octet_of}
 use Rattle.bytecode_format.specs.Code.{Code}
 use Rattle.glob_match.specs.declared.comparator.Comparator.{Comparator}
@@ -12,9 +14,11 @@ use Rattle.glob_match.specs.declared.match_type.MatchType.{MatchType}
 use Rattle.glob_match.specs.declared.match_type.MatchType.TheVariants.{Is, Contains, Matches}
 use Rattle.sieve_check.specs.declared.typed.Order.{Order}
 use Rattle.sieve_check.specs.declared.typed.Order.TheVariants.{Over, Under}
-use Rattle.sieve_check.specs.Typed.{TestForm, constant, negation, all_of, any_of, size, header, exists, TestForms, no_test, test, CommandForm, keep, discard, file_into, stop, choice, CommandForms, no_command, command, BranchForms, no_branch, otherwise, branch}
+use Rattle.sieve_check.specs.declared.typed.Segment.{Segment}
+use Rattle.sieve_check.specs.declared.typed.Segment.TheVariants.{Text, Variable, Capture}
+use Rattle.sieve_check.specs.Typed.{Template, TestForm, constant, negation, all_of, any_of, size, header, exists, string, TestForms, no_test, test, CommandForm, keep, discard, file_into, set, stop, choice, CommandForms, no_command, command, BranchForms, no_branch, otherwise, branch}
 use Rattle.sieve_compiler.specs.Lengths.{test_length, tests_length, commands_length, command_length, leave_length, branches_length}
-use Rattle.sieve_compiler.specs.Tables.{Tables, tables_of, place_of_number, place_of_string}
+use Rattle.sieve_compiler.specs.Tables.{Tables, tables_of, place_of_number, place_of_string, place_of_variable}
 
 -- an instruction with its fields a and c
 abbrev pub instruction : Operation → ℕ → ℕ → Instruction
@@ -39,13 +43,33 @@ abbrev pub push_size : Order → ℕ → Instruction
 push_size Over place = instruction Size 0 place
 push_size Under place = instruction Size 1 place
 
--- a string, by its place in the table
-abbrev pub push_string : Tables → List ℕ → Instruction
-push_string tables string = instruction Literal 0 (place_of_string tables string)
+-- a text, by its place in the table
+abbrev pub push_text : Tables → List ℕ → Instruction
+push_text tables text = instruction Literal 0 (place_of_string tables text)
+
+-- a segment of a string: a text, or the value of a variable or a capture
+abbrev pub push_segment : Tables → Segment → Instruction
+push_segment tables (Text octets) = push_text tables octets
+push_segment tables (Variable name) = instruction VariableOp 0 (place_of_variable tables name)
+push_segment tables (Capture n) = instruction CaptureOp n 0
+
+-- so many texts as one
+abbrev pub join_texts : ℕ → Instruction
+join_texts texts = record { op = octet_of Join; a = 0; b = texts; c = 0 }
+
+-- a string: one text or one reference, or else its segments, joined
+abbrev pub string_code : Tables → Template → List Instruction
+string_code tables [] = push_text tables [] ∷ []
+string_code tables (segment ∷ []) = push_segment tables segment ∷ []
+string_code tables (one ∷ other ∷ more) = map (push_segment tables) (one ∷ other ∷ more) ++ join_texts (length (one ∷ other ∷ more)) ∷ []
 
 -- strings, one after the other
-abbrev pub push_strings : Tables → List (List ℕ) → List Instruction
-push_strings tables strings = map (push_string tables) strings
+abbrev pub strings_code : Tables → List Template → List Instruction
+strings_code tables strings = flat_map (string_code tables) strings
+
+-- the text on the stack, modified, as the value of a variable
+abbrev pub set_variable : Tables → Modifiers → List ℕ → Instruction
+set_variable tables modifiers name = instruction Set (modifiers_number modifiers) (place_of_variable tables name)
 
 -- the number of a match: what it asks in bits 0 and 1, and the comparator in bit 2
 abbrev pub kind_number : MatchType → ℕ
@@ -63,6 +87,10 @@ match_number how = kind_number how.kind + comparator_number how.comparator
 -- the values of the message's fields of so many names, against so many keys
 abbrev pub match_fields : Match → ℕ → ℕ → Instruction
 match_fields how names keys = record { op = octet_of Header; a = match_number how; b = names; c = keys }
+
+-- so many sources against so many keys
+abbrev pub match_texts : Match → ℕ → ℕ → Instruction
+match_texts how sources keys = record { op = octet_of String; a = match_number how; b = sources; c = keys }
 
 -- whether the message has fields of so many names
 abbrev pub find_fields : ℕ → Instruction
@@ -95,8 +123,10 @@ abbrev mutual
       test_code tables place t (asked_of true asked ts) (aim_of true asked ts following target) ++ tests_code tables (place + test_length t) ts true asked following target
   test_code tables place (size order number) asked target = push_size order (place_of_number tables number) ∷ jump_if asked target ∷ []
   test_code tables place (header how names keys) asked target =
-      push_strings tables names ++ push_strings tables keys ++ match_fields how (length names) (length keys) ∷ jump_if asked target ∷ []
-  test_code tables place (exists names) asked target = push_strings tables names ++ find_fields (length names) ∷ jump_if asked target ∷ []
+      strings_code tables names ++ strings_code tables keys ++ match_fields how (length names) (length keys) ∷ jump_if asked target ∷ []
+  test_code tables place (exists names) asked target = strings_code tables names ++ find_fields (length names) ∷ jump_if asked target ∷ []
+  test_code tables place (string how sources keys) asked target =
+      strings_code tables sources ++ strings_code tables keys ++ match_texts how (length sources) (length keys) ∷ jump_if asked target ∷ []
 
   -- the tests of a list after its first
   pub tests_code : Tables → ℕ → TestForms → Bool → Bool → ℕ → ℕ → List Instruction
@@ -114,7 +144,8 @@ abbrev mutual
   pub command_code : Tables → ℕ → CommandForm → List Instruction
   command_code tables place keep = plain Keep ∷ []
   command_code tables place discard = plain Discard ∷ []
-  command_code tables place (file_into folder) = push_string tables folder ∷ plain File ∷ []
+  command_code tables place (file_into folder) = string_code tables folder ++ plain File ∷ []
+  command_code tables place (set modifiers name value) = string_code tables value ++ set_variable tables modifiers name ∷ []
   command_code tables place stop = plain Halt ∷ []
   command_code tables place (choice bs) = branches_code tables place bs (place + branches_length bs)
 

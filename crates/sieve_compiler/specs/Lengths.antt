@@ -1,6 +1,15 @@
 -- How many instructions the code of each piece has.
-use Rattle.std.specs.Prelude.{ℕ, ◌+◌, length}
-use Rattle.sieve_check.specs.Typed.{TestForm, constant, negation, all_of, any_of, size, header, exists, TestForms, no_test, test, CommandForm, keep, discard, file_into, stop, choice, CommandForms, no_command, command, BranchForms, no_branch, otherwise, branch}
+use Rattle.std.specs.Prelude.{ℕ, ◌+◌, List, [], ◌∷◌, length, sum_by}
+use Rattle.sieve_check.specs.Typed.{Template, TestForm, constant, negation, all_of, any_of, size, header, exists, string, TestForms, no_test, test, CommandForm, keep, discard, file_into, set, stop, choice, CommandForms, no_command, command, BranchForms, no_branch, otherwise, branch}
+
+-- a string is one instruction where it is one text or one reference; else its segments, and then they are joined
+abbrev pub string_length : Template → ℕ
+string_length [] = 1
+string_length (segment ∷ []) = 1
+string_length (one ∷ other ∷ more) = length (one ∷ other ∷ more) + 1
+
+abbrev pub strings_length : List Template → ℕ
+strings_length strings = sum_by string_length strings
 
 abbrev mutual
   -- a simple test is its strings, one instruction, and its jump
@@ -10,8 +19,9 @@ abbrev mutual
   test_length (all_of t ts) = test_length t + tests_length ts
   test_length (any_of t ts) = test_length t + tests_length ts
   test_length (size order number) = 2
-  test_length (header how names keys) = length names + length keys + 2
-  test_length (exists names) = length names + 2
+  test_length (header how names keys) = strings_length names + strings_length keys + 2
+  test_length (exists names) = strings_length names + 2
+  test_length (string how sources keys) = strings_length sources + strings_length keys + 2
 
   pub tests_length : TestForms → ℕ
   tests_length no_test = 0
@@ -27,7 +37,8 @@ abbrev mutual
   pub command_length : CommandForm → ℕ
   command_length keep = 1
   command_length discard = 1
-  command_length (file_into folder) = 2
+  command_length (file_into folder) = string_length folder + 1
+  command_length (set modifiers name value) = string_length value + 1
   command_length stop = 1
   command_length (choice bs) = branches_length bs
 

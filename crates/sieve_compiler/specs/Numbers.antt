@@ -1,6 +1,6 @@
 -- The numbers of a script, as they stand in it.
 use Rattle.std.specs.Prelude.{ℕ, List, [], ◌∷◌, ◌++◌}
-use Rattle.sieve_check.specs.Typed.{TestForm, constant, negation, all_of, any_of, size, header, exists, TestForms, no_test, test, CommandForm, keep, discard, file_into, stop, choice, CommandForms, no_command, command, BranchForms, no_branch, otherwise, branch}
+use Rattle.sieve_check.specs.Typed.{TestForm, constant, negation, all_of, any_of, size, header, exists, string, TestForms, no_test, test, CommandForm, keep, discard, file_into, set, stop, choice, CommandForms, no_command, command, BranchForms, no_branch, otherwise, branch}
 
 abbrev mutual
   -- the numbers of a test as they stand in it
@@ -12,6 +12,7 @@ abbrev mutual
   test_numbers (size order number) = number ∷ []
   test_numbers (header how names keys) = []
   test_numbers (exists names) = []
+  test_numbers (string how sources keys) = []
 
   pub tests_numbers : TestForms → List ℕ
   tests_numbers no_test = []
@@ -23,6 +24,7 @@ abbrev mutual
   command_numbers keep = []
   command_numbers discard = []
   command_numbers (file_into folder) = []
+  command_numbers (set modifiers name value) = []
   command_numbers stop = []
   command_numbers (choice bs) = branches_numbers bs
 

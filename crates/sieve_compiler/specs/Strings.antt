@@ -1,28 +1,45 @@
--- The strings of a typed form, as they stand in it.
-use Rattle.std.specs.Prelude.{ℕ, List, [], ◌∷◌, ◌++◌}
-use Rattle.sieve_check.specs.Typed.{TestForm, constant, negation, all_of, any_of, size, header, exists, TestForms, no_test, test, CommandForm, keep, discard, file_into, stop, choice, CommandForms, no_command, command, BranchForms, no_branch, otherwise, branch}
+-- The texts of a script that its code pushes, as they stand in it.
+use Rattle.std.specs.Prelude.{ℕ, List, [], ◌∷◌, ◌++◌, flat_map}
+use Rattle.sieve_check.specs.declared.typed.Segment.{Segment}
+use Rattle.sieve_check.specs.declared.typed.Segment.TheVariants.{Text, Variable, Capture}
+use Rattle.sieve_check.specs.Typed.{Template, TestForm, constant, negation, all_of, any_of, size, header, exists, string, TestForms, no_test, test, CommandForm, keep, discard, file_into, set, stop, choice, CommandForms, no_command, command, BranchForms, no_branch, otherwise, branch}
+
+abbrev pub segment_strings : Segment → List (List ℕ)
+segment_strings (Text octets) = octets ∷ []
+segment_strings (Variable name) = []
+segment_strings (Capture n) = []
+
+-- of a string its stretches; the empty string is a text too
+abbrev pub string_strings : Template → List (List ℕ)
+string_strings [] = [] ∷ []
+string_strings (segment ∷ segments) = flat_map segment_strings (segment ∷ segments)
+
+abbrev pub strings_of : List Template → List (List ℕ)
+strings_of strings = flat_map string_strings strings
 
 abbrev mutual
-  -- the strings of a test as they stand in it
+  -- the texts of a test as they stand in it
   pub test_strings : TestForm → List (List ℕ)
   test_strings (constant b) = []
   test_strings (negation t) = test_strings t
   test_strings (all_of t ts) = test_strings t ++ tests_strings ts
   test_strings (any_of t ts) = test_strings t ++ tests_strings ts
   test_strings (size order number) = []
-  test_strings (header how names keys) = names ++ keys
-  test_strings (exists names) = names
+  test_strings (header how names keys) = strings_of names ++ strings_of keys
+  test_strings (exists names) = strings_of names
+  test_strings (string how sources keys) = strings_of sources ++ strings_of keys
 
   pub tests_strings : TestForms → List (List ℕ)
   tests_strings no_test = []
   tests_strings (test t ts) = test_strings t ++ tests_strings ts
 
 abbrev mutual
-  -- the strings of commands as they stand in them
+  -- the texts of commands as they stand in them
   pub command_strings : CommandForm → List (List ℕ)
   command_strings keep = []
   command_strings discard = []
-  command_strings (file_into folder) = folder ∷ []
+  command_strings (file_into folder) = string_strings folder
+  command_strings (set modifiers name value) = string_strings value
   command_strings stop = []
   command_strings (choice bs) = branches_strings bs
 

@@ -1,15 +1,19 @@
 -- What a script means.
-use Rattle.std.specs.Prelude.{ℕ, Bool, true, false, not, nat_lt, List, [], ◌∷◌, ◌++◌, Option, None, Some, if◌then◌else◌}
+use Rattle.std.specs.Prelude.{ℕ, Bool, true, false, not, nat_lt, bytes_eq, List, [], ◌∷◌, ◌++◌, flat_map, map, slice_index_or, take, Option, None, Some, if◌then◌else◌}
+use Rattle.octets.specs.Limits.{max_string, max_value}
 use Rattle.bytecode_format.specs.declared.action.Action.{Action}
 use Rattle.bytecode_format.specs.declared.action.Action.TheVariants.{Keep, File}
 use Rattle.bytecode_format.specs.Actions.{final_actions}
-use Rattle.mail_matching.specs.FirstMatch.{no_captures}
+use Rattle.bytecode_format.specs.Modifiers.{modified}
+use Rattle.mail_matching.specs.FirstMatch.{first_match, no_captures}
 use Rattle.mail_matching.specs.HeaderTests.{exists_in, header_match}
 use Rattle.mime_decode.specs.Mail.{Mail, size_of}
 use Rattle.mime_decode.specs.Scope.{Root, Value}
 use Rattle.sieve_check.specs.declared.typed.Order.{Order}
 use Rattle.sieve_check.specs.declared.typed.Order.TheVariants.{Over, Under}
-use Rattle.sieve_check.specs.Typed.{TestForm, constant, negation, all_of, any_of, header, exists, size, TestForms, no_test, test, CommandForm, keep, discard, file_into, stop, choice, CommandForms, no_command, command, BranchForms, no_branch, otherwise, branch}
+use Rattle.sieve_check.specs.declared.typed.Segment.{Segment}
+use Rattle.sieve_check.specs.declared.typed.Segment.TheVariants.{Text, Variable, Capture}
+use Rattle.sieve_check.specs.Typed.{Template, TestForm, constant, negation, all_of, any_of, header, exists, size, string, TestForms, no_test, test, CommandForm, keep, discard, file_into, set, stop, choice, CommandForms, no_command, command, BranchForms, no_branch, otherwise, branch}
 
 -- what a script has done so far: the values of variables by their names in lower case, the captures of the last match that set
 -- them, the actions, and whether the implicit keep stands
@@ -22,6 +26,24 @@ pub record Effects : Type 0 where
 -- nothing yet: variables and captures are empty, and the implicit keep stands
 abbrev pub no_effects : Effects
 no_effects = record { variables = λ name. []; captures = no_captures; actions = []; implicit_keep = true }
+
+-- what stands for a segment: itself, or the value of what it refers to, which is empty where that was never set
+abbrev pub value_of : Effects → Segment → List ℕ
+value_of effects (Text octets) = octets
+value_of effects (Variable name) = effects.variables name
+value_of effects (Capture n) = slice_index_or effects.captures n []
+
+-- a string, expanded (RFC 5229, section 3), and cut
+abbrev pub expanded : Effects → Template → List ℕ
+expanded effects string = take max_string (flat_map (value_of effects) string)
+
+-- strings, each expanded
+abbrev pub all_expanded : Effects → List Template → List (List ℕ)
+all_expanded effects strings = map (expanded effects) strings
+
+-- the values of variables, of which one is new
+abbrev pub with_value : List ℕ → List ℕ → (List ℕ → List ℕ) → List ℕ → List ℕ
+with_value name value variables other = if bytes_eq other name then value else variables other
 
 -- a test's truth value, and what was done by then
 pub record Verdict : Type 0 where
@@ -72,16 +94,18 @@ matched (Some captures) effects = verdict true (record effects { captures = capt
 -- Below, the current part is that of the innermost loop, none outside of loops.
 
 abbrev mutual
-  -- what a test comes to (RFC 5228, section 5)
+  -- what a test comes to (RFC 5228, section 5; RFC 5229, section 5)
   pub test_does : Mail → Option ℕ → TestForm → Effects → Verdict
   test_does mail part (constant b) effects = verdict b effects
   test_does mail part (negation t) effects = turned (test_does mail part t effects)
   test_does mail part (all_of t ts) effects = and_then (test_does mail part t effects) (λ e. all_do mail part ts e)
   test_does mail part (any_of t ts) effects = or_else (test_does mail part t effects) (λ e. any_do mail part ts e)
   -- without `:mime` these two look at the message's own header alone
-  test_does mail part (header how names keys) effects = matched (header_match how Root part Value names keys mail effects.captures) effects
-  test_does mail part (exists names) effects = verdict (exists_in Root part names mail) effects
+  test_does mail part (header how names keys) effects = matched (header_match how Root part Value (all_expanded effects names) (all_expanded effects keys) mail effects.captures) effects
+  test_does mail part (exists names) effects = verdict (exists_in Root part (all_expanded effects names) mail) effects
   test_does mail part (size order number) effects = verdict (is_size order number (size_of mail)) effects
+  -- the values are those of its sources (RFC 5229, section 5)
+  test_does mail part (string how sources keys) effects = matched (first_match how (all_expanded effects sources) (all_expanded effects keys) effects.captures) effects
 
   -- whether all tests are true, from left to right up to the first that isn't
   pub all_do : Mail → Option ℕ → TestForms → Effects → Verdict
@@ -94,11 +118,14 @@ abbrev mutual
   any_do mail part (test t ts) effects = or_else (test_does mail part t effects) (λ e. any_do mail part ts e)
 
 abbrev mutual
-  -- what a command does (RFC 5228, sections 3 and 4)
+  -- what a command does (RFC 5228, sections 3 and 4; RFC 5229, section 4)
   pub command_does : Mail → Option ℕ → CommandForm → Effects → Ending
   command_does mail part keep effects = normal (record effects { actions = effects.actions ++ Keep ∷ []; implicit_keep = false })
   command_does mail part discard effects = normal (record effects { implicit_keep = false })
-  command_does mail part (file_into folder) effects = normal (record effects { actions = effects.actions ++ File folder ∷ []; implicit_keep = false })
+  command_does mail part (file_into folder) effects = normal (record effects { actions = effects.actions ++ File (expanded effects folder) ∷ []; implicit_keep = false })
+  -- the value is expanded, modified and cut (RFC 5229, section 4)
+  command_does mail part (set modifiers name value) effects =
+      normal (record effects { variables = with_value name (take max_value (modified modifiers (expanded effects value))) effects.variables })
   command_does mail part stop effects = stopped effects
   command_does mail part (choice branches) effects = choice_does mail part branches effects
 
