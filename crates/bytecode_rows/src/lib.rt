@@ -12,4 +12,8 @@ mod programs;
 #[cfg(test)]
 mod strings;
 #[cfg(test)]
+mod texts;
+#[cfg(test)]
+mod variables;
+#[cfg(test)]
 mod verifier;

@@ -1,9 +1,8 @@
 // Programs with strings: LIT, FILE, HEADER and EXISTS.
-use bytecode_format::{Action, Instruction, Operation, Program};
-use bytecode_verifier::{Verified, verify};
+use crate::texts::{accepted, answer, files, instruction, literal, outcome, plain};
+use bytecode_format::{Action, Instruction, Operation};
 use mime_decode::Message;
-use octets::Octets;
-use sieve_vm::{Outcome, run};
+use sieve_vm::run;
 use std::alloc::{AllocError, Global};
 use std::test::Fail;
 
@@ -15,73 +14,6 @@ const ROOM: u16 = 1024;
 
 // How many octets a string of a program has at most.
 const LONGEST_STRING: usize = 16_384;
-
-fn instruction(operation: Operation, a: u8, b: u16, c: u32) -> Instruction {
-    Instruction {
-        op: operation.octet(),
-        a,
-        b,
-        c,
-    }
-}
-
-fn plain(operation: Operation) -> Instruction {
-    instruction(operation, 0, 0, 0)
-}
-
-fn literal(string: u32) -> Instruction {
-    instruction(Operation::Literal, 0, 0, string)
-}
-
-fn program(
-    alloc: Global,
-    strings: &[&[u8]],
-    instructions: &[Instruction],
-) -> Result<Program, Fail> {
-    let mut table = Vec::new(alloc);
-    for string in strings {
-        table.push(Octets::from_vec(string.to_vec(alloc)?))?;
-    }
-    Ok(Program::build(1, 0, Vec::new(alloc), table, instructions.to_vec(alloc)?)?)
-}
-
-fn accepted(
-    alloc: Global,
-    strings: &[&[u8]],
-    instructions: &[Instruction],
-) -> Result<Verified, Fail> {
-    match verify(alloc, program(alloc, strings, instructions)?) {
-        Ok(verified) => Ok(verified),
-        Err((_program, _refusal)) => Err(Fail::from("refused")),
-    }
-}
-
-// The budget's line, or the refusal.
-fn answer(alloc: Global, strings: &[&[u8]], instructions: &[Instruction]) -> Result<String, Fail> {
-    match verify(alloc, program(alloc, strings, instructions)?) {
-        Ok(verified) => Ok(format!(in alloc; "{}", verified.budget())?),
-        Err((_program, refusal)) => Ok(format!(in alloc; "{refusal}")?),
-    }
-}
-
-fn outcome(
-    alloc: Global,
-    strings: &[&[u8]],
-    instructions: &[Instruction],
-    message: &[u8],
-) -> Result<Outcome, Fail> {
-    let verified = accepted(alloc, strings, instructions)?;
-    let message = Message::read(alloc, message)?;
-    Ok(run(alloc, &verified, &message)?)
-}
-
-// Whether the actions are File of one folder.
-fn files(actions: &[Action], folder: &[u8]) -> bool {
-    match actions {
-        [Action::File(octets)] => octets.as_slice() == folder,
-        _ => false,
-    }
-}
 
 #[test]
 fn file_of_a_literal(rt: HostRuntime) -> Result<(), Fail> {

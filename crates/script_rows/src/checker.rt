@@ -160,7 +160,7 @@ fn faults_of_other_commands(rt: HostRuntime) {
 fn faults_of_tests(rt: HostRuntime) {
     let rows: [(&[u8], u8, usize); 22] = [
         (b"if vacation {}", 15, 1),
-        (b"if string \"a\" \"b\" {}", 15, 1),
+        (b"if body \"a\" \"b\" {}", 15, 1),
         (b"if keep {}", 15, 1),
         (b"if not {}", 18, 1),
         (b"if not (true) {}", 18, 1),

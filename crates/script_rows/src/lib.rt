@@ -19,3 +19,5 @@ mod parser;
 mod repeated;
 #[cfg(test)]
 mod strings;
+#[cfg(test)]
+mod variables;

@@ -182,15 +182,13 @@ fn faults_of_exists(rt: HostRuntime) {
 // Tags of tests that come later are unknown, whatever was required; so are commands.
 #[test]
 fn what_has_not_come(rt: HostRuntime) {
-    let rows: [(&[u8], u8, usize); 8] = [
+    let rows: [(&[u8], u8, usize); 6] = [
         (b"if header :mime \"a\" \"b\" {}", 18, 1),
         (b"require \"mime\"; if header :mime \"a\" \"b\" {}", 18, 4),
         (b"if header :anychild \"a\" \"b\" {}", 18, 1),
         (b"if exists :mime \"a\" {}", 18, 1),
-        (b"require \"variables\"; set \"a\" \"b\";", 15, 3),
         (b"require \"foreverypart\"; break;", 15, 3),
         (b"require \"vnd.depot\"; store \"a\";", 15, 3),
-        (b"require \"variables\"; if string \"a\" \"b\" {}", 15, 4),
     ];
     assert!(rt; all_named(rt.alloc(), &rows));
 }
