@@ -1,6 +1,7 @@
 pub mod Below
 pub mod Children
 pub mod Delimiters
+pub mod Enclosing
 mod Examples
 pub mod Fields
 pub mod Places

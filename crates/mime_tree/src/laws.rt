@@ -1,6 +1,7 @@
 // The laws of the tree: where the parts of a message stand.
-ghost use Rattle.std.specs.Prelude.{◌≡◌, ◌≤◌, ℕ, List, length, slice_get, Some};
+ghost use Rattle.std.specs.Prelude.{◌≡◌, ◌≤◌, ℕ, All, List, length, map, slice_get, Some};
 ghost use Rattle.mime_tree.specs.PartTree.{Part, tree_of};
+ghost use Rattle.mime_tree.specs.Enclosing.{Enclosed, IsEnded, enclosed_in};
 ghost use Rattle.mime_tree.specs.Order.{AreApart, IsInMessage, IsWhole, Nests, parts_extent};
 
 /// The headers of different parts are disjoint.
@@ -26,4 +27,12 @@ pub fn parts_nest()
 /// Each part is a stretch of the message, where it says that it begins; its body is no longer than it, and it isn't too deep.
 pub fn parts_stand_in_the_message()
     ensures { (octets : List ℕ) (place : ℕ) (part : Part) → slice_get (tree_of octets) place ≡ Some part → IsInMessage octets part }
+{}
+
+/// Each part goes up to the first line after its beginning that is a delimiter or closing line of any multipart around it, whose break
+/// before it isn't the part's; where there is none, to the end of the message. So the lines of a message, taken once from the first to
+/// the last, tell where each part ends.
+pub fn any_multipart_around_ends_a_part()
+    ensures parts { (octets : List ℕ) → map (λ (e : Enclosed). e.part) (enclosed_in octets) ≡ tree_of octets }
+    ensures ends { (octets : List ℕ) → All (IsEnded octets) (enclosed_in octets) }
 {}
