@@ -3,6 +3,7 @@
 
 mod codecs;
 mod compiling;
+mod eval;
 mod filters;
 mod headers;
 mod lines;
@@ -21,6 +22,7 @@ fn main(rt: HostRuntime) -> anyhow::Result<()> {
     match words.next() {
         Some(job) if job.as_str() == "codecs" => codecs::run(&rt),
         Some(job) if job.as_str() == "compile" => compiling::run(&rt),
+        Some(job) if job.as_str() == "eval" => eval::run(&rt),
         Some(job) if job.as_str() == "filter" => filters::run(&rt),
         Some(job) if job.as_str() == "headers" => headers::run(&rt),
         Some(job) if job.as_str() == "lines" => lines::run(&rt),
@@ -36,6 +38,7 @@ fn main(rt: HostRuntime) -> anyhow::Result<()> {
         _ => {
             println!(rt; "codecs")?;
             println!(rt; "compile")?;
+            println!(rt; "eval")?;
             println!(rt; "filter")?;
             println!(rt; "headers")?;
             println!(rt; "lines")?;
