@@ -2,12 +2,13 @@
 ghost use Rattle.std.specs.Prelude.{◌≡◌, ◌<◌, ◌^◌, length};
 
 use crate::exits::{Exit, ListExit};
-use crate::instructions::{find_fields, instruction, jump_if, match_fields, push_bool, push_size};
+use crate::instructions::{
+    find_fields, instruction, join_texts, jump_if, match_fields, match_texts, push_bool, push_size,
+};
 use crate::lengths::{command_length, commands_length, is_left, test_length, tests_length};
 use crate::tables::Tables;
 use bytecode_format::{Instruction, Operation};
-use octets::Octets;
-use sieve_check::{Branch, Command, Test};
+use sieve_check::{Branch, Command, Segment, Test};
 use std::alloc::{AllocError, Global};
 
 /// The code so far, and the tables of the whole script.
@@ -17,20 +18,22 @@ pub struct Coder<'t, 's> {
     pub instructions: Vec<Instruction>,
     ghost numbers: { length tables.now.numbers < 2 ^ 32 },
     ghost strings: { length tables.now.strings < 2 ^ 32 },
+    ghost variables: { length tables.now.variables < 2 ^ 32 },
 }
 
 impl<'t, 's> Coder<'t, 's> {
-    ghost use Rattle.std.specs.Prelude.{◌≡◌, ◌+◌, ◌<◌, ◌^◌, false, [], ◌∷◌, ◌++◌, length, map, OnOk};
-    ghost use Rattle.sieve_check.specs.TypedView.{test_form, tests_of, command_form, commands_form, branch_forms, else_form};
-    ghost use Rattle.sieve_compiler.specs.Lengths.{test_length, tests_length, leave_length, command_length, commands_length};
-    ghost use Rattle.sieve_check.specs.Bounded.{IsBoundedTest, AreBoundedTests, IsBoundedCommand, AreBoundedCommands};
-    ghost use Rattle.sieve_compiler.specs.Coding.{jump_if, push_string, push_strings, test_code, tests_code, leave_code, command_code, commands_code};
+    ghost use Rattle.std.specs.Prelude.{◌≡◌, ◌+◌, ◌<◌, ◌^◌, false, [], ◌∷◌, ◌++◌, length, map, All, OnOk};
+    ghost use Rattle.sieve_check.specs.TypedView.{templates_of, test_form, tests_of, command_form, commands_form, branch_forms, else_form};
+    ghost use Rattle.sieve_compiler.specs.Lengths.{string_length, strings_length, test_length, tests_length, leave_length, command_length, commands_length};
+    ghost use Rattle.sieve_check.specs.Bounded.{IsBoundedString, IsBoundedTest, AreBoundedTests, IsBoundedCommand, AreBoundedCommands};
+    ghost use Rattle.sieve_compiler.specs.Coding.{jump_if, push_text, push_segment, string_code, strings_code, test_code, tests_code, leave_code, command_code, commands_code};
     ghost use Rattle.sieve_compiler.specs.Putting.{Puts};
 
     /// No code. Takes no memory.
     pub fn new(alloc: Global, tables: &'t Tables<'s>) -> Coder<'t, 's>
         requires numbers { length tables.now.numbers < 2 ^ 32 }
         requires strings { length tables.now.strings < 2 ^ 32 }
+        requires variables { length tables.now.variables < 2 ^ 32 }
         ensures tables { result.tables.now ≡ tables.now }
         ensures instructions { result.instructions.items ≡ [] }
     {
@@ -57,22 +60,65 @@ impl<'t, 's> Coder<'t, 's> {
         Ok(())
     }
 
-    // Pushes a string.
-    fn put_string(&mut self, text: &[u8]) -> Result<(), AllocError>
-        ensures code { OnOk result (Puts self.old self.new (push_string self.old.tables.now text.now ∷ [])) }
+    // Pushes a text.
+    fn put_text(&mut self, text: &[u8]) -> Result<(), AllocError>
+        ensures code { OnOk result (Puts self.old self.new (push_text self.old.tables.now text.now ∷ [])) }
         ensures room { OnOk result (length self.new.instructions.items ≡ length self.old.instructions.items + 1) }
     {
         let place = self.tables.place_of_string(text) as u32;
         self.put(instruction(Operation::Literal, 0, place))
     }
 
-    // Pushes strings, one after the other.
-    fn put_strings(&mut self, strings: &[Octets]) -> Result<(), AllocError>
-        ensures code { OnOk result (Puts self.old self.new (push_strings self.old.tables.now strings.now)) }
-        ensures room { OnOk result (length self.new.instructions.items ≡ length self.old.instructions.items + length strings.now) }
+    // Pushes what a segment stands for.
+    fn put_segment(&mut self, segment: &Segment) -> Result<(), AllocError>
+        ensures code { OnOk result (Puts self.old self.new (push_segment self.old.tables.now segment.now ∷ [])) }
+        ensures room { OnOk result (length self.new.instructions.items ≡ length self.old.instructions.items + 1) }
     {
-        for text in strings {
-            self.put_string(text.as_slice())?;
+        match segment {
+            Segment::Text(octets) => self.put_text(octets.as_slice()),
+            Segment::Variable(name) => {
+                let place = self.tables.place_of_variable(name.as_slice()) as u32;
+                self.put(instruction(Operation::Variable, 0, place))
+            }
+            Segment::Capture(number) => self.put(instruction(Operation::Capture, *number, 0)),
+        }
+    }
+
+    // Pushes what segments stand for, one after the other.
+    fn put_segments(&mut self, segments: &[Segment]) -> Result<(), AllocError>
+        ensures code { OnOk result (Puts self.old self.new (map (push_segment self.old.tables.now) segments.now)) }
+        ensures room { OnOk result (length self.new.instructions.items ≡ length self.old.instructions.items + length segments.now) }
+    {
+        for segment in segments {
+            self.put_segment(segment)?;
+        }
+        Ok(())
+    }
+
+    // Pushes a string.
+    fn put_string(&mut self, string: &[Segment]) -> Result<(), AllocError>
+        requires { IsBoundedString string.now }
+        ensures code { OnOk result (Puts self.old self.new (string_code self.old.tables.now string.now)) }
+        ensures room { OnOk result (length self.new.instructions.items ≡ length self.old.instructions.items + string_length string.now) }
+    {
+        match string {
+            [] => self.put_text(b""),
+            [segment] => self.put_segment(segment),
+            _ => {
+                self.put_segments(string)?;
+                self.put(join_texts(string.len() as u16))
+            }
+        }
+    }
+
+    // Pushes strings, one after the other.
+    fn put_strings(&mut self, strings: &[Vec<Segment>]) -> Result<(), AllocError>
+        requires { All IsBoundedString (templates_of strings.now) }
+        ensures code { OnOk result (Puts self.old self.new (strings_code self.old.tables.now (templates_of strings.now))) }
+        ensures room { OnOk result (length self.new.instructions.items ≡ length self.old.instructions.items + strings_length (templates_of strings.now)) }
+    {
+        for string in strings {
+            self.put_string(string)?;
         }
         Ok(())
     }
@@ -130,6 +176,16 @@ impl<'t, 's> Coder<'t, 's> {
                 self.put_strings(names)?;
                 self.put_simple(find_fields(names.len() as u16), exit)
             }
+            Test::String {
+                matching,
+                sources,
+                keys,
+            } => {
+                self.put_strings(sources)?;
+                self.put_strings(keys)?;
+                let test = match_texts(*matching, sources.len() as u16, keys.len() as u32);
+                self.put_simple(test, exit)
+            }
             Test::Size(order, number) => {
                 let place = self.tables.place_of_number(*number) as u32;
                 self.put_simple(push_size(*order, place), exit)
@@ -177,8 +233,17 @@ impl<'t, 's> Coder<'t, 's> {
             Command::Keep => self.put(instruction(Operation::Keep, 0, 0))?,
             Command::Discard => self.put(instruction(Operation::Discard, 0, 0))?,
             Command::FileInto(folder) => {
-                self.put_string(folder.as_slice())?;
+                self.put_string(folder)?;
                 self.put(instruction(Operation::File, 0, 0))?;
+            }
+            Command::Set {
+                modifiers,
+                name,
+                value,
+            } => {
+                self.put_string(value)?;
+                let place = self.tables.place_of_variable(name.as_slice()) as u32;
+                self.put(instruction(Operation::Set, modifiers.number(), place))?;
             }
             Command::Stop => self.put(instruction(Operation::Halt, 0, 0))?,
             Command::If(branches, otherwise) => {

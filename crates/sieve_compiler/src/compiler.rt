@@ -35,10 +35,11 @@ fn compile_commands(alloc: Global, commands: &[Command]) -> Result<Program, Allo
     ensures code { IfOk result (λ p. p ≡ code_of (commands_form commands.now)) }
 {
     let tables = Tables::of_script(alloc, commands)?;
+    let variables = tables.variable_count() as u16;
     let instructions = code_with(alloc, &tables, commands)?;
     let strings = tables.strings(alloc)?;
     let numbers = tables.into_numbers();
-    Ok(Program::build(1, 0, numbers, strings, instructions).unwrap())
+    Ok(Program::build(1, variables, numbers, strings, instructions).unwrap())
 }
 
 // The instructions of a script's commands, with its tables.

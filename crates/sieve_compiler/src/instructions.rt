@@ -1,6 +1,6 @@
 // The instructions of which code is made.
 ghost use Rattle.std.specs.Prelude.{◌≡◌};
-ghost use Rattle.sieve_compiler.specs.Coding.{comparator_number, find_fields, instruction, jump_if, kind_number, match_fields, match_number, push_bool, push_size};
+ghost use Rattle.sieve_compiler.specs.Coding.{comparator_number, find_fields, instruction, jump_if, kind_number, match_fields, join_texts, match_texts, match_number, push_bool, push_size};
 
 use crate::exits::Exit;
 use bytecode_format::{Instruction, Operation};
@@ -57,6 +57,30 @@ pub fn match_fields(how: Match, names: u16, keys: u32) -> Instruction
         a: match_number(how),
         b: names,
         c: keys,
+    }
+}
+
+/// Compares so many sources with so many keys.
+pub fn match_texts(how: Match, sources: u16, keys: u32) -> Instruction
+    ensures { result ≡ match_texts how sources keys }
+{
+    Instruction {
+        op: Operation::String.octet(),
+        a: match_number(how),
+        b: sources,
+        c: keys,
+    }
+}
+
+/// Makes one text of so many.
+pub fn join_texts(texts: u16) -> Instruction
+    ensures { result ≡ join_texts texts }
+{
+    Instruction {
+        op: Operation::Join.octet(),
+        a: 0,
+        b: texts,
+        c: 0,
     }
 }
 

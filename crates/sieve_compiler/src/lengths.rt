@@ -3,10 +3,33 @@
 // Measuring goes down the whole piece. A piece is measured once for each list of tests around it, and twice
 // for each `if`; these are nested at most 32 deep in a script, so the time stays linear in the script's length.
 ghost use Rattle.std.specs.Prelude.{◌≡◌, ◌<◌, ◌^◌, map, if◌then◌else◌};
-ghost use Rattle.sieve_check.specs.TypedView.{test_form, tests_of, command_form, commands_form, branch_forms, else_form};
-ghost use Rattle.sieve_compiler.specs.Lengths.{test_length, tests_length, leave_length, command_length, commands_length};
+ghost use Rattle.sieve_check.specs.TypedView.{templates_of, test_form, tests_of, command_form, commands_form, branch_forms, else_form};
+ghost use Rattle.sieve_compiler.specs.Lengths.{string_length, strings_length, test_length, tests_length, leave_length, command_length, commands_length};
 
-use sieve_check::{Branch, Command, Test};
+use sieve_check::{Branch, Command, Segment, Test};
+
+/// How many instructions a string has.
+pub fn string_length(string: &[Segment]) -> u32
+    requires { string_length string.now < 2 ^ 32 }
+    ensures { result ≡ string_length string.now }
+{
+    match string {
+        [] | [_] => 1,
+        _ => string.len() as u32 + 1,
+    }
+}
+
+/// How many instructions strings have together.
+pub fn strings_length(strings: &[Vec<Segment>]) -> u32
+    requires { strings_length (templates_of strings.now) < 2 ^ 32 }
+    ensures { result ≡ strings_length (templates_of strings.now) }
+{
+    let mut total = 0;
+    for string in strings {
+        total += string_length(string);
+    }
+    total
+}
 
 /// How many instructions a test has.
 #[cycle(test_lengths)]
@@ -16,8 +39,9 @@ pub fn test_length(test: &Test) -> u32
 {
     match test {
         Test::Constant(_) | Test::Size(_, _) => 2,
-        Test::Header { names, keys, .. } => names.len() as u32 + keys.len() as u32 + 2,
-        Test::Exists(names) => names.len() as u32 + 2,
+        Test::Header { names, keys, .. } => strings_length(names) + strings_length(keys) + 2,
+        Test::Exists(names) => strings_length(names) + 2,
+        Test::String { sources, keys, .. } => strings_length(sources) + strings_length(keys) + 2,
         Test::Not(inner) => test_length(inner),
         Test::AllOf(first, others) | Test::AnyOf(first, others) => {
             test_length(first) + tests_length(others)
@@ -53,7 +77,8 @@ pub fn command_length(command: &Command) -> u32
 {
     match command {
         Command::Keep | Command::Discard | Command::Stop => 1,
-        Command::FileInto(_) => 2,
+        Command::FileInto(folder) => string_length(folder) + 1,
+        Command::Set { value, .. } => string_length(value) + 1,
         Command::If(branches, otherwise) => {
             let mut total = 0;
             'branches: for (i, branch) in branches.iter().enumerate() {

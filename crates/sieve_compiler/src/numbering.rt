@@ -1,18 +1,17 @@
-// The first pass over a script: its numbers and its strings.
+// The first pass over a script: its numbers, its texts and its variables.
 ghost use Rattle.std.specs.Prelude.{◌≡◌};
 
 use crate::tables::Tables;
-use octets::Octets;
-use sieve_check::{Command, Test};
+use sieve_check::{Command, Segment, Test};
 use std::alloc::{AllocError, Global};
 
 impl<'a> Tables<'a> {
     ghost use Rattle.std.specs.Prelude.{◌≡◌, [], map, OnOk, IfOk};
-    ghost use Rattle.sieve_check.specs.TypedView.{test_form, tests_of, command_form, commands_form};
+    ghost use Rattle.sieve_check.specs.TypedView.{templates_of, test_form, tests_of, command_form, commands_form};
     ghost use Rattle.sieve_compiler.specs.Tables.{tables_of};
-    ghost use Rattle.sieve_compiler.specs.Growing.{uses_with, test_uses, tests_uses, command_uses, commands_uses, with_uses};
+    ghost use Rattle.sieve_compiler.specs.Growing.{segment_uses, string_uses, strings_uses, test_uses, tests_uses, command_uses, commands_uses, with_uses};
 
-    /// The tables of a script: each of its numbers and of its strings once, in the order of their first use.
+    /// The tables of a script: each of its numbers, texts and variables once, in the order of their first use in its code.
     ///
     /// An error comes only where memory was refused.
     pub fn of_script(alloc: Global, commands: &'a [Command]) -> Result<Tables<'a>, AllocError>
@@ -23,12 +22,36 @@ impl<'a> Tables<'a> {
         Ok(tables)
     }
 
-    // Adds strings, one after the other.
-    fn add_strings(&mut self, strings: &'a [Octets]) -> Result<(), AllocError>
-        ensures { OnOk result (self.new ≡ with_uses self.old (uses_with [] strings.now)) }
+    // Adds what a segment uses.
+    fn add_segment(&mut self, segment: &'a Segment) -> Result<(), AllocError>
+        ensures { OnOk result (self.new ≡ with_uses self.old (segment_uses segment.now)) }
     {
-        for text in strings {
-            self.strings.add(text.as_slice())?;
+        match segment {
+            Segment::Text(octets) => self.strings.add(octets.as_slice()),
+            Segment::Variable(name) => self.variables.add(name.as_slice()),
+            Segment::Capture(_) => Ok(()),
+        }
+    }
+
+    // Adds what a string uses. The empty string is a text.
+    fn add_string(&mut self, string: &'a [Segment]) -> Result<(), AllocError>
+        ensures { OnOk result (self.new ≡ with_uses self.old (string_uses string.now)) }
+    {
+        if string.is_empty() {
+            self.strings.add(b"")?;
+        }
+        for segment in string {
+            self.add_segment(segment)?;
+        }
+        Ok(())
+    }
+
+    // Adds what strings use, one after the other.
+    fn add_strings(&mut self, strings: &'a [Vec<Segment>]) -> Result<(), AllocError>
+        ensures { OnOk result (self.new ≡ with_uses self.old (strings_uses (templates_of strings.now))) }
+    {
+        for string in strings {
+            self.add_string(string)?;
         }
         Ok(())
     }
@@ -47,6 +70,10 @@ impl<'a> Tables<'a> {
             }
             Test::Header { names, keys, .. } => {
                 self.add_strings(names)?;
+                self.add_strings(keys)
+            }
+            Test::String { sources, keys, .. } => {
+                self.add_strings(sources)?;
                 self.add_strings(keys)
             }
             Test::Exists(names) => self.add_strings(names),
@@ -72,7 +99,11 @@ impl<'a> Tables<'a> {
     {
         match command {
             Command::Keep | Command::Discard | Command::Stop => {}
-            Command::FileInto(folder) => self.strings.add(folder.as_slice())?,
+            Command::FileInto(folder) => self.add_string(folder)?,
+            Command::Set { name, value, .. } => {
+                self.add_string(value)?;
+                self.variables.add(name.as_slice())?;
+            }
             Command::If(branches, otherwise) => {
                 'branches: for branch in branches {
                     self.add_test(&branch.test)?;

@@ -1,4 +1,4 @@
-// The strings of a script.
+// Strings of a script: texts, or names of variables.
 ghost use Rattle.std.specs.Prelude.{◌≡◌, ◌≤◌, [], length, map, OnOk, OnErr, IfOk};
 
 use octets::Octets;
@@ -60,6 +60,13 @@ impl<'a> Strings<'a> {
         self.places.insert(text, self.listed.len())?;
         self.listed.push(text).unwrap();
         Ok(())
+    }
+
+    /// How many strings are listed.
+    pub fn count(&self) -> usize
+        ensures { result ≡ length self.now }
+    {
+        self.listed.len()
     }
 
     /// The place of the string; the list's end, where it isn't listed.

@@ -7,13 +7,14 @@ use octets::Octets;
 use std::alloc::{AllocError, Global};
 use std::marker::Model;
 
-/// What the instructions of a script name by its place: its numbers and its strings.
+/// What the instructions of a script name by its place: its numbers, its texts and its variables.
 ///
 /// A contract sees the tables of the definition.
 #[derive(Drop)]
 pub struct Tables<'a> {
     pub numbers: Numbers,
     pub strings: Strings<'a>,
+    pub variables: Strings<'a>,
 }
 
 impl<'a> Model for Tables<'a> {
@@ -21,20 +22,21 @@ impl<'a> Model for Tables<'a> {
 
     ghost Value = { Tables };
 
-    ghost view = { λ t. tables_with t.numbers t.strings };
+    ghost view = { λ t. tables_with t.numbers t.strings t.variables };
 }
 
 impl<'a> Tables<'a> {
     ghost use Rattle.std.specs.Prelude.{[]};
-    ghost use Rattle.sieve_compiler.specs.Tables.{tables_with, place_of_number, place_of_string};
+    ghost use Rattle.sieve_compiler.specs.Tables.{tables_with, place_of_number, place_of_string, place_of_variable};
 
-    /// No number and no string. Takes no memory.
+    /// No number, no text and no variable. Takes no memory.
     pub fn new(alloc: Global) -> Tables<'a>
-        ensures { result ≡ tables_with [] [] }
+        ensures { result ≡ tables_with [] [] [] }
     {
         Tables {
             numbers: Numbers::new(alloc),
             strings: Strings::new(alloc),
+            variables: Strings::new(alloc),
         }
     }
 
@@ -46,7 +48,15 @@ impl<'a> Tables<'a> {
         self.numbers.place_of(number)
     }
 
-    /// The place of the string; the table's end, where it isn't there.
+    /// The place of the variable of that name; the table's end, where it isn't there.
+    pub fn place_of_variable(&self, name: &[u8]) -> usize
+        ensures place { result ≡ place_of_variable self.now name.now }
+        ensures within { result ≤ length self.now.variables }
+    {
+        self.variables.place_of(name)
+    }
+
+    /// The place of the text; the table's end, where it isn't there.
     pub fn place_of_string(&self, text: &[u8]) -> usize
         ensures place { result ≡ place_of_string self.now text.now }
         ensures within { result ≤ length self.now.strings }
@@ -54,7 +64,14 @@ impl<'a> Tables<'a> {
         self.strings.place_of(text)
     }
 
-    /// The strings in order, as copies.
+    /// How many variables there are.
+    pub fn variable_count(&self) -> usize
+        ensures { result ≡ length self.now.variables }
+    {
+        self.variables.count()
+    }
+
+    /// The texts in order, as copies.
     ///
     /// An error comes only where memory was refused.
     pub fn strings(&self, alloc: Global) -> Result<Vec<Octets>, AllocError>

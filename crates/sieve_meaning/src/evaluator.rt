@@ -1,17 +1,22 @@
 // Scripts evaluated.
 ghost use Rattle.std.specs.Prelude.{◌≡◌, IfOk};
 
-use bytecode_format::{Action, ActionList};
+use crate::variables::Variables;
+use bytecode_format::{Action, ActionList, Modifiers};
 use mail_matching::Captured;
 use mime_decode::Message;
-use sieve_check::{Checked, Command};
+use sieve_check::{Checked, Command, Segment};
 use std::alloc::{AllocError, Global};
+
+/// The most octets of a variable's value.
+const MAX_VALUE: usize = 4_096;
 
 /// What was done so far.
 #[derive(Drop)]
-pub struct Evaluator<'m> {
+pub struct Evaluator<'s, 'm> {
     pub actions: ActionList,
     pub implicit_keep: bool,
+    pub variables: Variables<'s>,
     /// Those that the last match has set, if one has.
     pub captures: Option<Captured<'m>>,
 }
@@ -23,20 +28,23 @@ pub enum Flow {
     Stopped,
 }
 
-impl<'m> Evaluator<'m> {
-    ghost use Rattle.std.specs.Prelude.{◌≡◌, ◌∷◌, [], ◌++◌, false, map, IfOk, OnOk, None};
+impl<'s, 'm> Evaluator<'s, 'm> {
+    ghost use Rattle.std.specs.Prelude.{◌≡◌, ◌∷◌, [], ◌++◌, false, map, take, IfOk, OnOk, None};
     ghost use Rattle.sieve_check.specs.Bounded.{IsBoundedCommand, AreBoundedCommands};
     ghost use Rattle.sieve_check.specs.TypedView.{command_form, commands_form};
-    ghost use Rattle.sieve_meaning.specs.Meaning.{Effects, no_effects, command_does, commands_do};
+    ghost use Rattle.octets.specs.Limits.{max_value};
+    ghost use Rattle.bytecode_format.specs.Modifiers.{modified};
+    ghost use Rattle.sieve_meaning.specs.Meaning.{Effects, no_effects, command_does, commands_do, expanded, with_value};
     ghost use Rattle.sieve_meaning.specs.Evaluation.{StandsFor, StandsAt};
 
     /// Before the first command.
-    pub fn new(alloc: Global) -> Evaluator<'m>
+    pub fn new(alloc: Global) -> Evaluator<'s, 'm>
         ensures { StandsFor no_effects result }
     {
         Evaluator {
             actions: ActionList::new(alloc),
             implicit_keep: true,
+            variables: Variables::new(alloc),
             captures: None,
         }
     }
@@ -50,12 +58,27 @@ impl<'m> Evaluator<'m> {
         Ok(())
     }
 
+    // Gives a variable its value, which is expanded, modified and cut.
+    fn set(
+        &mut self,
+        alloc: Global,
+        modifiers: Modifiers,
+        name: &'s [u8],
+        value: &[Segment],
+    ) -> Result<(), AllocError>
+        ensures { (e : Effects) → StandsFor e self.old → OnOk result (StandsFor (record e { variables = with_value name.now (take max_value (modified modifiers (expanded e value.now))) e.variables }) self.new) }
+    {
+        let text = self.expanded(alloc, value)?;
+        let value = modifiers.apply(alloc, text.as_slice(), MAX_VALUE)?;
+        self.variables.set(name, value)
+    }
+
     /// Does what a command does.
     #[cycle(commands)]
     fn command(
         &mut self,
         alloc: Global,
-        command: &Command,
+        command: &'s Command,
         message: &Message<'m>,
     ) -> Result<Flow, AllocError>
         requires { IsBoundedCommand (command_form command.now) }
@@ -64,7 +87,15 @@ impl<'m> Evaluator<'m> {
         match command {
             Command::Keep => self.list(Action::Keep)?,
             Command::Discard => self.implicit_keep = false,
-            Command::FileInto(folder) => self.list(Action::File(folder.clone()?))?,
+            Command::FileInto(folder) => {
+                let folder = self.expanded(alloc, folder)?;
+                self.list(Action::File(folder))?;
+            }
+            Command::Set {
+                modifiers,
+                name,
+                value,
+            } => self.set(alloc, *modifiers, name.as_slice(), value)?,
             Command::Stop => return Ok(Flow::Stopped),
             Command::If(branches, otherwise) => {
                 'branches: for branch in branches {
@@ -85,7 +116,7 @@ impl<'m> Evaluator<'m> {
     pub fn commands(
         &mut self,
         alloc: Global,
-        commands: &[Command],
+        commands: &'s [Command],
         message: &Message<'m>,
     ) -> Result<Flow, AllocError>
         requires { AreBoundedCommands (commands_form commands.now) }

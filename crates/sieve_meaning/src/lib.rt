@@ -5,6 +5,8 @@
 #![tactic(auto)]
 
 mod evaluator;
+mod expansion;
 mod tests_hold;
+mod variables;
 
 pub use evaluator::plain_eval;

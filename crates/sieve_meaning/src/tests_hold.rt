@@ -4,20 +4,20 @@ ghost use Rattle.sieve_meaning.specs.Meaning.{is_size};
 
 use crate::evaluator::Evaluator;
 use glob_match::Match;
-use mail_matching::{Answer, Outcome, exists, header};
+use mail_matching::{Answer, Outcome, exists, header, string};
 use mime_decode::Message;
-use octets::Octets;
-use sieve_check::{Order, Test};
+use sieve_check::{Order, Segment, Test};
 use std::alloc::{AllocError, Global};
 
-impl<'m> Evaluator<'m> {
+impl<'s, 'm> Evaluator<'s, 'm> {
     ghost use Rattle.std.specs.Prelude.{IfOk, None, map};
     ghost use Rattle.mime_decode.specs.Scope.{Root, Value};
     ghost use Rattle.mail_matching.specs.HeaderTests.{header_match};
-    ghost use Rattle.mail_matching.specs.Texts.{AreTexts};
-    ghost use Rattle.sieve_check.specs.Bounded.{IsBoundedTest, AreBoundedTests};
-    ghost use Rattle.sieve_check.specs.TypedView.{test_form, tests_of};
-    ghost use Rattle.sieve_meaning.specs.Meaning.{Effects, all_do, any_do, matched, test_does};
+    ghost use Rattle.mail_matching.specs.FirstMatch.{first_match};
+    ghost use Rattle.mail_matching.specs.Outcomes.{after};
+    ghost use Rattle.sieve_check.specs.Bounded.{AreBoundedLists, IsBoundedTest, AreBoundedTests};
+    ghost use Rattle.sieve_check.specs.TypedView.{templates_of, test_form, tests_of};
+    ghost use Rattle.sieve_meaning.specs.Meaning.{Effects, all_do, all_expanded, any_do, matched, test_does};
     ghost use Rattle.sieve_meaning.specs.Evaluation.{Gives, StandsFor};
 
     /// Whether the test is true of the message.
@@ -53,8 +53,13 @@ impl<'m> Evaluator<'m> {
                 names,
                 keys,
             } => self.matches(alloc, *matching, names, keys, message),
-            Test::Exists(names) => Ok(exists(message, names).0),
+            Test::Exists(names) => Ok(exists(message, &self.all_expanded(alloc, names)?).0),
             Test::Size(order, number) => Ok(is_size(*order, *number, message.size() as u64)),
+            Test::String {
+                matching,
+                sources,
+                keys,
+            } => self.texts_match(alloc, *matching, sources, keys),
         }
     }
 
@@ -101,21 +106,46 @@ impl<'m> Evaluator<'m> {
         &mut self,
         alloc: Global,
         how: Match,
-        names: &Vec<Octets>,
-        keys: &Vec<Octets>,
+        names: &[Vec<Segment>],
+        keys: &[Vec<Segment>],
         message: &Message<'m>,
     ) -> Result<bool, AllocError>
-        requires names { AreTexts names.now.items }
-        requires keys { AreTexts keys.now.items }
-        ensures { (e : Effects) → StandsFor e self.old → IfOk result (λ value. Gives (matched (header_match how Root None Value names.now.items keys.now.items message.now e.captures) e) value self.new) }
+        requires { AreBoundedLists (templates_of names.now) (templates_of keys.now) }
+        ensures { (e : Effects) → StandsFor e self.old → IfOk result (λ value. Gives (matched (header_match how Root None Value (all_expanded e (templates_of names.now)) (all_expanded e (templates_of keys.now)) message.now e.captures) e) value self.new) }
     {
-        let Answer { outcome, .. } = header(alloc, message, names, keys, how)?;
+        let names = self.all_expanded(alloc, names)?;
+        let keys = self.all_expanded(alloc, keys)?;
+        let Answer { outcome, .. } = header(alloc, message, &names, &keys, how)?;
+        Ok(self.settle(outcome))
+    }
+
+    // Whether a source matches a key. A match may set captures.
+    fn texts_match(
+        &mut self,
+        alloc: Global,
+        how: Match,
+        sources: &[Vec<Segment>],
+        keys: &[Vec<Segment>],
+    ) -> Result<bool, AllocError>
+        requires { AreBoundedLists (templates_of sources.now) (templates_of keys.now) }
+        ensures { (e : Effects) → StandsFor e self.old → IfOk result (λ value. Gives (matched (first_match how (all_expanded e (templates_of sources.now)) (all_expanded e (templates_of keys.now)) e.captures) e) value self.new) }
+    {
+        let sources = self.all_expanded(alloc, sources)?;
+        let keys = self.all_expanded(alloc, keys)?;
+        let Answer { outcome, .. } = string(alloc, &sources, &keys, how)?;
+        Ok(self.settle(outcome))
+    }
+
+    // Keeps the captures that a test has set, and says whether it has matched.
+    fn settle(&mut self, outcome: Outcome<'m>) -> bool
+        ensures { (e : Effects) → StandsFor e self.old → Gives (matched (after outcome.entry e.captures) e) result self.new }
+    {
         match outcome {
-            Outcome::Fails => Ok(false),
-            Outcome::Holds => Ok(true),
+            Outcome::Fails => false,
+            Outcome::Holds => true,
             Outcome::Captures(captures) => {
                 self.captures = Some(captures);
-                Ok(true)
+                true
             }
         }
     }
