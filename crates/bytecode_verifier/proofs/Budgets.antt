@@ -1,5 +1,6 @@
 -- The budget of an accepted program: what its sums are at most.
-use Rattle.std.proofs.Common.{◌≡◌, ℕ, zero, suc, ◌+◌, ◌*◌, ◌^◌, ◌<◌, ◌≤◌, Bool, true, false, cond, ◌==◌, [], ◌∷◌, Option, Some, None, All, length, slice_get, sum, refl, lit≤, arith}
+use Rattle.std.proofs.Common.{◌≡◌, ℕ, zero, suc, ◌+◌, ◌*◌, ◌^◌, ◌<◌, ◌≤◌, Bool, true, false, cond, ◌==◌, [], ◌∷◌, Option, Some, None, All, length, slice_get, sum, refl, inl, inr, lit≤, arith}
+use Rattle.std.proofs.lemmas.Bool.{cases_lt}
 use Rattle.std.proofs.Math.Nat.{mul-le-mul}
 use Rattle.std.proofs.lemmas.List.Sums.{sum_by-le-sum_by}
 use Rattle.std.specs.Option.{option_map_or}
@@ -7,7 +8,7 @@ use Rattle.std.proofs.lemmas.List.Elements.{All-cons, All-nil}
 use Rattle.octets.specs.Limits.{max_message, max_parts}
 use Rattle.bytecode_format.specs.declared.instruction.Instruction.{Instruction}
 use Rattle.bytecode_format.specs.declared.operation.Operation.{Operation}
-use Rattle.bytecode_format.specs.declared.operation.Operation.TheVariants.{Header, Exists, File}
+use Rattle.bytecode_format.specs.declared.operation.Operation.TheVariants.{Join, Set, Header, Exists, String, File}
 use Rattle.bytecode_format.specs.Operations.{operation_of}
 use Rattle.bytecode_format.specs.Code.{Code}
 use Rattle.bytecode_format.specs.Spelling.{IsProgram}
@@ -17,10 +18,10 @@ use Rattle.bytecode_verifier.specs.Places.{sum_below}
 use Rattle.bytecode_verifier.specs.Loops.{open_loops}
 use Rattle.bytecode_verifier.specs.Shape.{Entries, Texts, Lists, take_texts, take_lists, shape_at}
 use Rattle.bytecode_verifier.specs.declared.cap.Cap.{Cap}
-use Rattle.bytecode_verifier.specs.Budget.{one_more_each, cap_of_octets, cap_of_names, cap_of_matching, one_charge, cap_of, cap_found, cap_at, sum_inside, sums_inside, budget_of}
-use Rattle.bytecode_verifier.specs.Pass.{max_cap}
+use Rattle.bytecode_verifier.specs.Budget.{one_more_each, cap_of_octets, cap_of_names, cap_of_matching, cap_of_comparing, one_charge, cap_of, cap_found, cap_at, sum_inside, sums_inside, budget_of}
+use Rattle.bytecode_verifier.specs.Pass.{IsSmall, max_cap}
 use Rattle.bytecode_verifier.proofs.Taking.{taken, taken_lists}
-use Rattle.bytecode_verifier.proofs.Short.{IsSmall, shape_small}
+use Rattle.bytecode_verifier.proofs.Short.{shape_small}
 
 -- no cap is larger than this
 abbrev pub Fits : Cap → Type 0
@@ -30,12 +31,46 @@ one_fits : Fits one_charge
 one_fits = (lit≤ tt, lit≤ tt)
 
 -- what a header test's names and keys come to
-matching_fits : (names keys a b n k : ℕ) → names + keys ≤ 1024 → a ≤ names * 16385 → b ≤ keys * 16385 → n ≡ names → a + n * b ≤ 2 ^ 40
+matching_fits : (names keys a b n k : ℕ) → names + keys ≤ 1024 → a ≤ names * 16385 → b ≤ keys * 16385 → n ≡ names → a + n * b ≤ max_cap
 matching_fits names keys a b n k few ha hb same =
     let few_names : n ≤ 1024 = omega arith in
     let few_keys : b ≤ 16778240 = omega arith in
     let most : n * b ≤ 1024 * 16778240 = mul-le-mul few_names few_keys in
     omega arith
+
+product : (a b x y : ℕ) → a ≤ x → b ≤ y → a * b ≤ x * y
+product a b x y h k = mul-le-mul h k
+
+-- how often a source is compared with a key
+few_pairs : (n k : ℕ) → n + k ≤ 1024 → n * k ≤ 393216
+few_pairs n k few =
+    elim (cases_lt n 512) [
+      | inl less ↦
+          elim (cases_lt n 257) [
+            | inl least ↦ let most : n * k ≤ 256 * 1024 = product n k 256 1024 (omega arith) (omega arith) in omega arith
+            | inr more ↦ let most : n * k ≤ 512 * 768 = product n k 512 768 (omega arith) (omega arith) in omega arith
+          ]
+      | inr more ↦
+          elim (cases_lt n 769) [
+            | inl less ↦ let most : n * k ≤ 768 * 512 = product n k 768 512 (omega arith) (omega arith) in omega arith
+            | inr most ↦ let most : n * k ≤ 1024 * 256 = product n k 1024 256 (omega arith) (omega arith) in omega arith
+          ]
+    ]
+
+-- what comparing sources with keys comes to
+comparing_fits : (n k a b : ℕ) → n + k ≤ 1024 → a ≤ n * 16385 → b ≤ k * 16385 → 1 + a * b ≤ max_cap
+comparing_fits n k a b few ha hb =
+    let most : a * b ≤ n * 16385 * (k * 16385) = mul-le-mul ha hb in
+    let pairs : n * 16385 * (k * 16385) ≡ n * k * 268468225 = grind arith in
+    let enough : n * k * 268468225 ≤ 393216 * 268468225 = product (n * k) 268468225 393216 268468225 (few_pairs n k few) (omega arith) in
+    omega arith
+
+octets_fit : (number : ℕ) (entries : Entries) → IsSmall entries → (o : Option Texts) → take_texts number entries ≡ o → Fits (option_map_or cap_of_octets o one_charge)
+octets_fit number entries small None h = one_fits
+octets_fit number entries small (Some texts) h =
+    let t = taken number entries texts small.short h in
+    let less : sum texts.bounds ≤ one_more_each texts.bounds = sum_by-le-sum_by (λ b. b) (λ b. b + 1) texts.bounds (λ b. omega arith) in
+    (omega (arith, t.total, t.left, small.few, less), lit≤ tt)
 
 pub cap_fits : (o : Option Operation) (i : Instruction) (entries : Entries) → IsSmall entries → Fits (cap_of o i entries)
 cap_fits (Some Header) i entries small = go (take_lists i.b i.c entries) refl
@@ -50,14 +85,16 @@ cap_fits (Some Exists) i entries small = go (take_texts i.b entries) refl
     go : (o : Option Texts) → take_texts i.b entries ≡ o → Fits (option_map_or cap_of_names o one_charge)
     go None h = one_fits
     go (Some names) h = let t = taken i.b entries names small.short h in (lit≤ tt, omega (arith, t.total, t.left, small.few))
-cap_fits (Some File) i entries small = go (take_texts 1 entries) refl
+cap_fits (Some File) i entries small = octets_fit 1 entries small (take_texts 1 entries) refl
+cap_fits (Some Join) i entries small = octets_fit i.b entries small (take_texts i.b entries) refl
+cap_fits (Some Set) i entries small = octets_fit 1 entries small (take_texts 1 entries) refl
+cap_fits (Some String) i entries small = go (take_lists i.b i.c entries) refl
   where
-    go : (o : Option Texts) → take_texts 1 entries ≡ o → Fits (option_map_or cap_of_octets o one_charge)
+    go : (o : Option Lists) → take_lists i.b i.c entries ≡ o → Fits (option_map_or cap_of_comparing o one_charge)
     go None h = one_fits
-    go (Some folder) h =
-        let t = taken 1 entries folder small.short h in
-        let less : sum folder.bounds ≤ one_more_each folder.bounds = sum_by-le-sum_by (λ b. b) (λ b. b + 1) folder.bounds (λ b. omega arith) in
-        (omega (arith, t.total, less), lit≤ tt)
+    go (Some lists) h =
+        let t = taken_lists i.b i.c entries lists small.short h in
+        (comparing_fits i.b i.c (one_more_each lists.names) (one_more_each lists.keys) (omega (arith, t.left, small.few)) t.names_total t.keys_total, lit≤ tt)
 cap_fits _ i entries small = one_fits
 
 -- the cap at a place

@@ -4,7 +4,7 @@ use Rattle.std.proofs.lemmas.Bool.{cases_lt}
 use Rattle.std.proofs.lemmas.Option.{slice_get_within}
 use Rattle.std.proofs.lemmas.Map.Keys.{any_passes_from_place}
 use Rattle.bytecode_format.specs.declared.instruction.Instruction.{Instruction}
-use Rattle.bytecode_format.specs.declared.operation.Operation.TheVariants.{Literal, Size}
+use Rattle.bytecode_format.specs.declared.operation.Operation.TheVariants.{Literal, Variable, Set, Size}
 use Rattle.bytecode_format.specs.Operations.{operation_of}
 use Rattle.bytecode_format.specs.Code.{Code}
 use Rattle.bytecode_verifier.specs.Loops.{same_loops}
@@ -62,6 +62,17 @@ module _ (code : Code) (is : IsAccepted code) where
     string_known literal =
         let broken : misses_index code (row_in code i) i ≡ false = rw here at (is.index place) in
         leb-false (length code.strings) i.c (ap (λ o. misses_index code (option_and_then (row_of code.version) o) i) (sym literal) ∙ broken)
+
+    -- the index is below the count of variables
+    pub variable_known : operation_of i.op ≡ Some Variable → i.c < code.variables
+    variable_known variable =
+        let broken : misses_index code (row_in code i) i ≡ false = rw here at (is.index place) in
+        leb-false code.variables i.c (ap (λ o. misses_index code (option_and_then (row_of code.version) o) i) (sym variable) ∙ broken)
+
+    pub set_known : operation_of i.op ≡ Some Set → i.c < code.variables
+    set_known set =
+        let broken : misses_index code (row_in code i) i ≡ false = rw here at (is.index place) in
+        leb-false code.variables i.c (ap (λ o. misses_index code (option_and_then (row_of code.version) o) i) (sym set) ∙ broken)
 
     -- an instruction that doesn't end the run isn't the last
     pub not_last : is_halt (operation_of i.op) ≡ false → place + 1 < length code.instructions

@@ -2,7 +2,7 @@
 use Rattle.std.proofs.Common.{◌≡◌, ℕ, Bool, List, [], ◌∷◌, Some, None, refl, true, false}
 use Rattle.bytecode_format.specs.declared.instruction.Instruction.{Instruction}
 use Rattle.bytecode_format.specs.declared.operation.Operation.{Operation}
-use Rattle.bytecode_format.specs.declared.operation.Operation.TheVariants.{Halt, Literal, Variable, Bool as BoolOp, Not, Jump as Goto, JumpIfTrue, JumpIfFalse, Header, Exists, Size, Keep, Discard, File, Each, Next, Break}
+use Rattle.bytecode_format.specs.declared.operation.Operation.TheVariants.{Halt, Literal, Variable, Capture, Join, Set, Bool as BoolOp, Not, Jump as Goto, JumpIfTrue, JumpIfFalse, Header, Exists, String, Size, Keep, Discard, File, Store, Each, Next, Break}
 use Rattle.bytecode_format.specs.Operations.{octet_of}
 use Rattle.bytecode_format.specs.Code.{Code}
 use Rattle.bytecode_verifier.specs.declared.error.Refusal.TheVariants.{Index, Form, End, Jump, Stack}
@@ -33,7 +33,7 @@ nothing = refl
 missing_entry : refusal_of (program [] (plain Not ∷ plain Halt ∷ [])) ≡ Some (Stack 0)
 missing_entry = refl
 
-operation_to_come : refusal_of (program [] (plain Variable ∷ plain Halt ∷ [])) ≡ Some (Form 0)
+operation_to_come : refusal_of (program [] (plain Store ∷ plain Halt ∷ [])) ≡ Some (Form 0)
 operation_to_come = refl
 
 -- the jump leads between a value and what takes it
@@ -99,6 +99,41 @@ missing_text = refl
 exists_budget : budget_of (with_strings lengths (plain Literal ∷ lists Exists 0 1 0 ∷ at JumpIfFalse 0 3 ∷ plain Halt ∷ [])) ≡ record { version = 1; fixed = 4 ∷ 0 ∷ 0 ∷ 0 ∷ []; scaled = 8 ∷ 0 ∷ 0 ∷ 0 ∷ [] }
 exists_budget = refl
 
+-- ---- variables
+
+abbrev with_variables : ℕ → List Instruction → Code
+with_variables variables instructions = record { version = 1; variables = variables; numbers = []; strings = (7 ∷ 7 ∷ []) ∷ []; instructions = instructions }
+
+-- the second variable is set to a join of a string, the first one and a capture: 2 + 4096 + 4096 octets
+abbrev sets : ℕ → List Instruction
+sets variable = at Literal 0 0 ∷ at Variable 0 variable ∷ at Capture 9 0 ∷ lists Join 0 3 0 ∷ at Set 0x3A 1 ∷ plain Halt ∷ []
+
+set : refusal_of (with_variables 2 (sets 0)) ≡ None
+set = refl
+
+set_budget : budget_of (with_variables 2 (sets 0)) ≡ record { version = 1; fixed = 16394 ∷ 0 ∷ 0 ∷ 0 ∷ []; scaled = 0 ∷ 0 ∷ 0 ∷ 0 ∷ [] }
+set_budget = refl
+
+missing_variable : refusal_of (with_variables 2 (sets 2)) ≡ Some (Index 1)
+missing_variable = refl
+
+missing_set_variable : refusal_of (with_variables 1 (sets 0)) ≡ Some (Index 4)
+missing_set_variable = refl
+
+-- five captures of 4,096 octets are joined to at most 16,384, of which each is charged
+abbrev joins : List Instruction
+joins = plain Capture ∷ plain Capture ∷ plain Capture ∷ plain Capture ∷ plain Capture ∷ lists Join 0 5 0 ∷ plain File ∷ plain Halt ∷ []
+
+join_budget : (budget_of (program [] joins)).fixed ≡ 36872 ∷ 0 ∷ 0 ∷ 0 ∷ []
+join_budget = refl
+
+join_of_a_truth : refusal_of (program [] (at BoolOp 1 0 ∷ plain Capture ∷ lists Join 0 2 0 ∷ plain File ∷ plain Halt ∷ [])) ≡ Some (Stack 2)
+join_of_a_truth = refl
+
+-- sources of 7 and 3 octets, a key of 1, another of 2: 8 + 4, times 2 + 3
+string_budget : (budget_of (with_strings lengths (at Literal 0 0 ∷ at Literal 0 1 ∷ at Literal 0 2 ∷ at Literal 0 3 ∷ lists String 4 2 2 ∷ at JumpIfFalse 0 7 ∷ plain Discard ∷ plain Halt ∷ []))).fixed ≡ 68 ∷ 0 ∷ 0 ∷ 0 ∷ []
+string_budget = refl
+
 -- of fields: lists of 1 to 512, ways to match, no scope but the message's
 abbrev formed : (i : Instruction) → Bool
 formed i = is_well_formed (row_named 1 i.op) i
@@ -129,6 +164,33 @@ no_other_scope = refl
 
 exists_in_no_other_scope : formed (lists Exists 1 1 0) ≡ false
 exists_in_no_other_scope = refl
+
+tenth_capture : formed (at Capture 10 0) ≡ false
+tenth_capture = refl
+
+join_of_one : formed (lists Join 0 1 0) ≡ false
+join_of_one = refl
+
+longest_join : formed (lists Join 0 256 0) ≡ true
+longest_join = refl
+
+longer_join : formed (lists Join 0 257 0) ≡ false
+longer_join = refl
+
+all_modifiers : formed (at Set 0x3A 0) ≡ true
+all_modifiers = refl
+
+both_cases : formed (at Set 3 0) ≡ false
+both_cases = refl
+
+seventh_bit : formed (at Set 0x40 0) ≡ false
+seventh_bit = refl
+
+no_sources : formed (lists String 0 0 1) ≡ false
+no_sources = refl
+
+most_sources : formed (lists String 6 512 512) ≡ true
+most_sources = refl
 
 -- a stray Next, a loop in a loop, a stray Next and a stray Each
 abbrev brackets : Code

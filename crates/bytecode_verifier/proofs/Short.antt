@@ -1,26 +1,21 @@
 -- The entries of a shape: how many they are, and how long their texts.
-use Rattle.std.proofs.Common.{◌≡◌, ℕ, zero, suc, ◌<◌, ◌≤◌, Bool, true, false, cond, nat_lt, List, [], ◌∷◌, Option, Some, None, All, length, slice_get, refl, subst, arith}
+use Rattle.std.proofs.Common.{◌≡◌, ℕ, zero, suc, ◌<◌, ◌≤◌, Bool, true, false, cond, nat_lt, List, [], ◌∷◌, Option, Some, None, All, min, sum, lit≤, length, slice_get, refl, subst, arith}
 use Rattle.std.proofs.lemmas.Bool.{ltb-true}
 use Rattle.std.proofs.lemmas.Option.{slice_get_within, get_or_from_slice_get}
 use Rattle.std.proofs.lemmas.List.Elements.{All-get_or}
 use Rattle.std.specs.Option.{option_and_then, option_map, option_map_or}
-use Rattle.octets.specs.Limits.{max_string, max_stack}
+use Rattle.octets.specs.Limits.{max_string, max_stack, max_value}
 use Rattle.bytecode_format.specs.declared.instruction.Instruction.{Instruction}
 use Rattle.bytecode_format.specs.declared.operation.Operation.{Operation}
-use Rattle.bytecode_format.specs.declared.operation.Operation.TheVariants.{Halt, Literal, Bool as BoolOp, Not, Jump, JumpIfTrue, JumpIfFalse, Header, Exists, Size, Keep, Discard, File}
+use Rattle.bytecode_format.specs.declared.operation.Operation.TheVariants.{Halt, Literal, Variable, Capture, Join, Set, Bool as BoolOp, Not, Jump, JumpIfTrue, JumpIfFalse, Header, Exists, String, Size, Keep, Discard, File}
 use Rattle.bytecode_format.specs.Operations.{operation_of}
 use Rattle.bytecode_format.specs.Code.{Code}
 use Rattle.bytecode_format.specs.Spelling.{IsProgram}
 use Rattle.bytecode_verifier.specs.declared.shape.Entry.{Entry}
 use Rattle.bytecode_verifier.specs.declared.shape.Entry.TheVariants.{Truth, Text}
-use Rattle.bytecode_verifier.specs.Shape.{Entries, Texts, Lists, with_entry, is_empty, has_truth, without_truth, take_texts, take_lists, with_string, entries_after, shape_after, is_target, shape_at}
-use Rattle.bytecode_verifier.specs.Pass.{AreShort}
+use Rattle.bytecode_verifier.specs.Shape.{Entries, Texts, Lists, with_entry, is_empty, has_truth, without_truth, take_texts, take_lists, with_string, with_joined, entries_after, shape_after, is_target, shape_at}
+use Rattle.bytecode_verifier.specs.Pass.{AreShort, IsSmall}
 use Rattle.bytecode_verifier.proofs.Taking.{taken, taken_lists}
-
--- there are few entries, and their texts are short
-pub record IsSmall (entries : Entries) : Type 0 where
-  pub few : length entries ≤ max_stack
-  pub short : AreShort entries
 
 none : IsSmall []
 none = record { few = omega arith; short = tt }
@@ -50,6 +45,18 @@ pub string_short : (strings : List (List ℕ)) (k : ℕ) (octets : List ℕ) →
 string_short strings k octets each e =
     let P : List ℕ → Type 0 = λ text. length text ≤ max_string in
     subst P (get_or_from_slice_get strings k octets octets e) (All-get_or P strings k octets (slice_get_within strings k octets e) each)
+
+-- the text on top is taken
+taken_one : (entries after : Entries) → IsSmall entries → option_map (λ (taken : Texts). taken.rest) (take_texts 1 entries) ≡ Some after → IsSmall after
+taken_one entries after small e = go (take_texts 1 entries) refl e
+  where
+    go : (o : Option Texts) → take_texts 1 entries ≡ o → option_map (λ (taken : Texts). taken.rest) o ≡ Some after → IsSmall after
+    go None h f = absurd cc
+    go (Some top) h f =
+        let t = taken 1 entries top small.short h in
+        let same : top.rest ≡ after = cc in
+        let few = small.few in
+        subst IsSmall same (record { few = omega (arith, t.left); short = t.short })
 
 module _ (code : Code) (fits : IsProgram code) where
   lent : (k : ℕ) (o : Option (List ℕ)) (entries after : Entries) → slice_get code.strings k ≡ o → IsSmall entries → with_string o entries ≡ Some after → IsSmall after
@@ -85,17 +92,22 @@ module _ (code : Code) (fits : IsProgram code) where
       go : (o : Option Texts) → take_texts i.b entries ≡ o → option_and_then (λ (names : Texts). with_entry Truth names.rest) o ≡ Some after → IsSmall after
       go None h f = absurd cc
       go (Some names) h f = pushed Truth names.rest after (taken i.b entries names small.short h).short f
+  small_after String i entries after small e = go (take_lists i.b i.c entries) refl e
+    where
+      go : (o : Option Lists) → take_lists i.b i.c entries ≡ o → option_and_then (λ (lists : Lists). with_entry Truth lists.rest) o ≡ Some after → IsSmall after
+      go None h f = absurd cc
+      go (Some lists) h f = pushed Truth lists.rest after (taken_lists i.b i.c entries lists small.short h).short f
+  small_after Variable i entries after small e = pushed (Text max_value) entries after (lit≤ tt, small.short) e
+  small_after Capture i entries after small e = pushed (Text max_value) entries after (lit≤ tt, small.short) e
+  small_after Join i entries after small e = go (take_texts i.b entries) refl e
+    where
+      go : (o : Option Texts) → take_texts i.b entries ≡ o → option_and_then with_joined o ≡ Some after → IsSmall after
+      go None h f = absurd cc
+      go (Some parts) h f = pushed (Text (min (sum parts.bounds) max_string)) parts.rest after (omega arith, (taken i.b entries parts small.short h).short) f
+  small_after Set i entries after small e = taken_one entries after small e
+  small_after File i entries after small e = taken_one entries after small e
   small_after Keep i entries after small e = let same : entries ≡ after = cc in subst IsSmall same small
   small_after Discard i entries after small e = let same : entries ≡ after = cc in subst IsSmall same small
-  small_after File i entries after small e = go (take_texts 1 entries) refl e
-    where
-      go : (o : Option Texts) → take_texts 1 entries ≡ o → option_map (λ (folder : Texts). folder.rest) o ≡ Some after → IsSmall after
-      go None h f = absurd cc
-      go (Some folder) h f =
-          let t = taken 1 entries folder small.short h in
-          let same : folder.rest ≡ after = cc in
-          let few = small.few in
-          subst IsSmall same (record { few = omega (arith, t.left); short = t.short })
   small_after _ i entries after small e = absurd cc
 
   -- the entries of the shape at a place

@@ -17,7 +17,7 @@ use Rattle.bytecode_verifier.specs.Shape.{Entries, is_target, shape_after, shape
 use Rattle.bytecode_verifier.specs.Rules.{row_in, misses_index, breaks_index, breaks_form, breaks_jump, breaks_stack}
 use Rattle.bytecode_verifier.specs.declared.cap.Cap.{Cap}
 use Rattle.bytecode_verifier.specs.Budget.{one_charge, cap_of, cap_at}
-use Rattle.bytecode_verifier.specs.Pass.{AreShort, Passes, max_cap, unless_failed, sums_below, budget_below, HasPassed}
+use Rattle.bytecode_verifier.specs.Pass.{IsSmall, Passes, max_cap, unless_failed, sums_below, budget_below, HasPassed}
 use Rattle.bytecode_verifier.proofs.Tests.{or_false}
 use Rattle.bytecode_verifier.proofs.Short.{shape_small}
 use Rattle.bytecode_verifier.proofs.Budgets.{Fits, cap_fits}
@@ -110,9 +110,9 @@ found_fits (Some c) now here after p h = subst Fits (sym p.0) (h now p.1)
 
 -- what the pass knows of the shape at an instruction
 module _ (code : Code) (place : ℕ) (i : Instruction) (pass : Pass) (fits : IsProgram code) (here : slice_get code.instructions place ≡ Some i) (before : HasPassed code place pass) where
-  -- the texts are short
-  pub short_here : pass.stack ≡ None → AreShort pass.shape
-  short_here whole = (shape_small code fits place pass.shape (before.shape ∙ ap (λ s. unless_failed s pass.shape) whole)).short
+  -- the entries are few, and the texts short
+  pub small_here : pass.stack ≡ None → IsSmall pass.shape
+  small_here whole = shape_small code fits place pass.shape (before.shape ∙ ap (λ s. unless_failed s pass.shape) whole)
 
   -- the cap that was found fits
   pub cap_fits_here : (targeted : Bool) (operation : Option Operation) (cap : Option Cap) (added : Cap) (now : Entries) → operation ≡ operation_of i.op

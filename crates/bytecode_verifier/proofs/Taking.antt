@@ -1,11 +1,12 @@
 -- Texts taken from the top of the entries.
-use Rattle.std.proofs.Common.{◌≡◌, ℕ, zero, suc, ◌+◌, ◌-◌, ◌*◌, ◌<◌, ◌≤◌, [], ◌∷◌, Option, Some, None, length, refl, sym, ap, subst, ◌∙◌, arith}
+use Rattle.std.proofs.Common.{◌≡◌, ℕ, zero, suc, ◌+◌, ◌-◌, ◌*◌, ◌<◌, ◌≤◌, Bool, true, false, if◌then◌else◌, min, sum, List, [], ◌∷◌, Option, Some, None, length, refl, sym, ap, subst, ◌∙◌, arith}
 use Rattle.std.proofs.lemmas.List.Sums.{sum_by-cons}
-use Rattle.std.specs.Option.{option_and_then, option_map}
+use Rattle.std.specs.Bool.{then_some}
+use Rattle.std.specs.Option.{option_and_then, option_map, option_map_or}
 use Rattle.bytecode_verifier.specs.declared.shape.Entry.TheVariants.{Truth, Text}
-use Rattle.bytecode_verifier.specs.Shape.{Entries, Texts, Lists, with_text, with_keys, take_texts, take_lists}
-use Rattle.bytecode_verifier.specs.Budget.{one_more_each}
-use Rattle.bytecode_verifier.specs.Pass.{AreShort, Takes}
+use Rattle.bytecode_verifier.specs.Shape.{Entries, Texts, Lists, with_entry, with_text, with_keys, with_joined, take_texts, take_lists}
+use Rattle.bytecode_verifier.specs.Budget.{one_more_each, one_charge, cap_of_octets}
+use Rattle.bytecode_verifier.specs.Pass.{AreShort, Passes, Takes}
 
 -- the sum of the bounds with a sum before it, their number with one before it, and the entries below
 pub record Total : Type 0 where
@@ -54,6 +55,31 @@ taken_all number total now old e = go (take_texts number old) e
         let sums = ap (λ (t : Total). t.total) same in
         let counts = ap (λ (t : Total). t.number) same in
         (omega (arith, sums), omega (arith, counts), ap (λ (t : Total). t.rest) same)
+
+-- the bounds alone, and one for each
+one_more_sum : (bounds : List ℕ) → one_more_each bounds ≡ sum bounds + length bounds
+one_more_sum [] = refl
+one_more_sum (x ∷ xs) =
+    let ones : one_more_each (x ∷ xs) ≡ (x + 1) + one_more_each xs = sum_by-cons (λ b. b + 1) x xs in
+    let all : sum (x ∷ xs) ≡ x + sum xs = sum_by-cons (λ b. b) x xs in
+    omega (arith, ones, all, one_more_sum xs)
+
+-- texts that were taken have one more each
+pub number_within : (number total : ℕ) (now : Entries) (taken : Option Texts) → Takes number (Some total) now taken → number ≤ total
+number_within number total now None h = absurd h
+number_within number total now (Some texts) h = omega (arith, h.0, h.1, one_more_sum texts.bounds)
+
+-- the text that texts are joined to
+pub joined : (number total octets bound : ℕ) (fine : Bool) (now after : Entries) (taken : Option Texts) → Takes number (Some total) now taken → octets ≡ total - number → bound ≡ min octets 16384 → (if fine then Some after else None) ≡ with_entry (Text bound) now
+    → Passes (then_some fine (record { fixed = 1 + octets; scaled = 0 })) after (option_map_or cap_of_octets taken one_charge) (option_and_then with_joined taken)
+joined number total octets bound fine now after None h sum-is bound-is room = absurd h
+joined number total octets bound fine now after (Some texts) h sum-is bound-is room =
+    let all : octets ≡ sum texts.bounds = omega (arith, sum-is, h.0, h.1, one_more_sum texts.bounds) in
+    go fine all (room ∙ rw (bound-is, all, h.2) refl)
+  where
+    go : (fine : Bool) → octets ≡ sum texts.bounds → (if fine then Some after else None) ≡ with_joined texts → Passes (then_some fine (record { fixed = 1 + octets; scaled = 0 })) after (cap_of_octets texts) (with_joined texts)
+    go true all room = (rw all refl, sym room)
+    go false all room = sym room
 
 -- an entry is missing, or a truth value
 pub wanted_none : (total taken left : ℕ) (entries old : Entries) (number : ℕ) → take_texts left entries ≡ None → wanted total taken left entries ≡ wanted 0 0 number old → take_texts number old ≡ None

@@ -35,6 +35,10 @@ cap_of_names names = record { fixed = 1; scaled = one_more_each names.bounds }
 abbrev pub cap_of_matching : Lists → Cap
 cap_of_matching lists = record { fixed = 1; scaled = one_more_each lists.names + length lists.names * one_more_each lists.keys }
 
+-- one charge, and for each source the keys, both with one more for each
+abbrev pub cap_of_comparing : Lists → Cap
+cap_of_comparing lists = record { fixed = 1 + one_more_each lists.names * one_more_each lists.keys; scaled = 0 }
+
 -- the cap of an instruction that finds these entries
 abbrev pub cap_of : Option Operation → Instruction → Entries → Cap
 cap_of None i entries = one_charge
@@ -42,8 +46,8 @@ cap_of (Some Halt) i entries = one_charge
 cap_of (Some Literal) i entries = one_charge
 cap_of (Some Variable) i entries = one_charge
 cap_of (Some Capture) i entries = one_charge
-cap_of (Some Join) i entries = one_charge
-cap_of (Some Set) i entries = one_charge
+cap_of (Some Join) i entries = option_map_or cap_of_octets (take_texts i.b entries) one_charge
+cap_of (Some Set) i entries = option_map_or cap_of_octets (take_texts 1 entries) one_charge
 cap_of (Some BoolOp) i entries = one_charge
 cap_of (Some Not) i entries = one_charge
 cap_of (Some Jump) i entries = one_charge
@@ -51,7 +55,7 @@ cap_of (Some JumpIfTrue) i entries = one_charge
 cap_of (Some JumpIfFalse) i entries = one_charge
 cap_of (Some Header) i entries = option_map_or cap_of_matching (take_lists i.b i.c entries) one_charge
 cap_of (Some Exists) i entries = option_map_or cap_of_names (take_texts i.b entries) one_charge
-cap_of (Some String) i entries = one_charge
+cap_of (Some String) i entries = option_map_or cap_of_comparing (take_lists i.b i.c entries) one_charge
 cap_of (Some Size) i entries = one_charge
 cap_of (Some PartSize) i entries = one_charge
 cap_of (Some PartBody) i entries = one_charge

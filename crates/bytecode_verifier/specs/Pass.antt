@@ -1,13 +1,13 @@
 -- What the verifier knows when it has passed the instructions below a place.
-use Rattle.std.specs.Prelude.{◌≡◌, ℕ, ◌*◌, ◌^◌, ◌≤◌, ◌==◌, length, List, [], ◌∷◌, Option, Some, None, if◌then◌else◌, is_none, slice_index}
-use Rattle.octets.specs.Limits.{max_string}
+use Rattle.std.specs.Prelude.{◌≡◌, ℕ, ◌*◌, ◌^◌, ◌-◌, ◌≤◌, ◌==◌, length, List, [], ◌∷◌, Option, Some, None, if◌then◌else◌, is_none, slice_index}
+use Rattle.octets.specs.Limits.{max_stack, max_string}
 use Rattle.bytecode_format.specs.Code.{Code}
 use Rattle.bytecode_verifier.specs.declared.pass.Pass.{Pass}
 use Rattle.bytecode_cost.specs.Sums.{Sums}
 use Rattle.bytecode_verifier.specs.Places.{least_below, sum_below}
 use Rattle.bytecode_verifier.specs.Loops.{loops, open_loops}
 use Rattle.bytecode_verifier.specs.declared.shape.Entry.TheVariants.{Truth, Text}
-use Rattle.bytecode_verifier.specs.Shape.{Entries, Texts, shape_at}
+use Rattle.bytecode_verifier.specs.Shape.{Entries, Texts, Lists, shape_at}
 use Rattle.bytecode_verifier.specs.Rules.{breaks_index, breaks_form, breaks_jump, breaks_stack}
 use Rattle.bytecode_verifier.specs.declared.cap.Cap.{Cap}
 use Rattle.bytecode_verifier.specs.Budget.{one_more_each, cap_at}
@@ -22,11 +22,23 @@ AreShort [] = Unit {0}
 AreShort (Truth ∷ entries) = AreShort entries
 AreShort (Text bound ∷ entries) = (bound ≤ max_string) × AreShort entries
 
+-- there are few entries, and their texts are short
+pub record IsSmall (entries : Entries) : Type 0 where
+  pub few : length entries ≤ max_stack
+  pub short : AreShort entries
+
 -- the sum of the bounds of so many texts that were taken, each with one more, and the entries below them; neither, where they weren't there
 abbrev pub Takes : ℕ → Option ℕ → Entries → Option Texts → Type 0
 Takes number None now None = Unit {0}
 Takes number (Some total) now (Some texts) = (total ≡ one_more_each texts.bounds) × (length texts.bounds ≡ number) × (now ≡ texts.rest)
 Takes number _ now _ = ⊥
+
+-- the same of two lists, of which the first has so many
+abbrev pub TakesBoth : ℕ → Option (ℕ × ℕ) → Entries → Option Lists → Type 0
+TakesBoth number None now None = Unit {0}
+TakesBoth number (Some totals) now (Some lists) =
+    (totals.0 ≡ one_more_each lists.names) × (totals.1 ≡ one_more_each lists.keys) × (length lists.names ≡ number) × (now ≡ lists.rest)
+TakesBoth number _ now _ = ⊥
 
 -- the shape goes on to these entries with this cap, or it fails
 abbrev pub Passes : Option Cap → Entries → Cap → Option Entries → Type 0
@@ -35,7 +47,7 @@ Passes (Some found) now cap after = (found ≡ cap) × (after ≡ Some now)
 
 -- no cap is larger, whatever the stack holds: at most 1,024 texts, each of at most 16,384 octets
 abbrev pub max_cap : ℕ
-max_cap = 2 ^ 40
+max_cap = 2 ^ 47 - 1
 
 -- the sum over the instructions below a place that stand inside k open loops
 abbrev pub sum_below_place : (Cap → ℕ) → Code → ℕ → ℕ → ℕ

@@ -11,7 +11,7 @@ use Rattle.bytecode_format.specs.Code.{Code}
 use Rattle.bytecode_verifier.specs.Places.{holds_at}
 use Rattle.bytecode_verifier.specs.Loops.{loops, open_loops, same_loops}
 use Rattle.bytecode_verifier.specs.declared.row.Table.{Table}
-use Rattle.bytecode_verifier.specs.declared.row.Table.TheVariants.{Numbers, Strings}
+use Rattle.bytecode_verifier.specs.declared.row.Table.TheVariants.{Variables, Numbers, Strings}
 use Rattle.bytecode_verifier.specs.declared.row.Row.{Row}
 use Rattle.bytecode_verifier.specs.Rows.{row_named, is_well_formed, is_jump, needs_part}
 use Rattle.bytecode_verifier.specs.Shape.{shape_at}
@@ -22,6 +22,7 @@ row_in code i = row_named code.version i.op
 
 -- how many entries a table has
 abbrev pub count_of : Code → Table → ℕ
+count_of code Variables = code.variables
 count_of code Numbers = length code.numbers
 count_of code Strings = length code.strings
 

@@ -1,8 +1,8 @@
 -- The shape: which entries stand on the stack before the instruction at a place.
-use Rattle.std.specs.Prelude.{ℕ, zero, suc, Bool, true, false, ◌&&◌, not, List, [], ◌∷◌, Option, Some, None, if◌then◌else◌, length, nat_lt, ◌==◌, slice_get}
+use Rattle.std.specs.Prelude.{ℕ, zero, suc, Bool, true, false, ◌&&◌, not, List, [], ◌∷◌, Option, Some, None, if◌then◌else◌, length, min, sum, nat_lt, ◌==◌, slice_get}
 use Rattle.std.specs.List.{list_any}
 use Rattle.std.specs.Option.{option_and_then, option_map, option_map_or}
-use Rattle.octets.specs.Limits.{max_stack}
+use Rattle.octets.specs.Limits.{max_stack, max_string, max_value}
 use Rattle.bytecode_format.specs.declared.instruction.Instruction.{Instruction}
 use Rattle.bytecode_format.specs.declared.operation.Operation.{Operation}
 use Rattle.bytecode_format.specs.declared.operation.Operation.TheVariants.{Halt, Literal, Variable, Capture, Join, Set, Bool as BoolOp, Not, Jump, JumpIfTrue, JumpIfFalse, Header, Exists, String, Size, PartSize, PartBody, PartDigest, Keep, Discard, File, Store, Each, Next, Break}
@@ -50,7 +50,7 @@ take_texts (suc n) [] = None
 take_texts (suc n) (Truth ∷ entries) = None
 take_texts (suc n) (Text bound ∷ entries) = option_map (with_text bound) (take_texts n entries)
 
--- two lists that are taken: the bounds of names and of the keys above them, and the entries below
+-- two lists that are taken: the bounds of names or sources and of the keys above them, and the entries below
 pub record Lists : Type 0 where
   pub names : List ℕ
   pub keys : List ℕ
@@ -59,7 +59,7 @@ pub record Lists : Type 0 where
 abbrev pub with_keys : List ℕ → Texts → Lists
 with_keys keys names = record { names = names.bounds; keys = keys; rest = names.rest }
 
--- so many names, and so many keys above them
+-- so many names or sources, and so many keys above them
 abbrev pub take_lists : ℕ → ℕ → Entries → Option Lists
 take_lists names keys entries =
     option_and_then (λ (above : Texts). option_map (with_keys above.bounds) (take_texts names above.rest)) (take_texts keys entries)
@@ -68,15 +68,19 @@ take_lists names keys entries =
 abbrev pub with_string : Option (List ℕ) → Entries → Option Entries
 with_string string entries = option_and_then (λ octets. with_entry (Text (length octets)) entries) string
 
+-- in place of texts one of as many octets as they have together, and of no more than a string has
+abbrev pub with_joined : Texts → Option Entries
+with_joined parts = with_entry (Text (min (sum parts.bounds) max_string)) parts.rest
+
 -- the entries that an operation leaves of these, or None where an entry is missing or of the wrong kind, where there is no room,
 -- where entries are left that must not be, or where it hasn't come
 abbrev pub entries_after : Code → Operation → Instruction → Entries → Option Entries
 entries_after code Halt i entries = if is_empty entries then Some [] else None
 entries_after code Literal i entries = with_string (slice_get code.strings i.c) entries
-entries_after code Variable i entries = None
-entries_after code Capture i entries = None
-entries_after code Join i entries = None
-entries_after code Set i entries = None
+entries_after code Variable i entries = with_entry (Text max_value) entries
+entries_after code Capture i entries = with_entry (Text max_value) entries
+entries_after code Join i entries = option_and_then with_joined (take_texts i.b entries)
+entries_after code Set i entries = option_map (λ (value : Texts). value.rest) (take_texts 1 entries)
 entries_after code BoolOp i entries = with_entry Truth entries
 entries_after code Not i entries = if has_truth entries then Some entries else None
 entries_after code Jump i entries = if is_empty entries then Some [] else None
@@ -84,7 +88,7 @@ entries_after code JumpIfTrue i entries = without_truth entries
 entries_after code JumpIfFalse i entries = without_truth entries
 entries_after code Header i entries = option_and_then (λ (lists : Lists). with_entry Truth lists.rest) (take_lists i.b i.c entries)
 entries_after code Exists i entries = option_and_then (λ (names : Texts). with_entry Truth names.rest) (take_texts i.b entries)
-entries_after code String i entries = None
+entries_after code String i entries = option_and_then (λ (lists : Lists). with_entry Truth lists.rest) (take_lists i.b i.c entries)
 entries_after code Size i entries = with_entry Truth entries
 entries_after code PartSize i entries = None
 entries_after code PartBody i entries = None

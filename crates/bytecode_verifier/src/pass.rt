@@ -5,7 +5,7 @@ ghost use Rattle.std.specs.Option.{option_or, option_and_then};
 ghost use Rattle.octets.specs.Limits.{max_instructions};
 ghost use Rattle.bytecode_verifier.specs.Shape.{shape_after, is_target};
 ghost use Rattle.bytecode_verifier.specs.Budget.{cap_of};
-ghost use Rattle.bytecode_verifier.specs.Pass.{HasPassed, AreShort, Passes, unless_failed};
+ghost use Rattle.bytecode_verifier.specs.Pass.{HasPassed, IsSmall, Passes, unless_failed};
 
 use crate::cap::{Cap, ONE_CHARGE};
 use crate::rules::{is_well_formed, misses_index, misses_target, row_named};
@@ -98,7 +98,7 @@ fn advance(
     operation: Option<Operation>,
     instruction: &Instruction,
 ) -> Result<Option<Cap>, AllocError>
-    requires { failed ≡ None → AreShort shape.old }
+    requires { failed ≡ None → IsSmall shape.old }
     ensures { IfOk result (λ cap. Passes cap shape.new (cap_of operation instruction.now shape.old) (option_and_then (shape_after program.now targeted operation instruction.now) (unless_failed failed shape.old))) }
 {
     if failed.is_some() || targeted && !shape.is_empty() {

@@ -2,10 +2,16 @@
 ghost use Rattle.std.specs.Prelude.{◌≡◌, ◌&&◌};
 ghost use Rattle.bytecode_verifier.specs.Rows;
 
-use bytecode_format::{Instruction, Operation};
+use bytecode_format::{Instruction, Modifiers, Operation};
 
-/// The most strings in one list of a test.
-const MAX_LIST: u32 = 512;
+/// The most strings in the lists of a test.
+const MAX_TEST_STRINGS: u32 = 512;
+
+/// The most texts that are joined.
+const MAX_SEGMENTS: u32 = 256;
+
+/// How many captures there are.
+const CAPTURES: u32 = 10;
 
 /// Which values a field of an instruction takes.
 #[derive(Clone, Copy, Debug, PartialEq, Eq)]
@@ -19,6 +25,8 @@ pub enum Range {
     /// How values are matched with keys: bits 0 and 1 say by which of three ways, bit 2 by which of
     /// two comparators.
     Match,
+    /// The numbers of modifiers.
+    Modifiers,
     /// Every number.
     Any,
 }
@@ -26,6 +34,7 @@ pub enum Range {
 /// A table of a program that an instruction's c is an index of.
 #[derive(Clone, Copy, Debug, PartialEq, Eq)]
 pub enum Table {
+    Variables,
     Numbers,
     Strings,
 }
@@ -62,7 +71,7 @@ const JUMP: Row = Row {
 };
 
 /// How many strings a list of a test has.
-const LIST: Range = Range::Between(1, MAX_LIST);
+const LIST: Range = Range::Between(1, MAX_TEST_STRINGS);
 
 /// The row of an operation in programs of a version, if it has come.
 pub fn row_of(_version: u8, operation: Operation) -> Option<Row>
@@ -76,6 +85,25 @@ pub fn row_of(_version: u8, operation: Operation) -> Option<Row>
             index: Some(Table::Strings),
             ..PLAIN
         }),
+        Operation::Variable => Some(Row {
+            c: Range::Any,
+            index: Some(Table::Variables),
+            ..PLAIN
+        }),
+        Operation::Capture => Some(Row {
+            a: Range::Below(CAPTURES),
+            ..PLAIN
+        }),
+        Operation::Join => Some(Row {
+            b: Range::Between(2, MAX_SEGMENTS),
+            ..PLAIN
+        }),
+        Operation::Set => Some(Row {
+            a: Range::Modifiers,
+            c: Range::Any,
+            index: Some(Table::Variables),
+            ..PLAIN
+        }),
         Operation::Bool => Some(Row {
             a: Range::Below(2),
             ..PLAIN
@@ -87,7 +115,7 @@ pub fn row_of(_version: u8, operation: Operation) -> Option<Row>
             index: Some(Table::Numbers),
             ..PLAIN
         }),
-        Operation::Header => Some(Row {
+        Operation::Header | Operation::String => Some(Row {
             a: Range::Match,
             b: LIST,
             c: LIST,
@@ -98,12 +126,7 @@ pub fn row_of(_version: u8, operation: Operation) -> Option<Row>
             b: LIST,
             ..PLAIN
         }),
-        Operation::Variable
-        | Operation::Capture
-        | Operation::Join
-        | Operation::Set
-        | Operation::String
-        | Operation::PartSize
+        Operation::PartSize
         | Operation::PartBody
         | Operation::PartDigest
         | Operation::Store
@@ -123,6 +146,7 @@ impl Range {
             Range::Below(bound) => value < bound,
             Range::Between(least, most) => least <= value && value <= most,
             Range::Match => value < 8 && value % 4 < 3,
+            Range::Modifiers => value < 256 && Modifiers::of(value as u8).is_some(),
             Range::Any => true,
         }
     }

@@ -38,6 +38,7 @@ fn count_of(program: &Program, table: Table) -> usize
     ensures { result ≡ Rules.count_of program.now table }
 {
     match table {
+        Table::Variables => program.variables() as usize,
         Table::Numbers => program.numbers().len(),
         Table::Strings => program.strings().len(),
     }

@@ -1,10 +1,10 @@
 // Which entries stand on the stack.
 ghost use Rattle.std.specs.Prelude.{◌≡◌, ◌+◌, ◌*◌, ◌≤◌, [], ◌∷◌, Some, None, IfOk, IfSome, OnSome, MatchOption, if◌then◌else◌, slice_get};
 ghost use Rattle.std.specs.Option.{option_and_then, option_map, option_map_or};
-ghost use Rattle.octets.specs.Limits.{max_string};
-ghost use Rattle.bytecode_verifier.specs.Shape.{Texts, Lists, is_empty, has_truth, with_entry, without_truth, with_string, take_texts, take_lists, entries_after};
-ghost use Rattle.bytecode_verifier.specs.Budget.{one_charge, cap_of_octets, cap_of_names, cap_of_matching, cap_of};
-ghost use Rattle.bytecode_verifier.specs.Pass.{AreShort, Passes, Takes};
+ghost use Rattle.octets.specs.Limits.{max_stack, max_string};
+ghost use Rattle.bytecode_verifier.specs.Shape.{Texts, Lists, is_empty, has_truth, with_entry, without_truth, with_string, with_joined, take_texts, take_lists, entries_after};
+ghost use Rattle.bytecode_verifier.specs.Budget.{one_charge, cap_of_octets, cap_of_names, cap_of_matching, cap_of_comparing, cap_of};
+ghost use Rattle.bytecode_verifier.specs.Pass.{IsSmall, Passes, Takes, TakesBoth};
 
 use crate::cap::{Cap, ONE_CHARGE};
 use bytecode_format::{Instruction, Operation, Program};
@@ -13,6 +13,12 @@ use std::marker::Model;
 
 /// How many entries the stack takes at most.
 const MAX_STACK: usize = 1024;
+
+/// How many octets a text has at most.
+const MAX_STRING: usize = 16_384;
+
+/// How many octets the value of a variable has at most, and a capture.
+const MAX_VALUE: usize = 4096;
 
 /// What is known of an entry of the stack.
 #[derive(Clone, Copy, Debug, PartialEq, Eq)]
@@ -88,21 +94,33 @@ impl Shape {
         operation: Option<Operation>,
         instruction: &Instruction,
     ) -> Result<Option<Cap>, AllocError>
-        requires { AreShort self.old }
+        requires { IsSmall self.old }
         ensures { IfOk result (λ cap. Passes cap self.new (cap_of operation instruction.now self.old) (option_and_then (λ o. entries_after program.now o instruction.now self.old) operation)) }
     {
         let Instruction { b, c, .. } = *instruction;
         let fine = match operation {
             Some(Operation::Header) => return self.take_lists(b, c),
+            Some(Operation::String) => return self.take_sources(b, c),
             Some(Operation::Exists) => return self.take_names(b),
-            Some(Operation::File) => return Ok(self.take_text()),
+            Some(Operation::Join) => return self.join(b),
+            Some(Operation::Set | Operation::File) => return Ok(self.take_text()),
             Some(Operation::Halt | Operation::Jump) => self.is_empty(),
             Some(Operation::Literal) => self.push_string(program, c)?,
+            Some(Operation::Variable | Operation::Capture) => self.push(Entry::Text(MAX_VALUE))?,
             Some(Operation::Bool | Operation::Size) => self.push(Entry::Truth)?,
             Some(Operation::Not) => self.has_truth(),
             Some(Operation::JumpIfTrue | Operation::JumpIfFalse) => self.take_truth(),
             Some(Operation::Keep | Operation::Discard) => true,
-            _ => false,
+            None
+            | Some(
+                Operation::PartSize
+                | Operation::PartBody
+                | Operation::PartDigest
+                | Operation::Store
+                | Operation::Each
+                | Operation::Next
+                | Operation::Break,
+            ) => false,
         };
         Ok(fine.then_some(ONE_CHARGE))
     }
@@ -126,8 +144,8 @@ impl Shape {
 
     // Takes the text on top, of which each octet is charged.
     fn take_text(&mut self) -> Option<Cap>
-        requires { AreShort self.old }
-        ensures { Passes result self.new (option_map_or cap_of_octets (take_texts 1 self.old) one_charge) (option_map (λ (folder : Texts). folder.rest) (take_texts 1 self.old)) }
+        requires { IsSmall self.old }
+        ensures { Passes result self.new (option_map_or cap_of_octets (take_texts 1 self.old) one_charge) (option_map (λ (taken : Texts). taken.rest) (take_texts 1 self.old)) }
     {
         let Some(Entry::Text(bound)) = self.pop() else {
             return None;
@@ -138,9 +156,25 @@ impl Shape {
         })
     }
 
+    // Takes texts, of which each octet is charged, and pushes the text that they are joined to.
+    fn join(&mut self, parts: u16) -> Result<Option<Cap>, AllocError>
+        requires { IsSmall self.old }
+        ensures { IfOk result (λ cap. Passes cap self.new (option_map_or cap_of_octets (take_texts parts self.old) one_charge) (option_and_then with_joined (take_texts parts self.old))) }
+    {
+        let Some(total) = self.take_texts(u32::from(parts)) else {
+            return Ok(None);
+        };
+        let octets = total - u64::from(parts);
+        let fine = self.push(Entry::Text((octets as usize).min(MAX_STRING)))?;
+        Ok(fine.then_some(Cap {
+            fixed: 1 + octets,
+            scaled: 0,
+        }))
+    }
+
     // Takes the names of fields, and pushes whether they are there.
     fn take_names(&mut self, names: u16) -> Result<Option<Cap>, AllocError>
-        requires { AreShort self.old }
+        requires { IsSmall self.old }
         ensures { IfOk result (λ cap. Passes cap self.new (option_map_or cap_of_names (take_texts names self.old) one_charge) (option_and_then (λ (taken : Texts). with_entry Entry.Truth taken.rest) (take_texts names self.old))) }
     {
         let Some(scaled) = self.take_texts(u32::from(names)) else {
@@ -152,13 +186,10 @@ impl Shape {
 
     // Takes the names of fields and the keys above them, and pushes whether one matches.
     fn take_lists(&mut self, names: u16, keys: u32) -> Result<Option<Cap>, AllocError>
-        requires { AreShort self.old }
+        requires { IsSmall self.old }
         ensures { IfOk result (λ cap. Passes cap self.new (option_map_or cap_of_matching (take_lists names keys self.old) one_charge) (option_and_then (λ (lists : Lists). with_entry Entry.Truth lists.rest) (take_lists names keys self.old))) }
     {
-        let Some(keys_total) = self.take_texts(keys) else {
-            return Ok(None);
-        };
-        let Some(names_total) = self.take_texts(u32::from(names)) else {
+        let Some((names_total, keys_total)) = self.take_both(names, keys) else {
             return Ok(None);
         };
         let scaled = names_total + u64::from(names) * keys_total;
@@ -166,12 +197,38 @@ impl Shape {
         Ok(fine.then_some(Cap { fixed: 1, scaled }))
     }
 
+    // Takes sources and the keys above them, and pushes whether one matches.
+    fn take_sources(&mut self, sources: u16, keys: u32) -> Result<Option<Cap>, AllocError>
+        requires { IsSmall self.old }
+        ensures { IfOk result (λ cap. Passes cap self.new (option_map_or cap_of_comparing (take_lists sources keys self.old) one_charge) (option_and_then (λ (lists : Lists). with_entry Entry.Truth lists.rest) (take_lists sources keys self.old))) }
+    {
+        let Some((sources_total, keys_total)) = self.take_both(sources, keys) else {
+            return Ok(None);
+        };
+        let fixed = 1 + sources_total * keys_total;
+        let fine = self.push(Entry::Truth)?;
+        Ok(fine.then_some(Cap { fixed, scaled: 0 }))
+    }
+
+    // Takes so many texts and so many above them: the sums of the bounds of both, each bound with one
+    // more.
+    fn take_both(&mut self, below: u16, above: u32) -> Option<(u64, u64)>
+        requires { IsSmall self.old }
+        ensures texts { TakesBoth below result self.new (take_lists below above self.old) }
+        ensures below { IfSome result (λ totals. totals.0 ≤ max_stack * (max_string + 1)) }
+        ensures above { IfSome result (λ totals. totals.1 ≤ max_stack * (max_string + 1)) }
+    {
+        let above_total = self.take_texts(above)?;
+        let below_total = self.take_texts(u32::from(below))?;
+        Some((below_total, above_total))
+    }
+
     // Takes so many texts from the top: the sum of their bounds, each with one more.
     fn take_texts(&mut self, number: u32) -> Option<u64>
-        requires { AreShort self.old }
+        requires { IsSmall self.old }
         ensures texts { Takes number result self.new (take_texts number self.old) }
-        ensures small { IfSome result (λ total. total ≤ number * (max_string + 1)) }
-        ensures short { OnSome result (AreShort self.new) }
+        ensures bound { IfSome result (λ total. total ≤ max_stack * (max_string + 1)) }
+        ensures small { OnSome result (IsSmall self.new) }
     {
         let mut total = 0;
         'texts: for _ in 0..number {

@@ -13,7 +13,7 @@ use std::borrow::CowSlice;
 
 /// How a value compares with a key.
 #[derive(Drop)]
-enum Compared {
+pub(crate) enum Compared {
     /// It doesn't match.
     Differs,
     /// It matches, and no captures are set.
@@ -35,8 +35,8 @@ pub(crate) fn first_key<'a, K: Texts>(value: CowSlice<'a, u8>, keys: &K, how: Ma
     }
 }
 
-// How the value compares with the first of the keys that it matches.
-fn first_comparison<K: Texts>(value: &[u8], keys: &K, how: Match) -> Compared
+/// How a value compares with the first of the keys that it matches.
+pub(crate) fn first_comparison<K: Texts>(value: &[u8], keys: &K, how: Match) -> Compared
     requires value { length value.now ≤ max_message }
     requires keys { AreTexts (K.texts keys.now) }
     ensures { (captures : List (List ℕ)) → after_compared value.now result captures ≡ first_key how value.now (K.texts keys.now) captures }

@@ -2,7 +2,7 @@
 ghost use Rattle.std.specs.Prelude.{◌≡◌, ◌≤◌};
 ghost use Rattle.octets.specs.Limits.{max_message};
 ghost use Rattle.header_fields.specs.Extent.{fields_extent};
-ghost use Rattle.mail_matching.specs.Costs.{extent_of, names_cost};
+ghost use Rattle.mail_matching.specs.Costs.{extent_of, names_cost, values_cost};
 ghost use Rattle.mail_matching.specs.Texts.{AreTexts};
 
 use crate::texts::Texts;
@@ -27,4 +27,13 @@ pub(crate) fn names_cost<N: Texts>(fields: &[Field], names: &N) -> u64
     ensures { result ≡ names_cost fields.now (N.texts names.now) }
 {
     (fields.len() as u64 + 1) * extent_of(names)
+}
+
+/// The cost of comparing each value with each key.
+pub(crate) fn values_cost<V: Texts, K: Texts>(values: &V, keys: &K) -> u64
+    requires values { AreTexts (V.texts values.now) }
+    requires keys { AreTexts (K.texts keys.now) }
+    ensures { result ≡ values_cost (V.texts values.now) (K.texts keys.now) }
+{
+    extent_of(values) * extent_of(keys)
 }

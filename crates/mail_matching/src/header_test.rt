@@ -10,20 +10,12 @@ ghost use Rattle.mail_matching.specs.Texts.{AreTexts};
 use crate::comparing::first_key;
 use crate::cost::{extent_of, names_cost};
 use crate::existence::{is_named, root_fields};
-use crate::outcome::Outcome;
+use crate::outcome::{Answer, Outcome};
 use crate::texts::Texts;
 use glob_match::Match;
 use header_fields::{Field, unfold, unfolded_length};
 use mime_decode::Message;
 use std::alloc::{AllocError, Global};
-
-/// What a test comes to, and what it costs.
-#[derive(Debug, Drop)]
-pub struct Answer<'m> {
-    pub outcome: Outcome<'m>,
-    /// Of all names and fields, and of all values and keys, whichever were compared.
-    pub cost: u64,
-}
 
 /// The first value, of the fields of these names in the message's own header, that matches a key (RFC 5228, section 5.7).
 ///

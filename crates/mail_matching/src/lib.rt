@@ -1,9 +1,10 @@
-//! Tests of a message's header: `header` and `exists` (RFC 5228, sections 5.5 and 5.7; RFC 5229, section 3.2).
+//! Tests of a message's header, `header` and `exists` (RFC 5228, sections 5.5 and 5.7; RFC 5229, section 3.2), and of texts that a
+//! filter holds, `string` (RFC 5229, section 5).
 //!
-//! [`header`] finds the first value that matches a key, and [`exists`] whether each name is that of a field. Both answer what the
-//! test costs, too. What matches first, which captures it leaves, and what is charged stands in `specs/`; how much that is at most
-//! of a message that was read is in the [`laws`]. Names and keys are lent by any [`Texts`], and values are copied only where they
-//! are folded.
+//! [`header`] and [`string`] find the first value that matches a key, and [`exists`] whether each name is that of a field. All answer
+//! what the test costs, too. What matches first, which captures it leaves, and what is charged stands in `specs/`; how much that is at most
+//! of a message that was read is in the [`laws`]. Names, sources and keys are lent by any [`Texts`]. A field's value is copied only
+//! where it is folded, and a source only where it sets captures.
 #![tactic(auto)]
 
 mod comparing;
@@ -12,9 +13,11 @@ mod existence;
 mod header_test;
 pub mod laws;
 mod outcome;
+mod string_test;
 mod texts;
 
 pub use existence::exists;
-pub use header_test::{Answer, header};
-pub use outcome::{Captured, Outcome};
+pub use header_test::header;
+pub use outcome::{Answer, Captured, Outcome};
+pub use string_test::string;
 pub use texts::Texts;

@@ -67,3 +67,11 @@ impl<'a> Outcome<'a> {
         !matches!(self, Outcome::Fails)
     }
 }
+
+/// What a test comes to, and what it costs.
+#[derive(Debug, Drop)]
+pub struct Answer<'m> {
+    pub outcome: Outcome<'m>,
+    /// Of all names and fields, and of all values and keys, whichever were compared.
+    pub cost: u64,
+}

@@ -2,11 +2,11 @@ use Rattle.std.proofs.Common.{◌≡◌, length, ap, ◌∙◌, arith}
 use Rattle.std.specs.Bool.{then_some}
 use Rattle.std.specs.Option.{option_or}
 use Rattle.bytecode_verifier.specs.Rows.{row_named}
-use Rattle.bytecode_verifier.proofs.Steps.{none_from, short_here, cap_fits_here, passed_more}
+use Rattle.bytecode_verifier.proofs.Steps.{none_from, small_here, cap_fits_here, passed_more}
 use Rattle.bytecode_verifier.proofs.pass.Pass.take.Goals as goal
 
 pub advance-requires : goal.advance-requires
-advance-requires c = short_here c.args.program.now c.args.place c.args.instruction.now c.args.self.now c.version.ensures.program c.requires.here c.requires.before
+advance-requires c = small_here c.args.program.now c.args.place c.args.instruction.now c.args.self.now c.version.ensures.program c.requires.here c.requires.before
 
 pub add-requires-clause-fixed : goal.add-requires-clause-fixed
 add-requires-clause-fixed c =

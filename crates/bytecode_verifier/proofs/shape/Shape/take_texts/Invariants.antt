@@ -1,4 +1,4 @@
-use Rattle.std.proofs.Common.{◌≡◌, ◌*◌, ◌-◌, ◌≤◌}
+use Rattle.std.proofs.Common.{◌≡◌, ◌+◌, ◌*◌, ◌-◌, ◌≤◌, length}
 use Rattle.bytecode_verifier.specs.Pass.{AreShort}
 use Rattle.bytecode_verifier.proofs.Taking.{wanted}
 use Rattle.bytecode_verifier.proofs.shape.Shape.take_texts.Given as goal
@@ -7,6 +7,7 @@ use Rattle.bytecode_verifier.proofs.shape.Shape.take_texts.Given as goal
 abbrev pub invariant-texts : goal.invariant-texts
 invariant-texts l = record {
   same : wanted l.total l.counter (l.number - l.counter) l.self ≡ wanted 0 0 l.number l.initial.self;
-  small : l.total ≤ l.counter * 16385;
+  left : l.counter + length l.self ≤ 1024;
+  total : l.total ≤ l.counter * 16385;
   short : AreShort l.self;
 }
