@@ -1,3 +1,4 @@
 pub mod Meaning
--- how the evaluator stands for the effects; nothing public rests on it
+-- how the evaluator stands for the effects; nothing public rests on these
+pub mod Values
 pub mod Evaluation

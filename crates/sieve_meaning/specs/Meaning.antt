@@ -35,15 +35,15 @@ value_of effects (Capture n) = slice_index_or effects.captures n []
 
 -- a string, expanded (RFC 5229, section 3), and cut
 abbrev pub expanded : Effects → Template → List ℕ
-expanded effects string = take max_string (flat_map (value_of effects) string)
+expanded effects template = take max_string (flat_map (value_of effects) template)
 
 -- strings, each expanded
 abbrev pub all_expanded : Effects → List Template → List (List ℕ)
-all_expanded effects strings = map (expanded effects) strings
+all_expanded effects templates = map (expanded effects) templates
 
 -- the values of variables, of which one is new
 abbrev pub with_value : List ℕ → List ℕ → (List ℕ → List ℕ) → List ℕ → List ℕ
-with_value name value variables other = if bytes_eq other name then value else variables other
+with_value name value variables other = if bytes_eq name other then value else variables other
 
 -- a test's truth value, and what was done by then
 pub record Verdict : Type 0 where

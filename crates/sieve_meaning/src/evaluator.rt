@@ -70,7 +70,8 @@ impl<'s, 'm> Evaluator<'s, 'm> {
     {
         let text = self.expanded(alloc, value)?;
         let value = modifiers.apply(alloc, text.as_slice(), MAX_VALUE)?;
-        self.variables.set(name, value)
+        self.variables.set(name, value)?;
+        Ok(())
     }
 
     /// Does what a command does.

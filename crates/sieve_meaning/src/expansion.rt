@@ -1,5 +1,7 @@
 // Strings, expanded (RFC 5229, section 3).
-ghost use Rattle.std.specs.Prelude.{◌≡◌, IfOk};
+ghost use Rattle.std.specs.Prelude.{◌≡◌, ◌≤◌, ◌++◌, length, take, OnOk};
+ghost use Rattle.octets.specs.Limits.{max_stack, max_string};
+ghost use Rattle.mail_matching.specs.Texts.{AreTexts};
 
 use crate::evaluator::Evaluator;
 use octets::Octets;
@@ -9,22 +11,35 @@ use std::alloc::{AllocError, Global};
 /// The most octets of an expanded string.
 const MAX_STRING: usize = 16_384;
 
+// Appends a value, up to the limit of an expanded string.
+fn append(value: &[u8], text: &mut Vec<u8>) -> Result<(), AllocError>
+    requires { length text.old.items ≤ max_string }
+    ensures text { OnOk result (text.new.items ≡ take max_string (text.old.items ++ value.now)) }
+    ensures room { OnOk result (length text.new.items ≤ max_string) }
+{
+    let room = MAX_STRING - text.len();
+    text.extend_from_slice(&value[..value.len().min(room)])?;
+    Ok(())
+}
+
 impl<'s, 'm> Evaluator<'s, 'm> {
-    ghost use Rattle.std.specs.Prelude.{map};
+    ghost use Rattle.std.specs.Prelude.{IfOk};
     ghost use Rattle.sieve_check.specs.TypedView.{templates_of};
     ghost use Rattle.sieve_meaning.specs.Meaning.{Effects, all_expanded, expanded, value_of};
     ghost use Rattle.sieve_meaning.specs.Evaluation.{StandsFor};
 
-    // What stands for a segment.
-    fn value<'a>(&'a self, segment: &'a Segment) -> &'a [u8]
-        ensures { (e : Effects) → StandsFor e self.now → result.now ≡ value_of e segment.now }
+    // Appends what stands for a segment, up to the limit of an expanded string.
+    fn append_segment(&self, segment: &Segment, text: &mut Vec<u8>) -> Result<(), AllocError>
+        requires { length text.old.items ≤ max_string }
+        ensures text { (e : Effects) → StandsFor e self.now → OnOk result (text.new.items ≡ take max_string (text.old.items ++ value_of e segment.now)) }
+        ensures room { OnOk result (length text.new.items ≤ max_string) }
     {
         match segment {
-            Segment::Text(octets) => octets.as_slice(),
-            Segment::Variable(name) => self.variables.value(name.as_slice()),
+            Segment::Text(octets) => append(octets.as_slice(), text),
+            Segment::Variable(name) => append(self.variables.value(name.as_slice()), text),
             Segment::Capture(number) => match &self.captures {
-                Some(captures) => captures.text(usize::from(*number)),
-                None => &[],
+                Some(captures) => append(captures.text(usize::from(*number)), text),
+                None => Ok(()),
             },
         }
     }
@@ -33,13 +48,12 @@ impl<'s, 'm> Evaluator<'s, 'm> {
     ///
     /// An error comes only where memory was refused.
     pub fn expanded(&self, alloc: Global, string: &[Segment]) -> Result<Octets, AllocError>
-        ensures { (e : Effects) → StandsFor e self.now → IfOk result (λ text. text ≡ expanded e string.now) }
+        ensures text { (e : Effects) → StandsFor e self.now → IfOk result (λ text. text ≡ expanded e string.now) }
+        ensures short { IfOk result (λ text. length text ≤ max_string) }
     {
         let mut text = Vec::new(alloc);
         for segment in string {
-            let value = self.value(segment);
-            let room = MAX_STRING - text.len();
-            text.extend_from_slice(&value[..value.len().min(room)])?;
+            self.append_segment(segment, &mut text)?;
         }
         Ok(Octets::from_vec(text))
     }
@@ -52,7 +66,9 @@ impl<'s, 'm> Evaluator<'s, 'm> {
         alloc: Global,
         strings: &[Vec<Segment>],
     ) -> Result<Vec<Octets>, AllocError>
-        ensures { (e : Effects) → StandsFor e self.now → IfOk result (λ texts. texts.items ≡ all_expanded e (templates_of strings.now)) }
+        requires { length strings.now ≤ max_stack }
+        ensures expanded { (e : Effects) → StandsFor e self.now → IfOk result (λ texts. texts.items ≡ all_expanded e (templates_of strings.now)) }
+        ensures texts { IfOk result (λ texts. AreTexts texts.items) }
     {
         let mut texts = Vec::new(alloc);
         for string in strings {

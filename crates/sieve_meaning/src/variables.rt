@@ -1,33 +1,24 @@
 // The values of variables.
 ghost use Rattle.std.specs.Prelude.{◌≡◌, ℕ, List, [], OnOk};
 ghost use Rattle.sieve_meaning.specs.Meaning.{with_value};
+ghost use Rattle.sieve_meaning.specs.Values.{found_in};
 
 use octets::Octets;
 use std::alloc::{AllocError, Global};
 use std::collections::BTreeMap;
-use std::marker::Model;
 
 /// The values of the variables that were set, by their names, which are lent by the script.
 ///
-/// A contract sees the value of each name; one that was never set is empty.
+/// The value of a name is what the map holds for it; one that was never set is empty.
 #[derive(Drop)]
 pub struct Variables<'s> {
-    values: BTreeMap<&'s [u8], Octets>,
-}
-
-impl<'s> Model for Variables<'s> {
-    ghost use Rattle.std.specs.Prelude.{ℕ, List};
-    ghost use Rattle.sieve_meaning.specs.Evaluation.{found_in};
-
-    ghost Value = { List ℕ → List ℕ };
-
-    ghost view = { λ v. found_in v.values };
+    pub values: BTreeMap<&'s [u8], Octets>,
 }
 
 impl<'s> Variables<'s> {
     /// No variable was set. Takes no memory.
     pub fn new(alloc: Global) -> Variables<'s>
-        ensures { (name : List ℕ) → result name ≡ [] }
+        ensures { (name : List ℕ) → found_in result.values name ≡ [] }
     {
         Variables {
             values: BTreeMap::new(alloc),
@@ -38,7 +29,7 @@ impl<'s> Variables<'s> {
     ///
     /// An error comes only where memory was refused.
     pub fn set(&mut self, name: &'s [u8], value: Octets) -> Result<(), AllocError>
-        ensures { OnOk result ((other : List ℕ) → self.new other ≡ with_value name.now value self.old other) }
+        ensures { OnOk result ((other : List ℕ) → found_in self.new.values other ≡ with_value name.now value (found_in self.old.values) other) }
     {
         self.values.insert(name, value)?;
         Ok(())
@@ -46,7 +37,7 @@ impl<'s> Variables<'s> {
 
     /// The value of a variable.
     pub fn value(&self, name: &[u8]) -> &[u8]
-        ensures { result.now ≡ self.now name.now }
+        ensures { result.now ≡ found_in self.now.values name.now }
     {
         match self.values.get(name) {
             Some(value) => value.as_slice(),

@@ -1,4 +1,9 @@
-use Rattle.std.proofs.Common.{◌∙◌}
+use Rattle.std.proofs.Common.{◌≡◌, ◌∙◌, ap, sym, subst, IfOk, None}
+use Rattle.sieve_check.specs.Typed.{header}
+use Rattle.sieve_check.specs.TypedView.{templates_of, test_form}
+use Rattle.sieve_meaning.specs.Evaluation.{Gives}
+use Rattle.sieve_meaning.specs.Meaning.{test_does}
+use Rattle.sieve_meaning.proofs.Shapes.{form_header}
 use Rattle.sieve_meaning.proofs.MeaningLemmas.{all_on, any_on, tests_bounded}
 use Rattle.sieve_meaning.proofs.evaluator.Evaluator.+tests.Goals as goal
 
@@ -19,3 +24,13 @@ any_true-list-preserved t c = (
       let after = any_on c.args.message.now c.args.list.now c.list.test-index c.test-item.result c.in_ok-is_true.field-0 c.is_true.new.self before.0 c.list-test.true c.test-item.is (c.in_ok-is_true.ensures before.0 before.1) c.if-branch.false in
       (after.0, after.1, after.2 ∙ before.2),
 )
+
+pub is_true-returns-in-Header : goal.is_true-returns-in-Header
+is_true-returns-in-Header t c = λ e stands.
+    let mail = c.args.message.now in
+    let how = c.in-Header.matching in
+    let form : test_form c.args.test.now ≡ header how (templates_of c.in-Header.names.items) (templates_of c.in-Header.keys.items) =
+    ap test_form c.in-Header.is ∙ form_header how c.in-Header.names c.in-Header.keys in
+    let names = ap (λ ss. test_does mail None (header how (templates_of ss) (templates_of c.in-Header.keys.items)) e) (sym c.deref-in-Header.ensures.value) in
+    let keys = ap (λ ss. test_does mail None (header how (templates_of c.deref-in-Header.result.now) (templates_of ss)) e) (sym c.deref-in-Header-2.ensures.value) in
+    subst (λ v. IfOk c.matches.result (λ value. Gives v value c.matches.new.self)) (sym (ap (λ f. test_does mail None f e) form ∙ names ∙ keys)) (c.matches.ensures e stands)

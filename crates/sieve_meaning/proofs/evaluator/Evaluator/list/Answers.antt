@@ -8,4 +8,5 @@ returns c = λ e stands. record {
   actions = c.in_ok-push.ensures.ok ∙ ap (λ l. with_action l c.args.action) stands.actions ∙ sym (first_occurrences-push e.actions c.args.action);
   implicit_keep = refl;
   captures = stands.captures;
+  variables = stands.variables;
 }

@@ -1,0 +1,26 @@
+-- Commands and tests with strings as forms.
+use Rattle.std.proofs.Common.{◌≡◌, sym, ap, ◌∙◌}
+use Rattle.std.specs.Global.{Vec}
+use Rattle.octets.specs.declared.owned.Octets.{Octets}
+use Rattle.glob_match.specs.declared.match_type.Match.{Match}
+use Rattle.bytecode_format.specs.declared.modifiers.Modifiers.{Modifiers}
+use Rattle.sieve_check.specs.declared.typed.Segment.{Segment}
+use Rattle.sieve_check.specs.declared.typed.Command.{Command}
+use Rattle.sieve_check.specs.declared.typed.Command.TheVariants.{FileInto, Set, rolls-FileInto, rolls-Set}
+use Rattle.sieve_check.specs.declared.typed.Command.TheOpen as open_layer
+use Rattle.sieve_check.specs.declared.typed.Command.TheFolds.{fold-roll-Command}
+use Rattle.sieve_check.specs.declared.typed.Test.{Test}
+use Rattle.sieve_check.specs.declared.typed.Test.TheVariants.{Header, rolls-Header}
+use Rattle.sieve_check.specs.declared.typed.Test.TheOpen as test_layer
+use Rattle.sieve_check.specs.declared.typed.Test.TheFolds.{fold-roll-Test}
+use Rattle.sieve_check.specs.Typed.{TestForm, header, CommandForm, file_into, set}
+use Rattle.sieve_check.specs.TypedView.{GuardedForm, branch_step, command_form, command_step, templates_of, test_form, test_step}
+
+pub form_header : (how : Match) (names keys : Vec (Vec Segment)) → test_form (Header how names keys) ≡ header how (templates_of names.items) (templates_of keys.items)
+form_header how names keys = ap test_form (sym (rolls-Header how names keys)) ∙ fold-roll-Test TestForm test_step (test_layer.Header how names keys)
+
+pub form_file_into : (folder : Vec Segment) → command_form (FileInto folder) ≡ file_into folder.items
+form_file_into folder = ap command_form (sym (rolls-FileInto folder)) ∙ fold-roll-Command CommandForm GuardedForm command_step branch_step (open_layer.FileInto folder)
+
+pub form_set : (modifiers : Modifiers) (name : Octets) (value : Vec Segment) → command_form (Set modifiers name value) ≡ set modifiers name value.items
+form_set modifiers name value = ap command_form (sym (rolls-Set modifiers name value)) ∙ fold-roll-Command CommandForm GuardedForm command_step branch_step (open_layer.Set modifiers name value)
