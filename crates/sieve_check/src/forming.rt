@@ -10,7 +10,7 @@ ghost use Rattle.sieve_check.specs.TypedView.{commands_form, test_form, tests_of
 use crate::names::{CommandName, TestName, command_named, test_named};
 use crate::sequence::{Part, Sequence};
 use crate::signature::{Tags, command_signature, test_signature};
-use crate::typed::{Branch, Command, Test};
+use crate::typed::{Branch, Command, Segment, Test};
 use glob_match::{Comparator, Match, MatchType};
 use octets::Octets;
 use sieve_parser::{Argument, Command as Tree, Head, Invocation};
@@ -26,20 +26,30 @@ fn number_in(arguments: &[Argument]) -> Option<u64>
     }
 }
 
+fn template(alloc: Global, octets: &Octets) -> Result<Vec<Segment>, AllocError> {
+    let mut all = Vec::new(alloc);
+    all.push(Segment::Text(octets.clone()?))?;
+    Ok(all)
+}
+
 // The strings, copied.
-fn strings(alloc: Global, first: &Octets, others: &[Octets]) -> Result<Vec<Octets>, AllocError>
+fn strings(
+    alloc: Global,
+    first: &Octets,
+    others: &[Octets],
+) -> Result<Vec<Vec<Segment>>, AllocError>
     ensures { IfOk result (λ all. all.items ≡ first.now ∷ others.now) }
 {
     let mut all = Vec::new(alloc);
-    all.push(first.clone()?)?;
+    all.push(template(alloc, first)?)?;
     for string in others {
-        all.push(string.clone()?)?;
+        all.push(template(alloc, string)?)?;
     }
     Ok(all)
 }
 
 // The strings of a list, copied; one string is a list, too.
-fn list_in(alloc: Global, argument: &Argument) -> Result<Option<Vec<Octets>>, AllocError>
+fn list_in(alloc: Global, argument: &Argument) -> Result<Option<Vec<Vec<Segment>>>, AllocError>
     ensures { IfOk result (λ list. option_map (λ all. all.items) list ≡ list_in (argument_tree argument.now)) }
 {
     match argument {
@@ -109,7 +119,7 @@ fn plain_test(alloc: Global, head: &Head) -> Result<Option<Test>, AllocError>
         TestName::Header => header(alloc, reading.tags, reading.positional),
         TestName::Exists => exists(alloc, reading.positional),
         TestName::Size => Ok(size(reading.tags, reading.positional)),
-        TestName::Not | TestName::AllOf | TestName::AnyOf => Ok(None),
+        TestName::String | TestName::Not | TestName::AllOf | TestName::AnyOf => Ok(None),
     }
 }
 
@@ -145,7 +155,8 @@ fn combining(head: &Head) -> Option<Junction>
         | TestName::Not
         | TestName::Header
         | TestName::Exists
-        | TestName::Size => None,
+        | TestName::Size
+        | TestName::String => None,
     }
 }
 
@@ -216,17 +227,19 @@ fn tests(alloc: Global, list: &[Invocation]) -> Result<Option<Vec<Test>>, AllocE
 }
 
 // The command that files into the folder which the arguments are.
-fn file_into(arguments: &[Argument]) -> Result<Option<Part>, AllocError>
+fn file_into(alloc: Global, arguments: &[Argument]) -> Result<Option<Part>, AllocError>
     ensures { IfOk result (λ part. option_map part_form part ≡ option_map (λ folder. action (file_into folder)) (text_in (map argument_tree arguments.now))) }
 {
     match arguments {
-        [Argument::Text(folder)] => Ok(Some(Part::Action(Command::FileInto(folder.clone()?)))),
+        [Argument::Text(folder)] => Ok(Some(Part::Action(Command::FileInto(template(
+            alloc, folder,
+        )?)))),
         _ => Ok(None),
     }
 }
 
 // A command that ends in a semicolon, and after whose arguments no test stands.
-fn plain_part(head: &Head) -> Result<Option<Part>, AllocError>
+fn plain_part(alloc: Global, head: &Head) -> Result<Option<Part>, AllocError>
     ensures { IfOk result (λ part. option_map part_form part ≡ head_simple head.now none) }
 {
     let Some(name) = command_named(head.name.as_slice()) else {
@@ -240,8 +253,8 @@ fn plain_part(head: &Head) -> Result<Option<Part>, AllocError>
         CommandName::Stop => Ok(Some(Part::Action(Command::Stop))),
         CommandName::Keep => Ok(Some(Part::Action(Command::Keep))),
         CommandName::Discard => Ok(Some(Part::Action(Command::Discard))),
-        CommandName::FileInto => file_into(reading.positional),
-        CommandName::If | CommandName::Elsif | CommandName::Else => Ok(None),
+        CommandName::FileInto => file_into(alloc, reading.positional),
+        CommandName::Set | CommandName::If | CommandName::Elsif | CommandName::Else => Ok(None),
     }
 }
 
@@ -268,7 +281,8 @@ fn opened(head: &Head) -> Option<Opening>
         | CommandName::Stop
         | CommandName::Keep
         | CommandName::Discard
-        | CommandName::FileInto => None,
+        | CommandName::FileInto
+        | CommandName::Set => None,
     }
 }
 
@@ -297,7 +311,8 @@ fn last_part(head: &Head, block: Vec<Command>) -> Option<Part>
         | CommandName::Stop
         | CommandName::Keep
         | CommandName::Discard
-        | CommandName::FileInto => None,
+        | CommandName::FileInto
+        | CommandName::Set => None,
     }
 }
 
@@ -320,11 +335,11 @@ fn block_part(
 }
 
 // A command without a block, as a part of the commands around it.
-fn simple_part(invocation: &Invocation) -> Result<Option<Part>, AllocError>
+fn simple_part(alloc: Global, invocation: &Invocation) -> Result<Option<Part>, AllocError>
     ensures { IfOk result (λ part. option_map part_form part ≡ simple_part (invocation_tree invocation.now)) }
 {
     match invocation {
-        Invocation::Plain(head) => plain_part(head),
+        Invocation::Plain(head) => plain_part(alloc, head),
         Invocation::WithTest(_, _) | Invocation::WithTests(_, _, _) => Ok(None),
     }
 }
@@ -335,7 +350,7 @@ fn part(alloc: Global, tree: &Tree) -> Result<Option<Part>, AllocError>
     ensures { IfOk result (λ part. option_map part_form part ≡ part_of (command_tree tree.now)) }
 {
     match tree {
-        Tree::Simple(invocation) => simple_part(invocation),
+        Tree::Simple(invocation) => simple_part(alloc, invocation),
         Tree::Block(invocation, block) => match commands(alloc, block)? {
             Some(body) => block_part(alloc, invocation, body),
             None => Ok(None),

@@ -21,4 +21,4 @@ mod typed;
 pub use checked::Checked;
 pub use checker::check;
 pub use error::CheckError;
-pub use typed::{Branch, Command, Order, Test};
+pub use typed::{Branch, Command, Order, Segment, Test};

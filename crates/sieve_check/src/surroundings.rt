@@ -162,7 +162,8 @@ impl Surroundings {
             | CommandName::Stop
             | CommandName::Keep
             | CommandName::Discard
-            | CommandName::FileInto => after,
+            | CommandName::FileInto
+            | CommandName::Set => after,
         }
     }
 
