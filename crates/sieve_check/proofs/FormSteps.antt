@@ -22,7 +22,7 @@ use Rattle.sieve_check.specs.Signatures.{◌>>=◌, reading, command_signature}
 use Rattle.sieve_check.specs.Typed.{TestForm, TestForms, test, CommandForms}
 use Rattle.sieve_check.specs.TypedView.{test_form}
 use Rattle.sieve_check.proofs.TestLists.{tests_onto, onto-append}
-use Rattle.sieve_check.proofs.FaultSteps.{others_of, split_at}
+use Rattle.sieve_check.proofs.FromIndex.{others_of, split_at}
 use Rattle.sieve_check.proofs.Options.{step_none}
 
 -- one more test of a list

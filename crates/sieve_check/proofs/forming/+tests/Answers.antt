@@ -3,7 +3,7 @@ use Rattle.std.specs.Prelude.{option_map}
 use Rattle.std.proofs.lemmas.List.{drop_all}
 use Rattle.sieve_check.specs.FormOf.{more_forms_of}
 use Rattle.sieve_check.specs.TypedView.{test_form}
-use Rattle.sieve_check.proofs.FaultSteps.{others_of}
+use Rattle.sieve_check.proofs.FromIndex.{others_of}
 use Rattle.sieve_check.proofs.FormSteps.{tests_more}
 use Rattle.sieve_check.proofs.TestLists.{tests_onto, onto_nothing}
 use Rattle.sieve_check.proofs.forming.+tests.Goals as goal
