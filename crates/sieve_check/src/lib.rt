@@ -15,7 +15,9 @@ mod names;
 mod rules;
 mod sequence;
 mod signature;
+mod strings;
 mod surroundings;
+mod test_forms;
 mod typed;
 
 pub use checked::Checked;

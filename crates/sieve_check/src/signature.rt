@@ -278,12 +278,7 @@ impl Signature {
             order: None,
             kind: None,
             comparator: None,
-            modifiers: Modifiers {
-                letters: None,
-                first: None,
-                quote_wildcard: false,
-                length: false,
-            },
+            modifiers: Modifiers::none(),
         };
         let mut rest = arguments;
         'tags: while let Some((name, more)) = first_tag(rest) {
