@@ -7,6 +7,9 @@ pub mod FaultSteps
 pub mod FormSteps
 pub mod Requiring
 pub mod Options
+pub mod RefLaws
+pub mod Faultless
+pub mod Templates
 pub mod Extent
 pub mod Lists
 pub mod Existence
