@@ -1,27 +1,38 @@
 -- What a script's limits say of its typed form.
-use Rattle.std.specs.Prelude.{ℕ, ◌+◌, ◌<◌, ◌≤◌, List, length, All}
-use Rattle.octets.specs.Limits.{max_script, max_string}
-use Rattle.sieve_check.specs.Typed.{TestForm, constant, negation, all_of, any_of, header, exists, size, TestForms, no_test, test, CommandForm, keep, discard, file_into, stop, choice, CommandForms, no_command, command, BranchForms, no_branch, otherwise, branch}
+use Rattle.std.specs.Prelude.{ℕ, ◌+◌, ◌<◌, ◌≤◌, List, length, All, bytes_eq}
+use Rattle.octets.specs.Limits.{max_script, max_segments, max_string, max_test_strings, max_variables}
+use Rattle.octets.specs.Once.{each_once}
+use Rattle.sieve_references.specs.References.{last_capture}
+use Rattle.sieve_check.specs.declared.typed.Segment.{Segment}
+use Rattle.sieve_check.specs.declared.typed.Segment.TheVariants.{Text, Variable, Capture}
+use Rattle.sieve_check.specs.Typed.{Template, TestForm, constant, negation, all_of, any_of, header, exists, size, string, TestForms, no_test, test, CommandForm, keep, discard, file_into, set, stop, choice, CommandForms, no_command, command, BranchForms, no_branch, otherwise, branch}
 use Rattle.sieve_check.specs.Extent.{commands_extent}
-use Rattle.sieve_check.specs.Rules.{max_test_strings}
+use Rattle.sieve_check.specs.Variables.{commands_variables}
 
--- the string is as long as it may be
-abbrev pub IsShort : List ℕ → Type 0
-IsShort s = length s ≤ max_string
+-- the stretch is no longer than a string may be, and the capture is one of those that there are
+abbrev pub IsBoundedSegment : Segment → Type 0
+IsBoundedSegment (Text octets) = length octets ≤ max_string
+IsBoundedSegment (Variable name) = Unit {0}
+IsBoundedSegment (Capture n) = n ≤ last_capture
+
+-- the string has no more segments than one may have
+pub record IsBoundedString (string : Template) : Type 0 where
+  pub few : length string ≤ max_segments
+  pub segments : All IsBoundedSegment string
 
 -- the list of a test has a string, and no more than one test may have
-pub record IsBoundedList (strings : List (List ℕ)) : Type 0 where
+pub record IsBoundedList (strings : List Template) : Type 0 where
   pub some : 0 < length strings
   pub few : length strings ≤ max_test_strings
-  pub short : All IsShort strings
+  pub bounded : All IsBoundedString strings
 
 -- the same of two lists of a test, together
-pub record AreBoundedLists (first second : List (List ℕ)) : Type 0 where
+pub record AreBoundedLists (first second : List Template) : Type 0 where
   pub some_first : 0 < length first
   pub some_second : 0 < length second
   pub few : length first + length second ≤ max_test_strings
-  pub short_first : All IsShort first
-  pub short_second : All IsShort second
+  pub bounded_first : All IsBoundedString first
+  pub bounded_second : All IsBoundedString second
 
 abbrev mutual
   pub IsBoundedTest : TestForm → Type 0
@@ -32,6 +43,7 @@ abbrev mutual
   IsBoundedTest (header matching names keys) = AreBoundedLists names keys
   IsBoundedTest (exists names) = IsBoundedList names
   IsBoundedTest (size order number) = Unit {0}
+  IsBoundedTest (string matching sources keys) = AreBoundedLists sources keys
 
   pub AreBoundedTests : TestForms → Type 0
   AreBoundedTests no_test = Unit {0}
@@ -41,7 +53,8 @@ abbrev mutual
   pub IsBoundedCommand : CommandForm → Type 0
   IsBoundedCommand keep = Unit {0}
   IsBoundedCommand discard = Unit {0}
-  IsBoundedCommand (file_into folder) = IsShort folder
+  IsBoundedCommand (file_into folder) = IsBoundedString folder
+  IsBoundedCommand (set modifiers name value) = IsBoundedString value
   IsBoundedCommand stop = Unit {0}
   IsBoundedCommand (choice branches) = AreBoundedBranches branches
 
@@ -57,4 +70,5 @@ abbrev mutual
 -- the form is that of a script within the limits
 pub record IsBounded (form : CommandForms) : Type 0 where
   pub octets : commands_extent form ≤ max_script
+  pub variables : length (each_once bytes_eq (commands_variables form)) ≤ max_variables
   pub commands : AreBoundedCommands form

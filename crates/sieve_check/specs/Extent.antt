@@ -1,15 +1,22 @@
 -- How many octets a typed form is written with, at least. A name, a number, a tag and a sign count for one, however long they are.
-use Rattle.std.specs.Prelude.{ℕ, ◌+◌, List, [], ◌∷◌, length}
-use Rattle.sieve_check.specs.Typed.{TestForm, constant, negation, all_of, any_of, header, exists, size, TestForms, no_test, test, CommandForm, keep, discard, file_into, stop, choice, CommandForms, no_command, command, BranchForms, no_branch, otherwise, branch}
+use Rattle.std.specs.Prelude.{ℕ, ◌+◌, List, length, sum_by}
+use Rattle.sieve_check.specs.declared.typed.Segment.{Segment}
+use Rattle.sieve_check.specs.declared.typed.Segment.TheVariants.{Text, Variable, Capture}
+use Rattle.sieve_check.specs.Typed.{Template, TestForm, constant, negation, all_of, any_of, header, exists, size, string, TestForms, no_test, test, CommandForm, keep, discard, file_into, set, stop, choice, CommandForms, no_command, command, BranchForms, no_branch, otherwise, branch}
+
+-- a stretch of text, or a reference with its braces
+abbrev pub segment_extent : Segment → ℕ
+segment_extent (Text octets) = length octets
+segment_extent (Variable name) = 3 + length name
+segment_extent (Capture n) = 4
 
 -- a string in quotes
-abbrev pub string_extent : List ℕ → ℕ
-string_extent s = 2 + length s
+abbrev pub string_extent : Template → ℕ
+string_extent segments = 2 + sum_by segment_extent segments
 
 -- strings, without brackets and commas
-abbrev pub strings_extent : List (List ℕ) → ℕ
-strings_extent [] = 0
-strings_extent (s ∷ ss) = string_extent s + strings_extent ss
+abbrev pub strings_extent : List Template → ℕ
+strings_extent strings = sum_by string_extent strings
 
 abbrev mutual
   -- a name, then its number with its tag, its strings, its test, or its tests in brackets with the commas between them
@@ -21,6 +28,7 @@ abbrev mutual
   test_extent (header matching names keys) = 1 + strings_extent names + strings_extent keys
   test_extent (exists names) = 1 + strings_extent names
   test_extent (size order number) = 3
+  test_extent (string matching sources keys) = 1 + strings_extent sources + strings_extent keys
 
   -- each with the comma before it
   pub tests_extent : TestForms → ℕ
@@ -28,11 +36,12 @@ abbrev mutual
   tests_extent (test t ts) = 1 + test_extent t + tests_extent ts
 
 abbrev mutual
-  -- a name, perhaps a string, and a semicolon; or branches
+  -- a name, its strings, if it has any, and a semicolon; or branches
   pub command_extent : CommandForm → ℕ
   command_extent keep = 2
   command_extent discard = 2
   command_extent (file_into folder) = 2 + string_extent folder
+  command_extent (set modifiers name value) = 4 + length name + string_extent value
   command_extent stop = 2
   command_extent (choice branches) = branches_extent branches
 

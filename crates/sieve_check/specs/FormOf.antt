@@ -1,23 +1,43 @@
 -- The typed form of a script.
-use Rattle.std.specs.Prelude.{◌≡◌, ℕ, List, [], ◌∷◌, Option, Some, None, option_map, unwrap_or}
+use Rattle.std.specs.Prelude.{◌≡◌, ℕ, List, [], ◌∷◌, flat_map, map, Option, Some, None, option_map, unwrap_or, if◌then◌else◌}
+use Rattle.octets.specs.Ascii.{lowercase_of}
+use Rattle.sieve_references.specs.References as references
 use Rattle.sieve_parser.specs.Tree.{ArgumentTree, text, text_list, amount, label, InvocationTree, invocation, TestsTree, no_test, one_test, test_list, MoreTests, last as no_more, next, CommandTree, simple, block, CommandsTree, no_command as no_tree, command as tree}
 use Rattle.glob_match.specs.declared.comparator.Comparator.TheVariants.{Casemap}
 use Rattle.glob_match.specs.declared.match_type.Match.{Match}
 use Rattle.glob_match.specs.declared.match_type.MatchType.TheVariants.{Is}
 use Rattle.sieve_check.specs.declared.names.CommandName.{CommandName}
-use Rattle.sieve_check.specs.declared.names.CommandName.TheVariants.{Require, If, Elsif, Else, Stop, Keep, Discard, FileInto}
+use Rattle.sieve_check.specs.declared.names.CommandName.TheVariants.{Require, If, Elsif, Else, Stop, Keep, Discard, FileInto, Set}
 use Rattle.sieve_check.specs.declared.names.TestName.{TestName}
-use Rattle.sieve_check.specs.declared.names.TestName.TheVariants.{Constant, Not, AllOf, AnyOf, Header, Exists, Size}
+use Rattle.sieve_check.specs.declared.names.TestName.TheVariants.{Constant, Not, AllOf, AnyOf, Header, Exists, Size, String}
+use Rattle.sieve_check.specs.declared.names.Capability.TheVariants.{Variables}
+use Rattle.sieve_check.specs.declared.typed.Segment.{Segment}
+use Rattle.sieve_check.specs.declared.typed.Segment.TheVariants.{Text, Variable, Capture}
+use Rattle.bytecode_format.specs.declared.modifiers.Modifiers.{Modifiers}
 use Rattle.sieve_check.specs.declared.signature.Tags.{Tags}
 use Rattle.sieve_check.specs.Names.{command_named, test_named}
 use Rattle.sieve_check.specs.Signatures.{◌>>=◌, Read, reading, command_signature, test_signature}
-use Rattle.sieve_check.specs.Typed.{TestForm, constant, negation, all_of, any_of, header, exists, size, TestForms, no_test as no_other, test, CommandForm, keep, discard, file_into, stop, choice, CommandForms, no_command, command, BranchForms, no_branch, otherwise, branch}
+use Rattle.sieve_check.specs.Rules.{after_invocation, invocation_of, loops_opened}
+use Rattle.sieve_check.specs.Surroundings.{Context, at_start, has_capability, in_block}
+use Rattle.sieve_check.specs.Typed.{Template, TestForm, constant, negation, all_of, any_of, header, exists, size, string, TestForms, no_test as no_other, test, CommandForm, keep, discard, file_into, set, stop, choice, CommandForms, no_command, command, BranchForms, no_branch, otherwise, branch}
 
 -- the forms of the tests behind arguments: none, one, or a first and others in brackets
 pub data InnerForms : Type 0 where
   none : InnerForms
   one : TestForm → InnerForms
   bracketed : TestForm → TestForms → InnerForms
+
+-- a segment as it is meant; a script with a wrong reference is refused
+abbrev pub meant : references.Segment → List Segment
+meant (references.stretch octets) = Text octets ∷ []
+meant (references.variable name) = Variable (lowercase_of name) ∷ []
+meant (references.capture n) = Capture n ∷ []
+meant references.beyond = []
+meant references.foreign = []
+
+-- a string as it is meant: expanded where variables were required, else as it is written
+abbrev pub template_of : Context → List ℕ → Template
+template_of s octets = if has_capability Variables s.required then flat_map meant (references.segments octets) else Text octets ∷ []
 
 abbrev pub number_in : List ArgumentTree → Option ℕ
 number_in (amount n ∷ []) = Some n
@@ -27,21 +47,26 @@ abbrev pub text_in : List ArgumentTree → Option (List ℕ)
 text_in (text s ∷ []) = Some s
 text_in _ = None
 
+-- two strings: the name of a variable, which is taken as it is written, and its value
+abbrev pub setting_in : Context → Modifiers → List ArgumentTree → Option CommandForm
+setting_in s modifiers (text name ∷ text value ∷ []) = Some (set modifiers (lowercase_of name) (template_of s value))
+setting_in s modifiers _ = None
+
 -- the strings of a list, which may be one string without brackets
-abbrev pub list_in : ArgumentTree → Option (List (List ℕ))
-list_in (text s) = Some (s ∷ [])
-list_in (text_list s ss) = Some (s ∷ ss)
-list_in (amount n) = None
-list_in (label name) = None
+abbrev pub list_in : Context → ArgumentTree → Option (List Template)
+list_in s (text x) = Some (template_of s x ∷ [])
+list_in s (text_list x xs) = Some (map (template_of s) (x ∷ xs))
+list_in s (amount n) = None
+list_in s (label name) = None
 
 -- what is made of one list, and of two
-abbrev pub of_list : {A : Type 0} → (List (List ℕ) → A) → List ArgumentTree → Option A
-of_list make (a ∷ []) = option_map make (list_in a)
-of_list make _ = None
+abbrev pub of_list : {A : Type 0} → Context → (List Template → A) → List ArgumentTree → Option A
+of_list s make (a ∷ []) = option_map make (list_in s a)
+of_list s make _ = None
 
-abbrev pub of_lists : {A : Type 0} → (List (List ℕ) → List (List ℕ) → A) → List ArgumentTree → Option A
-of_lists make (a ∷ b ∷ []) = list_in a >>= λ first. option_map (make first) (list_in b)
-of_lists make _ = None
+abbrev pub of_lists : {A : Type 0} → Context → (List Template → List Template → A) → List ArgumentTree → Option A
+of_lists s make (a ∷ b ∷ []) = list_in s a >>= λ first. option_map (make first) (list_in s b)
+of_lists s make _ = None
 
 -- how values and keys are matched: without a tag by `:is`, and by `i;ascii-casemap`
 abbrev pub match_of : Tags → Match
@@ -52,28 +77,30 @@ abbrev pub size_of : Tags → List ArgumentTree → Option TestForm
 size_of tags args = tags.order >>= λ order. number_in args >>= λ n. Some (size order n)
 
 -- a test of this name, with the arguments that were read and the tests behind them
-abbrev pub test_of : TestName → Read → InnerForms → Option TestForm
-test_of (Constant b) read none = Some (constant b)
-test_of Not read (one f) = Some (negation f)
-test_of AllOf read (bracketed f fs) = Some (all_of f fs)
-test_of AnyOf read (bracketed f fs) = Some (any_of f fs)
-test_of Header read none = of_lists (header (match_of read.tags)) read.positional
-test_of Exists read none = of_list exists read.positional
-test_of Size read none = size_of read.tags read.positional
-test_of _ _ _ = None
+abbrev pub test_of : Context → TestName → Read → InnerForms → Option TestForm
+test_of s (Constant b) read none = Some (constant b)
+test_of s Not read (one f) = Some (negation f)
+test_of s AllOf read (bracketed f fs) = Some (all_of f fs)
+test_of s AnyOf read (bracketed f fs) = Some (any_of f fs)
+test_of s Header read none = of_lists s (header (match_of read.tags)) read.positional
+test_of s Exists read none = of_list s exists read.positional
+test_of s Size read none = size_of read.tags read.positional
+test_of s String read none = of_lists s (string (match_of read.tags)) read.positional
+test_of s _ _ _ = None
 
 abbrev mutual
-  pub test_form_of : InvocationTree → Option TestForm
-  test_form_of (invocation token word args tests) = inner_forms_of tests >>= λ inner. test_named word >>= λ name. reading (test_signature name) args >>= λ read. test_of name read inner
+  pub test_form_of : Context → InvocationTree → Option TestForm
+  test_form_of s (invocation token word args tests) =
+      inner_forms_of s tests >>= λ inner. test_named word >>= λ name. reading (test_signature name) args >>= λ read. test_of s name read inner
 
-  pub inner_forms_of : TestsTree → Option InnerForms
-  inner_forms_of no_test = Some none
-  inner_forms_of (one_test t) = option_map one (test_form_of t)
-  inner_forms_of (test_list t ts) = test_form_of t >>= λ f. option_map (bracketed f) (more_forms_of ts)
+  pub inner_forms_of : Context → TestsTree → Option InnerForms
+  inner_forms_of s no_test = Some none
+  inner_forms_of s (one_test t) = option_map one (test_form_of s t)
+  inner_forms_of s (test_list t ts) = test_form_of s t >>= λ f. option_map (bracketed f) (more_forms_of s ts)
 
-  pub more_forms_of : MoreTests → Option TestForms
-  more_forms_of no_more = Some no_other
-  more_forms_of (next t ts) = test_form_of t >>= λ f. option_map (test f) (more_forms_of ts)
+  pub more_forms_of : Context → MoreTests → Option TestForms
+  more_forms_of s no_more = Some no_other
+  more_forms_of s (next t ts) = test_form_of s t >>= λ f. option_map (test f) (more_forms_of s ts)
 
 -- what a command adds: nothing, itself, or with its block a choice, a further branch of a choice, or its last one
 pub data PartForm : Type 0 where
@@ -84,13 +111,14 @@ pub data PartForm : Type 0 where
   last : CommandForms → PartForm
 
 -- a command of this name that ends in a semicolon, with the arguments that were read
-abbrev pub simple_of : CommandName → Read → InnerForms → Option PartForm
-simple_of Require read none = Some nothing
-simple_of Stop read none = Some (action stop)
-simple_of Keep read none = Some (action keep)
-simple_of Discard read none = Some (action discard)
-simple_of FileInto read none = option_map (λ folder. action (file_into folder)) (text_in read.positional)
-simple_of _ _ _ = None
+abbrev pub simple_of : Context → CommandName → Read → InnerForms → Option PartForm
+simple_of s Require read none = Some nothing
+simple_of s Stop read none = Some (action stop)
+simple_of s Keep read none = Some (action keep)
+simple_of s Discard read none = Some (action discard)
+simple_of s FileInto read none = option_map (λ folder. action (file_into (template_of s folder))) (text_in read.positional)
+simple_of s Set read none = option_map action (setting_in s read.tags.modifiers read.positional)
+simple_of s _ _ _ = None
 
 -- a command of this name that ends in a block
 abbrev pub block_of : CommandName → InnerForms → CommandForms → Option PartForm
@@ -124,28 +152,28 @@ put (next_branch f body) rest = Some (record { branches = branch f body rest.bra
 put (last body) rest = option_map (λ cs. record { branches = otherwise body; commands = cs }) (closed rest)
 
 -- a command that ends in a semicolon
-abbrev pub simple_part : InvocationTree → Option PartForm
-simple_part (invocation token word args tests) =
-    inner_forms_of tests >>= λ inner. command_named word >>= λ name. reading (command_signature name) args >>= λ read. simple_of name read inner
+abbrev pub simple_part : Context → InvocationTree → Option PartForm
+simple_part s (invocation token word args tests) =
+    inner_forms_of s tests >>= λ inner. command_named word >>= λ name. reading (command_signature name) args >>= λ read. simple_of s name read inner
 
 -- a command that ends in a block, which has that form
-abbrev pub block_part : InvocationTree → CommandForms → Option PartForm
-block_part (invocation token word args tests) body =
-    inner_forms_of tests >>= λ inner. command_named word >>= λ name. reading (command_signature name) args >>= λ read. block_of name inner body
+abbrev pub block_part : Context → InvocationTree → CommandForms → Option PartForm
+block_part s (invocation token word args tests) body =
+    inner_forms_of s tests >>= λ inner. command_named word >>= λ name. reading (command_signature name) args >>= λ read. block_of name inner body
 
 abbrev mutual
-  pub part_of : CommandTree → Option PartForm
-  part_of (simple i) = simple_part i
-  part_of (block i cs) = forms_of cs >>= λ forms. closed forms >>= λ body. block_part i body
+  pub part_of : Context → CommandTree → Option PartForm
+  part_of s (simple i) = simple_part s i
+  part_of s (block i cs) = forms_of (in_block (loops_opened i) s) cs >>= λ forms. closed forms >>= λ body. block_part s i body
 
   -- commands, one before the others
-  pub forms_of : CommandsTree → Option Forms
-  forms_of no_tree = Some (after_none no_command)
-  forms_of (tree c cs) = forms_of cs >>= λ rest. part_of c >>= λ part. put part rest
+  pub forms_of : Context → CommandsTree → Option Forms
+  forms_of s no_tree = Some (after_none no_command)
+  forms_of s (tree c cs) = forms_of (after_invocation s (invocation_of c)) cs >>= λ rest. part_of s c >>= λ part. put part rest
 
 -- the typed form of a script, if it is written as it has to be
 abbrev pub form_of : CommandsTree → Option CommandForms
-form_of script = forms_of script >>= closed
+form_of script = forms_of at_start script >>= closed
 
 abbrev pub IsFormOf : CommandsTree → CommandForms → Type 0
 IsFormOf script form = form_of script ≡ Some form

@@ -9,15 +9,16 @@ use Rattle.sieve_check.specs.Names.{command_named, test_named}
 use Rattle.sieve_check.specs.Rules.{arguments_of}
 use Rattle.sieve_check.specs.Signatures.{◌>>=◌, reading, command_signature, test_signature}
 use Rattle.sieve_check.specs.FormOf.{InnerForms, test_of, PartForm, first, next_branch, simple_of, block_of}
+use Rattle.sieve_check.specs.Surroundings.{Context}
 use Rattle.sieve_check.specs.Typed.{TestForm, all_of, any_of, TestForms, CommandForms}
 
 -- the test of a head, with the tests behind it
-abbrev pub head_test : Head → InnerForms → Option TestForm
-head_test head inner = test_named head.name >>= λ name. reading (test_signature name) (arguments_of head) >>= λ read. test_of name read inner
+abbrev pub head_test : Context → Head → InnerForms → Option TestForm
+head_test s head inner = test_named head.name >>= λ name. reading (test_signature name) (arguments_of head) >>= λ read. test_of s name read inner
 
 -- the command of a head, which ends in a semicolon, and which ends in a block
-abbrev pub head_simple : Head → InnerForms → Option PartForm
-head_simple head inner = command_named head.name >>= λ name. reading (command_signature name) (arguments_of head) >>= λ read. simple_of name read inner
+abbrev pub head_simple : Context → Head → InnerForms → Option PartForm
+head_simple s head inner = command_named head.name >>= λ name. reading (command_signature name) (arguments_of head) >>= λ read. simple_of s name read inner
 
 abbrev pub head_block : Head → InnerForms → CommandForms → Option PartForm
 head_block head inner body = command_named head.name >>= λ name. reading (command_signature name) (arguments_of head) >>= λ read. block_of name inner body

@@ -1,6 +1,7 @@
 pub mod Typed
 pub mod TypedView
 pub mod Extent
+pub mod Variables
 pub mod Bounded
 pub mod Names
 pub mod Signatures

@@ -4,13 +4,14 @@ use Rattle.octets.specs.Ascii.{lowercase_of}
 use Rattle.glob_match.specs.declared.comparator.Comparator.{Comparator as ComparatorName}
 use Rattle.glob_match.specs.declared.comparator.Comparator.TheVariants.{Octet, Casemap}
 use Rattle.glob_match.specs.declared.match_type.MatchType.TheVariants.{Is, Contains, Matches}
+use Rattle.bytecode_format.specs.declared.modifiers.Case.TheVariants.{Lower, Upper}
 use Rattle.sieve_check.specs.declared.typed.Order.TheVariants.{Over, Under}
 use Rattle.sieve_check.specs.declared.names.CommandName.{CommandName}
-use Rattle.sieve_check.specs.declared.names.CommandName.TheVariants.{Require, If, Elsif, Else, Stop, Keep, Discard, FileInto}
+use Rattle.sieve_check.specs.declared.names.CommandName.TheVariants.{Require, If, Elsif, Else, Stop, Keep, Discard, FileInto, Set}
 use Rattle.sieve_check.specs.declared.names.TestName.{TestName}
-use Rattle.sieve_check.specs.declared.names.TestName.TheVariants.{Constant, Not, AllOf, AnyOf, Header, Exists, Size}
+use Rattle.sieve_check.specs.declared.names.TestName.TheVariants.{Constant, Not, AllOf, AnyOf, Header, Exists, Size, String}
 use Rattle.sieve_check.specs.declared.names.Tag.{Tag}
-use Rattle.sieve_check.specs.declared.names.Tag.TheVariants.{Order, Kind, Comparator}
+use Rattle.sieve_check.specs.declared.names.Tag.TheVariants.{Order, Kind, Comparator, Letters, First, QuoteWildcard, Length}
 use Rattle.sieve_check.specs.declared.names.Capability.{Capability}
 use Rattle.sieve_check.specs.declared.names.Capability.TheVariants.{FileInto as FileIntoCapability, Variables, Mime, ForEveryPart, Depot, OctetComparator, CasemapComparator}
 
@@ -29,6 +30,7 @@ command_named name =
     if is_word name (codes "keep") then Some Keep else
     if is_word name (codes "discard") then Some Discard else
     if is_word name (codes "fileinto") then Some FileInto else
+    if is_word name (codes "set") then Some Set else
     None
 
 -- the test of that name, if it is known
@@ -42,6 +44,7 @@ test_named name =
     if is_word name (codes "header") then Some Header else
     if is_word name (codes "exists") then Some Exists else
     if is_word name (codes "size") then Some Size else
+    if is_word name (codes "string") then Some String else
     None
 
 -- the tag of that name, if it is known
@@ -53,6 +56,12 @@ tag_named name =
     if is_word name (codes "contains") then Some (Kind Contains) else
     if is_word name (codes "matches") then Some (Kind Matches) else
     if is_word name (codes "comparator") then Some Comparator else
+    if is_word name (codes "lower") then Some (Letters Lower) else
+    if is_word name (codes "upper") then Some (Letters Upper) else
+    if is_word name (codes "lowerfirst") then Some (First Lower) else
+    if is_word name (codes "upperfirst") then Some (First Upper) else
+    if is_word name (codes "quotewildcard") then Some QuoteWildcard else
+    if is_word name (codes "length") then Some Length else
     None
 
 -- the capability of that name, if it is known; capabilities are taken as they are written

@@ -1,9 +1,11 @@
 -- What is wrong with the commands and tests of a script, and which fault is named.
-use Rattle.std.specs.Prelude.{ℕ, Bool, true, false, ◌&&◌, ◌||◌, not, nat_lt, if◌then◌else◌, List, [], ◌∷◌, ◌++◌, map, length, flat_map, Option, Some, None, is_some, option_map}
+use Rattle.std.specs.Prelude.{ℕ, Bool, true, false, ◌&&◌, ◌||◌, not, nat_lt, bytes_eq, if◌then◌else◌, List, [], ◌∷◌, ◌++◌, map, length, take, drop, flat_map, Option, Some, None, is_some, option_map}
 use Rattle.std.specs.List.{list_any}
 use Rattle.std.specs.Option.{option_or}
-use Rattle.octets.specs.Limits.{max_string, max_variables}
+use Rattle.octets.specs.Ascii.{lowercase_of}
+use Rattle.octets.specs.Limits.{max_name, max_segments, max_string, max_test_strings, max_variables}
 use Rattle.octets.specs.Once.{with_more}
+use Rattle.sieve_references.specs.References.{Segment, variable, beyond, foreign, segments, is_identifier, names_in}
 use Rattle.sieve_parser.specs.Tree.{ArgumentTree, text, text_list, amount, label, InvocationTree, invocation, TestsTree, no_test, one_test, test_list, MoreTests, last, next, CommandTree, simple, block, CommandsTree, no_command, command}
 use Rattle.sieve_parser.specs.View.{argument_tree}
 use Rattle.sieve_parser.specs.declared.tree.Head.{Head}
@@ -14,9 +16,9 @@ use Rattle.sieve_check.specs.declared.error.Fault.TheVariants.{UnknownCommand, M
 use Rattle.sieve_check.specs.declared.names.Capability.{Capability}
 use Rattle.sieve_check.specs.declared.names.Capability.TheVariants as capability
 use Rattle.sieve_check.specs.declared.names.CommandName.{CommandName}
-use Rattle.sieve_check.specs.declared.names.CommandName.TheVariants.{Require, If, Elsif, Else, Stop, Keep, Discard, FileInto}
+use Rattle.sieve_check.specs.declared.names.CommandName.TheVariants.{Require, If, Elsif, Else, Stop, Keep, Discard, FileInto, Set}
 use Rattle.sieve_check.specs.declared.names.TestName.{TestName}
-use Rattle.sieve_check.specs.declared.names.TestName.TheVariants.{Constant, Not, AllOf, AnyOf, Header, Exists, Size}
+use Rattle.sieve_check.specs.declared.names.TestName.TheVariants.{Constant, Not, AllOf, AnyOf, Header, Exists, Size, String}
 use Rattle.sieve_check.specs.declared.rules.StringFault.{StringFault}
 use Rattle.sieve_check.specs.declared.rules.StringFault.TheVariants.{Unknown, Long}
 use Rattle.sieve_check.specs.declared.signature.Tests.{Tests}
@@ -24,9 +26,9 @@ use Rattle.sieve_check.specs.declared.signature.Tests.TheVariants.{Nothing, One,
 use Rattle.sieve_check.specs.declared.signature.Ending.{Ending}
 use Rattle.sieve_check.specs.declared.signature.Ending.TheVariants.{Semicolon, Block}
 use Rattle.sieve_check.specs.declared.signature.Signature.{Signature}
-use Rattle.sieve_check.specs.Names.{is_word, capability_named, command_named, test_named}
+use Rattle.sieve_check.specs.Names.{capability_named, command_named, test_named}
 use Rattle.sieve_check.specs.Signatures.{Read, command_signature, ending_of, test_signature, reading}
-use Rattle.sieve_check.specs.Surroundings.{Context, at_start, following, in_block, lacks}
+use Rattle.sieve_check.specs.Surroundings.{Context, at_start, following, has_capability, in_block, lacks}
 
 -- the strings of arguments, with those in brackets
 abbrev pub strings_in : ArgumentTree → List (List ℕ)
@@ -51,6 +53,7 @@ command_needs Stop = None
 command_needs Keep = None
 command_needs Discard = None
 command_needs FileInto = Some capability.FileInto
+command_needs Set = Some capability.Variables
 
 abbrev pub test_needs : TestName → Option Capability
 test_needs (Constant b) = None
@@ -60,6 +63,7 @@ test_needs AnyOf = None
 test_needs Header = None
 test_needs Exists = None
 test_needs Size = None
+test_needs String = Some capability.Variables
 
 -- where each command may stand: a require at the top level after nothing else, an elsif and an else directly after an if or elsif
 abbrev pub may_stand : Context → CommandName → Bool
@@ -71,6 +75,7 @@ may_stand s Stop = true
 may_stand s Keep = true
 may_stand s Discard = true
 may_stand s FileInto = true
+may_stand s Set = true
 
 -- what may be wrong with a string: it is no capability, or longer than the limit
 abbrev pub string_has : StringFault → List ℕ → Bool
@@ -85,10 +90,6 @@ has_unknown_capability _ args = false
 -- a string is longer than the limit
 abbrev pub has_long_string : List ArgumentTree → Bool
 has_long_string args = list_any (string_has Long) (strings_of args)
-
--- the most strings in the lists of one test
-abbrev pub max_test_strings : ℕ
-max_test_strings = 512
 
 -- arguments that were read have more strings behind the tags than one test may have
 abbrev pub has_many_strings : Option Read → Bool
@@ -110,13 +111,71 @@ same_ending _ _ = false
 abbrev pub is_well_formed : Signature → List ArgumentTree → Tests → Bool
 is_well_formed signature args tests = same_tests signature.tests tests && is_some (reading signature args)
 
+-- the strings of a command or test that variables have to do with: those that are expanded, and the names that are set
+pub record Mentions : Type 0 where
+  pub expanded : List (List ℕ)
+  pub set : List (List ℕ)
+
+abbrev pub no_mention : Mentions
+no_mention = record { expanded = []; set = [] }
+
+-- those of a command, of the strings behind its tags: a `set` sets its first string, which is taken as it is written
+abbrev pub mentions_of : CommandName → List (List ℕ) → Mentions
+mentions_of Require strings = no_mention
+mentions_of Set strings = record { expanded = drop 1 strings; set = take 1 strings }
+mentions_of _ strings = record { expanded = strings; set = [] }
+
+-- the strings behind the tags, where the arguments could be read
+abbrev pub strings_read : Option Read → List (List ℕ)
+strings_read None = []
+strings_read (Some read) = strings_of read.positional
+
+-- variables are there only where they were required
+abbrev pub where_required : Context → Mentions → Mentions
+where_required s mentions = if has_capability capability.Variables s.required then mentions else no_mention
+
+abbrev pub command_mentions : Context → CommandName → List ArgumentTree → Mentions
+command_mentions s name args = where_required s (mentions_of name (strings_read (reading (command_signature name) args)))
+
+abbrev pub test_mentions : Context → TestName → List ArgumentTree → Mentions
+test_mentions s name args = where_required s (record { expanded = strings_read (reading (test_signature name) args); set = [] })
+
+-- a reference into a namespace, or to a capture that there can't be
+abbrev pub is_wrong : Segment → Bool
+is_wrong beyond = true
+is_wrong foreign = true
+is_wrong _ = false
+
+abbrev pub is_long_name : List ℕ → Bool
+is_long_name name = nat_lt max_name (length name)
+
+-- a reference by a name that is longer than the limit
+abbrev pub is_long : Segment → Bool
+is_long (variable name) = is_long_name name
+is_long _ = false
+
+-- a string with a wrong reference is expanded, or what is set is no name
+abbrev pub has_wrong_mention : Mentions → Bool
+has_wrong_mention mentions = list_any (λ string. list_any is_wrong (segments string)) mentions.expanded || list_any (λ name. not (is_identifier name)) mentions.set
+
+-- a string of too many segments or with too long a name is expanded, or a variable of too long a name is set
+abbrev pub has_large_mention : Mentions → Bool
+has_large_mention mentions =
+    list_any (λ string. nat_lt max_segments (length (segments string)) || list_any is_long (segments string)) mentions.expanded
+    || list_any is_long_name mentions.set
+
+-- the names of variables, in lower case
+abbrev pub names_mentioned : Mentions → List (List ℕ)
+names_mentioned mentions = flat_map names_in mentions.expanded ++ map lowercase_of mentions.set
+
 -- the fault of least number of a command that is known by that name
 abbrev pub known_command_fault : Context → CommandName → List ArgumentTree → Tests → Ending → Option Fault
 known_command_fault s name args tests ending =
     if lacks s (command_needs name) then Some MissingCapability
     else if has_unknown_capability name args then Some UnknownCapability
     else if not (may_stand s name && (same_ending (ending_of name) ending && is_well_formed (command_signature name) args tests)) then Some BadArguments
-    else if has_long_string args then Some Limit
+    else if has_wrong_mention (command_mentions s name args) then Some BadArguments
+    else if has_long_string args || has_large_mention (command_mentions s name args) then Some Limit
     else None
 
 -- the fault of least number of a test that is known by that name
@@ -124,7 +183,8 @@ abbrev pub known_test_fault : Context → TestName → List ArgumentTree → Tes
 known_test_fault s name args tests =
     if lacks s (test_needs name) then Some MissingCapability
     else if not (is_well_formed (test_signature name) args tests) then Some BadArguments
-    else if has_long_string args || has_many_strings (reading (test_signature name) args) then Some Limit
+    else if has_wrong_mention (test_mentions s name args) then Some BadArguments
+    else if has_long_string args || has_many_strings (reading (test_signature name) args) || has_large_mention (test_mentions s name args) then Some Limit
     else None
 
 -- the fault of a command or test, by what its name is known as, if it is known
@@ -132,11 +192,13 @@ abbrev pub fault_by_name : {Name : Type 0} → (Name → Option Fault) → Optio
 fault_by_name fault None = Some UnknownCommand
 fault_by_name fault (Some name) = fault name
 
--- the names of the variables in the strings of a command or test: none, since no string is expanded yet
-abbrev pub names_in : Context → List ArgumentTree → List (List ℕ)
-names_in s args = []
+-- the names that a command or test brings, by what its name is known as; one that isn't known brings none
+abbrev pub names_by : {Name : Type 0} → (Name → Mentions) → Option Name → List (List ℕ)
+names_by mentions None = []
+names_by mentions (Some name) = names_mentioned (mentions name)
 
--- a visited command or test: the number of its identifier's token, the names of variables that it brings, and its fault, if it has one by itself
+-- a visited command or test: the number of its identifier's token, the names of variables that it brings, in lower case, and its
+-- fault, if it has one by itself
 pub record Visit : Type 0 where
   pub token : ℕ
   pub names : List (List ℕ)
@@ -145,14 +207,14 @@ pub record Visit : Type 0 where
 abbrev pub command_visit : Context → ℕ → List ℕ → List ArgumentTree → Tests → Ending → Visit
 command_visit s token name args tests ending = record {
   token = token;
-  names = names_in s args;
+  names = names_by (λ known. command_mentions s known args) (command_named name);
   fault = fault_by_name (λ known. known_command_fault s known args tests ending) (command_named name);
 }
 
 abbrev pub test_visit : Context → ℕ → List ℕ → List ArgumentTree → Tests → Visit
 test_visit s token name args tests = record {
   token = token;
-  names = names_in s args;
+  names = names_by (λ known. test_mentions s known args) (test_named name);
   fault = fault_by_name (λ known. known_test_fault s known args tests) (test_named name);
 }
 
@@ -211,9 +273,9 @@ refusal place UnknownCapability = refused.UnknownCapability place
 refusal place BadArguments = refused.BadArguments place
 refusal place Limit = refused.Limit place
 
--- the names so far, with those of a visit: each once, without regard to case
+-- the names so far, with those of a visit, each once
 abbrev pub names_with : List (List ℕ) → Visit → List (List ℕ)
-names_with names visit = with_more is_word names visit.names
+names_with names visit = with_more bytes_eq names visit.names
 
 -- the fault of a visit after names: its own, or else that the script has too many names with it
 abbrev pub visit_fault : List (List ℕ) → Visit → Option Fault

@@ -1,12 +1,13 @@
--- What commands and tests take, and how their arguments are read (RFC 5228, section 2.6).
+-- What commands and tests take, and how their arguments are read (RFC 5228, section 2.6; RFC 5229, section 4).
 use Rattle.std.specs.Prelude.{Bool, true, false, not, ◌&&◌, ◌||◌, if◌then◌else◌, List, [], ◌∷◌, Option, Some, None, is_some, option_map}
 use Rattle.sieve_parser.specs.Tree.{ArgumentTree, text, text_list, amount, label}
+use Rattle.bytecode_format.specs.declared.modifiers.Modifiers.{Modifiers}
 use Rattle.sieve_check.specs.declared.names.CommandName.{CommandName}
-use Rattle.sieve_check.specs.declared.names.CommandName.TheVariants.{Require, If, Elsif, Else, Stop, Keep, Discard, FileInto}
+use Rattle.sieve_check.specs.declared.names.CommandName.TheVariants.{Require, If, Elsif, Else, Stop, Keep, Discard, FileInto, Set}
 use Rattle.sieve_check.specs.declared.names.TestName.{TestName}
-use Rattle.sieve_check.specs.declared.names.TestName.TheVariants.{Constant, Not, AllOf, AnyOf, Header, Exists, Size}
+use Rattle.sieve_check.specs.declared.names.TestName.TheVariants.{Constant, Not, AllOf, AnyOf, Header, Exists, Size, String}
 use Rattle.sieve_check.specs.declared.names.Tag.{Tag}
-use Rattle.sieve_check.specs.declared.names.Tag.TheVariants.{Order, Kind, Comparator}
+use Rattle.sieve_check.specs.declared.names.Tag.TheVariants.{Order, Kind, Comparator, Letters, First, QuoteWildcard, Length}
 use Rattle.sieve_check.specs.declared.signature.Positional.{Positional}
 use Rattle.sieve_check.specs.declared.signature.Positional.TheVariants as positional
 use Rattle.sieve_check.specs.declared.signature.Tests.{Tests}
@@ -24,7 +25,7 @@ None >>= f = None
 
 -- no argument, and these tests
 abbrev pub bare : Tests → Signature
-bare after = record { order = false; matching = false; positional = positional.Nothing; tests = after }
+bare after = record { order = false; matching = false; modifying = false; positional = positional.Nothing; tests = after }
 
 -- what each command takes, and how it ends
 abbrev pub command_signature : CommandName → Signature
@@ -36,6 +37,7 @@ command_signature Stop = bare tests.Nothing
 command_signature Keep = bare tests.Nothing
 command_signature Discard = bare tests.Nothing
 command_signature FileInto = record (bare tests.Nothing) { positional = positional.Text }
+command_signature Set = record (bare tests.Nothing) { modifying = true; positional = positional.TwoTexts }
 
 abbrev pub ending_of : CommandName → Ending
 ending_of Require = Semicolon
@@ -46,6 +48,7 @@ ending_of Stop = Semicolon
 ending_of Keep = Semicolon
 ending_of Discard = Semicolon
 ending_of FileInto = Semicolon
+ending_of Set = Semicolon
 
 -- what each test takes
 abbrev pub test_signature : TestName → Signature
@@ -56,26 +59,38 @@ test_signature AnyOf = bare tests.Bracketed
 test_signature Header = record (bare tests.Nothing) { matching = true; positional = positional.TwoLists }
 test_signature Exists = record (bare tests.Nothing) { positional = positional.OneList }
 test_signature Size = record (bare tests.Nothing) { order = true; positional = positional.Number }
+test_signature String = record (bare tests.Nothing) { matching = true; positional = positional.TwoLists }
 
 -- arguments that were read: the tags, one of each group at most, and those behind them
 pub record Read : Type 0 where
   pub tags : Tags
   pub positional : List ArgumentTree
 
+abbrev pub no_modifiers : Modifiers
+no_modifiers = record { letters = None; first = None; quote_wildcard = false; length = false }
+
 abbrev pub no_tag : Tags
-no_tag = record { order = None; kind = None; comparator = None }
+no_tag = record { order = None; kind = None; comparator = None; modifiers = no_modifiers }
 
 -- the signature takes the tag, and none of its group was given
 abbrev pub takes_tag : Signature → Tag → Tags → Bool
 takes_tag signature (Order order) tags = signature.order && not (is_some tags.order)
 takes_tag signature (Kind kind) tags = signature.matching && not (is_some tags.kind)
 takes_tag signature Comparator tags = signature.matching && not (is_some tags.comparator)
+takes_tag signature (Letters case) tags = signature.modifying && not (is_some tags.modifiers.letters)
+takes_tag signature (First case) tags = signature.modifying && not (is_some tags.modifiers.first)
+takes_tag signature QuoteWildcard tags = signature.modifying && not tags.modifiers.quote_wildcard
+takes_tag signature Length tags = signature.modifying && not tags.modifiers.length
 
 -- with one more tag; what one with an argument says comes with that
 abbrev pub with_tag : Tag → Tags → Tags
 with_tag (Order order) tags = record tags { order = Some order }
 with_tag (Kind kind) tags = record tags { kind = Some kind }
 with_tag Comparator tags = tags
+with_tag (Letters case) tags = record tags { modifiers = record tags.modifiers { letters = Some case } }
+with_tag (First case) tags = record tags { modifiers = record tags.modifiers { first = Some case } }
+with_tag QuoteWildcard tags = record tags { modifiers = record tags.modifiers { quote_wildcard = true } }
+with_tag Length tags = record tags { modifiers = record tags.modifiers { length = true } }
 
 abbrev pub add_tag : Signature → Tag → Tags → Option Tags
 add_tag signature tag tags = if takes_tag signature tag tags then Some (with_tag tag tags) else None
@@ -85,6 +100,10 @@ abbrev pub awaited : Tag → Option Tag
 awaited (Order order) = None
 awaited (Kind kind) = None
 awaited Comparator = Some Comparator
+awaited (Letters case) = None
+awaited (First case) = None
+awaited QuoteWildcard = None
+awaited Length = None
 
 -- a tag's argument: of a comparator one string, its name
 abbrev pub with_argument : Tag → ArgumentTree → Tags → Option Tags
@@ -110,6 +129,7 @@ abbrev pub is_positional : Positional → List ArgumentTree → Bool
 is_positional positional.Nothing [] = true
 is_positional positional.Number (amount n ∷ []) = true
 is_positional positional.Text (text s ∷ []) = true
+is_positional positional.TwoTexts (text s ∷ text t ∷ []) = true
 is_positional positional.OneList (a ∷ []) = is_list a
 is_positional positional.TwoLists (a ∷ b ∷ []) = is_list a && is_list b
 is_positional _ _ = false

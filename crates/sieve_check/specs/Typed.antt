@@ -1,7 +1,13 @@
 -- The typed form of scripts.
 use Rattle.std.specs.Prelude.{ℕ, Bool, List}
 use Rattle.glob_match.specs.declared.match_type.Match.{Match}
+use Rattle.bytecode_format.specs.declared.modifiers.Modifiers.{Modifiers}
 use Rattle.sieve_check.specs.declared.typed.Order.{Order}
+use Rattle.sieve_check.specs.declared.typed.Segment.{Segment}
+
+-- a string as it is meant: stretches of text and references, which are put in their places one after the other
+abbrev pub Template : Type 0
+Template = List Segment
 
 -- a test: the lists of tests by their first and the others, a header's names and then its keys; tests in order
 mutual
@@ -10,9 +16,11 @@ mutual
     negation : TestForm → TestForm
     all_of : TestForm → TestForms → TestForm
     any_of : TestForm → TestForms → TestForm
-    header : Match → List (List ℕ) → List (List ℕ) → TestForm
-    exists : List (List ℕ) → TestForm
+    header : Match → List Template → List Template → TestForm
+    exists : List Template → TestForm
     size : Order → ℕ → TestForm
+    -- sources, and then keys
+    string : Match → List Template → List Template → TestForm
 
   pub data TestForms : Type 0 where
     no_test : TestForms
@@ -23,7 +31,9 @@ mutual
   pub data CommandForm : Type 0 where
     keep : CommandForm
     discard : CommandForm
-    file_into : List ℕ → CommandForm
+    file_into : Template → CommandForm
+    -- a variable, by its name in lower case, and its value before it is modified
+    set : Modifiers → List ℕ → Template → CommandForm
     stop : CommandForm
     choice : BranchForms → CommandForm
 

@@ -1,13 +1,14 @@
 -- The code's typed scripts as forms.
 use Rattle.std.specs.Prelude.{List, [], ◌∷◌, map, Option, Some, None}
 use Rattle.std.specs.Global.{Vec}
-use Rattle.sieve_check.specs.Typed.{TestForm, constant, negation, all_of, any_of, header, exists, size, TestForms, no_test, test, CommandForm, keep, discard, file_into, stop, choice, CommandForms, no_command, command, BranchForms, no_branch, otherwise, branch}
+use Rattle.sieve_check.specs.declared.typed.Segment.{Segment}
+use Rattle.sieve_check.specs.Typed.{Template, TestForm, constant, negation, all_of, any_of, header, exists, size, string, TestForms, no_test, test, CommandForm, keep, discard, file_into, set, stop, choice, CommandForms, no_command, command, BranchForms, no_branch, otherwise, branch}
 use Rattle.sieve_check.specs.declared.typed.Test.{Test}
-use Rattle.sieve_check.specs.declared.typed.Test.TheOpen.{Test-F, Constant, Not, AllOf, AnyOf, Header, Exists, Size}
+use Rattle.sieve_check.specs.declared.typed.Test.TheOpen.{Test-F, Constant, Not, AllOf, AnyOf, Header, Exists, Size, String}
 use Rattle.sieve_check.specs.declared.typed.Test.TheFolds.{fold-Test}
 use Rattle.sieve_check.specs.declared.typed.Command.{Command}
 use Rattle.sieve_check.specs.declared.typed.Branch.{Branch}
-use Rattle.sieve_check.specs.declared.typed.Command.TheOpen.{Command-F, Keep, Discard, FileInto, Stop, If, Branch-F}
+use Rattle.sieve_check.specs.declared.typed.Command.TheOpen.{Command-F, Keep, Discard, FileInto, Set, Stop, If, Branch-F}
 use Rattle.sieve_check.specs.declared.typed.Command.TheFolds.{fold-Command, fold-Branch}
 
 -- tests in order
@@ -15,14 +16,19 @@ abbrev pub tests_of : List TestForm → TestForms
 tests_of [] = no_test
 tests_of (t ∷ ts) = test t (tests_of ts)
 
+-- strings in order
+abbrev pub templates_of : List (Vec Segment) → List Template
+templates_of strings = map (λ (string : Vec Segment). string.items) strings
+
 abbrev pub test_step : Test-F TestForm → TestForm
 test_step (Constant b) = constant b
 test_step (Not t) = negation t.value
 test_step (AllOf t ts) = all_of t.value (tests_of ts.items)
 test_step (AnyOf t ts) = any_of t.value (tests_of ts.items)
-test_step (Header matching names keys) = header matching names.items keys.items
-test_step (Exists names) = exists names.items
+test_step (Header matching names keys) = header matching (templates_of names.items) (templates_of keys.items)
+test_step (Exists names) = exists (templates_of names.items)
 test_step (Size order number) = size order number
+test_step (String matching sources keys) = string matching (templates_of sources.items) (templates_of keys.items)
 
 -- a test
 abbrev pub test_form : Test → TestForm
@@ -51,7 +57,8 @@ branches_of (b ∷ bs) last = branch b.test b.block (branches_of bs last)
 abbrev pub command_step : Command-F CommandForm GuardedForm → CommandForm
 command_step Keep = keep
 command_step Discard = discard
-command_step (FileInto folder) = file_into folder
+command_step (FileInto folder) = file_into folder.items
+command_step (Set modifiers name value) = set modifiers name value.items
 command_step Stop = stop
 command_step (If branches else_block) = choice (branches_of branches.items (else_of else_block))
 
