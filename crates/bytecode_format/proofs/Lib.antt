@@ -3,3 +3,5 @@ pub mod Fields
 pub mod FormatLemmas
 pub mod Lengths
 pub mod ActionLemmas
+pub mod ModifierLemmas
+pub mod Examples

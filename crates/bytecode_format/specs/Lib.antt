@@ -3,5 +3,6 @@ pub mod Code
 pub mod Spelling
 -- how the readers go; nothing public rests on it
 pub mod Readers
+pub mod Modifiers
 pub mod Action
 pub mod Actions

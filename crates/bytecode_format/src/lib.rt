@@ -2,7 +2,8 @@
 //!
 //! A [`Program`] is read from octets exactly where they are the spelling of a program
 //! (`specs/Spelling`), and written as that spelling; octets spell at most one program.
-//! [`ActionList`] keeps the actions of a run, and makes them final (`specs/Actions`).
+//! [`ActionList`] keeps the actions of a run, and makes them final (`specs/Actions`). [`Modifiers`] are
+//! what is done to a text before it becomes a variable's value (`specs/Modifiers`).
 #![tactic(auto)]
 
 mod action;

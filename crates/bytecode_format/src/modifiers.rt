@@ -1,4 +1,10 @@
 // What is done to a text before it becomes a variable's value.
+ghost use Rattle.std.specs.Prelude.{◌≡◌, ◌↔◌, ℕ, List, [], ◌∷◌, ◌++◌, take, IfOk, OnOk, IsTrue};
+ghost use Rattle.std.specs.Fmt.{decimal};
+ghost use Rattle.bytecode_format.specs.Modifiers.{case_number, case_numbered, cased, first_cased, is_quotable, quoted, continues_character, characters, modified, no_modifiers, modifiers_number, modifiers_numbered};
+
+use octets::Octets;
+use std::alloc::{AllocError, Global};
 
 /// A case of ASCII letters.
 #[derive(Clone, Copy, Debug, PartialEq, Eq)]
@@ -20,4 +26,178 @@ pub struct Modifiers {
     pub quote_wildcard: bool,
     /// The number of characters in place of the text: `:length`.
     pub length: bool,
+}
+
+impl Case {
+    // A case, if one is named, as two bits.
+    fn number(case: Option<Case>) -> u8
+        ensures { result ≡ case_number case }
+    {
+        match case {
+            None => 0,
+            Some(Case::Lower) => 1,
+            Some(Case::Upper) => 2,
+        }
+    }
+
+    // The case that two bits name, if they name one.
+    fn numbered(number: u8) -> Option<Case>
+        ensures { result ≡ case_numbered number }
+    {
+        match number {
+            1 => Some(Case::Lower),
+            2 => Some(Case::Upper),
+            _ => None,
+        }
+    }
+
+    // The octet in a case, if one is named.
+    fn of(case: Option<Case>, octet: u8) -> u8
+        ensures { result ∷ [] ≡ cased case (octet ∷ []) }
+    {
+        match case {
+            None => octet,
+            Some(Case::Lower) => octet.to_ascii_lowercase(),
+            Some(Case::Upper) => octet.to_ascii_uppercase(),
+        }
+    }
+}
+
+// Whether a pattern reads the octet as more than itself.
+fn is_quotable(octet: u8) -> bool
+    ensures { result ≡ is_quotable octet }
+{
+    octet == b'*' || octet == b'?' || octet == b'\\'
+}
+
+// Whether the octet belongs to a character in UTF-8 that began before it.
+fn continues_character(octet: u8) -> bool
+    ensures { result ≡ continues_character octet }
+{
+    octet >= 0x80 && octet < 0xC0
+}
+
+// Puts an octet at the end, where there is room below the limit.
+fn put(out: &mut Vec<u8>, octet: u8, limit: usize) -> Result<(), AllocError>
+    ensures { OnOk result ((text : List ℕ) → out.old.items ≡ take limit text → out.new.items ≡ take limit (text ++ octet ∷ [])) }
+{
+    if out.len() < limit {
+        out.push(octet)?;
+    }
+    Ok(())
+}
+
+// The same with a backslash before it, where that is asked for and a pattern reads the octet as more
+// than itself.
+fn put_quoted(out: &mut Vec<u8>, octet: u8, quote: bool, limit: usize) -> Result<(), AllocError>
+    ensures { OnOk result ((text : List ℕ) → out.old.items ≡ take limit text → out.new.items ≡ take limit (text ++ quoted quote (octet ∷ []))) }
+{
+    if quote && is_quotable(octet) {
+        put(out, b'\\', limit)?;
+    }
+    put(out, octet, limit)
+}
+
+// The number in decimal digits, of which the first `limit` stay.
+fn digits_of(alloc: Global, number: usize, limit: usize) -> Result<Octets, AllocError>
+    ensures { IfOk result (λ digits. digits ≡ take limit (decimal number)) }
+{
+    let mut digits = format!(in alloc; "{number}")?.into_bytes();
+    digits.truncate(limit);
+    Ok(Octets::from(digits))
+}
+
+impl Modifiers {
+    /// No modifiers: a text stays as it is.
+    pub fn none() -> Modifiers
+        ensures { result ≡ no_modifiers }
+    {
+        Modifiers {
+            letters: None,
+            first: None,
+            quote_wildcard: false,
+            length: false,
+        }
+    }
+
+    /// Whether there is no modifier.
+    pub fn is_none(self) -> bool
+        ensures { IsTrue result ↔ (self ≡ no_modifiers) }
+    {
+        self == Modifiers::none()
+    }
+
+    /// The modifiers that a number stands for: bits 0 and 1 are 1 for lower case and 2 for upper case of
+    /// all letters, bits 2 and 3 the same of the first octet, bit 4 is for backslashes and bit 5 for the
+    /// count. None where two bits are 3, or bit 6 or 7 is set.
+    pub fn of(number: u8) -> Option<Modifiers>
+        ensures { result ≡ modifiers_numbered number }
+    {
+        if number >= 64 || number % 4 == 3 || number / 4 % 4 == 3 {
+            return None;
+        }
+        Some(Modifiers {
+            letters: Case::numbered(number % 4),
+            first: Case::numbered(number / 4 % 4),
+            quote_wildcard: number / 16 % 2 == 1,
+            length: number / 32 % 2 == 1,
+        })
+    }
+
+    /// The number that stands for the modifiers: 0 to 58.
+    pub fn number(self) -> u8
+        ensures { result ≡ modifiers_number self }
+    {
+        Case::number(self.letters)
+            + 4 * Case::number(self.first)
+            + 16 * u8::from(self.quote_wildcard)
+            + 32 * u8::from(self.length)
+    }
+
+    /// The text modified, of which the first `limit` octets stay.
+    ///
+    /// An error comes only where memory was refused. The time is linear in the text.
+    pub fn apply(self, alloc: Global, text: &[u8], limit: usize) -> Result<Octets, AllocError>
+        ensures { IfOk result (λ value. value ≡ take limit (modified self text.now)) }
+    {
+        if self.length {
+            return digits_of(alloc, self.characters(text), limit);
+        }
+        self.written(alloc, text, limit)
+    }
+
+    // The text modified but for its count.
+    fn written(self, alloc: Global, text: &[u8], limit: usize) -> Result<Octets, AllocError>
+        ensures { IfOk result (λ value. value ≡ take limit (quoted self.quote_wildcard (first_cased self.first (cased self.letters text.now)))) }
+    {
+        let most = if self.quote_wildcard {
+            text.len() * 2
+        } else {
+            text.len()
+        };
+        let mut out = Vec::with_capacity(alloc, most.min(limit))?;
+        let mut first = self.first;
+        'text: for octet in text {
+            let octet = Case::of(first, Case::of(self.letters, *octet));
+            first = None;
+            put_quoted(&mut out, octet, self.quote_wildcard, limit)?;
+        }
+        Ok(Octets::from(out))
+    }
+
+    // How many characters the text has when it is modified but for that.
+    fn characters(self, text: &[u8]) -> usize
+        ensures { result ≡ characters (quoted self.quote_wildcard (first_cased self.first (cased self.letters text.now))) }
+    {
+        let mut count = 0;
+        'text: for octet in text {
+            if !continues_character(*octet) {
+                count += 1;
+            }
+            if self.quote_wildcard && is_quotable(*octet) {
+                count += 1;
+            }
+        }
+        count
+    }
 }

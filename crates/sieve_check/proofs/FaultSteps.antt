@@ -1,10 +1,8 @@
 -- The fault of tests and commands, piece by piece.
-use Rattle.std.proofs.Common.{◌≡◌, ℕ, ◌+◌, ◌<◌, List, [], ◌∷◌, map, drop, length, get_or, Option, Some, None, sym, ap, ◌∙◌, add-one}
+use Rattle.std.proofs.Common.{◌≡◌, ℕ, ◌+◌, ◌<◌, List, [], drop, length, get_or, Option, Some, None, ap, ◌∙◌}
 use Rattle.std.specs.Global.{Vec, Box}
 use Rattle.std.specs.Option.{option_or}
-use Rattle.std.proofs.Math.Seq.{drop-cons}
-use Rattle.sieve_parser.specs.Tree.{MoreTests}
-use Rattle.sieve_parser.specs.View.{invocation_tree, command_tree, commands_tree, more_tests_of}
+use Rattle.sieve_parser.specs.View.{invocation_tree, command_tree, commands_tree}
 use Rattle.sieve_parser.specs.declared.tree.Head.{Head}
 use Rattle.sieve_parser.specs.declared.tree.Invocation.{Invocation}
 use Rattle.sieve_parser.specs.declared.tree.Invocation.TheVariants.{WithTests}
@@ -18,15 +16,8 @@ use Rattle.sieve_check.specs.declared.signature.Ending.TheVariants.{Block}
 use Rattle.sieve_check.specs.Rules.{arguments_of, test_visit, test_visits, more_visits, head_visits, command_visits, commands_visits, invocation_of, after_invocation}
 use Rattle.sieve_check.specs.Refusing.{refusal_of, first_own_fault}
 use Rattle.sieve_check.specs.Surroundings.{Context, in_block}
+use Rattle.sieve_check.proofs.FromIndex.{others_of, split_at}
 use Rattle.sieve_check.proofs.Visits.{fault_of_both}
-
--- the trees of a list of tests after its first
-abbrev pub others_of : List Invocation → MoreTests
-others_of list = more_tests_of (map invocation_tree list)
-
--- a list from an index on
-pub split_at : {A : Type 0} (xs : List A) (i : ℕ) (x : A) → i < length xs → x ≡ get_or xs i x → drop i xs ≡ x ∷ drop (i + 1) xs
-split_at xs i x lt is = drop-cons xs i x lt ∙ ap (λ n. get_or xs i x ∷ drop n xs) (sym (add-one i)) ∙ ap (λ y. y ∷ drop (i + 1) xs) (sym is)
 
 -- of faults one after another
 pub second_of_three : (a b c : Option CheckError) (e : CheckError) → a ≡ None → b ≡ Some e → option_or a (option_or b c) ≡ Some e

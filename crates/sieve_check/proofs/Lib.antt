@@ -1,3 +1,4 @@
+pub mod FromIndex
 pub mod Forms
 pub mod TestLists
 pub mod SequenceSteps

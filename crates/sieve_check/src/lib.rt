@@ -15,10 +15,12 @@ mod names;
 mod rules;
 mod sequence;
 mod signature;
+mod strings;
 mod surroundings;
+mod test_forms;
 mod typed;
 
 pub use checked::Checked;
 pub use checker::check;
 pub use error::CheckError;
-pub use typed::{Branch, Command, Order, Test};
+pub use typed::{Branch, Command, Order, Segment, Test};

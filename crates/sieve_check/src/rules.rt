@@ -1,8 +1,8 @@
 // The static rules: what is wrong with commands and tests (RFC 5228, section 8.2, and each command's own section).
 ghost use Rattle.std.specs.Prelude.{◌≡◌, map, length, nat_lt, option_map};
-ghost use Rattle.sieve_parser.specs.Tree.{TestsTree};
-ghost use Rattle.sieve_parser.specs.View.{argument_tree, command_tree, commands_tree, head_tree, invocation_tree, more_tests_of};
-ghost use Rattle.sieve_check.specs.Rules.{after_invocation, arguments_of, command_needs, command_visit, command_visits, commands_visits, fault_of, has_many_strings, head_visits, invocation_of, is_well_formed, known_command_fault, known_test_fault, max_test_strings, may_stand, more_visits, refusal, strings_in, strings_of, test_needs, test_visit, test_visits};
+ghost use Rattle.octets.specs.Limits.{max_test_strings};
+ghost use Rattle.sieve_parser.specs.View.{argument_tree, command_tree, commands_tree, invocation_tree, more_tests_of};
+ghost use Rattle.sieve_check.specs.Rules.{arguments_of, command_needs, command_visit, command_visits, commands_visits, fault_of, has_many_strings, head_visits, is_well_formed, known_command_fault, known_test_fault, may_stand, more_visits, refusal, strings_in, strings_of, test_needs, test_visit, test_visits};
 ghost use Rattle.sieve_check.specs.Signatures.{reading};
 ghost use Rattle.sieve_check.specs.Refusing.{Refuses, context_of, first_own_fault, refusal_of};
 
@@ -34,6 +34,7 @@ fn command_needs(name: CommandName) -> Option<Capability>
         | CommandName::Keep
         | CommandName::Discard => None,
         CommandName::FileInto => Some(Capability::FileInto),
+        CommandName::Set => Some(Capability::Variables),
     }
 }
 
@@ -49,6 +50,7 @@ fn test_needs(name: TestName) -> Option<Capability>
         | TestName::Header
         | TestName::Exists
         | TestName::Size => None,
+        TestName::String => Some(Capability::Variables),
     }
 }
 
@@ -167,7 +169,8 @@ fn may_stand(name: CommandName, surroundings: Surroundings) -> bool
         | CommandName::Stop
         | CommandName::Keep
         | CommandName::Discard
-        | CommandName::FileInto => true,
+        | CommandName::FileInto
+        | CommandName::Set => true,
     }
 }
 
@@ -321,27 +324,6 @@ fn command(surroundings: Surroundings, tree: &Command) -> Result<(), CheckError>
     }
 }
 
-// What an invocation begins with.
-fn head_in(invocation: &Invocation) -> &Head
-    ensures { (tests : TestsTree) × (invocation_tree invocation.now ≡ head_tree result.now tests) }
-{
-    match invocation {
-        Invocation::Plain(head) => head,
-        Invocation::WithTest(head, _) => head,
-        Invocation::WithTests(head, _, _) => head,
-    }
-}
-
-// What surrounds the command after this one.
-fn after(surroundings: Surroundings, command: &Command) -> Surroundings
-    ensures { context_of result ≡ after_invocation (context_of surroundings) (invocation_of (command_tree command.now)) }
-{
-    match command {
-        Command::Simple(invocation) => surroundings.following(head_in(invocation)),
-        Command::Block(invocation, _) => surroundings.following(head_in(invocation)),
-    }
-}
-
 // Nothing, where nothing is wrong with the commands of a script or block.
 #[cycle(commands)]
 fn commands(surroundings: Surroundings, trees: &[Command]) -> Result<(), CheckError>
@@ -350,7 +332,7 @@ fn commands(surroundings: Surroundings, trees: &[Command]) -> Result<(), CheckEr
     let mut around = surroundings;
     'trees: for tree in trees {
         command(around, tree)?;
-        around = after(around, tree);
+        around = around.after(tree);
     }
     Ok(())
 }

@@ -13,4 +13,4 @@ unreachable-requires c =
     let faultless : fault_of (commands_tree trees) ≡ None = c.in_ok-script.ensures in
     let form = form_exists (commands_tree trees) faultless in
     let same = c.commands.ensures.value ∙ sym c.commands-2.ensures.value in
-    none-some form.0 (ap (option_map _) (sym c.in-None.is) ∙ c.in_ok-commands.ensures ∙ ap (λ ts. form_of (commands_tree ts)) (sym same) ∙ form.1)
+    none-some form.0 (ap (option_map _) (sym c.in-None.is) ∙ c.in_ok-form_of.ensures ∙ ap (λ ts. form_of (commands_tree ts)) (sym same) ∙ form.1)

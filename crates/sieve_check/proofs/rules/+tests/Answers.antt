@@ -4,7 +4,8 @@ use Rattle.sieve_parser.specs.View.{invocation_tree}
 use Rattle.sieve_parser.specs.declared.tree.Invocation.{Invocation}
 use Rattle.sieve_check.specs.Refusing.{Refuses, context_of, first_own_fault}
 use Rattle.sieve_check.specs.Rules.{test_visits, more_visits}
-use Rattle.sieve_check.proofs.FaultSteps.{others_of, first_inside, others_inside, rest_faults, first_of_two, second_of_two}
+use Rattle.sieve_check.proofs.FaultSteps.{first_inside, others_inside, rest_faults, first_of_two, second_of_two}
+use Rattle.sieve_check.proofs.FromIndex.{others_of}
 use Rattle.sieve_check.proofs.rules.+tests.Goals as goal
 
 pub test-returns-in_err-test-in-WithTests : goal.test-returns-in_err-test-in-WithTests
