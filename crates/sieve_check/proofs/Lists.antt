@@ -81,7 +81,7 @@ both_sound b (x ∷ xs) ys all =
 
 -- ---- lists
 
-abbrev expands : Context → Bool
+abbrev pub expands : Context → Bool
 expands s = has_capability Variables s.required
 
 listed : (s : Context) (a : ArgumentTree) → is_list a ≡ true → (list_in s a ≡ Some (map (template_of s) (strings_in a))) × (0 < length (strings_in a))

@@ -9,7 +9,9 @@ use Rattle.octets.specs.Ascii.{lowercase_of}
 use Rattle.octets.specs.Limits.{max_segments, max_string}
 use Rattle.sieve_references.specs.References as references
 use Rattle.sieve_references.specs.References.{stretch, variable, capture, beyond, foreign, segments, names_of, names_in, extent_of, last_capture}
-use Rattle.sieve_check.proofs.RefLaws.{IsWellFormed, together, each, all_formed}
+use Rattle.sieve_references.specs.WellFormed.{IsWellFormed}
+use Rattle.sieve_references.proofs.Extents.{together, each}
+use Rattle.sieve_references.proofs.Stretches.{all_formed}
 use Rattle.sieve_check.specs.declared.typed.Segment.TheVariants.{Text, Variable, Capture}
 use Rattle.sieve_check.specs.Bounded.{IsBoundedSegment, IsBoundedString}
 use Rattle.sieve_check.specs.Extent.{segment_extent, string_extent, strings_extent}

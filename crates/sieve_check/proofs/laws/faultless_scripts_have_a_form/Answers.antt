@@ -1,7 +1,5 @@
-use Rattle.sieve_check.proofs.Faultless.{few_in_script}
-use Rattle.sieve_check.proofs.Lists.{one_listed}
-use Rattle.sieve_check.proofs.Extent.{form_fits}
+use Rattle.sieve_check.proofs.Existence.{form_exists}
 use Rattle.sieve_check.proofs.laws.faultless_scripts_have_a_form.Goals as goal
 
 pub returns : goal.returns
-returns c = ?
+returns c = λ script h. let formed = form_exists script h in (formed.form, formed.is)
