@@ -37,7 +37,7 @@ fn file_into(
     }
 }
 
-// The command that sets the variable of the name to the value, which the arguments are. The name is taken as it is written.
+// The command that sets the variable of the name to the value, which the arguments are. The name isn't expanded.
 fn setting(
     alloc: Global,
     surroundings: Surroundings,

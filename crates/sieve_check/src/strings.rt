@@ -4,7 +4,7 @@ ghost use Rattle.std.specs.Option.{option_to_list};
 ghost use Rattle.sieve_references.specs.References.{segments};
 ghost use Rattle.sieve_references.specs.SegmentView.{segment_of};
 ghost use Rattle.sieve_parser.specs.View.{argument_tree};
-ghost use Rattle.sieve_check.specs.FormOf.{list_in, meant, of_list, of_lists, template_of};
+ghost use Rattle.sieve_check.specs.FormOf.{list_in, meant, of_lists, template_of};
 ghost use Rattle.sieve_check.specs.Refusing.{context_of};
 ghost use Rattle.sieve_check.specs.Typed.{Template, TestForm};
 ghost use Rattle.sieve_check.specs.TypedView.{templates_of};
