@@ -11,3 +11,4 @@ pub mod Extent
 pub mod Lists
 pub mod Existence
 pub mod Examples
+pub mod NameSteps
