@@ -183,11 +183,7 @@ fn simple_part(
 
 // A command, as a part of the commands around it.
 #[cycle(commands)]
-fn part(
-    alloc: Global,
-    surroundings: Surroundings,
-    tree: &Tree,
-) -> Result<Option<Part>, AllocError>
+fn part(alloc: Global, surroundings: Surroundings, tree: &Tree) -> Result<Option<Part>, AllocError>
     ensures { IfOk result (λ part. option_map part_form part ≡ part_of (context_of surroundings) (command_tree tree.now)) }
 {
     match tree {

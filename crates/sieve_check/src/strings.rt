@@ -1,6 +1,8 @@
 // The strings of the typed form: those of a script, cut into what stands in them.
 ghost use Rattle.std.specs.Prelude.{◌≡◌, ◌∷◌, List, IfOk, flat_map, map, option_map};
+ghost use Rattle.std.specs.Option.{option_to_list};
 ghost use Rattle.sieve_references.specs.References.{segments};
+ghost use Rattle.sieve_references.specs.SegmentView.{segment_of};
 ghost use Rattle.sieve_parser.specs.View.{argument_tree};
 ghost use Rattle.sieve_check.specs.FormOf.{list_in, meant, of_list, of_lists, template_of};
 ghost use Rattle.sieve_check.specs.Refusing.{context_of};
@@ -10,20 +12,43 @@ ghost use Rattle.sieve_check.specs.TypedView.{templates_of};
 use crate::names::Capability;
 use crate::surroundings::Surroundings;
 use crate::typed::Segment;
-use octets::Octets;
+use octets::{Octets, to_lowercase};
 use sieve_parser::Argument;
+use sieve_references::{Segment as Piece, first_segment};
 use std::alloc::{AllocError, Global};
+
+// The piece as it is meant; nothing for a wrong reference, with which no script is accepted.
+fn meant(alloc: Global, piece: Piece<'_>) -> Result<Option<Segment>, AllocError>
+    ensures { IfOk result (λ segment. option_to_list segment ≡ meant (segment_of piece.entry)) }
+{
+    match piece {
+        Piece::Text(octets) => {
+            let octets = Octets::from_vec(Vec::from_slice(alloc, octets)?);
+            Ok(Some(Segment::Text(octets)))
+        }
+        Piece::Variable(name) => Ok(Some(Segment::Variable(to_lowercase(alloc, name)?))),
+        Piece::Capture(number) => Ok(Some(Segment::Capture(number))),
+        Piece::Beyond | Piece::Foreign => Ok(None),
+    }
+}
 
 // The string with the references in it.
 fn expanded(alloc: Global, string: &[u8]) -> Result<Vec<Segment>, AllocError>
     ensures { IfOk result (λ all. all.items ≡ flat_map meant (segments string.now)) }
 {
-    let _a = alloc;
-    let _s = string;
-    Err(AllocError)
+    let mut all = Vec::new(alloc);
+    let mut rest = string;
+    'pieces: while let Some((piece, after)) = first_segment(rest) {
+        if let Some(segment) = meant(alloc, piece)? {
+            all.push(segment)?;
+        }
+        rest = after;
+    }
+    Ok(all)
 }
 
-/// The string as it is meant: with references where variables were required, else as it is written (RFC 5229, section 3).
+/// The string as it is meant: with references where variables were required, else as it is written
+/// (RFC 5229, section 3). An error comes only where memory was refused.
 pub fn template(
     alloc: Global,
     surroundings: Surroundings,
@@ -56,7 +81,8 @@ fn templates(
     Ok(all)
 }
 
-/// The strings of a list, as they are meant; one string is a list, too.
+/// The strings of a list, as they are meant; one string is a list, too. Nothing for what is no list. An error comes
+/// only where memory was refused.
 pub fn list_in(
     alloc: Global,
     surroundings: Surroundings,
@@ -73,7 +99,8 @@ pub fn list_in(
     }
 }
 
-/// The two lists that the arguments are.
+/// The two lists that the arguments are. Nothing where they are something else. An error comes only where memory was
+/// refused.
 pub fn lists_in(
     alloc: Global,
     surroundings: Surroundings,
