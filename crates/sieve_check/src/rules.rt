@@ -1,10 +1,10 @@
 // The static rules: what is wrong with commands and tests (RFC 5228, section 8.2, and each command's own section).
-ghost use Rattle.std.specs.Prelude.{◌≡◌, [], ◌∷◌, map, length, nat_lt, Some};
+ghost use Rattle.std.specs.Prelude.{◌≡◌, ◌&&◌, ◌||◌, [], ◌∷◌, map, length, nat_lt};
 ghost use Rattle.octets.specs.Limits.{max_test_strings};
 ghost use Rattle.sieve_parser.specs.View.{argument_tree, command_tree, commands_tree, invocation_tree, more_tests_of};
-ghost use Rattle.sieve_check.specs.Rules.{arguments_of, command_needs, command_visit, command_visits, commands_visits, fault_of, has_many_strings, head_visits, is_well_formed, known_command_fault, known_test_fault, may_stand, more_visits, refusal, strings_in, strings_of, test_needs, test_visit, test_visits};
-ghost use Rattle.sieve_check.specs.Signatures.{reading};
-ghost use Rattle.sieve_check.specs.Refusing.{Judges, Passes, Refuses, context_of, listed, known_command_visit, known_test_visit};
+ghost use Rattle.sieve_check.specs.Rules.{arguments_of, command_needs, command_visit, command_visits, commands_visits, fault_of, has_large_mention, has_long_string, has_many_strings, head_visits, is_well_formed, known_command_fault, known_test_fault, may_stand, more_visits, same_ending, strings_in, strings_of, test_needs, test_visit, test_visits};
+ghost use Rattle.sieve_check.specs.Signatures.{command_signature, ending_of, reading};
+ghost use Rattle.sieve_check.specs.Refusing.{Judges, Passes, Refuses, context_of, listed, mentions_in, known_command_visit, known_test_visit};
 
 use crate::error::{CheckError, Fault};
 use crate::mentions::Mentions;
@@ -183,6 +183,28 @@ fn may_stand(name: CommandName, surroundings: Surroundings) -> bool
     }
 }
 
+// Whether the command may stand there, with these arguments and tests, and ended so.
+fn is_taken(
+    surroundings: Surroundings,
+    name: CommandName,
+    head: &Head,
+    tests: Tests,
+    ending: Ending,
+) -> bool
+    ensures { result ≡ (may_stand (context_of surroundings) name && (same_ending (ending_of name) ending && is_well_formed (command_signature name) (arguments_of head.now) tests)) }
+{
+    may_stand(name, surroundings)
+        && ending_of(name) == ending
+        && is_well_formed(command_signature(name), head, tests)
+}
+
+// Whether a command goes beyond a limit.
+fn is_large_command(head: &Head, mentions: Mentions<'_>) -> bool
+    ensures { result ≡ (has_long_string (arguments_of head.now) || has_large_mention (mentions_in mentions.entry)) }
+{
+    StringFault::Long.is_in_some(&head.arguments) || mentions.are_large()
+}
+
 // What is wrong with a command that is known by that name, by itself.
 fn known_command_fault(
     surroundings: Surroundings,
@@ -198,17 +220,22 @@ fn known_command_fault(
         Some(Fault::MissingCapability)
     } else if name == CommandName::Require && StringFault::Unknown.is_in_some(&head.arguments) {
         Some(Fault::UnknownCapability)
-    } else if !may_stand(name, surroundings)
-        || ending_of(name) != ending
-        || !is_well_formed(command_signature(name), head, tests)
-        || mentions.are_wrong()
-    {
+    } else if !is_taken(surroundings, name, head, tests, ending) || mentions.are_wrong() {
         Some(Fault::BadArguments)
-    } else if StringFault::Long.is_in_some(&head.arguments) || mentions.are_large() {
+    } else if is_large_command(head, mentions) {
         Some(Fault::Limit)
     } else {
         None
     }
+}
+
+// Whether a test goes beyond a limit.
+fn is_large_test(signature: Signature, head: &Head, mentions: Mentions<'_>) -> bool
+    ensures { result ≡ (has_long_string (arguments_of head.now) || has_many_strings (reading signature (arguments_of head.now)) || has_large_mention (mentions_in mentions.entry)) }
+{
+    StringFault::Long.is_in_some(&head.arguments)
+        || has_many_strings(signature, head)
+        || mentions.are_large()
 }
 
 // What is wrong with a test that is known by that name, by itself.
@@ -226,10 +253,7 @@ fn known_test_fault(
         Some(Fault::MissingCapability)
     } else if !is_well_formed(signature, head, tests) || mentions.are_wrong() {
         Some(Fault::BadArguments)
-    } else if StringFault::Long.is_in_some(&head.arguments)
-        || has_many_strings(signature, head)
-        || mentions.are_large()
-    {
+    } else if is_large_test(signature, head, mentions) {
         Some(Fault::Limit)
     } else {
         None
