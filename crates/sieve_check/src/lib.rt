@@ -13,7 +13,9 @@ mod checker;
 mod error;
 mod forming;
 pub mod laws;
+mod mentions;
 mod names;
+mod references;
 mod rules;
 mod sequence;
 mod signature;
@@ -21,6 +23,7 @@ mod strings;
 mod surroundings;
 mod test_forms;
 mod typed;
+mod variable_names;
 
 pub use checked::Checked;
 pub use checker::check;

@@ -162,8 +162,8 @@ fn first_tag(arguments: &[Argument]) -> Option<(&[u8], &[Argument])>
     }
 }
 
-// The first argument and the arguments after it, where it is one string.
-fn first_text(arguments: &[Argument]) -> Option<(&Octets, &[Argument])>
+/// The first argument and the arguments after it, where it is one string.
+pub fn first_text(arguments: &[Argument]) -> Option<(&Octets, &[Argument])>
     ensures { FirstText (map argument_tree arguments.now) result }
 {
     match arguments {
