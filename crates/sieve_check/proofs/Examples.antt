@@ -38,9 +38,6 @@ filing others =
 filed_list : fault_of (filing (command (simple (invocation 6 (codes "fileinto") (text_list (codes "x") [] ∷ []) no_test)) no_command)) ≡ Some (BadArguments 6)
 filed_list = refl
 
-filed_form : IsFormOf (filing no_command) (typed.command (file_into (codes "x")) typed.no_command)
-filed_form = refl
-
 -- require "regex";
 not_required : fault_of (command (simple (invocation 0 (codes "require") (text (codes "regex") ∷ []) no_test)) no_command) ≡ Some (UnknownCapability 0)
 not_required = refl
@@ -104,24 +101,6 @@ two_tags_read = refl
 tag_behind : reading (test_signature Size) (amount 10 ∷ label (codes "over") ∷ []) ≡ None
 tag_behind = refl
 
--- size :over 10
-one_test_form : test_form_of (invocation 0 (codes "size") (label (codes "over") ∷ amount 10 ∷ []) no_test) ≡ Some (size Over 10)
-one_test_form = refl
-
--- require "mime"; if true {} else { keep; } stop;
-one_form :
-    IsFormOf
-    (command (simple (invocation 0 (codes "require") (text (codes "mime") ∷ []) no_test))
-    (command (block (invocation 3 (codes "if") [] (one_test (true_at 4))) no_command)
-    (command (block (invocation 7 (codes "else") [] no_test) (keep_at 9 no_command))
-    (command (simple (invocation 12 (codes "stop") [] no_test)) no_command))))
-    (typed.command (choice (branch (constant true) typed.no_command (otherwise (typed.command keep typed.no_command)))) (typed.command stop typed.no_command))
-one_form = refl
-
--- keep; else {}
-no_form : form_of (keep_at 0 (command (block (invocation 2 (codes "else") [] no_test) no_command) no_command)) ≡ None
-no_form = refl
-
 -- so many names, none the same as another
 abbrev names_numbered : ℕ → List (List ℕ)
 names_numbered zero = []
@@ -130,8 +109,8 @@ names_numbered (suc n) = ((128 + n) ∷ []) ∷ names_numbered n
 abbrev brings : ℕ → List (List ℕ) → Visit
 brings token names = record { token = token; names = names; fault = None }
 
--- 128 names, of which some come again, in another case too
-enough_names : first_fault [] (brings 0 (names_numbered 127) ∷ brings 4 (codes "a" ∷ codes "A" ∷ names_numbered 9) ∷ brings 7 (codes "a" ∷ []) ∷ []) ≡ None
+-- 128 names, of which some come again
+enough_names : first_fault [] (brings 0 (names_numbered 127) ∷ brings 4 (codes "a" ∷ codes "a" ∷ names_numbered 9) ∷ brings 7 (codes "a" ∷ []) ∷ []) ≡ None
 enough_names = refl
 
 -- the 129th is named where it comes, and a fault of the same visit before it
@@ -150,24 +129,6 @@ strings_numbered (suc n) = [] ∷ strings_numbered n
 
 abbrev if_test : InvocationTree → CommandsTree
 if_test t = command (block (invocation 0 (codes "if") [] (one_test t)) no_command) no_command
-
--- header "a" ["b", "c"]
-plain_header : test_form_of (invocation 1 (codes "header") (text (codes "a") ∷ text_list (codes "b") (codes "c" ∷ []) ∷ []) no_test)
-    ≡ Some (header (record { kind = Is; comparator = Casemap }) (codes "a" ∷ []) (codes "b" ∷ codes "c" ∷ []))
-plain_header = refl
-
--- header :Comparator "i;octet" :contains ["a"] "b", and with its tags the other way round
-tagged_header : test_form_of (invocation 1 (codes "header") (label (codes "Comparator") ∷ text (codes "i;octet") ∷ label (codes "contains") ∷ text_list (codes "a") [] ∷ text (codes "b") ∷ []) no_test)
-    ≡ Some (header (record { kind = Contains; comparator = Octet }) (codes "a" ∷ []) (codes "b" ∷ []))
-tagged_header = refl
-
-turned_header : test_form_of (invocation 1 (codes "header") (label (codes "contains") ∷ label (codes "comparator") ∷ text (codes "i;octet") ∷ text (codes "a") ∷ text (codes "b") ∷ []) no_test)
-    ≡ Some (header (record { kind = Contains; comparator = Octet }) (codes "a" ∷ []) (codes "b" ∷ []))
-turned_header = refl
-
--- exists ["a", "b"]
-two_exist : test_form_of (invocation 1 (codes "exists") (text_list (codes "a") (codes "b" ∷ []) ∷ []) no_test) ≡ Some (exists (codes "a" ∷ codes "b" ∷ []))
-two_exist = refl
 
 -- a tag behind a positional argument, an unknown comparator, one in brackets, and one that isn't there
 tag_between : reading (test_signature Header) (text (codes "a") ∷ label (codes "is") ∷ text (codes "b") ∷ []) ≡ None

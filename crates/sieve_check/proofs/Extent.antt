@@ -1,27 +1,34 @@
 -- A typed form has no more octets than the commands that are written so.
-use Rattle.std.proofs.Common.{◌≡◌, ℕ, ◌+◌, ◌≤◌, suc, List, [], ◌∷◌, ◌++◌, Option, Some, None, arith, ap, subst, ◌∙◌}
+use Rattle.std.proofs.Common.{◌≡◌, ℕ, ◌+◌, ◌≤◌, suc, List, [], ◌∷◌, ◌++◌, length, map, Option, Some, None, arith, refl, ap, subst, ◌∙◌}
+use Rattle.std.specs.Char.{to_ascii_lowercase}
+use Rattle.std.proofs.lemmas.List.{length-map}
 use Rattle.std.proofs.lemmas.Option.{same_Some}
+use Rattle.octets.specs.Ascii.{lowercase_of}
 use Rattle.octets.specs.Limits.{max_script}
 use Rattle.sieve_parser.specs.Tree.{ArgumentTree, text, text_list, amount, label, InvocationTree, invocation, TestsTree, no_test, one_test, test_list, MoreTests, last as no_more, next, CommandTree, simple, block, CommandsTree, no_command as no_tree, command as tree}
 use Rattle.sieve_parser.specs.Lexemes.{semicolon, closing_parenthesis, closing_bracket, opening_brace, closing_brace}
 use Rattle.sieve_parser.specs.Grammar.{at_depth, more_strings_spelled, arguments_spelled, argument_spelled, invocation_spelled, tests_spelled, more_tests_spelled, command_spelled, commands_spelled}
 use Rattle.sieve_parser.specs.Scripts.{IsTree}
 use Rattle.sieve_parser.proofs.Extent.{octets_of, octets-append, octets_fit}
-use Rattle.glob_match.specs.declared.match_type.Match.{Match}
+use Rattle.bytecode_format.specs.declared.modifiers.Modifiers.{Modifiers}
+use Rattle.sieve_check.specs.declared.names.Capability.TheVariants.{Variables}
 use Rattle.sieve_check.specs.declared.names.CommandName.{CommandName}
-use Rattle.sieve_check.specs.declared.names.CommandName.TheVariants.{Require, If, Elsif, Else, Stop, Keep, Discard, FileInto}
+use Rattle.sieve_check.specs.declared.names.CommandName.TheVariants.{Require, If, Elsif, Else, Stop, Keep, Discard, FileInto, Set}
 use Rattle.sieve_check.specs.declared.names.TestName.{TestName}
-use Rattle.sieve_check.specs.declared.names.TestName.TheVariants.{Constant, Not, AllOf, AnyOf, Header, Exists, Size}
+use Rattle.sieve_check.specs.declared.names.TestName.TheVariants.{Constant, Not, AllOf, AnyOf, Header, Exists, Size, String}
 use Rattle.sieve_check.specs.declared.typed.Order.{Order}
 use Rattle.sieve_check.specs.declared.names.Tag.{Tag}
 use Rattle.sieve_check.specs.declared.signature.Signature.{Signature}
 use Rattle.sieve_check.specs.declared.signature.Tags.{Tags}
 use Rattle.sieve_check.specs.Names.{command_named, test_named, tag_named}
 use Rattle.sieve_check.specs.Signatures.{Read, no_tag, add_tag, awaited, with_argument, tags_read, is_complete, reading, command_signature, test_signature}
-use Rattle.sieve_check.specs.Typed.{TestForm, constant, negation, all_of, any_of, header, exists, size, TestForms, no_test as no_other, test, keep, discard, file_into, stop, CommandForms, no_command, command, BranchForms, no_branch, otherwise, branch}
-use Rattle.sieve_check.specs.Extent.{string_extent, strings_extent, test_extent, tests_extent, command_extent, commands_extent, branches_extent}
-use Rattle.sieve_check.specs.FormOf.{InnerForms, none, one, bracketed, number_in, text_in, list_in, of_list, of_lists, match_of, test_of, test_form_of, inner_forms_of, more_forms_of, PartForm, nothing, action, first, next_branch, last, simple_of, block_of, simple_part, block_part, Forms, closed, closed_by, after_none, put, part_of, forms_of, IsFormOf}
+use Rattle.sieve_check.specs.Rules.{after_invocation, invocation_of, loops_opened}
+use Rattle.sieve_check.specs.Surroundings.{Context, at_start, has_capability, in_block}
+use Rattle.sieve_check.specs.Typed.{Template, TestForm, constant, negation, all_of, any_of, header, exists, size, string, TestForms, no_test as no_other, test, CommandForm, keep, discard, file_into, set, stop, CommandForms, no_command, command, BranchForms, no_branch, otherwise, branch}
+use Rattle.sieve_check.specs.Extent.{strings_extent, test_extent, tests_extent, command_extent, commands_extent, branches_extent}
+use Rattle.sieve_check.specs.FormOf.{InnerForms, none, one, bracketed, number_in, template_of, text_in, setting_in, list_in, of_list, of_lists, match_of, test_of, test_form_of, inner_forms_of, more_forms_of, PartForm, nothing, action, first, next_branch, last, simple_of, block_of, simple_part, block_part, Forms, closed, closed_by, after_none, put, part_of, forms_of, IsFormOf}
 use Rattle.sieve_check.proofs.Options.{step_some, map_some, if_some}
+use Rattle.sieve_check.proofs.Templates.{written, template_fits, templates_fit}
 
 -- an order that was given, as a number
 abbrev given : Option Order → ℕ
@@ -34,8 +41,8 @@ one_at_most (Some order) = omega arith
 
 -- how many octets arguments have, at least
 abbrev argument_extent : ArgumentTree → ℕ
-argument_extent (text s) = string_extent s
-argument_extent (text_list s ss) = strings_extent (s ∷ ss)
+argument_extent (text s) = 2 + length s
+argument_extent (text_list s ss) = written (s ∷ ss)
 argument_extent (amount n) = 1
 argument_extent (label name) = 1
 
@@ -72,35 +79,51 @@ positional_fits signature args read h =
     let same = same_Some r.0 read (if_some (is_complete signature r.0) r.0 read r.2).1 in
     omega (arith, tags_fit signature no_tag None args read (r.1 ∙ ap Some same))
 
-text_fits : (xs : List ArgumentTree) (s : List ℕ) → text_in xs ≡ Some s → string_extent s ≤ arguments_extent xs
-text_fits (text t ∷ []) s h = subst (λ x. string_extent x ≤ arguments_extent (text t ∷ [])) (same_Some t s h) (omega arith)
-text_fits [] s h = absurd (cc)
-text_fits (text_list t ss ∷ xs) s h = absurd (cc)
-text_fits (amount n ∷ xs) s h = absurd (cc)
-text_fits (label name ∷ xs) s h = absurd (cc)
-text_fits (text t ∷ x ∷ xs) s h = absurd (cc)
+text_fits : (xs : List ArgumentTree) (x : List ℕ) → text_in xs ≡ Some x → 2 + length x ≤ arguments_extent xs
+text_fits (text t ∷ []) x h = subst (λ y. 2 + length y ≤ arguments_extent (text t ∷ [])) (same_Some t x h) (omega arith)
+text_fits [] x h = absurd (cc)
+text_fits (text_list t ss ∷ xs) x h = absurd (cc)
+text_fits (amount n ∷ xs) x h = absurd (cc)
+text_fits (label name ∷ xs) x h = absurd (cc)
+text_fits (text t ∷ y ∷ xs) x h = absurd (cc)
 
-list_fits : (a : ArgumentTree) (l : List (List ℕ)) → list_in a ≡ Some l → strings_extent l ≤ argument_extent a
-list_fits (text s) l h = subst (λ x. strings_extent x ≤ string_extent s) (same_Some (s ∷ []) l h) (omega arith)
-list_fits (text_list s ss) l h = subst (λ x. strings_extent x ≤ strings_extent (s ∷ ss)) (same_Some (s ∷ ss) l h) (omega arith)
-list_fits (amount n) l h = absurd (cc)
-list_fits (label name) l h = absurd (cc)
+setting_fits : (s : Context) (m : Modifiers) (xs : List ArgumentTree) (c : CommandForm) → setting_in s m xs ≡ Some c → command_extent c ≤ 2 + arguments_extent xs
+setting_fits s m (text name ∷ text x ∷ []) c h =
+    let value = template_of s x in
+    subst (λ c. command_extent c ≤ 2 + arguments_extent (text name ∷ text x ∷ [])) (same_Some (set m (lowercase_of name) value) c h)
+    (omega (arith, length-map name to_ascii_lowercase, template_fits (has_capability Variables s.required) x))
+setting_fits s m [] c h = absurd (cc)
+setting_fits s m (text_list t ss ∷ xs) c h = absurd (cc)
+setting_fits s m (amount n ∷ xs) c h = absurd (cc)
+setting_fits s m (label name ∷ xs) c h = absurd (cc)
+setting_fits s m (text t ∷ []) c h = absurd (cc)
+setting_fits s m (text t ∷ text_list y ys ∷ xs) c h = absurd (cc)
+setting_fits s m (text t ∷ amount n ∷ xs) c h = absurd (cc)
+setting_fits s m (text t ∷ label name ∷ xs) c h = absurd (cc)
+setting_fits s m (text t ∷ text y ∷ z ∷ xs) c h = absurd (cc)
 
-exists_fits : (xs : List ArgumentTree) (f : TestForm) → of_list exists xs ≡ Some f → test_extent f ≤ 1 + arguments_extent xs
-exists_fits [] f h = absurd (cc)
-exists_fits (a ∷ []) f h =
-    let l = map_some (list_in a) exists f h in
-    subst (λ x. test_extent x ≤ 1 + arguments_extent (a ∷ [])) (same_Some (exists l.0) f l.2) (omega (arith, list_fits a l.0 l.1))
-exists_fits (a ∷ b ∷ xs) f h = absurd (cc)
+list_fits : (s : Context) (a : ArgumentTree) (l : List Template) → list_in s a ≡ Some l → strings_extent l ≤ argument_extent a
+list_fits s (text x) l h = subst (λ l. strings_extent l ≤ 2 + length x) (same_Some (template_of s x ∷ []) l h) (omega (arith, templates_fit (has_capability Variables s.required) (x ∷ [])))
+list_fits s (text_list x xs) l h = subst (λ l. strings_extent l ≤ written (x ∷ xs)) (same_Some (map (template_of s) (x ∷ xs)) l h) (templates_fit (has_capability Variables s.required) (x ∷ xs))
+list_fits s (amount n) l h = absurd (cc)
+list_fits s (label name) l h = absurd (cc)
 
-header_fits : (m : Match) (xs : List ArgumentTree) (f : TestForm) → of_lists (header m) xs ≡ Some f → test_extent f ≤ 1 + arguments_extent xs
-header_fits m [] f h = absurd (cc)
-header_fits m (a ∷ []) f h = absurd (cc)
-header_fits m (a ∷ b ∷ []) f h =
-    let names = step_some (list_in a) _ f h in
-    let keys = map_some (list_in b) (header m names.0) f names.2 in
-    subst (λ x. test_extent x ≤ 1 + arguments_extent (a ∷ b ∷ [])) (same_Some (header m names.0 keys.0) f keys.2) (omega (arith, list_fits a names.0 names.1, list_fits b keys.0 keys.1))
-header_fits m (a ∷ b ∷ c ∷ xs) f h = absurd (cc)
+-- a test that is made of one list, and one of two
+one_list_fits : (s : Context) (make : List Template → TestForm) → ((l : List Template) → test_extent (make l) ≡ 1 + strings_extent l) → (xs : List ArgumentTree) (f : TestForm) → of_list s make xs ≡ Some f → test_extent f ≤ 1 + arguments_extent xs
+one_list_fits s make is [] f h = absurd (cc)
+one_list_fits s make is (a ∷ []) f h =
+    let l = map_some (list_in s a) make f h in
+    subst (λ x. test_extent x ≤ 1 + arguments_extent (a ∷ [])) (same_Some (make l.0) f l.2) (omega (arith, is l.0, list_fits s a l.0 l.1))
+one_list_fits s make is (a ∷ b ∷ xs) f h = absurd (cc)
+
+two_lists_fit : (s : Context) (make : List Template → List Template → TestForm) → ((k l : List Template) → test_extent (make k l) ≡ 1 + strings_extent k + strings_extent l) → (xs : List ArgumentTree) (f : TestForm) → of_lists s make xs ≡ Some f → test_extent f ≤ 1 + arguments_extent xs
+two_lists_fit s make is [] f h = absurd (cc)
+two_lists_fit s make is (a ∷ []) f h = absurd (cc)
+two_lists_fit s make is (a ∷ b ∷ []) f h =
+    let first = step_some (list_in s a) _ f h in
+    let second = map_some (list_in s b) (make first.0) f first.2 in
+    subst (λ x. test_extent x ≤ 1 + arguments_extent (a ∷ b ∷ [])) (same_Some (make first.0 second.0) f second.2) (omega (arith, is first.0 second.0, list_fits s a first.0 first.1, list_fits s b second.0 second.1))
+two_lists_fit s make is (a ∷ b ∷ c ∷ xs) f h = absurd (cc)
 
 -- arguments by which a size was read
 size_args : (args : List ArgumentTree) (read : Read) (order : Order) (n : ℕ) → reading (test_signature Size) args ≡ Some read → read.tags.order ≡ Some order → number_in read.positional ≡ Some n → 2 ≤ arguments_extent args
@@ -118,7 +141,7 @@ size_args args read order n h is number =
     positional (text_list s ss ∷ xs) n h = absurd (cc)
     positional (label name ∷ xs) n h = absurd (cc)
 
-more_strings_fit : (d : ℕ) (ss : List (List ℕ)) → strings_extent ss ≤ octets_of (more_strings_spelled d ss)
+more_strings_fit : (d : ℕ) (ss : List (List ℕ)) → written ss ≤ octets_of (more_strings_spelled d ss)
 more_strings_fit d [] = omega arith
 more_strings_fit d (s ∷ ss) = omega (arith, more_strings_fit d ss)
 
@@ -138,72 +161,75 @@ inner_extent none = 0
 inner_extent (one f) = test_extent f
 inner_extent (bracketed f fs) = 2 + test_extent f + tests_extent fs
 
-test_of_fits : (name : TestName) (args : List ArgumentTree) (read : Read) (inner : InnerForms) (f : TestForm) → reading (test_signature name) args ≡ Some read → test_of name read inner ≡ Some f
+test_of_fits : (s : Context) (name : TestName) (args : List ArgumentTree) (read : Read) (inner : InnerForms) (f : TestForm) → reading (test_signature name) args ≡ Some read → test_of s name read inner ≡ Some f
     → test_extent f ≤ 1 + arguments_extent args + inner_extent inner
-test_of_fits (Constant b) args read none f h is = subst (λ x. test_extent x ≤ 1 + arguments_extent args + 0) (same_Some (constant b) f is) (omega arith)
-test_of_fits Not args read (one t) f h is = subst (λ x. test_extent x ≤ 1 + arguments_extent args + test_extent t) (same_Some (negation t) f is) (omega arith)
-test_of_fits AllOf args read (bracketed t ts) f h is = subst (λ x. test_extent x ≤ 1 + arguments_extent args + (2 + test_extent t + tests_extent ts)) (same_Some (all_of t ts) f is) (omega arith)
-test_of_fits AnyOf args read (bracketed t ts) f h is = subst (λ x. test_extent x ≤ 1 + arguments_extent args + (2 + test_extent t + tests_extent ts)) (same_Some (any_of t ts) f is) (omega arith)
-test_of_fits Size args read none f h is =
+test_of_fits s (Constant b) args read none f h is = subst (λ x. test_extent x ≤ 1 + arguments_extent args + 0) (same_Some (constant b) f is) (omega arith)
+test_of_fits s Not args read (one t) f h is = subst (λ x. test_extent x ≤ 1 + arguments_extent args + test_extent t) (same_Some (negation t) f is) (omega arith)
+test_of_fits s AllOf args read (bracketed t ts) f h is = subst (λ x. test_extent x ≤ 1 + arguments_extent args + (2 + test_extent t + tests_extent ts)) (same_Some (all_of t ts) f is) (omega arith)
+test_of_fits s AnyOf args read (bracketed t ts) f h is = subst (λ x. test_extent x ≤ 1 + arguments_extent args + (2 + test_extent t + tests_extent ts)) (same_Some (any_of t ts) f is) (omega arith)
+test_of_fits s Size args read none f h is =
     let order = step_some read.tags.order _ f is in
     let n = step_some (number_in read.positional) _ f order.2 in
     subst (λ x. test_extent x ≤ 1 + arguments_extent args + 0) (same_Some (size order.0 n.0) f n.2) (omega (arith, size_args args read order.0 n.0 h order.1 n.1))
-test_of_fits Header args read none f h is = omega (arith, header_fits (match_of read.tags) read.positional f is, positional_fits (test_signature Header) args read h)
-test_of_fits Exists args read none f h is = omega (arith, exists_fits read.positional f is, positional_fits (test_signature Exists) args read h)
-test_of_fits (Constant b) args read (one t) f h is = absurd (cc)
-test_of_fits (Constant b) args read (bracketed t ts) f h is = absurd (cc)
-test_of_fits Not args read none f h is = absurd (cc)
-test_of_fits Not args read (bracketed t ts) f h is = absurd (cc)
-test_of_fits AllOf args read none f h is = absurd (cc)
-test_of_fits AllOf args read (one t) f h is = absurd (cc)
-test_of_fits AnyOf args read none f h is = absurd (cc)
-test_of_fits AnyOf args read (one t) f h is = absurd (cc)
-test_of_fits Header args read (one t) f h is = absurd (cc)
-test_of_fits Header args read (bracketed t ts) f h is = absurd (cc)
-test_of_fits Exists args read (one t) f h is = absurd (cc)
-test_of_fits Exists args read (bracketed t ts) f h is = absurd (cc)
-test_of_fits Size args read (one t) f h is = absurd (cc)
-test_of_fits Size args read (bracketed t ts) f h is = absurd (cc)
+test_of_fits s Header args read none f h is = omega (arith, two_lists_fit s (header (match_of read.tags)) (λ k l. refl) read.positional f is, positional_fits (test_signature Header) args read h)
+test_of_fits s String args read none f h is = omega (arith, two_lists_fit s (string (match_of read.tags)) (λ k l. refl) read.positional f is, positional_fits (test_signature String) args read h)
+test_of_fits s Exists args read none f h is = omega (arith, one_list_fits s exists (λ l. refl) read.positional f is, positional_fits (test_signature Exists) args read h)
+test_of_fits s (Constant b) args read (one t) f h is = absurd (cc)
+test_of_fits s (Constant b) args read (bracketed t ts) f h is = absurd (cc)
+test_of_fits s Not args read none f h is = absurd (cc)
+test_of_fits s Not args read (bracketed t ts) f h is = absurd (cc)
+test_of_fits s AllOf args read none f h is = absurd (cc)
+test_of_fits s AllOf args read (one t) f h is = absurd (cc)
+test_of_fits s AnyOf args read none f h is = absurd (cc)
+test_of_fits s AnyOf args read (one t) f h is = absurd (cc)
+test_of_fits s Header args read (one t) f h is = absurd (cc)
+test_of_fits s Header args read (bracketed t ts) f h is = absurd (cc)
+test_of_fits s Exists args read (one t) f h is = absurd (cc)
+test_of_fits s Exists args read (bracketed t ts) f h is = absurd (cc)
+test_of_fits s Size args read (one t) f h is = absurd (cc)
+test_of_fits s Size args read (bracketed t ts) f h is = absurd (cc)
+test_of_fits s String args read (one t) f h is = absurd (cc)
+test_of_fits s String args read (bracketed t ts) f h is = absurd (cc)
 
 mutual
-  test_fits : (i : InvocationTree) (f : TestForm) (d : ℕ) → test_form_of i ≡ Some f → test_extent f ≤ octets_of (invocation_spelled d i)
-  test_fits (invocation token word args tests) f d h =
-      let inner = step_some (inner_forms_of tests) _ f h in
+  test_fits : (s : Context) (i : InvocationTree) (f : TestForm) (d : ℕ) → test_form_of s i ≡ Some f → test_extent f ≤ octets_of (invocation_spelled d i)
+  test_fits s (invocation token word args tests) f d h =
+      let inner = step_some (inner_forms_of s tests) _ f h in
       let name = step_some (test_named word) _ f inner.2 in
       let read = step_some (reading (test_signature name.0) args) _ f name.2 in
       omega (
         arith,
-        test_of_fits name.0 args read.0 inner.0 f read.1 read.2,
-        inner_fits tests inner.0 d inner.1,
+        test_of_fits s name.0 args read.0 inner.0 f read.1 read.2,
+        inner_fits s tests inner.0 d inner.1,
         arguments_fit d args,
         octets-append (arguments_spelled d args) (tests_spelled d tests),
       )
 
-  inner_fits : (tests : TestsTree) (inner : InnerForms) (d : ℕ) → inner_forms_of tests ≡ Some inner → inner_extent inner ≤ octets_of (tests_spelled d tests)
-  inner_fits no_test inner d h = subst (λ x. inner_extent x ≤ 0) (same_Some none inner h) (omega arith)
-  inner_fits (one_test t) inner d h =
-      let f = map_some (test_form_of t) one inner h in
-      subst (λ x. inner_extent x ≤ octets_of (invocation_spelled (suc d) t)) (same_Some (one f.0) inner f.2) (test_fits t f.0 (suc d) f.1)
-  inner_fits (test_list t ts) inner d h =
-      let f = step_some (test_form_of t) _ inner h in
-      let fs = map_some (more_forms_of ts) (bracketed f.0) inner f.2 in
+  inner_fits : (s : Context) (tests : TestsTree) (inner : InnerForms) (d : ℕ) → inner_forms_of s tests ≡ Some inner → inner_extent inner ≤ octets_of (tests_spelled d tests)
+  inner_fits s no_test inner d h = subst (λ x. inner_extent x ≤ 0) (same_Some none inner h) (omega arith)
+  inner_fits s (one_test t) inner d h =
+      let f = map_some (test_form_of s t) one inner h in
+      subst (λ x. inner_extent x ≤ octets_of (invocation_spelled (suc d) t)) (same_Some (one f.0) inner f.2) (test_fits s t f.0 (suc d) f.1)
+  inner_fits s (test_list t ts) inner d h =
+      let f = step_some (test_form_of s t) _ inner h in
+      let fs = map_some (more_forms_of s ts) (bracketed f.0) inner f.2 in
       subst (λ x. inner_extent x ≤ octets_of (tests_spelled d (test_list t ts))) (same_Some (bracketed f.0 fs.0) inner fs.2) (omega (
         arith,
-        test_fits t f.0 (suc d) f.1,
-        more_fit ts fs.0 d fs.1,
+        test_fits s t f.0 (suc d) f.1,
+        more_fit s ts fs.0 d fs.1,
         octets-append (invocation_spelled (suc d) t) (more_tests_spelled d ts ++ at_depth d closing_parenthesis ∷ []),
         octets-append (more_tests_spelled d ts) (at_depth d closing_parenthesis ∷ []),
       ))
 
-  more_fit : (ts : MoreTests) (fs : TestForms) (d : ℕ) → more_forms_of ts ≡ Some fs → tests_extent fs ≤ octets_of (more_tests_spelled d ts)
-  more_fit no_more fs d h = subst (λ x. tests_extent x ≤ 0) (same_Some no_other fs h) (omega arith)
-  more_fit (next t ts) fs d h =
-      let f = step_some (test_form_of t) _ fs h in
-      let others = map_some (more_forms_of ts) (test f.0) fs f.2 in
+  more_fit : (s : Context) (ts : MoreTests) (fs : TestForms) (d : ℕ) → more_forms_of s ts ≡ Some fs → tests_extent fs ≤ octets_of (more_tests_spelled d ts)
+  more_fit s no_more fs d h = subst (λ x. tests_extent x ≤ 0) (same_Some no_other fs h) (omega arith)
+  more_fit s (next t ts) fs d h =
+      let f = step_some (test_form_of s t) _ fs h in
+      let others = map_some (more_forms_of s ts) (test f.0) fs f.2 in
       subst (λ x. tests_extent x ≤ octets_of (more_tests_spelled d (next t ts))) (same_Some (test f.0 others.0) fs others.2) (omega (
         arith,
-        test_fits t f.0 (suc d) f.1,
-        more_fit ts others.0 d others.1,
+        test_fits s t f.0 (suc d) f.1,
+        more_fit s ts others.0 d others.1,
         octets-append (invocation_spelled (suc d) t) (more_tests_spelled d ts),
       ))
 
@@ -215,33 +241,40 @@ part_extent (first f body) = 3 + test_extent f + commands_extent body
 part_extent (next_branch f body) = 3 + test_extent f + commands_extent body
 part_extent (last body) = 3 + commands_extent body
 
-simple_fits : (name : CommandName) (args : List ArgumentTree) (read : Read) (inner : InnerForms) (p : PartForm) → reading (command_signature name) args ≡ Some read → simple_of name read inner ≡ Some p → part_extent p ≤ 2 + arguments_extent args
-simple_fits Require args read none p r h = subst (λ x. part_extent x ≤ 2 + arguments_extent args) (same_Some nothing p h) (omega arith)
-simple_fits Stop args read none p r h = subst (λ x. part_extent x ≤ 2 + arguments_extent args) (same_Some (action stop) p h) (omega arith)
-simple_fits Keep args read none p r h = subst (λ x. part_extent x ≤ 2 + arguments_extent args) (same_Some (action keep) p h) (omega arith)
-simple_fits Discard args read none p r h = subst (λ x. part_extent x ≤ 2 + arguments_extent args) (same_Some (action discard) p h) (omega arith)
-simple_fits FileInto args read none p r h =
-    let folder = map_some (text_in read.positional) (λ folder. action (file_into folder)) p h in
-    subst (λ x. part_extent x ≤ 2 + arguments_extent args) (same_Some (action (file_into folder.0)) p folder.2) (omega (arith, text_fits read.positional folder.0 folder.1, positional_fits (command_signature FileInto) args read r))
-simple_fits Require args read (one f) p r h = absurd (cc)
-simple_fits Require args read (bracketed f fs) p r h = absurd (cc)
-simple_fits If args read none p r h = absurd (cc)
-simple_fits If args read (one f) p r h = absurd (cc)
-simple_fits If args read (bracketed f fs) p r h = absurd (cc)
-simple_fits Elsif args read none p r h = absurd (cc)
-simple_fits Elsif args read (one f) p r h = absurd (cc)
-simple_fits Elsif args read (bracketed f fs) p r h = absurd (cc)
-simple_fits Else args read none p r h = absurd (cc)
-simple_fits Else args read (one f) p r h = absurd (cc)
-simple_fits Else args read (bracketed f fs) p r h = absurd (cc)
-simple_fits Stop args read (one f) p r h = absurd (cc)
-simple_fits Stop args read (bracketed f fs) p r h = absurd (cc)
-simple_fits Keep args read (one f) p r h = absurd (cc)
-simple_fits Keep args read (bracketed f fs) p r h = absurd (cc)
-simple_fits Discard args read (one f) p r h = absurd (cc)
-simple_fits Discard args read (bracketed f fs) p r h = absurd (cc)
-simple_fits FileInto args read (one f) p r h = absurd (cc)
-simple_fits FileInto args read (bracketed f fs) p r h = absurd (cc)
+simple_fits : (s : Context) (name : CommandName) (args : List ArgumentTree) (read : Read) (inner : InnerForms) (p : PartForm) → reading (command_signature name) args ≡ Some read → simple_of s name read inner ≡ Some p → part_extent p ≤ 2 + arguments_extent args
+simple_fits s Require args read none p r h = subst (λ x. part_extent x ≤ 2 + arguments_extent args) (same_Some nothing p h) (omega arith)
+simple_fits s Stop args read none p r h = subst (λ x. part_extent x ≤ 2 + arguments_extent args) (same_Some (action stop) p h) (omega arith)
+simple_fits s Keep args read none p r h = subst (λ x. part_extent x ≤ 2 + arguments_extent args) (same_Some (action keep) p h) (omega arith)
+simple_fits s Discard args read none p r h = subst (λ x. part_extent x ≤ 2 + arguments_extent args) (same_Some (action discard) p h) (omega arith)
+simple_fits s FileInto args read none p r h =
+    let folder = map_some (text_in read.positional) (λ folder. action (file_into (template_of s folder))) p h in
+    subst (λ x. part_extent x ≤ 2 + arguments_extent args) (same_Some (action (file_into (template_of s folder.0))) p folder.2)
+    (omega (arith, text_fits read.positional folder.0 folder.1, template_fits (has_capability Variables s.required) folder.0, positional_fits (command_signature FileInto) args read r))
+simple_fits s Set args read none p r h =
+    let c = map_some (setting_in s read.tags.modifiers read.positional) action p h in
+    subst (λ x. part_extent x ≤ 2 + arguments_extent args) (same_Some (action c.0) p c.2)
+    (omega (arith, setting_fits s read.tags.modifiers read.positional c.0 c.1, positional_fits (command_signature Set) args read r))
+simple_fits s Require args read (one f) p r h = absurd (cc)
+simple_fits s Require args read (bracketed f fs) p r h = absurd (cc)
+simple_fits s If args read none p r h = absurd (cc)
+simple_fits s If args read (one f) p r h = absurd (cc)
+simple_fits s If args read (bracketed f fs) p r h = absurd (cc)
+simple_fits s Elsif args read none p r h = absurd (cc)
+simple_fits s Elsif args read (one f) p r h = absurd (cc)
+simple_fits s Elsif args read (bracketed f fs) p r h = absurd (cc)
+simple_fits s Else args read none p r h = absurd (cc)
+simple_fits s Else args read (one f) p r h = absurd (cc)
+simple_fits s Else args read (bracketed f fs) p r h = absurd (cc)
+simple_fits s Stop args read (one f) p r h = absurd (cc)
+simple_fits s Stop args read (bracketed f fs) p r h = absurd (cc)
+simple_fits s Keep args read (one f) p r h = absurd (cc)
+simple_fits s Keep args read (bracketed f fs) p r h = absurd (cc)
+simple_fits s Discard args read (one f) p r h = absurd (cc)
+simple_fits s Discard args read (bracketed f fs) p r h = absurd (cc)
+simple_fits s FileInto args read (one f) p r h = absurd (cc)
+simple_fits s FileInto args read (bracketed f fs) p r h = absurd (cc)
+simple_fits s Set args read (one f) p r h = absurd (cc)
+simple_fits s Set args read (bracketed f fs) p r h = absurd (cc)
 
 block_fits : (name : CommandName) (inner : InnerForms) (body : CommandForms) (p : PartForm) → block_of name inner body ≡ Some p → part_extent p ≤ 3 + inner_extent inner + commands_extent body
 block_fits If (one f) body p h = subst (λ x. part_extent x ≤ 3 + test_extent f + commands_extent body) (same_Some (first f body) p h) (omega arith)
@@ -268,6 +301,9 @@ block_fits Discard (bracketed f fs) body p h = absurd (cc)
 block_fits FileInto none body p h = absurd (cc)
 block_fits FileInto (one f) body p h = absurd (cc)
 block_fits FileInto (bracketed f fs) body p h = absurd (cc)
+block_fits Set none body p h = absurd (cc)
+block_fits Set (one f) body p h = absurd (cc)
+block_fits Set (bracketed f fs) body p h = absurd (cc)
 
 abbrev forms_extent : Forms → ℕ
 forms_extent r = branches_extent r.branches + commands_extent r.commands
@@ -290,49 +326,51 @@ put_fits (last body) rest r h =
     let cs = map_some (closed rest) (λ cs. let x : Forms = record { branches = otherwise body; commands = cs } in x) r h in
     subst (λ x. forms_extent x ≤ part_extent (last body) + forms_extent rest) (same_Some _ r cs.2) (omega (arith, closed_fits rest.branches rest.commands cs.0 cs.1))
 
-simple_part_fits : (i : InvocationTree) (p : PartForm) (d : ℕ) → simple_part i ≡ Some p → part_extent p ≤ octets_of (command_spelled d (simple i))
-simple_part_fits (invocation token word args tests) p d h =
-    let inner = step_some (inner_forms_of tests) _ p h in
+simple_part_fits : (s : Context) (i : InvocationTree) (p : PartForm) (d : ℕ) → simple_part s i ≡ Some p → part_extent p ≤ octets_of (command_spelled d (simple i))
+simple_part_fits s (invocation token word args tests) p d h =
+    let inner = step_some (inner_forms_of s tests) _ p h in
     let name = step_some (command_named word) _ p inner.2 in
     let read = step_some (reading (command_signature name.0) args) _ p name.2 in
-    omega (arith, simple_fits name.0 args read.0 inner.0 p read.1 read.2, arguments_fit d args, octets-append (arguments_spelled d args) (tests_spelled d tests), octets-append (invocation_spelled d (invocation token word args tests)) (at_depth d semicolon ∷ []))
+    omega (arith, simple_fits s name.0 args read.0 inner.0 p read.1 read.2, arguments_fit d args, octets-append (arguments_spelled d args) (tests_spelled d tests), octets-append (invocation_spelled d (invocation token word args tests)) (at_depth d semicolon ∷ []))
 
-block_part_fits : (i : InvocationTree) (body : CommandForms) (p : PartForm) (d : ℕ) → block_part i body ≡ Some p → part_extent p ≤ 2 + octets_of (invocation_spelled d i) + commands_extent body
-block_part_fits (invocation token word args tests) body p d h =
-    let inner = step_some (inner_forms_of tests) _ p h in
+block_part_fits : (s : Context) (i : InvocationTree) (body : CommandForms) (p : PartForm) (d : ℕ) → block_part s i body ≡ Some p → part_extent p ≤ 2 + octets_of (invocation_spelled d i) + commands_extent body
+block_part_fits s (invocation token word args tests) body p d h =
+    let inner = step_some (inner_forms_of s tests) _ p h in
     let name = step_some (command_named word) _ p inner.2 in
     let read = step_some (reading (command_signature name.0) args) _ p name.2 in
     omega (
       arith,
       block_fits name.0 inner.0 body p read.2,
-      inner_fits tests inner.0 d inner.1,
+      inner_fits s tests inner.0 d inner.1,
       octets-append (arguments_spelled d args) (tests_spelled d tests),
     )
 
 mutual
-  part_fits : (c : CommandTree) (p : PartForm) (d : ℕ) → part_of c ≡ Some p → part_extent p ≤ octets_of (command_spelled d c)
-  part_fits (simple i) p d h = simple_part_fits i p d h
-  part_fits (block i cs) p d h =
-      let forms = step_some (forms_of cs) _ p h in
+  part_fits : (s : Context) (c : CommandTree) (p : PartForm) (d : ℕ) → part_of s c ≡ Some p → part_extent p ≤ octets_of (command_spelled d c)
+  part_fits s (simple i) p d h = simple_part_fits s i p d h
+  part_fits s (block i cs) p d h =
+      let inside = in_block (loops_opened i) s in
+      let forms = step_some (forms_of inside cs) _ p h in
       let body = step_some (closed forms.0) _ p forms.2 in
       omega (
         arith,
-        block_part_fits i body.0 p d body.2,
+        block_part_fits s i body.0 p d body.2,
         closed_fits forms.0.branches forms.0.commands body.0 body.1,
-        forms_fit cs forms.0 (suc d) forms.1,
+        forms_fit inside cs forms.0 (suc d) forms.1,
         octets-append (invocation_spelled d i) (at_depth (suc d) opening_brace ∷ (commands_spelled (suc d) cs ++ at_depth (suc d) closing_brace ∷ [])),
         octets-append (commands_spelled (suc d) cs) (at_depth (suc d) closing_brace ∷ []),
       )
 
-  forms_fit : (cs : CommandsTree) (r : Forms) (d : ℕ) → forms_of cs ≡ Some r → forms_extent r ≤ octets_of (commands_spelled d cs)
-  forms_fit no_tree r d h = subst (λ x. forms_extent x ≤ 0) (same_Some (after_none no_command) r h) (omega arith)
-  forms_fit (tree c cs) r d h =
-      let rest = step_some (forms_of cs) _ r h in
-      let p = step_some (part_of c) _ r rest.2 in
-      omega (arith, put_fits p.0 rest.0 r p.2, part_fits c p.0 d p.1, forms_fit cs rest.0 d rest.1, octets-append (command_spelled d c) (commands_spelled d cs))
+  forms_fit : (s : Context) (cs : CommandsTree) (r : Forms) (d : ℕ) → forms_of s cs ≡ Some r → forms_extent r ≤ octets_of (commands_spelled d cs)
+  forms_fit s no_tree r d h = subst (λ x. forms_extent x ≤ 0) (same_Some (after_none no_command) r h) (omega arith)
+  forms_fit s (tree c cs) r d h =
+      let after = after_invocation s (invocation_of c) in
+      let rest = step_some (forms_of after cs) _ r h in
+      let p = step_some (part_of s c) _ r rest.2 in
+      omega (arith, put_fits p.0 rest.0 r p.2, part_fits s c p.0 d p.1, forms_fit after cs rest.0 d rest.1, octets-append (command_spelled d c) (commands_spelled d cs))
 
 -- commands with the form of a script
 pub form_fits : (cs : CommandsTree) (form : CommandForms) → IsTree cs → IsFormOf cs form → commands_extent form ≤ max_script
 form_fits cs form (script, parsed) is =
-    let forms = step_some (forms_of cs) closed form is in
-    omega (arith, closed_fits forms.0.branches forms.0.commands form forms.2, forms_fit cs forms.0 0 forms.1, octets_fit script cs parsed, parsed.0)
+    let forms = step_some (forms_of at_start cs) closed form is in
+    omega (arith, closed_fits forms.0.branches forms.0.commands form forms.2, forms_fit at_start cs forms.0 0 forms.1, octets_fit script cs parsed, parsed.0)

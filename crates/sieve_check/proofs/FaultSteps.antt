@@ -1,83 +1,49 @@
--- The fault of tests and commands, piece by piece.
-use Rattle.std.proofs.Common.{◌≡◌, ℕ, ◌+◌, ◌<◌, List, [], ◌∷◌, map, drop, length, get_or, Option, Some, None, sym, ap, ◌∙◌, add-one}
+-- The visits of tests and commands, piece by piece.
+use Rattle.std.proofs.Common.{◌≡◌, ℕ, ◌+◌, ◌<◌, List, [], ◌∷◌, ◌++◌, drop, length, get_or, ap, ◌∙◌}
 use Rattle.std.specs.Global.{Vec, Box}
-use Rattle.std.specs.Option.{option_or}
-use Rattle.std.proofs.Math.Seq.{drop-cons}
-use Rattle.sieve_parser.specs.Tree.{MoreTests}
-use Rattle.sieve_parser.specs.View.{invocation_tree, command_tree, commands_tree, more_tests_of}
+use Rattle.sieve_parser.specs.View.{invocation_tree, command_tree, commands_tree}
 use Rattle.sieve_parser.specs.declared.tree.Head.{Head}
 use Rattle.sieve_parser.specs.declared.tree.Invocation.{Invocation}
-use Rattle.sieve_parser.specs.declared.tree.Invocation.TheVariants.{WithTests}
+use Rattle.sieve_parser.specs.declared.tree.Invocation.TheVariants.{WithTest, WithTests}
 use Rattle.sieve_parser.specs.declared.tree.Command.{Command as Tree}
 use Rattle.sieve_parser.specs.declared.tree.Command.TheVariants as trees
-use Rattle.sieve_parser.proofs.TestSteps.{tree_tests}
+use Rattle.sieve_parser.proofs.TestSteps.{tree_test, tree_tests}
 use Rattle.sieve_parser.proofs.CommandSteps.{tree_block}
-use Rattle.sieve_check.specs.declared.error.CheckError.{CheckError}
-use Rattle.sieve_check.specs.declared.signature.Tests.TheVariants.{Bracketed}
+use Rattle.sieve_check.specs.declared.signature.Tests.TheVariants.{One, Bracketed}
+use Rattle.sieve_check.specs.declared.signature.Ending.{Ending}
 use Rattle.sieve_check.specs.declared.signature.Ending.TheVariants.{Block}
-use Rattle.sieve_check.specs.Rules.{arguments_of, test_visit, test_visits, more_visits, head_visits, command_visits, commands_visits, invocation_of, after_invocation}
-use Rattle.sieve_check.specs.Refusing.{refusal_of, first_own_fault}
+use Rattle.sieve_check.specs.Rules.{arguments_of, test_visit, test_visits, more_visits, command_visit, head_visits, command_visits, commands_visits, invocation_of, after_invocation}
 use Rattle.sieve_check.specs.Surroundings.{Context, in_block}
-use Rattle.sieve_check.proofs.Visits.{fault_of_both}
+use Rattle.sieve_check.proofs.FromIndex.{others_of, split_at}
 
--- the trees of a list of tests after its first
-abbrev pub others_of : List Invocation → MoreTests
-others_of list = more_tests_of (map invocation_tree list)
+-- a test with one test, and with tests in round brackets
+pub test_inside : (s : Context) (i : Invocation) (h : Head) (t : Box Invocation) → i ≡ WithTest h t → test_visits s (invocation_tree i) ≡ test_visit s h.token h.name (arguments_of h) One ∷ test_visits s (invocation_tree t.value)
+test_inside s i h t is = ap (λ x. test_visits s x) (ap invocation_tree is ∙ tree_test h t)
 
--- a list from an index on
-pub split_at : {A : Type 0} (xs : List A) (i : ℕ) (x : A) → i < length xs → x ≡ get_or xs i x → drop i xs ≡ x ∷ drop (i + 1) xs
-split_at xs i x lt is = drop-cons xs i x lt ∙ ap (λ n. get_or xs i x ∷ drop n xs) (sym (add-one i)) ∙ ap (λ y. y ∷ drop (i + 1) xs) (sym is)
+pub tests_inside : (s : Context) (i : Invocation) (h : Head) (t : Box Invocation) (ts : Vec Invocation) → i ≡ WithTests h t ts
+    → test_visits s (invocation_tree i) ≡ test_visit s h.token h.name (arguments_of h) Bracketed ∷ (test_visits s (invocation_tree t.value) ++ more_visits s (others_of ts.items))
+tests_inside s i h t ts is = ap (λ x. test_visits s x) (ap invocation_tree is ∙ tree_tests h t ts)
 
--- of faults one after another
-pub second_of_three : (a b c : Option CheckError) (e : CheckError) → a ≡ None → b ≡ Some e → option_or a (option_or b c) ≡ Some e
-second_of_three a b c e none is = ap (λ o. option_or o (option_or b c)) none ∙ ap (λ o. option_or o c) is
+-- a command with one test, and with tests in round brackets
+pub head_test : (s : Context) (i : Invocation) (ending : Ending) (h : Head) (t : Box Invocation) → i ≡ WithTest h t
+    → head_visits s (invocation_tree i) ending ≡ command_visit s h.token h.name (arguments_of h) One ending ∷ test_visits s (invocation_tree t.value)
+head_test s i ending h t is = ap (λ x. head_visits s x ending) (ap invocation_tree is ∙ tree_test h t)
 
-pub third_of_three : (a b c : Option CheckError) → a ≡ None → b ≡ None → option_or a (option_or b c) ≡ c
-third_of_three a b c none none_after = ap (λ o. option_or o (option_or b c)) none ∙ ap (λ o. option_or o c) none_after
-
-pub first_of_two : (a b : Option CheckError) (e : CheckError) → a ≡ Some e → option_or a b ≡ Some e
-first_of_two a b e is = ap (λ o. option_or o b) is
-
-pub second_of_two : (a b : Option CheckError) → a ≡ None → option_or a b ≡ b
-second_of_two a b none = ap (λ o. option_or o b) none
-
--- a test with tests in round brackets
-module _ (s : Context) (i : Invocation) (h : Head) (t : Box Invocation) (ts : Vec Invocation) (is : i ≡ WithTests h t ts) where
-  list_faults :
-      first_own_fault (test_visits s (invocation_tree i))
-      ≡ option_or (refusal_of (test_visit s h.token h.name (arguments_of h) Bracketed))
-      (option_or (first_own_fault (test_visits s (invocation_tree t.value))) (first_own_fault (more_visits s (others_of ts.items))))
-  list_faults =
-      ap (λ x. first_own_fault (test_visits s x)) (ap invocation_tree is ∙ tree_tests h t ts)
-      ∙ ap (option_or (refusal_of (test_visit s h.token h.name (arguments_of h) Bracketed))) (fault_of_both (test_visits s (invocation_tree t.value)) (more_visits s (others_of ts.items)))
-
-  -- where nothing is wrong with the test itself, and where nothing is with its first test either
-  pub first_inside : (e : CheckError) → refusal_of (test_visit s h.token h.name (arguments_of h) Bracketed) ≡ None → first_own_fault (test_visits s (invocation_tree t.value)) ≡ Some e → first_own_fault (test_visits s (invocation_tree i)) ≡ Some e
-  first_inside e none here = list_faults ∙ second_of_three _ _ _ e none here
-
-  pub others_inside : refusal_of (test_visit s h.token h.name (arguments_of h) Bracketed) ≡ None → first_own_fault (test_visits s (invocation_tree t.value)) ≡ None → first_own_fault (test_visits s (invocation_tree i)) ≡ first_own_fault (more_visits s (others_of ts.items))
-  others_inside none here = list_faults ∙ third_of_three _ _ _ none here
+pub head_tests : (s : Context) (i : Invocation) (ending : Ending) (h : Head) (t : Box Invocation) (ts : Vec Invocation) → i ≡ WithTests h t ts
+    → head_visits s (invocation_tree i) ending ≡ command_visit s h.token h.name (arguments_of h) Bracketed ending ∷ (test_visits s (invocation_tree t.value) ++ more_visits s (others_of ts.items))
+head_tests s i ending h t ts is = ap (λ x. head_visits s x ending) (ap invocation_tree is ∙ tree_tests h t ts)
 
 -- the tests of a list from an index on
-pub rest_faults : (s : Context) (list : List Invocation) (i : ℕ) (x : Invocation) → i < length list → x ≡ get_or list i x →
-    first_own_fault (more_visits s (others_of (drop i list)))
-    ≡ option_or (first_own_fault (test_visits s (invocation_tree x))) (first_own_fault (more_visits s (others_of (drop (i + 1) list))))
-rest_faults s list i x lt is =
-    ap (λ xs. first_own_fault (more_visits s (others_of xs))) (split_at list i x lt is)
-    ∙ fault_of_both (test_visits s (invocation_tree x)) (more_visits s (others_of (drop (i + 1) list)))
+pub rest_visits : (s : Context) (list : List Invocation) (i : ℕ) (x : Invocation) → i < length list → x ≡ get_or list i x
+    → more_visits s (others_of (drop i list)) ≡ test_visits s (invocation_tree x) ++ more_visits s (others_of (drop (i + 1) list))
+rest_visits s list i x lt is = ap (λ xs. more_visits s (others_of xs)) (split_at list i x lt is)
 
 -- a command with a block
-pub block_faults : (s : Context) (tree : Tree) (i : Invocation) (cs : Vec Tree) → tree ≡ trees.Block i cs →
-    first_own_fault (command_visits s (command_tree tree))
-    ≡ option_or (first_own_fault (head_visits s (invocation_tree i) Block)) (first_own_fault (commands_visits (in_block [] s) (commands_tree cs.items)))
-block_faults s tree i cs is =
-    ap (λ x. first_own_fault (command_visits s x)) (ap command_tree is ∙ tree_block i cs)
-    ∙ fault_of_both (head_visits s (invocation_tree i) Block) (commands_visits (in_block [] s) (commands_tree cs.items))
+pub block_visits : (s : Context) (tree : Tree) (i : Invocation) (cs : Vec Tree) → tree ≡ trees.Block i cs
+    → command_visits s (command_tree tree) ≡ head_visits s (invocation_tree i) Block ++ commands_visits (in_block [] s) (commands_tree cs.items)
+block_visits s tree i cs is = ap (λ x. command_visits s x) (ap command_tree is ∙ tree_block i cs)
 
 -- the commands from an index on
-pub next_faults : (s : Context) (list : List Tree) (i : ℕ) (x : Tree) → i < length list → x ≡ get_or list i x →
-    first_own_fault (commands_visits s (commands_tree (drop i list)))
-    ≡ option_or (first_own_fault (command_visits s (command_tree x))) (first_own_fault (commands_visits (after_invocation s (invocation_of (command_tree x))) (commands_tree (drop (i + 1) list))))
-next_faults s list i x lt is =
-    ap (λ xs. first_own_fault (commands_visits s (commands_tree xs))) (split_at list i x lt is)
-    ∙ fault_of_both (command_visits s (command_tree x)) (commands_visits (after_invocation s (invocation_of (command_tree x))) (commands_tree (drop (i + 1) list)))
+pub next_visits : (s : Context) (list : List Tree) (i : ℕ) (x : Tree) → i < length list → x ≡ get_or list i x
+    → commands_visits s (commands_tree (drop i list)) ≡ command_visits s (command_tree x) ++ commands_visits (after_invocation s (invocation_of (command_tree x))) (commands_tree (drop (i + 1) list))
+next_visits s list i x lt is = ap (λ xs. commands_visits s (commands_tree xs)) (split_at list i x lt is)

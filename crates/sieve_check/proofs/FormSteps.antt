@@ -5,37 +5,49 @@ use Rattle.std.proofs.lemmas.List.{map-append}
 use Rattle.sieve_parser.specs.View.{invocation_tree, command_tree, commands_tree}
 use Rattle.sieve_parser.specs.declared.tree.Head.{Head}
 use Rattle.sieve_parser.specs.declared.tree.Invocation.{Invocation}
-use Rattle.sieve_parser.specs.declared.tree.Invocation.TheVariants.{WithTests}
+use Rattle.sieve_parser.specs.declared.tree.Invocation.TheVariants.{WithTest, WithTests}
 use Rattle.sieve_parser.specs.declared.tree.Command.{Command as Tree}
-use Rattle.sieve_parser.proofs.TestSteps.{tree_tests}
+use Rattle.sieve_parser.proofs.TestSteps.{tree_test, tree_tests}
 use Rattle.sieve_check.specs.declared.names.CommandName.{CommandName}
-use Rattle.sieve_check.specs.declared.names.CommandName.TheVariants.{Require, If, Elsif, Else, Stop, Keep, Discard, FileInto}
+use Rattle.sieve_check.specs.declared.names.CommandName.TheVariants.{Require, If, Elsif, Else, Stop, Keep, Discard, FileInto, Set}
 use Rattle.sieve_check.specs.declared.sequence.Part.{Part}
 use Rattle.sieve_check.specs.declared.sequence.Sequence.{Sequence}
 use Rattle.sieve_check.specs.declared.typed.Test.{Test}
-use Rattle.sieve_check.specs.FormOf.{bracketed, PartForm, block_of, block_part, Forms, put, test_form_of, more_forms_of, part_of, forms_of}
-use Rattle.sieve_check.specs.Forming.{head_block}
+use Rattle.sieve_check.specs.FormOf.{one, bracketed, PartForm, block_of, block_part, Forms, put, test_form_of, more_forms_of, part_of, forms_of}
+use Rattle.sieve_check.specs.Forming.{head_block, head_test}
 use Rattle.sieve_check.specs.Names.{command_named}
-use Rattle.sieve_check.specs.Rules.{arguments_of}
+use Rattle.sieve_check.specs.Rules.{after_invocation, arguments_of, invocation_of}
 use Rattle.sieve_check.specs.Sequences.{part_form, finished_by, Pushed}
 use Rattle.sieve_check.specs.Signatures.{◌>>=◌, reading, command_signature}
+use Rattle.sieve_check.specs.Surroundings.{Context}
 use Rattle.sieve_check.specs.Typed.{TestForm, TestForms, test, CommandForms}
 use Rattle.sieve_check.specs.TypedView.{test_form}
 use Rattle.sieve_check.proofs.TestLists.{tests_onto, onto-append}
-use Rattle.sieve_check.proofs.FaultSteps.{others_of, split_at}
+use Rattle.sieve_check.proofs.FromIndex.{others_of, split_at}
 use Rattle.sieve_check.proofs.Options.{step_none}
 
+-- a test with the tests behind it, which have forms
+module _ (s : Context) (i : Invocation) (h : Head) (t : Box Invocation) (f : TestForm) (formed : test_form_of s (invocation_tree t.value) ≡ Some f) where
+  pub form_with_test : i ≡ WithTest h t → test_form_of s (invocation_tree i) ≡ head_test s h (one f)
+  form_with_test is = ap (test_form_of s) (ap invocation_tree is ∙ tree_test h t) ∙ ap (λ o. option_map one o >>= λ inner. head_test s h inner) formed
+
+  pub form_with_tests : (ts : Vec Invocation) (fs : TestForms) → more_forms_of s (others_of ts.items) ≡ Some fs → i ≡ WithTests h t ts → test_form_of s (invocation_tree i) ≡ head_test s h (bracketed f fs)
+  form_with_tests ts fs others is =
+      ap (test_form_of s) (ap invocation_tree is ∙ tree_tests h t ts)
+      ∙ ap (λ o. (o >>= λ f. option_map (bracketed f) (more_forms_of s (others_of ts.items))) >>= λ inner. head_test s h inner) formed
+      ∙ ap (λ o. option_map (bracketed f) o >>= λ inner. head_test s h inner) others
+
 -- one more test of a list
-module _ (list : List Invocation) (i : ℕ) (x : Invocation) (lt : i < length list) (is : x ≡ get_or list i x) (done : List Test) (t : Test) (formed : test_form_of (invocation_tree x) ≡ Some (test_form t)) where
+module _ (s : Context) (list : List Invocation) (i : ℕ) (x : Invocation) (lt : i < length list) (is : x ≡ get_or list i x) (done : List Test) (t : Test) (formed : test_form_of s (invocation_tree x) ≡ Some (test_form t)) where
   after : (o : Option TestForms) → option_map (tests_onto (map test_form (done ++ t ∷ []))) o ≡ option_map (tests_onto (map test_form done)) (option_map (test (test_form t)) o)
   after None = refl
   after (Some fs) = ap Some (ap (λ ts. tests_onto ts fs) (map-append test_form done (t ∷ [])) ∙ onto-append (map test_form done) (test_form t) fs)
 
-  pub tests_more : option_map (tests_onto (map test_form (done ++ t ∷ []))) (more_forms_of (others_of (drop (i + 1) list))) ≡ option_map (tests_onto (map test_form done)) (more_forms_of (others_of (drop i list)))
+  pub tests_more : option_map (tests_onto (map test_form (done ++ t ∷ []))) (more_forms_of s (others_of (drop (i + 1) list))) ≡ option_map (tests_onto (map test_form done)) (more_forms_of s (others_of (drop i list)))
   tests_more =
-      after (more_forms_of (others_of (drop (i + 1) list)))
-      ∙ sym (ap (λ xs. option_map (tests_onto (map test_form done)) (more_forms_of (others_of xs))) (split_at list i x lt is)
-      ∙ ap (λ o. option_map (tests_onto (map test_form done)) (o >>= λ f. option_map (test f) (more_forms_of (others_of (drop (i + 1) list))))) formed)
+      after (more_forms_of s (others_of (drop (i + 1) list)))
+      ∙ sym (ap (λ xs. option_map (tests_onto (map test_form done)) (more_forms_of s (others_of xs))) (split_at list i x lt is)
+      ∙ ap (λ o. option_map (tests_onto (map test_form done)) (o >>= λ f. option_map (test f) (more_forms_of s (others_of (drop (i + 1) list))))) formed)
 
 -- a command with tests in round brackets and a block is none
 no_block : (name : CommandName) (f : TestForm) (fs : TestForms) (body : CommandForms) → block_of name (bracketed f fs) body ≡ None
@@ -47,26 +59,27 @@ no_block Stop f fs body = refl
 no_block Keep f fs body = refl
 no_block Discard f fs body = refl
 no_block FileInto f fs body = refl
+no_block Set f fs body = refl
 
 no_head : (h : Head) (f : TestForm) (fs : TestForms) (body : CommandForms) → head_block h (bracketed f fs) body ≡ None
 no_head h f fs body = step_none (command_named h.name) _ (λ name. step_none (reading (command_signature name) (arguments_of h)) _ (λ read. no_block name f fs body))
 
-pub no_block_part : (i : Invocation) (h : Head) (t : Box Invocation) (ts : Vec Invocation) (body : CommandForms) → i ≡ WithTests h t ts → block_part (invocation_tree i) body ≡ None
-no_block_part i h t ts body is = ap (λ x. block_part x body) (ap invocation_tree is ∙ tree_tests h t ts) ∙ inside (test_form_of (invocation_tree t.value)) (more_forms_of (others_of ts.items)) where
+pub no_block_part : (s : Context) (i : Invocation) (h : Head) (t : Box Invocation) (ts : Vec Invocation) (body : CommandForms) → i ≡ WithTests h t ts → block_part s (invocation_tree i) body ≡ None
+no_block_part s i h t ts body is = ap (λ x. block_part s x body) (ap invocation_tree is ∙ tree_tests h t ts) ∙ inside (test_form_of s (invocation_tree t.value)) (more_forms_of s (others_of ts.items)) where
   inside : (a : Option TestForm) (b : Option TestForms) → ((a >>= λ f. option_map (bracketed f) b) >>= λ inner. head_block h inner body) ≡ None
   inside None b = refl
   inside (Some f) None = refl
   inside (Some f) (Some fs) = no_head h f fs body
 
 -- what is added before commands that are still to come
-module _ (list : List Tree) (i : ℕ) (x : Tree) (lt : i < length list) (is : x ≡ get_or list i x) (old : Sequence) where
+module _ (s : Context) (list : List Tree) (i : ℕ) (x : Tree) (lt : i < length list) (is : x ≡ get_or list i x) (old : Sequence) where
   abbrev pub later : Option Forms
-  later = forms_of (commands_tree (drop (i + 1) list))
+  later = forms_of (after_invocation s (invocation_of (command_tree x))) (commands_tree (drop (i + 1) list))
 
-  here : (forms_of (commands_tree (drop i list)) >>= finished_by old) ≡ ((later >>= λ rest. part_of (command_tree x) >>= λ part. put part rest) >>= finished_by old)
-  here = ap (λ xs. forms_of (commands_tree xs) >>= finished_by old) (split_at list i x lt is)
+  here : (forms_of s (commands_tree (drop i list)) >>= finished_by old) ≡ ((later >>= λ rest. part_of s (command_tree x) >>= λ part. put part rest) >>= finished_by old)
+  here = ap (λ xs. forms_of s (commands_tree xs) >>= finished_by old) (split_at list i x lt is)
 
-  module _ (part : Part) (formed : part_of (command_tree x) ≡ Some (part_form part)) (new : Sequence) where
+  module _ (part : Part) (formed : part_of s (command_tree x) ≡ Some (part_form part)) (new : Sequence) where
     added : Pushed old part true new → (o : Option Forms) → ((o >>= λ rest. put (part_form part) rest) >>= finished_by old) ≡ (o >>= finished_by new)
     added pushed None = refl
     added pushed (Some rest) = pushed rest
@@ -75,13 +88,13 @@ module _ (list : List Tree) (i : ℕ) (x : Tree) (lt : i < length list) (is : x 
     refused pushed None = refl
     refused pushed (Some rest) = pushed rest
 
-    pub part_added : Pushed old part true new → (later >>= finished_by new) ≡ (forms_of (commands_tree (drop i list)) >>= finished_by old)
+    pub part_added : Pushed old part true new → (later >>= finished_by new) ≡ (forms_of s (commands_tree (drop i list)) >>= finished_by old)
     part_added pushed = sym (here ∙ ap (λ p. (later >>= λ rest. p >>= λ part. put part rest) >>= finished_by old) formed ∙ added pushed later)
 
-    pub part_refused : Pushed old part false new → (forms_of (commands_tree (drop i list)) >>= finished_by old) ≡ None
+    pub part_refused : Pushed old part false new → (forms_of s (commands_tree (drop i list)) >>= finished_by old) ≡ None
     part_refused pushed = here ∙ ap (λ p. (later >>= λ rest. p >>= λ part. put part rest) >>= finished_by old) formed ∙ refused pushed later
 
-  pub part_missing : part_of (command_tree x) ≡ None → (forms_of (commands_tree (drop i list)) >>= finished_by old) ≡ None
+  pub part_missing : part_of s (command_tree x) ≡ None → (forms_of s (commands_tree (drop i list)) >>= finished_by old) ≡ None
   part_missing missing = here ∙ ap (λ p. (later >>= λ rest. p >>= λ part. put part rest) >>= finished_by old) missing ∙ nothing_left later where
     nothing_left : (o : Option Forms) → ((o >>= λ (rest : Forms). (let p : Option PartForm = None in p) >>= λ part. put part rest) >>= finished_by old) ≡ None
     nothing_left None = refl

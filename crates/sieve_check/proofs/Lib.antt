@@ -1,3 +1,4 @@
+pub mod FromIndex
 pub mod Forms
 pub mod TestLists
 pub mod SequenceSteps
@@ -6,7 +7,12 @@ pub mod FaultSteps
 pub mod FormSteps
 pub mod Requiring
 pub mod Options
+pub mod Faultless
+pub mod Templates
 pub mod Extent
 pub mod Lists
+pub mod TestExistence
 pub mod Existence
 pub mod Examples
+pub mod NameSteps
+pub mod FormExamples

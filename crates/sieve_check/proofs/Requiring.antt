@@ -5,7 +5,7 @@ use Rattle.sieve_parser.specs.declared.tree.Argument.{Argument}
 use Rattle.sieve_check.specs.declared.surroundings.Capabilities.{Capabilities}
 use Rattle.sieve_check.specs.Rules.{strings_in, strings_of}
 use Rattle.sieve_check.specs.Surroundings.{requiring, with_required}
-use Rattle.sieve_check.proofs.FaultSteps.{split_at}
+use Rattle.sieve_check.proofs.FromIndex.{split_at}
 
 requiring_both : (a b : List (List ℕ)) (all : Capabilities) → requiring (a ++ b) all ≡ requiring b (requiring a all)
 requiring_both [] b all = refl

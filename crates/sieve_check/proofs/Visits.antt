@@ -1,75 +1,66 @@
--- The fault of visits, one after another.
-use Rattle.std.proofs.Common.{◌≡◌, ℕ, List, [], ◌∷◌, ◌++◌, length, nat_lt, Option, Some, None, option_map, if◌then◌else◌, refl, sym, ap, ◌∙◌}
+-- Visits, one after another.
+use Rattle.std.proofs.Common.{◌≡◌, ℕ, List, [], ◌∷◌, ◌++◌, Option, Some, None, option_map, refl, sym, ap, subst, ◌∙◌}
+use Rattle.std.specs.Prelude.{Result, Ok, Err}
 use Rattle.std.specs.Option.{option_or}
-use Rattle.octets.specs.Limits.{max_variables}
-use Rattle.octets.specs.Once.{with_more}
-use Rattle.sieve_parser.specs.Tree.{InvocationTree, invocation, TestsTree, no_test, one_test, test_list, MoreTests, last, next, CommandTree, simple, block, CommandsTree, no_command, command}
 use Rattle.sieve_check.specs.declared.error.CheckError.{CheckError}
-use Rattle.sieve_check.specs.declared.error.Fault.{Fault}
-use Rattle.sieve_check.specs.declared.error.Fault.TheVariants.{Limit}
-use Rattle.sieve_check.specs.declared.signature.Ending.{Ending}
-use Rattle.sieve_check.specs.declared.signature.Ending.TheVariants.{Semicolon, Block}
-use Rattle.sieve_check.specs.Names.{is_word}
-use Rattle.sieve_check.specs.Refusing.{refusal_of, first_own_fault}
-use Rattle.sieve_check.specs.Rules.{Visit, refusal, names_with, first_fault, fault_of, test_visits, tests_visits, more_visits, head_visits, command_visits, commands_visits, invocation_of, after_invocation}
-use Rattle.sieve_check.specs.Surroundings.{Context, at_start, in_block}
+use Rattle.sieve_check.specs.Refusing.{Passes, names_after}
+use Rattle.sieve_check.specs.Rules.{Visit, refusal, names_with, visit_fault, first_fault}
 
 or_assoc : (a b c : Option CheckError) → option_or (option_or a b) c ≡ option_or a (option_or b c)
 or_assoc None b c = refl
 or_assoc (Some e) b c = refl
 
-pub fault_of_both : (vs ws : List Visit) → first_own_fault (vs ++ ws) ≡ option_or (first_own_fault vs) (first_own_fault ws)
-fault_of_both [] ws = refl
-fault_of_both (v ∷ vs) ws = ap (option_or (refusal_of v)) (fault_of_both vs ws) ∙ sym (or_assoc (refusal_of v) (first_own_fault vs) (first_own_fault ws))
+-- the fault of visits after others, and the names after both
+fault_of_both : (names : List (List ℕ)) (vs ws : List Visit) → first_fault names (vs ++ ws) ≡ option_or (first_fault names vs) (first_fault (names_after names vs) ws)
+fault_of_both names [] ws = refl
+fault_of_both names (v ∷ vs) ws =
+    let own = option_map (refusal v.token) (visit_fault names v) in
+    ap (option_or own) (fault_of_both (names_with names v) vs ws) ∙ sym (or_assoc own (first_fault (names_with names v) vs) (first_fault (names_after (names_with names v) vs) ws))
 
--- none of the visits brings a name
-abbrev AreNameless : List Visit → Type 0
-AreNameless [] = Unit {0}
-AreNameless (v ∷ vs) = (v.names ≡ []) × AreNameless vs
+names_of_both : (names : List (List ℕ)) (vs ws : List Visit) → names_after names (vs ++ ws) ≡ names_after (names_after names vs) ws
+names_of_both names [] ws = refl
+names_of_both names (v ∷ vs) ws = names_of_both (names_with names v) vs ws
 
-nameless_both : (vs ws : List Visit) → AreNameless vs → AreNameless ws → AreNameless (vs ++ ws)
-nameless_both [] ws h k = k
-nameless_both (v ∷ vs) ws h k = (h.0, nameless_both vs ws h.1 k)
+-- where the first visits pass, it is as it is with those behind them
+goes_on : (names : List (List ℕ)) (vs ws : List Visit) → first_fault names vs ≡ None → first_fault names (vs ++ ws) ≡ first_fault (names_after names vs) ws
+goes_on names vs ws none = fault_of_both names vs ws ∙ ap (λ o. option_or o (first_fault (names_after names vs) ws)) none
 
-mutual
-  test_nameless : (s : Context) (i : InvocationTree) → AreNameless (test_visits s i)
-  test_nameless s (invocation token name args tests) = (refl, tests_nameless s tests)
+module _ {A : Type 0} where
+  pub passes_on : (names : List (List ℕ)) (vs ws : List Visit) (between : List (List ℕ)) (result : Result A CheckError) (after : List (List ℕ)) → (first_fault names vs ≡ None) × (between ≡ names_after names vs)
+      → Passes between ws result after → Passes names (vs ++ ws) result after
+  passes_on names vs ws between result after first second = step result (subst (λ (ns : List (List ℕ)). Passes ns ws result after) first.1 second)
+    where
+      step : (r : Result A CheckError) → Passes (names_after names vs) ws r after → Passes names (vs ++ ws) r after
+      step (Ok x) passes = (goes_on names vs ws first.0 ∙ passes.0, passes.1 ∙ sym (names_of_both names vs ws))
+      step (Err e) fault = goes_on names vs ws first.0 ∙ fault
 
-  tests_nameless : (s : Context) (tests : TestsTree) → AreNameless (tests_visits s tests)
-  tests_nameless s no_test = tt
-  tests_nameless s (one_test t) = test_nameless s t
-  tests_nameless s (test_list t ts) = nameless_both (test_visits s t) (more_visits s ts) (test_nameless s t) (more_nameless s ts)
+-- where one of them has a fault, that is it
+pub stops : (names : List (List ℕ)) (vs ws : List Visit) (e : CheckError) → first_fault names vs ≡ Some e → first_fault names (vs ++ ws) ≡ Some e
+stops names vs ws e fault = fault_of_both names vs ws ∙ ap (λ o. option_or o (first_fault (names_after names vs) ws)) fault
 
-  more_nameless : (s : Context) (ts : MoreTests) → AreNameless (more_visits s ts)
-  more_nameless s last = tt
-  more_nameless s (next t ts) = nameless_both (test_visits s t) (more_visits s ts) (test_nameless s t) (more_nameless s ts)
+-- visits that are those and then others
+module _ {A : Type 0} (names : List (List ℕ)) (all vs ws : List Visit) (is : all ≡ vs ++ ws) where
+  -- where one of the first has a fault, which was passed on
+  pub refused : (e y : CheckError) (result : Result A CheckError) (after : List (List ℕ)) → first_fault names vs ≡ Some e → result ≡ Err y → y ≡ e → Passes names all result after
+  refused e y result after fault here same =
+      subst (λ (r : Result A CheckError). Passes names all r after) (sym (here ∙ ap (λ x. Err x) same)) (ap (first_fault names) is ∙ stops names vs ws e fault)
 
-head_nameless : (s : Context) (i : InvocationTree) (ending : Ending) → AreNameless (head_visits s i ending)
-head_nameless s (invocation token name args tests) ending = (refl, tests_nameless s tests)
+  -- where the first pass
+  pub passed : (between : List (List ℕ)) (result : Result A CheckError) (after : List (List ℕ)) → (first_fault names vs ≡ None) × (between ≡ names_after names vs)
+      → Passes between ws result after → Passes names all result after
+  passed between result after first second = subst (λ (l : List Visit). Passes names l result after) (sym is) (passes_on names vs ws between result after first second)
 
-mutual
-  command_nameless : (s : Context) (c : CommandTree) → AreNameless (command_visits s c)
-  command_nameless s (simple i) = head_nameless s i Semicolon
-  command_nameless s (block i cs) = nameless_both (head_visits s i Block) (commands_visits (in_block [] s) cs) (head_nameless s i Block) (commands_nameless (in_block [] s) cs)
+-- visits that are left, with the names so far, are refused and bring names as all of them do
+abbrev pub AreLeft : List (List ℕ) → List Visit → List (List ℕ) → List Visit → Type 0
+AreLeft now left start all = (first_fault now left ≡ first_fault start all) × (names_after now left ≡ names_after start all)
 
-  commands_nameless : (s : Context) (cs : CommandsTree) → AreNameless (commands_visits s cs)
-  commands_nameless s no_command = tt
-  commands_nameless s (command c cs) =
-      nameless_both (command_visits s c) (commands_visits (after_invocation s (invocation_of c)) cs) (command_nameless s c) (commands_nameless (after_invocation s (invocation_of c)) cs)
+pub one_less : (now : List (List ℕ)) (here vs left : List Visit) (start : List (List ℕ)) (all : List Visit) (between : List (List ℕ)) → here ≡ vs ++ left → (first_fault now vs ≡ None) × (between ≡ names_after now vs)
+    → AreLeft now here start all → AreLeft between left start all
+one_less now here vs left start all between is passes h =
+    subst (λ (names : List (List ℕ)). AreLeft names left start all) (sym passes.1)
+    (sym (goes_on now vs left passes.0) ∙ ap (first_fault now) (sym is) ∙ h.0, sym (names_of_both now vs left) ∙ ap (names_after now) (sym is) ∙ h.1)
 
-or_none : (f : Option Fault) → option_or f None ≡ f
-or_none None = refl
-or_none (Some f) = refl
-
--- without names a visit's fault is its own
-own_only : (vs : List Visit) → AreNameless vs → first_fault [] vs ≡ first_own_fault vs
-own_only [] h = refl
-own_only (v ∷ vs) h =
-    let none : names_with [] v ≡ [] = ap (with_more is_word []) h.0 in
-    ap (λ (names : List (List ℕ)). option_or (option_map (refusal v.token) (option_or v.fault (if nat_lt max_variables (length names) then Some Limit else None))) (first_fault names vs)) none
-    ∙ ap (λ f. option_or (option_map (refusal v.token) f) (first_fault [] vs)) (or_none v.fault)
-    ∙ ap (option_or (refusal_of v)) (own_only vs h.1)
-
--- no visit brings a name yet, so the fault of a script is the first that a visit has by itself
-pub fault_is_own : (script : CommandsTree) → fault_of script ≡ first_own_fault (commands_visits at_start script)
-fault_is_own script = own_only (commands_visits at_start script) (commands_nameless at_start script)
+pub found_among : {A : Type 0} (now : List (List ℕ)) (here vs left : List Visit) (start : List (List ℕ)) (all : List Visit) (e y : CheckError) (result : Result A CheckError) (after : List (List ℕ)) → here ≡ vs ++ left
+    → first_fault now vs ≡ Some e → AreLeft now here start all → result ≡ Err y → y ≡ e → Passes start all result after
+found_among now here vs left start all e y result after is fault h passed_on same =
+    rw (passed_on, same) (sym h.0 ∙ ap (first_fault now) is ∙ stops now vs left e fault)

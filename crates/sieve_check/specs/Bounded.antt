@@ -16,9 +16,9 @@ IsBoundedSegment (Variable name) = Unit {0}
 IsBoundedSegment (Capture n) = n ≤ last_capture
 
 -- the string has no more segments than one may have
-pub record IsBoundedString (string : Template) : Type 0 where
-  pub few : length string ≤ max_segments
-  pub segments : All IsBoundedSegment string
+pub record IsBoundedString (template : Template) : Type 0 where
+  pub few : length template ≤ max_segments
+  pub segments : All IsBoundedSegment template
 
 -- the list of a test has a string, and no more than one test may have
 pub record IsBoundedList (strings : List Template) : Type 0 where

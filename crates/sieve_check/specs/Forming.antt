@@ -1,14 +1,15 @@
 -- What the functions answer that make the typed form.
 use Rattle.std.specs.Prelude.{Option}
+use Rattle.sieve_parser.specs.Tree.{CommandsTree}
 use Rattle.sieve_parser.specs.declared.tree.Head.{Head}
-use Rattle.sieve_check.specs.declared.forming.Junction.{Junction}
-use Rattle.sieve_check.specs.declared.forming.Junction.TheVariants.{All, Any}
+use Rattle.sieve_check.specs.declared.test_forms.Junction.{Junction}
+use Rattle.sieve_check.specs.declared.test_forms.Junction.TheVariants.{All, Any}
 use Rattle.sieve_check.specs.declared.forming.Opening.{Opening}
 use Rattle.sieve_check.specs.declared.forming.Opening.TheVariants.{First, Next}
 use Rattle.sieve_check.specs.Names.{command_named, test_named}
 use Rattle.sieve_check.specs.Rules.{arguments_of}
 use Rattle.sieve_check.specs.Signatures.{◌>>=◌, reading, command_signature, test_signature}
-use Rattle.sieve_check.specs.FormOf.{InnerForms, test_of, PartForm, first, next_branch, simple_of, block_of}
+use Rattle.sieve_check.specs.FormOf.{InnerForms, test_of, PartForm, first, next_branch, simple_of, block_of, closed, forms_of}
 use Rattle.sieve_check.specs.Surroundings.{Context}
 use Rattle.sieve_check.specs.Typed.{TestForm, all_of, any_of, TestForms, CommandForms}
 
@@ -22,6 +23,10 @@ head_simple s head inner = command_named head.name >>= λ name. reading (command
 
 abbrev pub head_block : Head → InnerForms → CommandForms → Option PartForm
 head_block head inner body = command_named head.name >>= λ name. reading (command_signature name) (arguments_of head) >>= λ read. block_of name inner body
+
+-- the commands of a script or block
+abbrev pub commands_formed : Context → CommandsTree → Option CommandForms
+commands_formed s trees = forms_of s trees >>= closed
 
 abbrev pub joined_by : Junction → TestForm → TestForms → TestForm
 joined_by All f fs = all_of f fs

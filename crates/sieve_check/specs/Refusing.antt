@@ -1,24 +1,82 @@
 -- What the functions answer that look for faults.
-use Rattle.std.specs.Prelude.{◌≡◌, List, [], ◌∷◌, Option, Some, None, option_map, Result, MatchResult}
-use Rattle.std.specs.Option.{option_or}
+use Rattle.std.specs.Prelude.{◌≡◌, ℕ, ◌<◌, List, [], ◌∷◌, length, map, bytes_eq, Option, Some, None, option_map, Result, MatchResult}
+use Rattle.std.specs.Borrow.{Bor}
+use Rattle.octets.specs.Ascii.{lowercase_of}
+use Rattle.octets.specs.Limits.{max_variables}
+use Rattle.octets.specs.Once.{with_more}
+use Rattle.sieve_parser.specs.Tree.{ArgumentTree}
+use Rattle.sieve_parser.specs.View.{argument_tree}
 use Rattle.sieve_check.specs.declared.error.CheckError.{CheckError}
+use Rattle.sieve_check.specs.declared.error.Fault.{Fault}
+use Rattle.sieve_check.specs.declared.error.Fault.TheVariants.{Limit}
+use Rattle.sieve_check.specs.declared.mentions.Mentions.{Mentions}
+use Rattle.sieve_check.specs.declared.names.CommandName.{CommandName}
+use Rattle.sieve_check.specs.declared.names.TestName.{TestName}
+use Rattle.sieve_check.specs.declared.signature.Ending.{Ending}
+use Rattle.sieve_check.specs.declared.signature.Tests.{Tests}
 use Rattle.sieve_check.specs.declared.surroundings.Surroundings.{Surroundings}
-use Rattle.sieve_check.specs.Rules.{Visit, refusal}
+use Rattle.sieve_check.specs.declared.variable_names.VariableNames.{VariableNames}
+use Rattle.sieve_check.specs.Rules as rules
+use Rattle.sieve_check.specs.Rules.{Visit, command_mentions, first_fault, known_command_fault, known_test_fault, names_mentioned, names_with, strings_of, test_mentions, visit_fault}
 use Rattle.sieve_check.specs.Surroundings.{Context}
 
 -- the code's surroundings, as a definition sees them: no loop is open, since no command opens one yet
 abbrev pub context_of : Surroundings → Context
 context_of s = record { required = s.required; loops = []; takes_require = s.takes_require; after_if = s.after_if }
 
+-- the names so far, in lower case
+abbrev pub shown : List (Bor (List ℕ)) → List (List ℕ)
+shown names = map (λ (name : Bor (List ℕ)). lowercase_of name.now) names
+
+abbrev pub listed : VariableNames → List (List ℕ)
+listed names = shown names.names.items
+
+-- the name that is set, if one is
+abbrev pub set_in : Option (Bor (List ℕ)) → List (List ℕ)
+set_in None = []
+set_in (Some name) = name.now ∷ []
+
+-- the code's mentions, as a definition sees them
+abbrev pub mentions_in : Mentions → rules.Mentions
+mentions_in m = record { expanded = strings_of (map argument_tree m.expanded.now); set = set_in m.set }
+
 -- the refusal, where there is one
 abbrev pub Refuses : {A : Type 0} → Option CheckError → Result A CheckError → Type 0
 Refuses refusal result = MatchResult result (λ _. refusal ≡ None) (λ e. refusal ≡ Some e)
 
--- what a visit is refused as by itself, where it has a fault
-abbrev pub refusal_of : Visit → Option CheckError
-refusal_of visit = option_map (refusal visit.token) visit.fault
+-- the names with more of them, where they are within the limit; else that they aren't
+abbrev pub Adds : {A : Type 0} → List (List ℕ) → List (List ℕ) → Result A Fault → List (List ℕ) → Type 0
+Adds names more result after =
+    MatchResult result
+    (λ _. after ≡ with_more bytes_eq names more)
+    (λ fault. (fault ≡ Limit) × (max_variables < length (with_more bytes_eq names more)))
 
--- the refusal of the first visit that has a fault by itself
-abbrev pub first_own_fault : List Visit → Option CheckError
-first_own_fault [] = None
-first_own_fault (v ∷ vs) = option_or (refusal_of v) (first_own_fault vs)
+-- the names after a visit, where it has no fault; else its fault
+abbrev pub Judges : {A : Type 0} → List (List ℕ) → Visit → Result A Fault → List (List ℕ) → Type 0
+Judges names visit result after =
+    MatchResult result (λ _. (visit_fault names visit ≡ None) × (after ≡ names_with names visit)) (λ fault. visit_fault names visit ≡ Some fault)
+
+-- the names after visits
+abbrev pub names_after : List (List ℕ) → List Visit → List (List ℕ)
+names_after names [] = names
+names_after names (v ∷ vs) = names_after (names_with names v) vs
+
+-- the names after visits, where none has a fault; else the refusal of the first that has one
+abbrev pub Passes : {A : Type 0} → List (List ℕ) → List Visit → Result A CheckError → List (List ℕ) → Type 0
+Passes names visits result after =
+    MatchResult result (λ _. (first_fault names visits ≡ None) × (after ≡ names_after names visits)) (λ e. first_fault names visits ≡ Some e)
+
+-- the visit of a command or test that is known by that name
+abbrev pub known_command_visit : Context → ℕ → CommandName → List ArgumentTree → Tests → Ending → Visit
+known_command_visit s token name args tests ending = record {
+  token = token;
+  names = names_mentioned (command_mentions s name args);
+  fault = known_command_fault s name args tests ending;
+}
+
+abbrev pub known_test_visit : Context → ℕ → TestName → List ArgumentTree → Tests → Visit
+known_test_visit s token name args tests = record {
+  token = token;
+  names = names_mentioned (test_mentions s name args);
+  fault = known_test_fault s name args tests;
+}

@@ -20,7 +20,7 @@ use Rattle.sieve_check.specs.declared.names.CommandName.TheVariants.{Require, If
 use Rattle.sieve_check.specs.declared.names.TestName.{TestName}
 use Rattle.sieve_check.specs.declared.names.TestName.TheVariants.{Constant, Not, AllOf, AnyOf, Header, Exists, Size, String}
 use Rattle.sieve_check.specs.declared.rules.StringFault.{StringFault}
-use Rattle.sieve_check.specs.declared.rules.StringFault.TheVariants.{Unknown, Long}
+use Rattle.sieve_check.specs.declared.rules.StringFault.TheVariants.{Unknown, Long, Wrong, Large}
 use Rattle.sieve_check.specs.declared.signature.Tests.{Tests}
 use Rattle.sieve_check.specs.declared.signature.Tests.TheVariants.{Nothing, One, Bracketed}
 use Rattle.sieve_check.specs.declared.signature.Ending.{Ending}
@@ -77,10 +77,27 @@ may_stand s Discard = true
 may_stand s FileInto = true
 may_stand s Set = true
 
--- what may be wrong with a string: it is no capability, or longer than the limit
+-- a reference into a namespace, or to a capture that there can't be
+abbrev pub is_wrong : Segment → Bool
+is_wrong beyond = true
+is_wrong foreign = true
+is_wrong _ = false
+
+abbrev pub is_long_name : List ℕ → Bool
+is_long_name name = nat_lt max_name (length name)
+
+-- a reference by a name that is longer than the limit
+abbrev pub is_long : Segment → Bool
+is_long (variable name) = is_long_name name
+is_long _ = false
+
+-- what may be wrong with a string: it is no capability, or longer than the limit; as one that is expanded it has a wrong
+-- reference, or too many segments or too long a name
 abbrev pub string_has : StringFault → List ℕ → Bool
 string_has Unknown s = not (is_some (capability_named s))
 string_has Long s = nat_lt max_string (length s)
+string_has Wrong s = list_any is_wrong (segments s)
+string_has Large s = nat_lt max_segments (length (segments s)) || list_any is_long (segments s)
 
 -- a require names something else than a capability, wherever it stands and however it is written
 abbrev pub has_unknown_capability : CommandName → List ArgumentTree → Bool
@@ -140,29 +157,13 @@ command_mentions s name args = where_required s (mentions_of name (strings_read 
 abbrev pub test_mentions : Context → TestName → List ArgumentTree → Mentions
 test_mentions s name args = where_required s (record { expanded = strings_read (reading (test_signature name) args); set = [] })
 
--- a reference into a namespace, or to a capture that there can't be
-abbrev pub is_wrong : Segment → Bool
-is_wrong beyond = true
-is_wrong foreign = true
-is_wrong _ = false
-
-abbrev pub is_long_name : List ℕ → Bool
-is_long_name name = nat_lt max_name (length name)
-
--- a reference by a name that is longer than the limit
-abbrev pub is_long : Segment → Bool
-is_long (variable name) = is_long_name name
-is_long _ = false
-
 -- a string with a wrong reference is expanded, or what is set is no name
 abbrev pub has_wrong_mention : Mentions → Bool
-has_wrong_mention mentions = list_any (λ string. list_any is_wrong (segments string)) mentions.expanded || list_any (λ name. not (is_identifier name)) mentions.set
+has_wrong_mention mentions = list_any (string_has Wrong) mentions.expanded || list_any (λ name. not (is_identifier name)) mentions.set
 
 -- a string of too many segments or with too long a name is expanded, or a variable of too long a name is set
 abbrev pub has_large_mention : Mentions → Bool
-has_large_mention mentions =
-    list_any (λ string. nat_lt max_segments (length (segments string)) || list_any is_long (segments string)) mentions.expanded
-    || list_any is_long_name mentions.set
+has_large_mention mentions = list_any (string_has Large) mentions.expanded || list_any is_long_name mentions.set
 
 -- the names of variables, in lower case
 abbrev pub names_mentioned : Mentions → List (List ℕ)

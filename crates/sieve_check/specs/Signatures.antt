@@ -1,7 +1,7 @@
 -- What commands and tests take, and how their arguments are read (RFC 5228, section 2.6; RFC 5229, section 4).
 use Rattle.std.specs.Prelude.{Bool, true, false, not, ◌&&◌, ◌||◌, if◌then◌else◌, List, [], ◌∷◌, Option, Some, None, is_some, option_map}
 use Rattle.sieve_parser.specs.Tree.{ArgumentTree, text, text_list, amount, label}
-use Rattle.bytecode_format.specs.declared.modifiers.Modifiers.{Modifiers}
+use Rattle.bytecode_format.specs.Modifiers.{no_modifiers}
 use Rattle.sieve_check.specs.declared.names.CommandName.{CommandName}
 use Rattle.sieve_check.specs.declared.names.CommandName.TheVariants.{Require, If, Elsif, Else, Stop, Keep, Discard, FileInto, Set}
 use Rattle.sieve_check.specs.declared.names.TestName.{TestName}
@@ -65,9 +65,6 @@ test_signature String = record (bare tests.Nothing) { matching = true; positiona
 pub record Read : Type 0 where
   pub tags : Tags
   pub positional : List ArgumentTree
-
-abbrev pub no_modifiers : Modifiers
-no_modifiers = record { letters = None; first = None; quote_wildcard = false; length = false }
 
 abbrev pub no_tag : Tags
 no_tag = record { order = None; kind = None; comparator = None; modifiers = no_modifiers }

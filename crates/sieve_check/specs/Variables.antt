@@ -10,7 +10,7 @@ segment_variables (Variable name) = name ∷ []
 segment_variables (Capture n) = []
 
 abbrev pub string_variables : Template → List (List ℕ)
-string_variables string = flat_map segment_variables string
+string_variables template = flat_map segment_variables template
 
 abbrev pub strings_variables : List Template → List (List ℕ)
 strings_variables strings = flat_map string_variables strings

@@ -56,8 +56,8 @@ impl Checked {
         &self.script
     }
 
-    /// Its typed form, which is within the limits: no string is too long, and no test has a list that is empty or lists
-    /// of too many strings.
+    /// Its typed form, which is within the limits: no string is too long or has too many segments, no test has a list
+    /// that is empty or lists of too many strings, and there aren't too many variables.
     pub fn commands(&self) -> &[Command]
         ensures value { result.now ≡ self.now.commands }
         ensures form { IsFormOf (commands_tree self.now.script) (commands_form self.now.commands) }

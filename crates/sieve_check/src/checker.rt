@@ -29,7 +29,7 @@ pub fn check(alloc: Global, script: Script) -> Result<Checked, CheckError>
     ensures refused { IfErr result (λ e. IsCheckRefusal (commands_tree script) e) }
 {
     rules::script(script.commands())?;
-    match forming::commands(alloc, script.commands())? {
+    match forming::form_of(alloc, script.commands())? {
         Some(commands) => Ok(Checked::of(script, commands)),
         None => unreachable!(),
     }

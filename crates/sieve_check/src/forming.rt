@@ -1,233 +1,72 @@
 // The typed form of scripts. Nothing is answered where something isn't written as it has to be.
-ghost use Rattle.std.specs.Prelude.{◌≡◌, ◌∷◌, IfOk, map, option_map, Some, None, if◌then◌else◌};
-ghost use Rattle.sieve_parser.specs.View.{argument_tree, command_tree, commands_tree, invocation_tree, more_tests_of};
-ghost use Rattle.sieve_check.specs.FormOf.{none, one, bracketed, action, block_part, form_of, list_in, match_of, more_forms_of, number_in, of_list, of_lists, part_of, simple_part, size_of, test_form_of, text_in};
-ghost use Rattle.sieve_check.specs.Forming.{head_block, head_simple, head_test, joined_by, opened_by};
+ghost use Rattle.std.specs.Prelude.{◌≡◌, IfOk, map, option_map, Some, None};
+ghost use Rattle.sieve_parser.specs.View.{argument_tree, command_tree, commands_tree, invocation_tree};
+ghost use Rattle.sieve_check.specs.FormOf.{none, one, action, block_part, form_of, part_of, setting_in, simple_part, template_of, text_in};
+ghost use Rattle.sieve_check.specs.Forming.{commands_formed, head_block, head_simple, opened_by};
+ghost use Rattle.sieve_check.specs.Refusing.{context_of};
 ghost use Rattle.sieve_check.specs.Sequences.{part_form};
-ghost use Rattle.sieve_check.specs.Typed.{CommandForms, TestForm, TestForms, exists, file_into, header, negation};
-ghost use Rattle.sieve_check.specs.TypedView.{commands_form, test_form, tests_of};
+ghost use Rattle.sieve_check.specs.Typed.{CommandForms, TestForm, file_into};
+ghost use Rattle.sieve_check.specs.TypedView.{commands_form, test_form};
 
-use crate::names::{CommandName, TestName, command_named, test_named};
+use crate::names::{CommandName, command_named};
 use crate::sequence::{Part, Sequence};
-use crate::signature::{Tags, command_signature, test_signature};
+use crate::signature::command_signature;
+use crate::strings::template;
+use crate::surroundings::Surroundings;
+use crate::test_forms::test;
 use crate::typed::{Branch, Command, Test};
-use glob_match::{Comparator, Match, MatchType};
-use octets::Octets;
+use bytecode_format::Modifiers;
+use octets::to_lowercase;
 use sieve_parser::{Argument, Command as Tree, Head, Invocation};
 use std::alloc::{AllocError, Global};
 
-// The number that the arguments are.
-fn number_in(arguments: &[Argument]) -> Option<u64>
-    ensures { result ≡ number_in (map argument_tree arguments.now) }
-{
-    match arguments {
-        [Argument::Number(number)] => Some(*number),
-        _ => None,
-    }
-}
-
-// The strings, copied.
-fn strings(alloc: Global, first: &Octets, others: &[Octets]) -> Result<Vec<Octets>, AllocError>
-    ensures { IfOk result (λ all. all.items ≡ first.now ∷ others.now) }
-{
-    let mut all = Vec::new(alloc);
-    all.push(first.clone()?)?;
-    for string in others {
-        all.push(string.clone()?)?;
-    }
-    Ok(all)
-}
-
-// The strings of a list, copied; one string is a list, too.
-fn list_in(alloc: Global, argument: &Argument) -> Result<Option<Vec<Octets>>, AllocError>
-    ensures { IfOk result (λ list. option_map (λ all. all.items) list ≡ list_in (argument_tree argument.now)) }
-{
-    match argument {
-        Argument::Text(string) => Ok(Some(strings(alloc, string, &[])?)),
-        Argument::TextList(first, others) => Ok(Some(strings(alloc, first, others)?)),
-        Argument::Number(_) | Argument::Tag(_) => Ok(None),
-    }
-}
-
-// The test of a header's names and keys, which the arguments are.
-fn header(alloc: Global, tags: Tags, arguments: &[Argument]) -> Result<Option<Test>, AllocError>
-    ensures { IfOk result (λ t. option_map test_form t ≡ of_lists (header (match_of tags)) (map argument_tree arguments.now)) }
-{
-    let [names, keys] = arguments else {
-        return Ok(None);
-    };
-    let Some(names) = list_in(alloc, names)? else {
-        return Ok(None);
-    };
-    let Some(keys) = list_in(alloc, keys)? else {
-        return Ok(None);
-    };
-    let matching = Match {
-        kind: tags.kind.unwrap_or(MatchType::Is),
-        comparator: tags.comparator.unwrap_or(Comparator::Casemap),
-    };
-    Ok(Some(Test::Header {
-        matching,
-        names,
-        keys,
-    }))
-}
-
-// The test that there are fields of the names, which the arguments are.
-fn exists(alloc: Global, arguments: &[Argument]) -> Result<Option<Test>, AllocError>
-    ensures { IfOk result (λ t. option_map test_form t ≡ of_list exists (map argument_tree arguments.now)) }
-{
-    let [names] = arguments else {
-        return Ok(None);
-    };
-    match list_in(alloc, names)? {
-        Some(names) => Ok(Some(Test::Exists(names))),
-        None => Ok(None),
-    }
-}
-
-// The comparison of a size.
-fn size(tags: Tags, arguments: &[Argument]) -> Option<Test>
-    ensures { option_map test_form result ≡ size_of tags (map argument_tree arguments.now) }
-{
-    let order = tags.order?;
-    Some(Test::Size(order, number_in(arguments)?))
-}
-
-// A test after whose arguments no test stands.
-fn plain_test(alloc: Global, head: &Head) -> Result<Option<Test>, AllocError>
-    ensures { IfOk result (λ t. option_map test_form t ≡ head_test head.now none) }
-{
-    let Some(name) = test_named(head.name.as_slice()) else {
-        return Ok(None);
-    };
-    let Some(reading) = test_signature(name).read(&head.arguments) else {
-        return Ok(None);
-    };
-    match name {
-        TestName::Constant(value) => Ok(Some(Test::Constant(value))),
-        TestName::Header => header(alloc, reading.tags, reading.positional),
-        TestName::Exists => exists(alloc, reading.positional),
-        TestName::Size => Ok(size(reading.tags, reading.positional)),
-        TestName::Not | TestName::AllOf | TestName::AnyOf => Ok(None),
-    }
-}
-
-// Whether this is a test that turns the one behind it around.
-fn negates(head: &Head) -> bool
-    ensures { (f : TestForm) → head_test head.now (one f) ≡ (if result then Some (negation f) else None) }
-{
-    match test_named(head.name.as_slice()) {
-        Some(name) => {
-            name == TestName::Not && test_signature(name).read(&head.arguments).is_some()
-        }
-        None => false,
-    }
-}
-
-/// How a test of tests in round brackets combines them.
-#[derive(Clone, Copy, Debug, PartialEq, Eq)]
-pub enum Junction {
-    All,
-    Any,
-}
-
-// How the tests in round brackets behind this are combined.
-fn combining(head: &Head) -> Option<Junction>
-    ensures { (f : TestForm) (fs : TestForms) → head_test head.now (bracketed f fs) ≡ option_map (λ j. joined_by j f fs) result }
-{
-    let name = test_named(head.name.as_slice())?;
-    test_signature(name).read(&head.arguments)?;
-    match name {
-        TestName::AllOf => Some(Junction::All),
-        TestName::AnyOf => Some(Junction::Any),
-        TestName::Constant(_)
-        | TestName::Not
-        | TestName::Header
-        | TestName::Exists
-        | TestName::Size => None,
-    }
-}
-
-// The test that turns around the one behind it.
-fn negated(alloc: Global, head: &Head, inner: Test) -> Result<Option<Test>, AllocError>
-    ensures { IfOk result (λ t. option_map test_form t ≡ head_test head.now (one (test_form inner))) }
-{
-    if negates(head) {
-        Ok(Some(Test::Not(Box::new(alloc, inner)?)))
-    } else {
-        Ok(None)
-    }
-}
-
-// The test of the tests in round brackets behind it.
-fn combined(
-    alloc: Global,
-    head: &Head,
-    first: Test,
-    others: Vec<Test>,
-) -> Result<Option<Test>, AllocError>
-    ensures { IfOk result (λ t. option_map test_form t ≡ head_test head.now (bracketed (test_form first) (tests_of (map test_form others.items)))) }
-{
-    let first = Box::new(alloc, first)?;
-    match combining(head) {
-        Some(Junction::All) => Ok(Some(Test::AllOf(first, others))),
-        Some(Junction::Any) => Ok(Some(Test::AnyOf(first, others))),
-        None => Ok(None),
-    }
-}
-
-// A test with the tests behind it.
-#[cycle(tests)]
-fn test(alloc: Global, invocation: &Invocation) -> Result<Option<Test>, AllocError>
-    ensures { IfOk result (λ t. option_map test_form t ≡ test_form_of (invocation_tree invocation.now)) }
-{
-    match invocation {
-        Invocation::Plain(head) => plain_test(alloc, head),
-        Invocation::WithTest(head, inner) => match test(alloc, inner)? {
-            Some(inner) => negated(alloc, head, inner),
-            None => Ok(None),
-        },
-        Invocation::WithTests(head, first, others) => {
-            let Some(first) = test(alloc, first)? else {
-                return Ok(None);
-            };
-            match tests(alloc, others)? {
-                Some(others) => combined(alloc, head, first, others),
-                None => Ok(None),
-            }
-        }
-    }
-}
-
-// The tests of a list after its first.
-#[cycle(tests)]
-fn tests(alloc: Global, list: &[Invocation]) -> Result<Option<Vec<Test>>, AllocError>
-    ensures { IfOk result (λ ts. option_map (λ ts. tests_of (map test_form ts.items)) ts ≡ more_forms_of (more_tests_of (map invocation_tree list.now))) }
-{
-    let mut tests = Vec::new(alloc);
-    'list: for invocation in list {
-        let Some(test) = test(alloc, invocation)? else {
-            return Ok(None);
-        };
-        tests.push(test)?;
-    }
-    Ok(Some(tests))
-}
-
 // The command that files into the folder which the arguments are.
-fn file_into(arguments: &[Argument]) -> Result<Option<Part>, AllocError>
-    ensures { IfOk result (λ part. option_map part_form part ≡ option_map (λ folder. action (file_into folder)) (text_in (map argument_tree arguments.now))) }
+fn file_into(
+    alloc: Global,
+    surroundings: Surroundings,
+    arguments: &[Argument],
+) -> Result<Option<Part>, AllocError>
+    ensures { IfOk result (λ part. option_map part_form part ≡ option_map (λ folder. action (file_into (template_of (context_of surroundings) folder))) (text_in (map argument_tree arguments.now))) }
 {
     match arguments {
-        [Argument::Text(folder)] => Ok(Some(Part::Action(Command::FileInto(folder.clone()?)))),
+        [Argument::Text(folder)] => {
+            let folder = template(alloc, surroundings, folder)?;
+            Ok(Some(Part::Action(Command::FileInto(folder))))
+        }
+        _ => Ok(None),
+    }
+}
+
+// The command that sets the variable of the name to the value, which the arguments are. The name isn't expanded.
+fn setting(
+    alloc: Global,
+    surroundings: Surroundings,
+    modifiers: Modifiers,
+    arguments: &[Argument],
+) -> Result<Option<Part>, AllocError>
+    ensures { IfOk result (λ part. option_map part_form part ≡ option_map action (setting_in (context_of surroundings) modifiers (map argument_tree arguments.now))) }
+{
+    match arguments {
+        [Argument::Text(name), Argument::Text(value)] => {
+            let name = to_lowercase(alloc, name.as_slice())?;
+            let value = template(alloc, surroundings, value)?;
+            Ok(Some(Part::Action(Command::Set {
+                modifiers,
+                name,
+                value,
+            })))
+        }
         _ => Ok(None),
     }
 }
 
 // A command that ends in a semicolon, and after whose arguments no test stands.
-fn plain_part(head: &Head) -> Result<Option<Part>, AllocError>
-    ensures { IfOk result (λ part. option_map part_form part ≡ head_simple head.now none) }
+fn plain_part(
+    alloc: Global,
+    surroundings: Surroundings,
+    head: &Head,
+) -> Result<Option<Part>, AllocError>
+    ensures { IfOk result (λ part. option_map part_form part ≡ head_simple (context_of surroundings) head.now none) }
 {
     let Some(name) = command_named(head.name.as_slice()) else {
         return Ok(None);
@@ -240,7 +79,13 @@ fn plain_part(head: &Head) -> Result<Option<Part>, AllocError>
         CommandName::Stop => Ok(Some(Part::Action(Command::Stop))),
         CommandName::Keep => Ok(Some(Part::Action(Command::Keep))),
         CommandName::Discard => Ok(Some(Part::Action(Command::Discard))),
-        CommandName::FileInto => file_into(reading.positional),
+        CommandName::FileInto => file_into(alloc, surroundings, reading.positional),
+        CommandName::Set => setting(
+            alloc,
+            surroundings,
+            reading.tags.modifiers,
+            reading.positional,
+        ),
         CommandName::If | CommandName::Elsif | CommandName::Else => Ok(None),
     }
 }
@@ -268,7 +113,8 @@ fn opened(head: &Head) -> Option<Opening>
         | CommandName::Stop
         | CommandName::Keep
         | CommandName::Discard
-        | CommandName::FileInto => None,
+        | CommandName::FileInto
+        | CommandName::Set => None,
     }
 }
 
@@ -297,21 +143,23 @@ fn last_part(head: &Head, block: Vec<Command>) -> Option<Part>
         | CommandName::Stop
         | CommandName::Keep
         | CommandName::Discard
-        | CommandName::FileInto => None,
+        | CommandName::FileInto
+        | CommandName::Set => None,
     }
 }
 
 // A command with a block of these commands, as a part of the commands around it.
 fn block_part(
     alloc: Global,
+    surroundings: Surroundings,
     invocation: &Invocation,
     body: Vec<Command>,
 ) -> Result<Option<Part>, AllocError>
-    ensures { IfOk result (λ part. option_map part_form part ≡ block_part (invocation_tree invocation.now) (commands_form body.items)) }
+    ensures { IfOk result (λ part. option_map part_form part ≡ block_part (context_of surroundings) (invocation_tree invocation.now) (commands_form body.items)) }
 {
     match invocation {
         Invocation::Plain(head) => Ok(last_part(head, body)),
-        Invocation::WithTest(head, guard) => match test(alloc, guard)? {
+        Invocation::WithTest(head, guard) => match test(alloc, surroundings, guard)? {
             Some(test) => Ok(branch_part(head, test, body)),
             None => Ok(None),
         },
@@ -320,42 +168,59 @@ fn block_part(
 }
 
 // A command without a block, as a part of the commands around it.
-fn simple_part(invocation: &Invocation) -> Result<Option<Part>, AllocError>
-    ensures { IfOk result (λ part. option_map part_form part ≡ simple_part (invocation_tree invocation.now)) }
+fn simple_part(
+    alloc: Global,
+    surroundings: Surroundings,
+    invocation: &Invocation,
+) -> Result<Option<Part>, AllocError>
+    ensures { IfOk result (λ part. option_map part_form part ≡ simple_part (context_of surroundings) (invocation_tree invocation.now)) }
 {
     match invocation {
-        Invocation::Plain(head) => plain_part(head),
+        Invocation::Plain(head) => plain_part(alloc, surroundings, head),
         Invocation::WithTest(_, _) | Invocation::WithTests(_, _, _) => Ok(None),
     }
 }
 
 // A command, as a part of the commands around it.
 #[cycle(commands)]
-fn part(alloc: Global, tree: &Tree) -> Result<Option<Part>, AllocError>
-    ensures { IfOk result (λ part. option_map part_form part ≡ part_of (command_tree tree.now)) }
+fn part(alloc: Global, surroundings: Surroundings, tree: &Tree) -> Result<Option<Part>, AllocError>
+    ensures { IfOk result (λ part. option_map part_form part ≡ part_of (context_of surroundings) (command_tree tree.now)) }
 {
     match tree {
-        Tree::Simple(invocation) => simple_part(invocation),
-        Tree::Block(invocation, block) => match commands(alloc, block)? {
-            Some(body) => block_part(alloc, invocation, body),
+        Tree::Simple(invocation) => simple_part(alloc, surroundings, invocation),
+        Tree::Block(invocation, block) => match commands(alloc, surroundings.in_block(), block)? {
+            Some(body) => block_part(alloc, surroundings, invocation, body),
             None => Ok(None),
         },
     }
 }
 
-/// The commands of a script or of a block. An error comes only where memory was refused.
+// The commands of a script or of a block.
 #[cycle(commands)]
-pub fn commands(alloc: Global, trees: &[Tree]) -> Result<Option<Vec<Command>>, AllocError>
-    ensures { IfOk result (λ cs. option_map (λ cs. commands_form cs.items) cs ≡ form_of (commands_tree trees.now)) }
+fn commands(
+    alloc: Global,
+    surroundings: Surroundings,
+    trees: &[Tree],
+) -> Result<Option<Vec<Command>>, AllocError>
+    ensures { IfOk result (λ cs. option_map (λ cs. commands_form cs.items) cs ≡ commands_formed (context_of surroundings) (commands_tree trees.now)) }
 {
+    let mut around = surroundings;
     let mut sequence = Sequence::new(alloc);
     'trees: for tree in trees {
-        let Some(part) = part(alloc, tree)? else {
+        let Some(part) = part(alloc, around, tree)? else {
             return Ok(None);
         };
         if !sequence.push(alloc, part)? {
             return Ok(None);
         }
+        around = around.after(tree);
     }
     Ok(Some(sequence.finish(alloc)?))
+}
+
+/// The typed form of a script. An error comes only where memory was refused.
+pub fn form_of(alloc: Global, trees: &[Tree]) -> Result<Option<Vec<Command>>, AllocError>
+    ensures { IfOk result (λ cs. option_map (λ cs. commands_form cs.items) cs ≡ form_of (commands_tree trees.now)) }
+{
+    commands(alloc, Surroundings::at_start(), trees)
 }

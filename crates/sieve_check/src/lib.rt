@@ -1,9 +1,11 @@
-//! The static rules of Sieve scripts, and the typed form of those that keep them (RFC 5228).
+//! The static rules of Sieve scripts, and the typed form of those that keep them (RFC 5228; RFC 5229).
 //!
 //! [`check`] gives a script as [`Checked`], or names the fault that `specs/Rules` says. What a script means, and
 //! its code, go by its typed form alone (`specs/Typed`), which `specs/FormOf` reads off the tree. What each command and
 //! test takes is a table in `specs/Signatures`. `laws` says that a script has a typed form where nothing is wrong with it.
-//! How large a typed form and its strings and lists are at most stands in `specs/Bounded`.
+//! A string of the typed form is its segments: text as it stands and, where `variables` was required, references. Which
+//! variables a typed form has stands in `specs/Variables`, and how large it and its strings and lists are at most in
+//! `specs/Bounded`.
 #![tactic(auto)]
 
 mod checked;
@@ -11,14 +13,19 @@ mod checker;
 mod error;
 mod forming;
 pub mod laws;
+mod mentions;
 mod names;
+mod references;
 mod rules;
 mod sequence;
 mod signature;
+mod strings;
 mod surroundings;
+mod test_forms;
 mod typed;
+mod variable_names;
 
 pub use checked::Checked;
 pub use checker::check;
 pub use error::CheckError;
-pub use typed::{Branch, Command, Order, Test};
+pub use typed::{Branch, Command, Order, Segment, Test};

@@ -3,6 +3,7 @@ ghost use Rattle.std.specs.Prelude.{◌≡◌};
 ghost use Rattle.sieve_check.specs.Names.{capability_named, command_named, comparator_named, is_word, tag_named, test_named};
 
 use crate::typed::Order;
+use bytecode_format::Case;
 use glob_match::{Comparator, MatchType};
 use octets::equal_ignoring_case;
 
@@ -25,6 +26,8 @@ pub enum CommandName {
     Discard,
     /// `fileinto` (RFC 5228, section 4.1).
     FileInto,
+    /// `set` (RFC 5229, section 4).
+    Set,
 }
 
 /// The tests that are known.
@@ -44,6 +47,8 @@ pub enum TestName {
     Exists,
     /// `size` (RFC 5228, section 5.9).
     Size,
+    /// `string` (RFC 5229, section 5).
+    String,
 }
 
 /// The tags that are known, by the group of which at most one may stand.
@@ -55,6 +60,14 @@ pub enum Tag {
     Kind(MatchType),
     /// `:comparator`, which takes the comparator's name (RFC 5228, section 2.7.3).
     Comparator,
+    /// `:lower` and `:upper` (RFC 5229, section 4.1.1).
+    Letters(Case),
+    /// `:lowerfirst` and `:upperfirst` (RFC 5229, section 4.1.2).
+    First(Case),
+    /// `:quotewildcard` (RFC 5229, section 4.1.3).
+    QuoteWildcard,
+    /// `:length` (RFC 5229, section 4.1.4).
+    Length,
 }
 
 /// The capabilities that can be required.
@@ -103,6 +116,8 @@ pub fn command_named(name: &[u8]) -> Option<CommandName>
         Some(CommandName::Discard)
     } else if is_word(name, b"fileinto") {
         Some(CommandName::FileInto)
+    } else if is_word(name, b"set") {
+        Some(CommandName::Set)
     } else {
         None
     }
@@ -128,6 +143,8 @@ pub fn test_named(name: &[u8]) -> Option<TestName>
         Some(TestName::Exists)
     } else if is_word(name, b"size") {
         Some(TestName::Size)
+    } else if is_word(name, b"string") {
+        Some(TestName::String)
     } else {
         None
     }
@@ -149,6 +166,18 @@ pub fn tag_named(name: &[u8]) -> Option<Tag>
         Some(Tag::Kind(MatchType::Matches))
     } else if is_word(name, b"comparator") {
         Some(Tag::Comparator)
+    } else if is_word(name, b"lower") {
+        Some(Tag::Letters(Case::Lower))
+    } else if is_word(name, b"upper") {
+        Some(Tag::Letters(Case::Upper))
+    } else if is_word(name, b"lowerfirst") {
+        Some(Tag::First(Case::Lower))
+    } else if is_word(name, b"upperfirst") {
+        Some(Tag::First(Case::Upper))
+    } else if is_word(name, b"quotewildcard") {
+        Some(Tag::QuoteWildcard)
+    } else if is_word(name, b"length") {
+        Some(Tag::Length)
     } else {
         None
     }

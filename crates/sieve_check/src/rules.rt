@@ -1,17 +1,20 @@
 // The static rules: what is wrong with commands and tests (RFC 5228, section 8.2, and each command's own section).
-ghost use Rattle.std.specs.Prelude.{◌≡◌, map, length, nat_lt, option_map};
-ghost use Rattle.sieve_parser.specs.Tree.{TestsTree};
-ghost use Rattle.sieve_parser.specs.View.{argument_tree, command_tree, commands_tree, head_tree, invocation_tree, more_tests_of};
-ghost use Rattle.sieve_check.specs.Rules.{after_invocation, arguments_of, command_needs, command_visit, command_visits, commands_visits, fault_of, has_many_strings, head_visits, invocation_of, is_well_formed, known_command_fault, known_test_fault, max_test_strings, may_stand, more_visits, refusal, strings_in, strings_of, test_needs, test_visit, test_visits};
-ghost use Rattle.sieve_check.specs.Signatures.{reading};
-ghost use Rattle.sieve_check.specs.Refusing.{Refuses, context_of, first_own_fault, refusal_of};
+ghost use Rattle.std.specs.Prelude.{◌≡◌, ◌&&◌, ◌||◌, [], ◌∷◌, map, length, nat_lt};
+ghost use Rattle.octets.specs.Limits.{max_test_strings};
+ghost use Rattle.sieve_parser.specs.View.{argument_tree, command_tree, commands_tree, invocation_tree, more_tests_of};
+ghost use Rattle.sieve_check.specs.Rules.{arguments_of, command_needs, command_visit, command_visits, commands_visits, fault_of, has_large_mention, has_long_string, has_many_strings, head_visits, is_well_formed, known_command_fault, known_test_fault, may_stand, more_visits, same_ending, strings_in, strings_of, test_needs, test_visit, test_visits};
+ghost use Rattle.sieve_check.specs.Signatures.{command_signature, ending_of, reading};
+ghost use Rattle.sieve_check.specs.Refusing.{Judges, Passes, Refuses, context_of, listed, mentions_in, known_command_visit, known_test_visit};
 
 use crate::error::{CheckError, Fault};
+use crate::mentions::Mentions;
 use crate::names::{
     Capability, CommandName, TestName, capability_named, command_named, test_named,
 };
+use crate::references::{has_large_references, has_wrong_reference};
 use crate::signature::{Ending, Signature, Tests, command_signature, ending_of, test_signature};
 use crate::surroundings::Surroundings;
+use crate::variable_names::VariableNames;
 use octets::Octets;
 use sieve_parser::{Argument, Command, Head, Invocation};
 
@@ -34,10 +37,11 @@ fn command_needs(name: CommandName) -> Option<Capability>
         | CommandName::Keep
         | CommandName::Discard => None,
         CommandName::FileInto => Some(Capability::FileInto),
+        CommandName::Set => Some(Capability::Variables),
     }
 }
 
-// The capability that a test needs: none of those that there are.
+// The capability that a test needs, if it needs one.
 fn test_needs(name: TestName) -> Option<Capability>
     ensures { result ≡ test_needs name }
 {
@@ -49,16 +53,21 @@ fn test_needs(name: TestName) -> Option<Capability>
         | TestName::Header
         | TestName::Exists
         | TestName::Size => None,
+        TestName::String => Some(Capability::Variables),
     }
 }
 
-// What may be wrong with a string.
+/// What may be wrong with a string.
 #[derive(Clone, Copy, Debug, PartialEq, Eq)]
-enum StringFault {
+pub enum StringFault {
     /// It is no capability.
     Unknown,
     /// It has more octets than the limit.
     Long,
+    /// It has a reference into a namespace, or to a capture that there can't be.
+    Wrong,
+    /// It has too many segments, or a reference by a name that has too many octets.
+    Large,
 }
 
 impl StringFault {
@@ -74,6 +83,8 @@ impl StringFault {
         match self {
             StringFault::Unknown => capability_named(string.as_slice()).is_none(),
             StringFault::Long => string.len() > MAX_STRING,
+            StringFault::Wrong => has_wrong_reference(string.as_slice()),
+            StringFault::Large => has_large_references(string.as_slice()),
         }
     }
 
@@ -100,8 +111,8 @@ impl StringFault {
         }
     }
 
-    // Whether this is wrong with a string of the arguments.
-    fn is_in_some(self, arguments: &[Argument]) -> bool
+    /// Whether this is wrong with a string of the arguments.
+    pub fn is_in_some(self, arguments: &[Argument]) -> bool
         ensures { result ≡ list_any (string_has self) (strings_of (map argument_tree arguments.now)) }
     {
         for argument in arguments {
@@ -167,11 +178,34 @@ fn may_stand(name: CommandName, surroundings: Surroundings) -> bool
         | CommandName::Stop
         | CommandName::Keep
         | CommandName::Discard
-        | CommandName::FileInto => true,
+        | CommandName::FileInto
+        | CommandName::Set => true,
     }
 }
 
-// What is wrong with a command that is known by that name.
+// Whether the command may stand there, with these arguments and tests, and ended so.
+fn is_taken(
+    surroundings: Surroundings,
+    name: CommandName,
+    head: &Head,
+    tests: Tests,
+    ending: Ending,
+) -> bool
+    ensures { result ≡ (may_stand (context_of surroundings) name && (same_ending (ending_of name) ending && is_well_formed (command_signature name) (arguments_of head.now) tests)) }
+{
+    may_stand(name, surroundings)
+        && ending_of(name) == ending
+        && is_well_formed(command_signature(name), head, tests)
+}
+
+// Whether a command goes beyond a limit.
+fn is_large_command(head: &Head, mentions: Mentions<'_>) -> bool
+    ensures { result ≡ (has_long_string (arguments_of head.now) || has_large_mention (mentions_in mentions.entry)) }
+{
+    StringFault::Long.is_in_some(&head.arguments) || mentions.are_large()
+}
+
+// What is wrong with a command that is known by that name, by itself.
 fn known_command_fault(
     surroundings: Surroundings,
     name: CommandName,
@@ -181,23 +215,30 @@ fn known_command_fault(
 ) -> Option<Fault>
     ensures { result ≡ known_command_fault (context_of surroundings) name (arguments_of head.now) tests ending }
 {
+    let mentions = Mentions::of_command(surroundings, name, head);
     if surroundings.lacks(command_needs(name)) {
         Some(Fault::MissingCapability)
     } else if name == CommandName::Require && StringFault::Unknown.is_in_some(&head.arguments) {
         Some(Fault::UnknownCapability)
-    } else if !may_stand(name, surroundings)
-        || ending_of(name) != ending
-        || !is_well_formed(command_signature(name), head, tests)
-    {
+    } else if !is_taken(surroundings, name, head, tests, ending) || mentions.are_wrong() {
         Some(Fault::BadArguments)
-    } else if StringFault::Long.is_in_some(&head.arguments) {
+    } else if is_large_command(head, mentions) {
         Some(Fault::Limit)
     } else {
         None
     }
 }
 
-// What is wrong with a test that is known by that name.
+// Whether a test goes beyond a limit.
+fn is_large_test(signature: Signature, head: &Head, mentions: Mentions<'_>) -> bool
+    ensures { result ≡ (has_long_string (arguments_of head.now) || has_many_strings (reading signature (arguments_of head.now)) || has_large_mention (mentions_in mentions.entry)) }
+{
+    StringFault::Long.is_in_some(&head.arguments)
+        || has_many_strings(signature, head)
+        || mentions.are_large()
+}
+
+// What is wrong with a test that is known by that name, by itself.
 fn known_test_fault(
     surroundings: Surroundings,
     name: TestName,
@@ -207,150 +248,178 @@ fn known_test_fault(
     ensures { result ≡ known_test_fault (context_of surroundings) name (arguments_of head.now) tests }
 {
     let signature = test_signature(name);
+    let mentions = Mentions::of_test(surroundings, name, head);
     if surroundings.lacks(test_needs(name)) {
         Some(Fault::MissingCapability)
-    } else if !is_well_formed(signature, head, tests) {
+    } else if !is_well_formed(signature, head, tests) || mentions.are_wrong() {
         Some(Fault::BadArguments)
-    } else if StringFault::Long.is_in_some(&head.arguments) || has_many_strings(signature, head) {
+    } else if is_large_test(signature, head, mentions) {
         Some(Fault::Limit)
     } else {
         None
     }
 }
 
-// Nothing, where no fault was found; else the fault as the refusal that names it, at the head's identifier.
-fn unless(head: &Head, fault: Option<Fault>) -> Result<(), CheckError>
-    ensures { Refuses (option_map (refusal head.now.token) fault) result }
+// Nothing, where nothing is wrong with a command that is known by that name; the names that it brings are then added.
+fn known_command<'t>(
+    names: &mut VariableNames<'t>,
+    surroundings: Surroundings,
+    name: CommandName,
+    head: &'t Head,
+    tests: Tests,
+    ending: Ending,
+) -> Result<(), Fault>
+    ensures { Judges (listed names.old) (known_command_visit (context_of surroundings) head.now.token name (arguments_of head.now) tests ending) result (listed names.new) }
 {
-    match fault {
-        Some(fault) => Err(CheckError::of(fault, head.token)),
-        None => Ok(()),
+    match known_command_fault(surroundings, name, head, tests, ending) {
+        Some(fault) => Err(fault),
+        None => Mentions::of_command(surroundings, name, head).add_to(names),
+    }
+}
+
+// Nothing, where nothing is wrong with a test that is known by that name; the names that it brings are then added.
+fn known_test<'t>(
+    names: &mut VariableNames<'t>,
+    surroundings: Surroundings,
+    name: TestName,
+    head: &'t Head,
+    tests: Tests,
+) -> Result<(), Fault>
+    ensures { Judges (listed names.old) (known_test_visit (context_of surroundings) head.now.token name (arguments_of head.now) tests) result (listed names.new) }
+{
+    match known_test_fault(surroundings, name, head, tests) {
+        Some(fault) => Err(fault),
+        None => Mentions::of_test(surroundings, name, head).add_to(names),
     }
 }
 
 // Nothing, where nothing is wrong with a command, apart from its tests and its block.
-fn command_alone(
+fn command_alone<'t>(
+    names: &mut VariableNames<'t>,
     surroundings: Surroundings,
-    head: &Head,
+    head: &'t Head,
     tests: Tests,
     ending: Ending,
 ) -> Result<(), CheckError>
-    ensures { Refuses (refusal_of (command_visit (context_of surroundings) head.now.token head.now.name (arguments_of head.now) tests ending)) result }
+    ensures { Passes (listed names.old) (command_visit (context_of surroundings) head.now.token head.now.name (arguments_of head.now) tests ending ∷ []) result (listed names.new) }
 {
-    let fault = match command_named(head.name.as_slice()) {
-        Some(name) => known_command_fault(surroundings, name, head, tests, ending),
-        None => Some(Fault::UnknownCommand),
+    let judged = match command_named(head.name.as_slice()) {
+        Some(name) => known_command(names, surroundings, name, head, tests, ending),
+        None => Err(Fault::UnknownCommand),
     };
-    unless(head, fault)
+    judged.map_err(|fault| CheckError::of(fault, head.token))
 }
 
 // Nothing, where nothing is wrong with a test, apart from its own tests.
-fn test_alone(surroundings: Surroundings, head: &Head, tests: Tests) -> Result<(), CheckError>
-    ensures { Refuses (refusal_of (test_visit (context_of surroundings) head.now.token head.now.name (arguments_of head.now) tests)) result }
+fn test_alone<'t>(
+    names: &mut VariableNames<'t>,
+    surroundings: Surroundings,
+    head: &'t Head,
+    tests: Tests,
+) -> Result<(), CheckError>
+    ensures { Passes (listed names.old) (test_visit (context_of surroundings) head.now.token head.now.name (arguments_of head.now) tests ∷ []) result (listed names.new) }
 {
-    let fault = match test_named(head.name.as_slice()) {
-        Some(name) => known_test_fault(surroundings, name, head, tests),
-        None => Some(Fault::UnknownCommand),
+    let judged = match test_named(head.name.as_slice()) {
+        Some(name) => known_test(names, surroundings, name, head, tests),
+        None => Err(Fault::UnknownCommand),
     };
-    unless(head, fault)
+    judged.map_err(|fault| CheckError::of(fault, head.token))
 }
 
 // Nothing, where nothing is wrong with a test and its own tests.
 #[cycle(tests)]
-fn test(surroundings: Surroundings, invocation: &Invocation) -> Result<(), CheckError>
-    ensures { Refuses (first_own_fault (test_visits (context_of surroundings) (invocation_tree invocation.now))) result }
+fn test<'t>(
+    names: &mut VariableNames<'t>,
+    surroundings: Surroundings,
+    invocation: &'t Invocation,
+) -> Result<(), CheckError>
+    ensures { Passes (listed names.old) (test_visits (context_of surroundings) (invocation_tree invocation.now)) result (listed names.new) }
 {
     match invocation {
-        Invocation::Plain(head) => test_alone(surroundings, head, Tests::Nothing),
+        Invocation::Plain(head) => test_alone(names, surroundings, head, Tests::Nothing),
         Invocation::WithTest(head, inner) => {
-            test_alone(surroundings, head, Tests::One)?;
-            test(surroundings, inner)
+            test_alone(names, surroundings, head, Tests::One)?;
+            test(names, surroundings, inner)
         }
         Invocation::WithTests(head, first, others) => {
-            test_alone(surroundings, head, Tests::Bracketed)?;
-            test(surroundings, first)?;
-            tests(surroundings, others)
+            test_alone(names, surroundings, head, Tests::Bracketed)?;
+            test(names, surroundings, first)?;
+            tests(names, surroundings, others)
         }
     }
 }
 
 // The same of the tests of a list after its first.
 #[cycle(tests)]
-fn tests(surroundings: Surroundings, list: &[Invocation]) -> Result<(), CheckError>
-    ensures { Refuses (first_own_fault (more_visits (context_of surroundings) (more_tests_of (map invocation_tree list.now)))) result }
+fn tests<'t>(
+    names: &mut VariableNames<'t>,
+    surroundings: Surroundings,
+    list: &'t [Invocation],
+) -> Result<(), CheckError>
+    ensures { Passes (listed names.old) (more_visits (context_of surroundings) (more_tests_of (map invocation_tree list.now))) result (listed names.new) }
 {
     'list: for invocation in list {
-        test(surroundings, invocation)?;
+        test(names, surroundings, invocation)?;
     }
     Ok(())
 }
 
 // Nothing, where nothing is wrong with a command and its tests, apart from its block.
-fn head(
+fn head<'t>(
+    names: &mut VariableNames<'t>,
     surroundings: Surroundings,
-    invocation: &Invocation,
+    invocation: &'t Invocation,
     ending: Ending,
 ) -> Result<(), CheckError>
-    ensures { Refuses (first_own_fault (head_visits (context_of surroundings) (invocation_tree invocation.now) ending)) result }
+    ensures { Passes (listed names.old) (head_visits (context_of surroundings) (invocation_tree invocation.now) ending) result (listed names.new) }
 {
     match invocation {
-        Invocation::Plain(head) => command_alone(surroundings, head, Tests::Nothing, ending),
+        Invocation::Plain(head) => {
+            command_alone(names, surroundings, head, Tests::Nothing, ending)
+        }
         Invocation::WithTest(head, inner) => {
-            command_alone(surroundings, head, Tests::One, ending)?;
-            test(surroundings, inner)
+            command_alone(names, surroundings, head, Tests::One, ending)?;
+            test(names, surroundings, inner)
         }
         Invocation::WithTests(head, first, others) => {
-            command_alone(surroundings, head, Tests::Bracketed, ending)?;
-            test(surroundings, first)?;
-            tests(surroundings, others)
+            command_alone(names, surroundings, head, Tests::Bracketed, ending)?;
+            test(names, surroundings, first)?;
+            tests(names, surroundings, others)
         }
     }
 }
 
 // Nothing, where nothing is wrong with a command and what stands below it.
 #[cycle(commands)]
-fn command(surroundings: Surroundings, tree: &Command) -> Result<(), CheckError>
-    ensures { Refuses (first_own_fault (command_visits (context_of surroundings) (command_tree tree.now))) result }
+fn command<'t>(
+    names: &mut VariableNames<'t>,
+    surroundings: Surroundings,
+    tree: &'t Command,
+) -> Result<(), CheckError>
+    ensures { Passes (listed names.old) (command_visits (context_of surroundings) (command_tree tree.now)) result (listed names.new) }
 {
     match tree {
-        Command::Simple(invocation) => head(surroundings, invocation, Ending::Semicolon),
+        Command::Simple(invocation) => head(names, surroundings, invocation, Ending::Semicolon),
         Command::Block(invocation, block) => {
-            head(surroundings, invocation, Ending::Block)?;
-            commands(surroundings.in_block(), block)
+            head(names, surroundings, invocation, Ending::Block)?;
+            commands(names, surroundings.in_block(), block)
         }
-    }
-}
-
-// What an invocation begins with.
-fn head_in(invocation: &Invocation) -> &Head
-    ensures { (tests : TestsTree) × (invocation_tree invocation.now ≡ head_tree result.now tests) }
-{
-    match invocation {
-        Invocation::Plain(head) => head,
-        Invocation::WithTest(head, _) => head,
-        Invocation::WithTests(head, _, _) => head,
-    }
-}
-
-// What surrounds the command after this one.
-fn after(surroundings: Surroundings, command: &Command) -> Surroundings
-    ensures { context_of result ≡ after_invocation (context_of surroundings) (invocation_of (command_tree command.now)) }
-{
-    match command {
-        Command::Simple(invocation) => surroundings.following(head_in(invocation)),
-        Command::Block(invocation, _) => surroundings.following(head_in(invocation)),
     }
 }
 
 // Nothing, where nothing is wrong with the commands of a script or block.
 #[cycle(commands)]
-fn commands(surroundings: Surroundings, trees: &[Command]) -> Result<(), CheckError>
-    ensures { Refuses (first_own_fault (commands_visits (context_of surroundings) (commands_tree trees.now))) result }
+fn commands<'t>(
+    names: &mut VariableNames<'t>,
+    surroundings: Surroundings,
+    trees: &'t [Command],
+) -> Result<(), CheckError>
+    ensures { Passes (listed names.old) (commands_visits (context_of surroundings) (commands_tree trees.now)) result (listed names.new) }
 {
     let mut around = surroundings;
     'trees: for tree in trees {
-        command(around, tree)?;
-        around = after(around, tree);
+        command(names, around, tree)?;
+        around = around.after(tree);
     }
     Ok(())
 }
@@ -359,5 +428,6 @@ fn commands(surroundings: Surroundings, trees: &[Command]) -> Result<(), CheckEr
 pub fn script(trees: &[Command]) -> Result<(), CheckError>
     ensures { Refuses (fault_of (commands_tree trees.now)) result }
 {
-    commands(Surroundings::at_start(), trees)
+    let mut names = VariableNames::new();
+    commands(&mut names, Surroundings::at_start(), trees)
 }

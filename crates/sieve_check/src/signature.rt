@@ -1,4 +1,4 @@
-// What commands and tests take, and how their arguments are read (RFC 5228, section 2.6).
+// What commands and tests take, and how their arguments are read (RFC 5228, section 2.6; RFC 5229, section 4).
 ghost use Rattle.std.specs.Prelude.{◌≡◌, map, Some};
 ghost use Rattle.sieve_parser.specs.View.{argument_tree};
 ghost use Rattle.sieve_check.specs.Signatures.{awaited, bare, command_signature, ending_of, is_list, test_signature};
@@ -6,6 +6,7 @@ ghost use Rattle.sieve_check.specs.Reading.{FirstTag, FirstText, Settles};
 
 use crate::names::{CommandName, Tag, TestName, comparator_named, tag_named};
 use crate::typed::Order;
+use bytecode_format::Modifiers;
 use glob_match::{Comparator, MatchType};
 use octets::Octets;
 use sieve_parser::Argument;
@@ -18,6 +19,8 @@ pub enum Positional {
     Number,
     /// One string, without brackets.
     Text,
+    /// Two strings, each without brackets.
+    TwoTexts,
     /// One list: a string, or strings in square brackets.
     OneList,
     /// Two lists.
@@ -48,6 +51,8 @@ pub struct Signature {
     pub order: bool,
     /// Takes at most one of `:is`, `:contains` and `:matches`, and perhaps `:comparator`.
     pub matching: bool,
+    /// Takes the modifiers of a value, at most one of each precedence.
+    pub modifying: bool,
     pub positional: Positional,
     pub tests: Tests,
 }
@@ -58,6 +63,7 @@ pub struct Tags {
     pub order: Option<Order>,
     pub kind: Option<MatchType>,
     pub comparator: Option<Comparator>,
+    pub modifiers: Modifiers,
 }
 
 /// Arguments that were read by a signature.
@@ -75,6 +81,7 @@ fn bare(tests: Tests) -> Signature
     Signature {
         order: false,
         matching: false,
+        modifying: false,
         positional: Positional::Nothing,
         tests,
     }
@@ -91,6 +98,11 @@ pub fn command_signature(name: CommandName) -> Signature
         },
         CommandName::FileInto => Signature {
             positional: Positional::Text,
+            ..bare(Tests::Nothing)
+        },
+        CommandName::Set => Signature {
+            modifying: true,
+            positional: Positional::TwoTexts,
             ..bare(Tests::Nothing)
         },
         CommandName::If | CommandName::Elsif => bare(Tests::One),
@@ -110,7 +122,8 @@ pub fn ending_of(name: CommandName) -> Ending
         | CommandName::Stop
         | CommandName::Keep
         | CommandName::Discard
-        | CommandName::FileInto => Ending::Semicolon,
+        | CommandName::FileInto
+        | CommandName::Set => Ending::Semicolon,
     }
 }
 
@@ -122,7 +135,7 @@ pub fn test_signature(name: TestName) -> Signature
         TestName::Constant(_) => bare(Tests::Nothing),
         TestName::Not => bare(Tests::One),
         TestName::AllOf | TestName::AnyOf => bare(Tests::Bracketed),
-        TestName::Header => Signature {
+        TestName::Header | TestName::String => Signature {
             matching: true,
             positional: Positional::TwoLists,
             ..bare(Tests::Nothing)
@@ -149,8 +162,8 @@ fn first_tag(arguments: &[Argument]) -> Option<(&[u8], &[Argument])>
     }
 }
 
-// The first argument and the arguments after it, where it is one string.
-fn first_text(arguments: &[Argument]) -> Option<(&Octets, &[Argument])>
+/// The first argument and the arguments after it, where it is one string.
+pub fn first_text(arguments: &[Argument]) -> Option<(&Octets, &[Argument])>
     ensures { FirstText (map argument_tree arguments.now) result }
 {
     match arguments {
@@ -164,7 +177,12 @@ fn settle(tag: Tag, tags: Tags, arguments: &[Argument]) -> Option<(Tags, &[Argum
     ensures { Settles tags (awaited tag) (map argument_tree arguments.now) result }
 {
     match tag {
-        Tag::Order(_) | Tag::Kind(_) => Some((tags, arguments)),
+        Tag::Order(_)
+        | Tag::Kind(_)
+        | Tag::Letters(_)
+        | Tag::First(_)
+        | Tag::QuoteWildcard
+        | Tag::Length => Some((tags, arguments)),
         Tag::Comparator => {
             let (name, rest) = first_text(arguments)?;
             let comparator = comparator_named(name.as_slice())?;
@@ -198,6 +216,10 @@ impl Signature {
             Tag::Order(_) => self.order && tags.order.is_none(),
             Tag::Kind(_) => self.matching && tags.kind.is_none(),
             Tag::Comparator => self.matching && tags.comparator.is_none(),
+            Tag::Letters(_) => self.modifying && tags.modifiers.letters.is_none(),
+            Tag::First(_) => self.modifying && tags.modifiers.first.is_none(),
+            Tag::QuoteWildcard => self.modifying && !tags.modifiers.quote_wildcard,
+            Tag::Length => self.modifying && !tags.modifiers.length,
         }
     }
 
@@ -213,6 +235,10 @@ impl Signature {
             Tag::Order(order) => tags.order = Some(order),
             Tag::Kind(kind) => tags.kind = Some(kind),
             Tag::Comparator => {}
+            Tag::Letters(case) => tags.modifiers.letters = Some(case),
+            Tag::First(case) => tags.modifiers.first = Some(case),
+            Tag::QuoteWildcard => tags.modifiers.quote_wildcard = true,
+            Tag::Length => tags.modifiers.length = true,
         }
         Some(tags)
     }
@@ -225,6 +251,7 @@ impl Signature {
             Positional::Nothing => arguments.is_empty(),
             Positional::Number => matches!(arguments, [Argument::Number(_)]),
             Positional::Text => matches!(arguments, [Argument::Text(_)]),
+            Positional::TwoTexts => matches!(arguments, [Argument::Text(_), Argument::Text(_)]),
             Positional::OneList => match arguments {
                 [list] => is_list(list),
                 _ => false,
@@ -251,6 +278,7 @@ impl Signature {
             order: None,
             kind: None,
             comparator: None,
+            modifiers: Modifiers::none(),
         };
         let mut rest = arguments;
         'tags: while let Some((name, more)) = first_tag(rest) {

@@ -1,7 +1,11 @@
 // What surrounds a command or test.
+ghost use Rattle.std.specs.Prelude.{◌≡◌};
+ghost use Rattle.sieve_parser.specs.Tree.{TestsTree};
+ghost use Rattle.sieve_parser.specs.View.{head_tree, invocation_tree};
+
 use crate::names::{Capability, CommandName, capability_named, command_named};
 use octets::Octets;
-use sieve_parser::{Argument, Head};
+use sieve_parser::{Argument, Command, Head, Invocation};
 
 /// Capabilities that were required.
 #[derive(Clone, Copy, Debug, PartialEq, Eq)]
@@ -93,6 +97,17 @@ impl Capabilities {
     }
 }
 
+// What an invocation begins with.
+fn head_in(invocation: &Invocation) -> &Head
+    ensures { (tests : TestsTree) × (invocation_tree invocation.now ≡ head_tree result.now tests) }
+{
+    match invocation {
+        Invocation::Plain(head) => head,
+        Invocation::WithTest(head, _) => head,
+        Invocation::WithTests(head, _, _) => head,
+    }
+}
+
 /// What surrounds a command or test.
 #[derive(Clone, Copy, Debug, PartialEq, Eq)]
 pub struct Surroundings {
@@ -106,8 +121,8 @@ pub struct Surroundings {
 
 impl Surroundings {
     ghost use Rattle.std.specs.Prelude.{◌≡◌, [], map};
-    ghost use Rattle.sieve_parser.specs.View.{argument_tree};
-    ghost use Rattle.sieve_check.specs.Rules.{arguments_of, strings_of};
+    ghost use Rattle.sieve_parser.specs.View.{argument_tree, command_tree};
+    ghost use Rattle.sieve_check.specs.Rules.{after_invocation, arguments_of, invocation_of, strings_of};
     ghost use Rattle.sieve_check.specs.Names.{command_named};
     ghost use Rattle.sieve_check.specs.Refusing.{context_of};
     ghost use Rattle.sieve_check.specs.Surroundings.{at_start, following, in_block, lacks};
@@ -140,8 +155,8 @@ impl Surroundings {
         }
     }
 
-    /// Those of the command after this one.
-    pub fn following(self, head: &Head) -> Surroundings
+    // Those of the command after one that begins so.
+    fn following(self, head: &Head) -> Surroundings
         ensures { context_of result ≡ following (context_of self) (command_named head.now.name) (strings_of (arguments_of head.now)) }
     {
         let after = self.in_block();
@@ -162,7 +177,18 @@ impl Surroundings {
             | CommandName::Stop
             | CommandName::Keep
             | CommandName::Discard
-            | CommandName::FileInto => after,
+            | CommandName::FileInto
+            | CommandName::Set => after,
+        }
+    }
+
+    /// Those of the command after this one.
+    pub fn after(self, command: &Command) -> Surroundings
+        ensures { context_of result ≡ after_invocation (context_of self) (invocation_of (command_tree command.now)) }
+    {
+        match command {
+            Command::Simple(invocation) => self.following(head_in(invocation)),
+            Command::Block(invocation, _) => self.following(head_in(invocation)),
         }
     }
 

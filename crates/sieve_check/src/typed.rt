@@ -1,4 +1,5 @@
 // Scripts that were checked, in typed form: what they mean, without how they are written.
+use bytecode_format::Modifiers;
 use glob_match::Match;
 use octets::Octets;
 
@@ -11,7 +12,18 @@ pub enum Order {
     Under,
 }
 
-/// A test.
+/// A piece of a string: text as it stands, or a reference (RFC 5229, section 3).
+#[derive(Debug, Drop)]
+pub enum Segment {
+    /// Octets that stand for themselves.
+    Text(Octets),
+    /// The value of the variable of that name, which is in lower case.
+    Variable(Octets),
+    /// What a wildcard of the last match stands for; 0 is the whole value that was matched.
+    Capture(u8),
+}
+
+/// A test. A string is its segments, one after the other.
 #[derive(Debug, Drop)]
 pub enum Test {
     /// `true` and `false`.
@@ -25,13 +37,19 @@ pub enum Test {
     /// `header`: whether a field of one of the names has a value that matches one of the keys.
     Header {
         matching: Match,
-        names: Vec<Octets>,
-        keys: Vec<Octets>,
+        names: Vec<Vec<Segment>>,
+        keys: Vec<Vec<Segment>>,
     },
     /// `exists`: whether there is a field of each of the names.
-    Exists(Vec<Octets>),
+    Exists(Vec<Vec<Segment>>),
     /// `size`.
     Size(Order, u64),
+    /// `string`: whether one of the sources matches one of the keys (RFC 5229, section 5).
+    String {
+        matching: Match,
+        sources: Vec<Vec<Segment>>,
+        keys: Vec<Vec<Segment>>,
+    },
 }
 
 /// A test of an `if` or `elsif`, and the block that it guards.
@@ -51,7 +69,14 @@ pub enum Command {
     /// `discard`.
     Discard,
     /// `fileinto`, with the folder.
-    FileInto(Octets),
+    FileInto(Vec<Segment>),
+    /// `set`: the value, after its modifiers, becomes that of the variable of the name, which is in lower case
+    /// (RFC 5229, section 4).
+    Set {
+        modifiers: Modifiers,
+        name: Octets,
+        value: Vec<Segment>,
+    },
     /// `stop`.
     Stop,
     /// `if` and each `elsif` after it, as tests with their blocks; and the block of `else`, if there is one.

@@ -1,7 +1,7 @@
 -- Strings that were cut by hand.
-use Rattle.std.proofs.Common.{◌≡◌, ℕ, List, [], ◌∷◌, refl}
+use Rattle.std.proofs.Common.{◌≡◌, [], ◌∷◌, refl}
 use Rattle.std.specs.Prelude.{codes}
-use Rattle.sieve_references.specs.References.{Segment, stretch, variable, capture, beyond, foreign, segments, names_in}
+use Rattle.sieve_references.specs.References.{stretch, variable, capture, beyond, foreign, segments, names_in}
 
 empty : segments [] ≡ []
 empty = refl

@@ -11,6 +11,6 @@ pub unreachable-requires : goal.unreachable-requires
 unreachable-requires c =
     let trees = c.commands.result.now in
     let faultless : fault_of (commands_tree trees) ≡ None = c.in_ok-script.ensures in
-    let form = form_exists (commands_tree trees) faultless in
+    let formed = form_exists (commands_tree trees) faultless in
     let same = c.commands.ensures.value ∙ sym c.commands-2.ensures.value in
-    none-some form.0 (ap (option_map _) (sym c.in-None.is) ∙ c.in_ok-commands.ensures ∙ ap (λ ts. form_of (commands_tree ts)) (sym same) ∙ form.1)
+    none-some formed.form (ap (option_map _) (sym c.in-None.is) ∙ c.in_ok-commands.ensures ∙ ap (λ ts. form_of (commands_tree ts)) (sym same) ∙ formed.is)

@@ -1,36 +1,50 @@
-use Rattle.std.proofs.Common.{◌+◌, ◌∙◌, List, sym, ap, subst, drop}
+use Rattle.std.proofs.Common.{◌≡◌, ◌+◌, [], List, sym, subst, drop}
 use Rattle.std.proofs.lemmas.Result.{err_from_is_err_and}
-use Rattle.sieve_parser.specs.View.{commands_tree}
+use Rattle.sieve_parser.specs.View.{command_tree, commands_tree, invocation_tree}
 use Rattle.sieve_parser.specs.declared.tree.Command.{Command as Tree}
-use Rattle.sieve_check.specs.Refusing.{Refuses, context_of, first_own_fault}
-use Rattle.sieve_check.specs.Rules.{commands_visits}
-use Rattle.sieve_check.proofs.FaultSteps.{block_faults, next_faults, first_of_two, second_of_two}
+use Rattle.sieve_check.specs.declared.signature.Ending.TheVariants.{Block}
+use Rattle.sieve_check.specs.Refusing.{Passes, context_of, listed}
+use Rattle.sieve_check.specs.Rules.{after_invocation, invocation_of, head_visits, command_visits, commands_visits}
+use Rattle.sieve_check.specs.Surroundings.{Context, in_block}
+use Rattle.sieve_check.proofs.FaultSteps.{block_visits, next_visits}
+use Rattle.sieve_check.proofs.Visits.{AreLeft, found_among, one_less, passed, refused}
 use Rattle.sieve_check.proofs.rules.+commands.Goals as goal
 
 pub command-returns-in_err-head-in-Block : goal.command-returns-in_err-head-in-Block
 command-returns-in_err-head-in-Block t c =
     let b = c.in-Block in
+    let s = context_of c.args.surroundings in
     let p = err_from_is_err_and c.from_residual.result c.from_residual.ensures.1 in
-    rw (p.1, p.2) (block_faults (context_of c.args.surroundings) c.args.tree.now b.invocation b.block b.is ∙ first_of_two _ _ _ c.in_err-head-in-Block.ensures)
+    refused (listed c.args.names.now) (command_visits s (command_tree c.args.tree.now)) (head_visits s (invocation_tree b.invocation) Block) (commands_visits (in_block [] s) (commands_tree b.block.items))
+    (block_visits s c.args.tree.now b.invocation b.block b.is) c.in_err-head-in-Block.field-0.0 p.0 c.from_residual.result (listed c.head-in-Block.new.names) c.in_err-head-in-Block.ensures p.1 p.2
 
 pub command-returns-in_ok-head-in-Block : goal.command-returns-in_ok-head-in-Block
 command-returns-in_ok-head-in-Block t c =
     let b = c.in-Block in
-    subst (λ o. Refuses o c.commands.result)
-    (sym (block_faults (context_of c.args.surroundings) c.args.tree.now b.invocation b.block b.is ∙ second_of_two _ _ c.in_ok-head-in-Block.ensures))
-    (subst (λ s. Refuses (first_own_fault (commands_visits s (commands_tree b.block.items))) c.commands.result) c.in_block.ensures
-    (subst (λ (xs : List Tree). Refuses (first_own_fault (commands_visits (context_of c.in_block.result) (commands_tree xs))) c.commands.result) c.deref.ensures.value c.commands.ensures))
+    let s = context_of c.args.surroundings in
+    let between = listed c.head-in-Block.new.names in
+    passed (listed c.args.names.now) (command_visits s (command_tree c.args.tree.now)) (head_visits s (invocation_tree b.invocation) Block) (commands_visits (in_block [] s) (commands_tree b.block.items))
+    (block_visits s c.args.tree.now b.invocation b.block b.is) between c.commands.result (listed c.commands.new.names) c.in_ok-head-in-Block.ensures
+    (subst (λ (around : Context). Passes between (commands_visits around (commands_tree b.block.items)) c.commands.result (listed c.commands.new.names)) c.in_block.ensures
+    (subst (λ (xs : List Tree). Passes between (commands_visits (context_of c.in_block.result) (commands_tree xs)) c.commands.result (listed c.commands.new.names)) c.deref.ensures.value c.commands.ensures))
 
 pub commands-returns-in_err-command : goal.commands-returns-in_err-command
 commands-returns-in_err-command t c =
+    let s = context_of c.trees.around in
+    let i = c.trees.tree-index in
+    let x = command_tree c.tree-item.result in
     let p = err_from_is_err_and c.from_residual.result c.from_residual.ensures.1 in
-    rw (p.1, p.2) (sym c.trees.invariant
-    ∙ next_faults (context_of c.trees.around) c.args.trees.now c.trees.tree-index c.tree-item.result c.trees-test.true c.tree-item.is
-    ∙ first_of_two _ _ _ c.in_err-command.ensures)
+    found_among (listed c.trees.names) (commands_visits s (commands_tree (drop i c.args.trees.now))) (command_visits s x) (commands_visits (after_invocation s (invocation_of x)) (commands_tree (drop (i + 1) c.args.trees.now)))
+    (listed c.args.names.now) (commands_visits (context_of c.args.surroundings) (commands_tree c.args.trees.now)) c.in_err-command.field-0.0 p.0 c.from_residual.result (listed c.command.new.names)
+    (next_visits s c.args.trees.now i c.tree-item.result c.trees-test.true c.tree-item.is) c.in_err-command.ensures c.trees.invariant p.1 p.2
 
 pub commands-trees-preserved : goal.commands-trees-preserved
 commands-trees-preserved t c =
-    ap (λ s. first_own_fault (commands_visits s (commands_tree (drop (c.trees.tree-index + 1) c.args.trees.now)))) c.after-around.ensures
-    ∙ sym (next_faults (context_of c.trees.around) c.args.trees.now c.trees.tree-index c.tree-item.result c.trees-test.true c.tree-item.is
-    ∙ second_of_two _ _ c.in_ok-command.ensures)
-    ∙ c.trees.invariant
+    let s = context_of c.trees.around in
+    let i = c.trees.tree-index in
+    let x = command_tree c.tree-item.result in
+    let rest = commands_tree (drop (i + 1) c.args.trees.now) in
+    let all = commands_visits (context_of c.args.surroundings) (commands_tree c.args.trees.now) in
+    subst (λ (around : Context). AreLeft (listed c.command.new.names) (commands_visits around rest) (listed c.args.names.now) all) (sym c.after-around.ensures)
+    (one_less (listed c.trees.names) (commands_visits s (commands_tree (drop i c.args.trees.now))) (command_visits s x) (commands_visits (after_invocation s (invocation_of x)) rest)
+    (listed c.args.names.now) all (listed c.command.new.names) (next_visits s c.args.trees.now i c.tree-item.result c.trees-test.true c.tree-item.is) c.in_ok-command.ensures c.trees.invariant)

@@ -1,11 +1,31 @@
-use Rattle.std.proofs.Common.{◌≡◌, ◌∙◌, List, Some, sym, ap, subst}
+use Rattle.std.proofs.Common.{◌≡◌, ◌+◌, ◌∙◌, ◌++◌, ◌∷◌, [], List, None, Some, refl, sym, ap, subst, drop}
 use Rattle.std.proofs.lemmas.Result.{err_from_is_err_and}
 use Rattle.sieve_parser.specs.View.{invocation_tree}
 use Rattle.sieve_parser.specs.declared.tree.Invocation.{Invocation}
-use Rattle.sieve_check.specs.Refusing.{Refuses, context_of, first_own_fault}
-use Rattle.sieve_check.specs.Rules.{test_visits, more_visits}
-use Rattle.sieve_check.proofs.FaultSteps.{others_of, first_inside, others_inside, rest_faults, first_of_two, second_of_two}
+use Rattle.sieve_check.specs.declared.signature.Tests.TheVariants.{One, Bracketed}
+use Rattle.sieve_check.specs.Refusing.{Passes, context_of, listed, names_after}
+use Rattle.sieve_check.specs.Rules.{arguments_of, first_fault, test_visit, test_visits, more_visits}
+use Rattle.sieve_check.proofs.FaultSteps.{rest_visits, test_inside, tests_inside}
+use Rattle.sieve_check.proofs.FromIndex.{others_of}
+use Rattle.sieve_check.proofs.Visits.{found_among, one_less, passed, refused}
 use Rattle.sieve_check.proofs.rules.+tests.Goals as goal
+
+pub test-returns-in_err-test_alone-in-WithTest : goal.test-returns-in_err-test_alone-in-WithTest
+test-returns-in_err-test_alone-in-WithTest t c =
+    let w = c.in-WithTest in
+    let s = context_of c.args.surroundings in
+    let p = err_from_is_err_and c.from_residual.result c.from_residual.ensures.1 in
+    refused (listed c.args.names.now) (test_visits s (invocation_tree c.args.invocation.now)) (test_visit s w.head.token w.head.name (arguments_of w.head) One ∷ []) (test_visits s (invocation_tree w.inner.value))
+    (test_inside s c.args.invocation.now w.head w.inner w.is) c.in_err-test_alone-in-WithTest.field-0.0 p.0 c.from_residual.result (listed c.test_alone-in-WithTest.new.names) c.in_err-test_alone-in-WithTest.ensures p.1 p.2
+
+pub test-returns-in_err-test_alone-in-WithTests : goal.test-returns-in_err-test_alone-in-WithTests
+test-returns-in_err-test_alone-in-WithTests t c =
+    let w = c.in-WithTests in
+    let s = context_of c.args.surroundings in
+    let p = err_from_is_err_and c.from_residual-in_err-test_alone-in-WithTests.result c.from_residual-in_err-test_alone-in-WithTests.ensures.1 in
+    refused (listed c.args.names.now) (test_visits s (invocation_tree c.args.invocation.now)) (test_visit s w.head.token w.head.name (arguments_of w.head) Bracketed ∷ [])
+    (test_visits s (invocation_tree w.first.value) ++ more_visits s (others_of w.others.items)) (tests_inside s c.args.invocation.now w.head w.first w.others w.is)
+    c.in_err-test_alone-in-WithTests.field-0.0 p.0 c.from_residual-in_err-test_alone-in-WithTests.result (listed c.test_alone-in-WithTests.new.names) c.in_err-test_alone-in-WithTests.ensures p.1 p.2
 
 pub test-returns-in_err-test-in-WithTests : goal.test-returns-in_err-test-in-WithTests
 test-returns-in_err-test-in-WithTests t c =
@@ -13,26 +33,50 @@ test-returns-in_err-test-in-WithTests t c =
     let s = context_of c.args.surroundings in
     let e = c.in_err-test-in-WithTests.field-0.0 in
     let p = err_from_is_err_and c.from_residual-in_err-test-in-WithTests.result c.from_residual-in_err-test-in-WithTests.ensures.1 in
-    rw (p.1, p.2) (first_inside s c.args.invocation.now w.head w.first w.others w.is e c.in_ok-test_alone-in-WithTests.ensures
-    (subst (λ (x : Invocation). first_own_fault (test_visits s (invocation_tree x)) ≡ Some e) c.deref-in-WithTests.ensures c.in_err-test-in-WithTests.ensures))
+    let between = listed c.test_alone-in-WithTests.new.names in
+    let inside = subst (λ (x : Invocation). first_fault between (test_visits s (invocation_tree x)) ≡ Some e) c.deref-in-WithTests.ensures c.in_err-test-in-WithTests.ensures in
+    passed (listed c.args.names.now) (test_visits s (invocation_tree c.args.invocation.now)) (test_visit s w.head.token w.head.name (arguments_of w.head) Bracketed ∷ [])
+    (test_visits s (invocation_tree w.first.value) ++ more_visits s (others_of w.others.items)) (tests_inside s c.args.invocation.now w.head w.first w.others w.is)
+    between c.from_residual-in_err-test-in-WithTests.result (listed c.test-in-WithTests.new.names) c.in_ok-test_alone-in-WithTests.ensures
+    (refused between (test_visits s (invocation_tree w.first.value) ++ more_visits s (others_of w.others.items)) (test_visits s (invocation_tree w.first.value)) (more_visits s (others_of w.others.items)) refl
+    e p.0 c.from_residual-in_err-test-in-WithTests.result (listed c.test-in-WithTests.new.names) inside p.1 p.2)
+
+pub test-returns-in_ok-test_alone-in-WithTest : goal.test-returns-in_ok-test_alone-in-WithTest
+test-returns-in_ok-test_alone-in-WithTest t c =
+    let w = c.in-WithTest in
+    let s = context_of c.args.surroundings in
+    let between = listed c.test_alone-in-WithTest.new.names in
+    passed (listed c.args.names.now) (test_visits s (invocation_tree c.args.invocation.now)) (test_visit s w.head.token w.head.name (arguments_of w.head) One ∷ []) (test_visits s (invocation_tree w.inner.value))
+    (test_inside s c.args.invocation.now w.head w.inner w.is) between c.test.result (listed c.test.new.names) c.in_ok-test_alone-in-WithTest.ensures
+    (subst (λ (x : Invocation). Passes between (test_visits s (invocation_tree x)) c.test.result (listed c.test.new.names)) c.deref.ensures c.test.ensures)
 
 pub test-returns-in_ok-test-in-WithTests : goal.test-returns-in_ok-test-in-WithTests
 test-returns-in_ok-test-in-WithTests t c =
     let w = c.in-WithTests in
     let s = context_of c.args.surroundings in
-    subst (λ o. Refuses o c.tests.result)
-    (sym (others_inside s c.args.invocation.now w.head w.first w.others w.is c.in_ok-test_alone-in-WithTests.ensures (ap (λ x. first_own_fault (test_visits s (invocation_tree x))) (sym c.deref-in-WithTests.ensures) ∙ c.in_ok-test-in-WithTests.ensures)))
-    (subst (λ (xs : List Invocation). Refuses (first_own_fault (more_visits s (others_of xs))) c.tests.result) c.deref-in-WithTests-2.ensures.value c.tests.ensures)
+    let between = listed c.test_alone-in-WithTests.new.names in
+    let after_first = listed c.test-in-WithTests.new.names in
+    let first = subst (λ (x : Invocation). (first_fault between (test_visits s (invocation_tree x)) ≡ None) × (after_first ≡ names_after between (test_visits s (invocation_tree x)))) c.deref-in-WithTests.ensures c.in_ok-test-in-WithTests.ensures in
+    passed (listed c.args.names.now) (test_visits s (invocation_tree c.args.invocation.now)) (test_visit s w.head.token w.head.name (arguments_of w.head) Bracketed ∷ [])
+    (test_visits s (invocation_tree w.first.value) ++ more_visits s (others_of w.others.items)) (tests_inside s c.args.invocation.now w.head w.first w.others w.is)
+    between c.tests.result (listed c.tests.new.names) c.in_ok-test_alone-in-WithTests.ensures
+    (passed between (test_visits s (invocation_tree w.first.value) ++ more_visits s (others_of w.others.items)) (test_visits s (invocation_tree w.first.value)) (more_visits s (others_of w.others.items)) refl
+    after_first c.tests.result (listed c.tests.new.names) first
+    (subst (λ (xs : List Invocation). Passes after_first (more_visits s (others_of xs)) c.tests.result (listed c.tests.new.names)) c.deref-in-WithTests-2.ensures.value c.tests.ensures))
 
 pub tests-returns-in_err-test : goal.tests-returns-in_err-test
 tests-returns-in_err-test t c =
+    let s = context_of c.args.surroundings in
+    let i = c.list.invocation-index in
     let p = err_from_is_err_and c.from_residual.result c.from_residual.ensures.1 in
-    rw (p.1, p.2) (sym c.list.invariant
-    ∙ rest_faults (context_of c.args.surroundings) c.args.list.now c.list.invocation-index c.invocation-item.result c.list-test.true c.invocation-item.is
-    ∙ first_of_two _ _ _ c.in_err-test.ensures)
+    found_among (listed c.list.names) (more_visits s (others_of (drop i c.args.list.now))) (test_visits s (invocation_tree c.invocation-item.result)) (more_visits s (others_of (drop (i + 1) c.args.list.now)))
+    (listed c.args.names.now) (more_visits s (others_of c.args.list.now)) c.in_err-test.field-0.0 p.0 c.from_residual.result (listed c.test.new.names)
+    (rest_visits s c.args.list.now i c.invocation-item.result c.list-test.true c.invocation-item.is) c.in_err-test.ensures c.list.invariant p.1 p.2
 
 pub tests-list-preserved : goal.tests-list-preserved
 tests-list-preserved t c =
-    sym (rest_faults (context_of c.args.surroundings) c.args.list.now c.list.invocation-index c.invocation-item.result c.list-test.true c.invocation-item.is
-    ∙ second_of_two _ _ c.in_ok-test.ensures)
-    ∙ c.list.invariant
+    let s = context_of c.args.surroundings in
+    let i = c.list.invocation-index in
+    one_less (listed c.list.names) (more_visits s (others_of (drop i c.args.list.now))) (test_visits s (invocation_tree c.invocation-item.result)) (more_visits s (others_of (drop (i + 1) c.args.list.now)))
+    (listed c.args.names.now) (more_visits s (others_of c.args.list.now)) (listed c.test.new.names)
+    (rest_visits s c.args.list.now i c.invocation-item.result c.list-test.true c.invocation-item.is) c.in_ok-test.ensures c.list.invariant

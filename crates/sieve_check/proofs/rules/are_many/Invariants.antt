@@ -1,6 +1,7 @@
 use Rattle.std.proofs.Common.{◌≡◌, ◌+◌, drop, map, length}
 use Rattle.sieve_parser.specs.View.{argument_tree}
-use Rattle.sieve_check.specs.Rules.{max_test_strings, strings_of}
+use Rattle.octets.specs.Limits.{max_test_strings}
+use Rattle.sieve_check.specs.Rules.{strings_of}
 use Rattle.sieve_check.proofs.rules.are_many.Given as goal
 
 abbrev pub invariant-loop-argument : goal.invariant-loop-argument

@@ -2,7 +2,7 @@ use Rattle.std.proofs.Common.{◌∙◌, ap, map}
 use Rattle.sieve_parser.specs.Tree.{no_test, one_test, test_list}
 use Rattle.sieve_parser.specs.View.{invocation_tree, more_tests_of}
 use Rattle.sieve_parser.proofs.TestSteps.{tree_plain, tree_test, tree_tests}
-use Rattle.sieve_check.proofs.rules.head_in.Goals as goal
+use Rattle.sieve_check.proofs.surroundings.head_in.Goals as goal
 
 pub returns-in-Plain : goal.returns-in-Plain
 returns-in-Plain c = (no_test, ap invocation_tree c.in-Plain.is ∙ tree_plain c.in-Plain.head)

@@ -1,0 +1,115 @@
+-- The names of variables, as they are met.
+use Rattle.std.proofs.Common.{◌≡◌, ℕ, ◌+◌, ◌<◌, ◌≤◌, Bool, true, false, ◌||◌, bytes_eq, List, [], ◌∷◌, ◌++◌, length, map, flat_map, drop, get_or, refl, sym, ap, subst, ◌∙◌, arith, length-append, add-one, inl, inr}
+use Rattle.std.proofs.Math.Seq.{drop-cons}
+use Rattle.std.specs.Bool.{IsTrue, ◌==◌}
+use Rattle.std.specs.Prelude.{Result, Ok, Err, MatchResult}
+use Rattle.std.specs.List.{list_any}
+use Rattle.std.specs.Borrow.{Bor}
+use Rattle.std.specs.Global.{Vec}
+use Rattle.std.proofs.lemmas.Grind.{flat_map-append}
+use Rattle.std.proofs.lemmas.Bool.{cases_Bool}
+use Rattle.std.proofs.lemmas.List.{length-map, map-append}
+use Rattle.std.proofs.lemmas.Slice.Eq.{bytes_eq-Decides}
+use Rattle.octets.specs.Ascii.{lowercase_of, EqualIgnoringCase}
+use Rattle.octets.specs.Limits.{max_variables}
+use Rattle.octets.specs.Once.{is_listed, with_one, with_more}
+use Rattle.octets.proofs.Once.{more_after, unlisted_added}
+use Rattle.sieve_references.specs.References.{names_in}
+use Rattle.sieve_parser.specs.View.{argument_tree}
+use Rattle.sieve_parser.specs.declared.tree.Argument.{Argument}
+use Rattle.sieve_parser.specs.declared.tree.Argument.TheVariants.{TextList}
+use Rattle.sieve_check.specs.declared.error.Fault.{Fault}
+use Rattle.sieve_check.specs.declared.error.Fault.TheVariants.{Limit}
+use Rattle.sieve_check.specs.Refusing.{Adds, shown}
+use Rattle.sieve_check.specs.Rules.{strings_in, strings_of}
+use Rattle.sieve_check.proofs.FromIndex.{split_at}
+
+-- ---- whether a name is among them
+
+-- what the comparison says
+same_name : (a b : List ℕ) → EqualIgnoringCase a b → bytes_eq (lowercase_of a) (lowercase_of b) ≡ true
+same_name a b same = (bytes_eq-Decides (lowercase_of a) (lowercase_of b)).1 same
+
+other_name : (a b : List ℕ) → (EqualIgnoringCase a b → ⊥) → bytes_eq (lowercase_of a) (lowercase_of b) ≡ false
+other_name a b differs =
+    elim (cases_Bool (bytes_eq (lowercase_of a) (lowercase_of b))) [
+      | inl same ↦ absurd (differs ((bytes_eq-Decides (lowercase_of a) (lowercase_of b)).0 same))
+      | inr other ↦ other
+    ]
+
+at_index : (name : List ℕ) (names : List (Bor (List ℕ))) (i : ℕ) (d : Bor (List ℕ)) → i < length names
+    → is_listed bytes_eq (lowercase_of name) (shown (drop i names)) ≡ (bytes_eq (lowercase_of name) (lowercase_of (get_or names i d).now) || is_listed bytes_eq (lowercase_of name) (shown (drop (i + 1) names)))
+at_index name names i d lt = ap (λ l. is_listed bytes_eq (lowercase_of name) (shown l)) (drop-cons names i d lt ∙ ap (λ n. get_or names i d ∷ drop n names) (sym (add-one i)))
+
+pub found_at_index : (name : List ℕ) (names : List (Bor (List ℕ))) (i : ℕ) (d : Bor (List ℕ)) → i < length names → EqualIgnoringCase name (get_or names i d).now
+    → is_listed bytes_eq (lowercase_of name) (shown (drop i names)) ≡ true
+found_at_index name names i d lt same = at_index name names i d lt ∙ ap (λ b. b || is_listed bytes_eq (lowercase_of name) (shown (drop (i + 1) names))) (same_name name (get_or names i d).now same)
+
+pub passed_at_index : (name : List ℕ) (names : List (Bor (List ℕ))) (i : ℕ) (d : Bor (List ℕ)) → i < length names → (EqualIgnoringCase name (get_or names i d).now → ⊥)
+    → is_listed bytes_eq (lowercase_of name) (shown (drop (i + 1) names)) ≡ is_listed bytes_eq (lowercase_of name) (shown (drop i names))
+passed_at_index name names i d lt differs =
+    sym (at_index name names i d lt ∙ ap (λ b. b || is_listed bytes_eq (lowercase_of name) (shown (drop (i + 1) names))) (other_name name (get_or names i d).now differs))
+
+-- ---- names that are added
+
+one_grows : (names : List (List ℕ)) (name : List ℕ) → length names ≤ length (with_one bytes_eq names name)
+one_grows names name =
+    elim (cases_Bool (is_listed bytes_eq name names)) [
+      | inl listed ↦ rw listed (omega arith)
+      | inr fresh ↦ rw fresh (omega (arith, length-append names (name ∷ [])))
+    ]
+
+-- names are no fewer with more of them
+grows : (names more : List (List ℕ)) → length names ≤ length (with_more bytes_eq names more)
+grows names [] = omega arith
+grows names (x ∷ xs) = omega (arith, one_grows names x, grows (with_one bytes_eq names x) xs)
+
+pub added_kept : (names : List (List ℕ)) (name : List ℕ) → is_listed bytes_eq name names ≡ true → names ≡ with_more bytes_eq names (name ∷ [])
+added_kept names name listed = sym (rw listed refl)
+
+pub added_new : (names : List (List ℕ)) (name : List ℕ) → is_listed bytes_eq name names ≡ false → names ++ name ∷ [] ≡ with_more bytes_eq names (name ∷ [])
+added_new names name fresh = unlisted_added bytes_eq names name fresh
+
+pub shown_push : (names more : List (Bor (List ℕ))) (name : Bor (List ℕ)) → more ≡ names ++ name ∷ [] → shown more ≡ shown names ++ lowercase_of name.now ∷ []
+shown_push names more name is = ap shown is ∙ map-append (λ (name : Bor (List ℕ)). lowercase_of name.now) names (name ∷ [])
+
+pub shown_len : (names : List (Bor (List ℕ))) → length (shown names) ≡ length names
+shown_len names = length-map names (λ (name : Bor (List ℕ)). lowercase_of name.now)
+
+-- names and then others
+module _ {A : Type 0} where
+  pub adds_both : (names first second between : List (List ℕ)) (result : Result A Fault) (after : List (List ℕ)) → between ≡ with_more bytes_eq names first
+      → Adds between second result after → Adds names (first ++ second) result after
+  adds_both names first second between (Ok x) after is adds = adds ∙ ap (λ l. with_more bytes_eq l second) is ∙ sym (more_after bytes_eq names first second)
+  adds_both names first second between (Err e) after is adds =
+      let both : with_more bytes_eq between second ≡ with_more bytes_eq names (first ++ second) = ap (λ l. with_more bytes_eq l second) is ∙ sym (more_after bytes_eq names first second) in
+      (adds.0, omega (arith, adds.1, ap length both))
+
+-- too many of the first are too many of both
+pub many_with_more : (names first second : List (List ℕ)) → max_variables < length (with_more bytes_eq names first) → max_variables < length (with_more bytes_eq names (first ++ second))
+many_with_more names first second many = omega (arith, many, grows (with_more bytes_eq names first) second, ap length (more_after bytes_eq names first second))
+
+-- where names after others come to too many, all of them do
+pub many_of_all : (now first left start all : List (List ℕ)) → with_more bytes_eq now (first ++ left) ≡ with_more bytes_eq start all → max_variables < length (with_more bytes_eq now first)
+    → max_variables < length (with_more bytes_eq start all)
+many_of_all now first left start all is many = omega (arith, many_with_more now first left many, ap length is)
+
+-- where the names are so far that, with those that are left, they are those with all of them: one step further
+pub further : (now first left start all after : List (List ℕ)) → with_more bytes_eq now (first ++ left) ≡ with_more bytes_eq start all → after ≡ with_more bytes_eq now first
+    → with_more bytes_eq after left ≡ with_more bytes_eq start all
+further now first left start all after is added = ap (λ l. with_more bytes_eq l left) added ∙ sym (more_after bytes_eq now first left) ∙ is
+
+-- the names of strings from an index on, and of arguments
+pub strings_names : (list : List (List ℕ)) (i : ℕ) (x y : List ℕ) → i < length list → x ≡ get_or list i x → y ≡ x → flat_map names_in (drop i list) ≡ names_in y ++ flat_map names_in (drop (i + 1) list)
+strings_names list i x y lt is same = ap (flat_map names_in) (split_at list i x lt is) ∙ ap (λ s. names_in s ++ flat_map names_in (drop (i + 1) list)) (sym same)
+
+pub arguments_names : (list : List Argument) (i : ℕ) (x : Argument) → i < length list → x ≡ get_or list i x
+    → flat_map names_in (strings_of (map argument_tree (drop i list))) ≡ flat_map names_in (strings_in (argument_tree x)) ++ flat_map names_in (strings_of (map argument_tree (drop (i + 1) list)))
+arguments_names list i x lt is =
+    ap (λ l. flat_map names_in (strings_of (map argument_tree l))) (split_at list i x lt is)
+    ∙ flat_map-append names_in (strings_in (argument_tree x)) (strings_of (map argument_tree (drop (i + 1) list)))
+
+-- those of a list of strings
+pub list_names : (argument : Argument) (first : List ℕ) (others : Vec (List ℕ)) (y : List ℕ) (ys : List (List ℕ)) → argument ≡ TextList first others → y ≡ first → ys ≡ others.items
+    → names_in y ++ flat_map names_in ys ≡ flat_map names_in (strings_in (argument_tree argument))
+list_names argument first others y ys is same same_others = ap (λ s. names_in s ++ flat_map names_in ys) same ∙ ap (λ l. names_in first ++ flat_map names_in l) same_others ∙ sym (ap (λ a. flat_map names_in (strings_in (argument_tree a))) is)

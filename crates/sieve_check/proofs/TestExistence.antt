@@ -1,0 +1,242 @@
+-- A test of which nothing is wrong has a typed form, which is within the limits and has the variables that its visits bring.
+use Rattle.std.proofs.Common.{◌≡◌, ℕ, ◌≤◌, length, Bool, true, false, ◌&&◌, ◌||◌, not, if◌then◌else◌, List, [], ◌∷◌, ◌++◌, All, Option, Some, None, option_map, refl, sym, ap, ◌∙◌}
+use Rattle.std.specs.Prelude.{is_some, flat_map}
+use Rattle.std.specs.List.{list_any}
+use Rattle.std.proofs.lemmas.Bool.{ltb-false}
+use Rattle.std.proofs.lemmas.Grind.{flat_map-append}
+use Rattle.std.proofs.lemmas.List.{append-nil}
+use Rattle.std.proofs.lemmas.Option.{same_Some}
+use Rattle.octets.specs.Limits.{max_test_strings}
+use Rattle.sieve_parser.specs.Tree.{ArgumentTree, text, text_list, amount, label, InvocationTree, invocation, TestsTree, no_test, one_test, test_list, MoreTests, last as no_more, next}
+use Rattle.sieve_check.specs.declared.error.Fault.{Fault}
+use Rattle.sieve_check.specs.declared.error.Fault.TheVariants.{MissingCapability, BadArguments, Limit}
+use Rattle.sieve_check.specs.declared.names.TestName.{TestName}
+use Rattle.sieve_check.specs.declared.names.TestName.TheVariants.{Constant, Not, AllOf, AnyOf, Header, Exists, Size, String}
+use Rattle.sieve_check.specs.declared.signature.Positional.TheVariants as positional
+use Rattle.sieve_check.specs.declared.signature.Signature.{Signature}
+use Rattle.sieve_check.specs.declared.signature.Tests.{Tests}
+use Rattle.sieve_check.specs.declared.signature.Tests.TheVariants.{Nothing, One, Bracketed}
+use Rattle.sieve_check.specs.Bounded.{IsBoundedTest, AreBoundedTests}
+use Rattle.sieve_check.specs.FormOf.{InnerForms, none, one, bracketed, number_in, match_of, test_of, test_form_of, inner_forms_of, more_forms_of}
+use Rattle.sieve_check.specs.Names.{test_named}
+use Rattle.sieve_check.specs.Rules.{Visit, where_required, names_by, fault_by_name, known_test_fault, test_needs, has_long_string, has_many_strings, Mentions, no_mention, strings_read, test_mentions, has_wrong_mention, has_large_mention, names_mentioned, same_tests, is_well_formed, kind_of, strings_of, test_visit, test_visits, tests_visits, more_visits}
+use Rattle.sieve_check.specs.Signatures.{◌>>=◌, Read, no_tag, tags_read, is_positional, is_complete, reading, test_signature}
+use Rattle.sieve_check.specs.Surroundings.{Context, lacks}
+use Rattle.sieve_check.specs.Typed.{TestForm, constant, negation, all_of, any_of, header, exists, size, string, TestForms, no_test as no_other, test}
+use Rattle.sieve_check.specs.Variables.{test_variables, tests_variables}
+use Rattle.sieve_check.proofs.Faultless.{AreFaultless, faultless_both, names_brought}
+use Rattle.sieve_check.proofs.Lists.{expands, is_large, read_short, all_sound, one_listed, two_listed}
+use Rattle.sieve_check.proofs.Options.{step_some, all_taken, if_some, if_none, not_false, both_true, either_false, some_of}
+use Rattle.sieve_check.proofs.Templates.{IsSound, names_at, mentioned_at, expanding, expanding_names}
+
+-- ---- what follows from there being no fault
+
+-- a name that is known
+pub known : {Name : Type 0} (fault : Name → Option Fault) (o : Option Name) → fault_by_name fault o ≡ None → (name : Name) × (o ≡ Some name) × (fault name ≡ None)
+known fault None h = absurd (cc)
+known fault (Some name) h = (name, refl, h)
+
+-- the tests are those of the signature, and the arguments were read
+pub record WellFormed (signature : Signature) (args : List ArgumentTree) (tests : Tests) : Type 0 where
+  pub read : Read
+  pub is : reading signature args ≡ Some read
+  pub complete : is_complete signature read ≡ true
+  pub same : same_tests signature.tests tests ≡ true
+
+pub well_formed : (signature : Signature) (args : List ArgumentTree) (tests : Tests) → is_well_formed signature args tests ≡ true → WellFormed signature args tests
+well_formed signature args tests h =
+    let parts = both_true (same_tests signature.tests tests) (is_some (reading signature args)) h in
+    let read = some_of (reading signature args) parts.1 in
+    let r = step_some (tags_read signature no_tag None args) _ read.0 read.1 in
+    let done = if_some (is_complete signature r.0) r.0 read.0 r.2 in
+    record { read = read.0; is = read.1; complete = ap (is_complete signature) (sym (same_Some r.0 read.0 done.1)) ∙ done.0; same = parts.0 }
+
+-- no string that is expanded has too many segments
+pub none_large : (b : Bool) (mentions : Mentions) → has_large_mention (if b then mentions else no_mention) ≡ false → b ≡ true → list_any is_large mentions.expanded ≡ false
+none_large true mentions h expands = (either_false (list_any is_large mentions.expanded) _ h).0
+none_large false mentions h expands = absurd (cc)
+
+-- the same of a test, whose strings are within the limits
+pub record TestWellFormed (s : Context) (name : TestName) (args : List ArgumentTree) (tests : Tests) : Type 0 where
+  pub form : WellFormed (test_signature name) args tests
+  pub few : length (strings_of form.read.positional) ≤ max_test_strings
+  pub sound : All (IsSound (expands s)) (strings_of form.read.positional)
+
+test_well_formed : (s : Context) (name : TestName) (args : List ArgumentTree) (tests : Tests) → known_test_fault s name args tests ≡ None → TestWellFormed s name args tests
+test_well_formed s name args tests h =
+    let a = if_none (lacks s (test_needs name)) MissingCapability _ h in
+    let b = if_none (not (is_well_formed (test_signature name) args tests)) BadArguments _ a.1 in
+    let c = if_none (has_wrong_mention (test_mentions s name args)) BadArguments _ b.1 in
+    let d = if_none (has_long_string args || has_many_strings (reading (test_signature name) args) || has_large_mention (test_mentions s name args)) Limit _ c.1 in
+    let e = either_false (has_long_string args || has_many_strings (reading (test_signature name) args)) _ d.0 in
+    let f = either_false (has_long_string args) _ e.0 in
+    let form = well_formed (test_signature name) args tests (not_false _ b.0) in
+    let mentions = expanding (strings_read (reading (test_signature name) args)) in
+    record {
+      form = form;
+      few = ltb-false max_test_strings (length (strings_of form.read.positional)) (ap has_many_strings (sym form.is) ∙ f.1);
+      sound = all_sound (expands s) (strings_of form.read.positional) (read_short (test_signature name) args form.read form.is f.0)
+          (λ yes. ap (λ o. list_any is_large (strings_read o)) (sym form.is) ∙ none_large (expands s) mentions e.1 yes);
+    }
+
+-- ---- the tests behind arguments
+
+abbrev pub inner_kind : InnerForms → Tests
+inner_kind none = Nothing
+inner_kind (one f) = One
+inner_kind (bracketed f fs) = Bracketed
+
+-- they are within the limits
+abbrev pub IsBoundedInner : InnerForms → Type 0
+IsBoundedInner none = Unit {0}
+IsBoundedInner (one f) = IsBoundedTest f
+IsBoundedInner (bracketed f fs) = IsBoundedTest f × AreBoundedTests fs
+
+abbrev pub inner_variables : InnerForms → List (List ℕ)
+inner_variables none = []
+inner_variables (one f) = test_variables f
+inner_variables (bracketed f fs) = test_variables f ++ tests_variables fs
+
+-- ---- a test of a known name
+
+-- a form within the limits, with these variables
+pub record Made (names : List (List ℕ)) (o : Option TestForm) : Type 0 where
+  pub form : TestForm
+  pub is : o ≡ Some form
+  pub bounded : IsBoundedTest form
+  pub variables : test_variables form ≡ names
+
+-- no argument brings a name
+pub unnamed : (b : Bool) (xs : List ArgumentTree) → is_positional positional.Nothing xs ≡ true → [] ≡ mentioned_at b (expanding (strings_of xs))
+unnamed b [] h = sym (expanding_names b [])
+unnamed b (x ∷ xs) h = absurd (cc)
+
+numbered : (b : Bool) (xs : List ArgumentTree) → is_positional positional.Number xs ≡ true → (n : ℕ) × (number_in xs ≡ Some n) × ([] ≡ mentioned_at b (expanding (strings_of xs)))
+numbered b (amount n ∷ []) h = (n, refl, sym (expanding_names b []))
+numbered b [] h = absurd (cc)
+numbered b (text s ∷ xs) h = absurd (cc)
+numbered b (text_list s ss ∷ xs) h = absurd (cc)
+numbered b (label name ∷ xs) h = absurd (cc)
+numbered b (amount n ∷ x ∷ xs) h = absurd (cc)
+
+-- the names that a test brings by its own arguments
+abbrev own_names : Context → Read → List (List ℕ)
+own_names s read = mentioned_at (expands s) (expanding (strings_of read.positional))
+
+sized : (s : Context) (read : Read) → is_complete (test_signature Size) read ≡ true → Made (own_names s read ++ []) (test_of s Size read none)
+sized s read h =
+    let parts = both_true (is_some read.tags.order) _ h in
+    let order = some_of read.tags.order parts.0 in
+    let n = numbered (expands s) read.positional parts.1 in
+    record {
+      form = size order.0 n.0;
+      is = ap (λ o. o >>= λ order. number_in read.positional >>= λ n. Some (size order n)) order.1 ∙ ap (λ o. o >>= λ n. Some (size order.0 n)) n.1;
+      bounded = tt;
+      variables = n.2 ∙ sym (append-nil (own_names s read));
+    }
+
+-- names that lists bring
+listed_names : (s : Context) (read : Read) (names : List (List ℕ)) → names ≡ flat_map (names_at (expands s)) (strings_of read.positional) → names ≡ own_names s read ++ []
+listed_names s read names h = h ∙ sym (expanding_names (expands s) (strings_of read.positional)) ∙ sym (append-nil (own_names s read))
+
+made : (s : Context) (name : TestName) (read : Read) (inner : InnerForms) → is_complete (test_signature name) read ≡ true → same_tests (test_signature name).tests (inner_kind inner) ≡ true → length (strings_of read.positional) ≤ max_test_strings
+    → All (IsSound (expands s)) (strings_of read.positional) → IsBoundedInner inner → Made (own_names s read ++ inner_variables inner) (test_of s name read inner)
+made s (Constant b) read none complete same few sound inside = record { form = constant b; is = refl; bounded = tt; variables = ap (λ names. names ++ []) (unnamed (expands s) read.positional complete) }
+made s Not read (one f) complete same few sound inside = record { form = negation f; is = refl; bounded = inside; variables = ap (λ names. names ++ test_variables f) (unnamed (expands s) read.positional complete) }
+made s AllOf read (bracketed f fs) complete same few sound inside = record { form = all_of f fs; is = refl; bounded = inside; variables = ap (λ names. names ++ (test_variables f ++ tests_variables fs)) (unnamed (expands s) read.positional complete) }
+made s AnyOf read (bracketed f fs) complete same few sound inside = record { form = any_of f fs; is = refl; bounded = inside; variables = ap (λ names. names ++ (test_variables f ++ tests_variables fs)) (unnamed (expands s) read.positional complete) }
+made s Size read none complete same few sound inside = sized s read complete
+made s Header read none complete same few sound inside =
+    let lists = two_listed s (header (match_of read.tags)) read.positional complete few sound in
+    record { form = header (match_of read.tags) lists.first lists.second; is = lists.is; bounded = lists.bounded; variables = listed_names s read _ lists.names }
+made s Exists read none complete same few sound inside =
+    let list = one_listed s exists read.positional complete few sound in
+    record { form = exists list.list; is = list.is; bounded = list.bounded; variables = listed_names s read _ list.names }
+made s String read none complete same few sound inside =
+    let lists = two_listed s (string (match_of read.tags)) read.positional complete few sound in
+    record { form = string (match_of read.tags) lists.first lists.second; is = lists.is; bounded = lists.bounded; variables = listed_names s read _ lists.names }
+made s (Constant b) read (one f) complete same few sound inside = absurd (cc)
+made s (Constant b) read (bracketed f fs) complete same few sound inside = absurd (cc)
+made s Not read none complete same few sound inside = absurd (cc)
+made s Not read (bracketed f fs) complete same few sound inside = absurd (cc)
+made s AllOf read none complete same few sound inside = absurd (cc)
+made s AllOf read (one f) complete same few sound inside = absurd (cc)
+made s AnyOf read none complete same few sound inside = absurd (cc)
+made s AnyOf read (one f) complete same few sound inside = absurd (cc)
+made s Header read (one f) complete same few sound inside = absurd (cc)
+made s Header read (bracketed f fs) complete same few sound inside = absurd (cc)
+made s Exists read (one f) complete same few sound inside = absurd (cc)
+made s Exists read (bracketed f fs) complete same few sound inside = absurd (cc)
+made s Size read (one f) complete same few sound inside = absurd (cc)
+made s Size read (bracketed f fs) complete same few sound inside = absurd (cc)
+made s String read (one f) complete same few sound inside = absurd (cc)
+made s String read (bracketed f fs) complete same few sound inside = absurd (cc)
+
+-- ---- any test
+
+-- tests behind arguments, of which nothing is wrong
+pub record Inner (s : Context) (tests : TestsTree) : Type 0 where
+  pub inner : InnerForms
+  pub is : inner_forms_of s tests ≡ Some inner
+  pub kind : inner_kind inner ≡ kind_of tests
+  pub bounded : IsBoundedInner inner
+  pub variables : inner_variables inner ≡ names_brought (tests_visits s tests)
+
+-- tests in round brackets after the first
+record Others (s : Context) (ts : MoreTests) : Type 0 where
+  forms : TestForms
+  is : more_forms_of s ts ≡ Some forms
+  bounded : AreBoundedTests forms
+  variables : tests_variables forms ≡ names_brought (more_visits s ts)
+
+both_names : (vs ws : List Visit) → names_brought vs ++ names_brought ws ≡ names_brought (vs ++ ws)
+both_names vs ws = sym (flat_map-append (λ (v : Visit). v.names) vs ws)
+
+mutual
+  pub test_exists : (s : Context) (i : InvocationTree) → AreFaultless (test_visits s i) → Made (names_brought (test_visits s i)) (test_form_of s i)
+  test_exists s (invocation token word args tests) h =
+      let name = known (λ known. known_test_fault s known args (kind_of tests)) (test_named word) h.0 in
+      let well = test_well_formed s name.0 args (kind_of tests) name.2 in
+      let read = well.form.read in
+      let inner = inner_exists s tests h.1 in
+      let f = made s name.0 read inner.inner well.form.complete (ap (same_tests (test_signature name.0).tests) inner.kind ∙ well.form.same) well.few well.sound inner.bounded in
+      record {
+        form = f.form;
+        is = all_taken (inner_forms_of s tests) inner.inner (test_named word) name.0 (λ name. reading (test_signature name) args) read (λ inner name read. test_of s name read inner) inner.is name.1 well.form.is
+            ∙ f.is;
+        bounded = f.bounded;
+        variables = f.variables
+            ∙ ap (λ o. names_mentioned (where_required s (expanding (strings_read o))) ++ inner_variables inner.inner) (sym well.form.is)
+            ∙ ap (λ o. names_by (λ known. test_mentions s known args) o ++ inner_variables inner.inner) (sym name.1)
+            ∙ ap (λ names. names_by (λ known. test_mentions s known args) (test_named word) ++ names) inner.variables;
+      }
+
+  pub inner_exists : (s : Context) (tests : TestsTree) → AreFaultless (tests_visits s tests) → Inner s tests
+  inner_exists s no_test h = record { inner = none; is = refl; kind = refl; bounded = tt; variables = refl }
+  inner_exists s (one_test t) h =
+      let f = test_exists s t h in
+      record { inner = one f.form; is = ap (option_map one) f.is; kind = refl; bounded = f.bounded; variables = f.variables }
+  inner_exists s (test_list t ts) h =
+      let parts = faultless_both (test_visits s t) (more_visits s ts) h in
+      let f = test_exists s t parts.0 in
+      let fs = more_exist s ts parts.1 in
+      record {
+        inner = bracketed f.form fs.forms;
+        is = ap (λ o. o >>= λ f. option_map (bracketed f) (more_forms_of s ts)) f.is ∙ ap (option_map (bracketed f.form)) fs.is;
+        kind = refl;
+        bounded = (f.bounded, fs.bounded);
+        variables = ap (λ names. names ++ tests_variables fs.forms) f.variables ∙ ap (λ names. names_brought (test_visits s t) ++ names) fs.variables ∙ both_names (test_visits s t) (more_visits s ts);
+      }
+
+  more_exist : (s : Context) (ts : MoreTests) → AreFaultless (more_visits s ts) → Others s ts
+  more_exist s no_more h = record { forms = no_other; is = refl; bounded = tt; variables = refl }
+  more_exist s (next t ts) h =
+      let parts = faultless_both (test_visits s t) (more_visits s ts) h in
+      let f = test_exists s t parts.0 in
+      let fs = more_exist s ts parts.1 in
+      record {
+        forms = test f.form fs.forms;
+        is = ap (λ o. o >>= λ f. option_map (test f) (more_forms_of s ts)) f.is ∙ ap (option_map (test f.form)) fs.is;
+        bounded = (f.bounded, fs.bounded);
+        variables = ap (λ names. names ++ tests_variables fs.forms) f.variables ∙ ap (λ names. names_brought (test_visits s t) ++ names) fs.variables ∙ both_names (test_visits s t) (more_visits s ts);
+      }

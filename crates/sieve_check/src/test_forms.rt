@@ -1,0 +1,238 @@
+// The typed form of tests. Nothing is answered where one isn't written as it has to be.
+ghost use Rattle.std.specs.Prelude.{◌≡◌, IfOk, map, option_map, Some, None, if◌then◌else◌};
+ghost use Rattle.sieve_parser.specs.View.{argument_tree, invocation_tree, more_tests_of};
+ghost use Rattle.sieve_check.specs.FormOf.{none, one, bracketed, match_of, more_forms_of, number_in, of_list, of_lists, size_of, test_form_of};
+ghost use Rattle.sieve_check.specs.Forming.{head_test, joined_by};
+ghost use Rattle.sieve_check.specs.Refusing.{context_of};
+ghost use Rattle.sieve_check.specs.Surroundings.{Context};
+ghost use Rattle.sieve_check.specs.Typed.{TestForm, TestForms, exists, header, negation, string};
+ghost use Rattle.sieve_check.specs.TypedView.{test_form, tests_of};
+
+use crate::names::{TestName, test_named};
+use crate::signature::{Tags, test_signature};
+use crate::strings::{list_in, lists_in};
+use crate::surroundings::Surroundings;
+use crate::typed::Test;
+use glob_match::{Comparator, Match, MatchType};
+use sieve_parser::{Argument, Head, Invocation};
+use std::alloc::{AllocError, Global};
+
+// The number that the arguments are.
+fn number_in(arguments: &[Argument]) -> Option<u64>
+    ensures { result ≡ number_in (map argument_tree arguments.now) }
+{
+    match arguments {
+        [Argument::Number(number)] => Some(*number),
+        _ => None,
+    }
+}
+
+// How values and keys are matched.
+fn match_of(tags: Tags) -> Match
+    ensures { result ≡ match_of tags }
+{
+    Match {
+        kind: tags.kind.unwrap_or(MatchType::Is),
+        comparator: tags.comparator.unwrap_or(Comparator::Casemap),
+    }
+}
+
+// The test of a header's names and keys, which the arguments are.
+fn header(
+    alloc: Global,
+    surroundings: Surroundings,
+    tags: Tags,
+    arguments: &[Argument],
+) -> Result<Option<Test>, AllocError>
+    ensures { IfOk result (λ t. option_map test_form t ≡ of_lists (context_of surroundings) (header (match_of tags)) (map argument_tree arguments.now)) }
+{
+    let Some((names, keys)) = lists_in(alloc, surroundings, arguments)? else {
+        return Ok(None);
+    };
+    let matching = match_of(tags);
+    Ok(Some(Test::Header {
+        matching,
+        names,
+        keys,
+    }))
+}
+
+// The test of sources and keys, which the arguments are.
+fn string(
+    alloc: Global,
+    surroundings: Surroundings,
+    tags: Tags,
+    arguments: &[Argument],
+) -> Result<Option<Test>, AllocError>
+    ensures { IfOk result (λ t. option_map test_form t ≡ of_lists (context_of surroundings) (string (match_of tags)) (map argument_tree arguments.now)) }
+{
+    let Some((sources, keys)) = lists_in(alloc, surroundings, arguments)? else {
+        return Ok(None);
+    };
+    let matching = match_of(tags);
+    Ok(Some(Test::String {
+        matching,
+        sources,
+        keys,
+    }))
+}
+
+// The test that there are fields of the names, which the arguments are.
+fn exists(
+    alloc: Global,
+    surroundings: Surroundings,
+    arguments: &[Argument],
+) -> Result<Option<Test>, AllocError>
+    ensures { IfOk result (λ t. option_map test_form t ≡ of_list (context_of surroundings) exists (map argument_tree arguments.now)) }
+{
+    let [names] = arguments else {
+        return Ok(None);
+    };
+    match list_in(alloc, surroundings, names)? {
+        Some(names) => Ok(Some(Test::Exists(names))),
+        None => Ok(None),
+    }
+}
+
+// The comparison of a size.
+fn size(tags: Tags, arguments: &[Argument]) -> Option<Test>
+    ensures { option_map test_form result ≡ size_of tags (map argument_tree arguments.now) }
+{
+    let order = tags.order?;
+    Some(Test::Size(order, number_in(arguments)?))
+}
+
+// A test after whose arguments no test stands.
+fn plain_test(
+    alloc: Global,
+    surroundings: Surroundings,
+    head: &Head,
+) -> Result<Option<Test>, AllocError>
+    ensures { IfOk result (λ t. option_map test_form t ≡ head_test (context_of surroundings) head.now none) }
+{
+    let Some(name) = test_named(head.name.as_slice()) else {
+        return Ok(None);
+    };
+    let Some(reading) = test_signature(name).read(&head.arguments) else {
+        return Ok(None);
+    };
+    match name {
+        TestName::Constant(value) => Ok(Some(Test::Constant(value))),
+        TestName::Header => header(alloc, surroundings, reading.tags, reading.positional),
+        TestName::Exists => exists(alloc, surroundings, reading.positional),
+        TestName::Size => Ok(size(reading.tags, reading.positional)),
+        TestName::String => string(alloc, surroundings, reading.tags, reading.positional),
+        TestName::Not | TestName::AllOf | TestName::AnyOf => Ok(None),
+    }
+}
+
+// Whether this is a test that turns the one behind it around.
+fn negates(head: &Head) -> bool
+    ensures { (s : Context) (f : TestForm) → head_test s head.now (one f) ≡ (if result then Some (negation f) else None) }
+{
+    match test_named(head.name.as_slice()) {
+        Some(name) => {
+            name == TestName::Not && test_signature(name).read(&head.arguments).is_some()
+        }
+        None => false,
+    }
+}
+
+/// How a test of tests in round brackets combines them.
+#[derive(Clone, Copy, Debug, PartialEq, Eq)]
+pub enum Junction {
+    All,
+    Any,
+}
+
+// How the tests in round brackets behind this are combined.
+fn combining(head: &Head) -> Option<Junction>
+    ensures { (s : Context) (f : TestForm) (fs : TestForms) → head_test s head.now (bracketed f fs) ≡ option_map (λ j. joined_by j f fs) result }
+{
+    let name = test_named(head.name.as_slice())?;
+    test_signature(name).read(&head.arguments)?;
+    match name {
+        TestName::AllOf => Some(Junction::All),
+        TestName::AnyOf => Some(Junction::Any),
+        TestName::Constant(_)
+        | TestName::Not
+        | TestName::Header
+        | TestName::Exists
+        | TestName::Size
+        | TestName::String => None,
+    }
+}
+
+// The test that turns around the one behind it.
+fn negated(alloc: Global, head: &Head, inner: Test) -> Result<Option<Test>, AllocError>
+    ensures { IfOk result (λ t. (s : Context) → option_map test_form t ≡ head_test s head.now (one (test_form inner))) }
+{
+    if negates(head) {
+        Ok(Some(Test::Not(Box::new(alloc, inner)?)))
+    } else {
+        Ok(None)
+    }
+}
+
+// The test of the tests in round brackets behind it.
+fn combined(
+    alloc: Global,
+    head: &Head,
+    first: Test,
+    others: Vec<Test>,
+) -> Result<Option<Test>, AllocError>
+    ensures { IfOk result (λ t. (s : Context) → option_map test_form t ≡ head_test s head.now (bracketed (test_form first) (tests_of (map test_form others.items)))) }
+{
+    let first = Box::new(alloc, first)?;
+    match combining(head) {
+        Some(Junction::All) => Ok(Some(Test::AllOf(first, others))),
+        Some(Junction::Any) => Ok(Some(Test::AnyOf(first, others))),
+        None => Ok(None),
+    }
+}
+
+/// A test with the tests behind it. An error comes only where memory was refused.
+#[cycle(tests)]
+pub fn test(
+    alloc: Global,
+    surroundings: Surroundings,
+    invocation: &Invocation,
+) -> Result<Option<Test>, AllocError>
+    ensures { IfOk result (λ t. option_map test_form t ≡ test_form_of (context_of surroundings) (invocation_tree invocation.now)) }
+{
+    match invocation {
+        Invocation::Plain(head) => plain_test(alloc, surroundings, head),
+        Invocation::WithTest(head, inner) => match test(alloc, surroundings, inner)? {
+            Some(inner) => negated(alloc, head, inner),
+            None => Ok(None),
+        },
+        Invocation::WithTests(head, first, others) => {
+            let Some(first) = test(alloc, surroundings, first)? else {
+                return Ok(None);
+            };
+            match tests(alloc, surroundings, others)? {
+                Some(others) => combined(alloc, head, first, others),
+                None => Ok(None),
+            }
+        }
+    }
+}
+
+// The tests of a list after its first.
+#[cycle(tests)]
+fn tests(
+    alloc: Global,
+    surroundings: Surroundings,
+    list: &[Invocation],
+) -> Result<Option<Vec<Test>>, AllocError>
+    ensures { IfOk result (λ ts. option_map (λ ts. tests_of (map test_form ts.items)) ts ≡ more_forms_of (context_of surroundings) (more_tests_of (map invocation_tree list.now))) }
+{
+    let mut tests = Vec::new(alloc);
+    'list: for invocation in list {
+        let Some(test) = test(alloc, surroundings, invocation)? else {
+            return Ok(None);
+        };
+        tests.push(test)?;
+    }
+    Ok(Some(tests))
+}

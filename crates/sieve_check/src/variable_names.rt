@@ -1,0 +1,114 @@
+// The names of variables, as they are met.
+ghost use Rattle.std.specs.Prelude.{◌≤◌, length};
+ghost use Rattle.octets.specs.Limits.{max_variables};
+
+use crate::error::Fault;
+use arrayvec::ArrayVec;
+use octets::{Octets, equal_ignoring_case};
+use sieve_parser::Argument;
+use sieve_references::{Segment, first_segment};
+
+/// The most variables of a script.
+const MAX_VARIABLES: usize = 128;
+
+/// The different names of variables so far, in the order of their first use, lent by the script. Case doesn't matter.
+///
+/// A name takes as many comparisons as there are names.
+#[derive(Drop)]
+pub struct VariableNames<'t> {
+    names: ArrayVec<&'t [u8], MAX_VARIABLES>,
+    ghost few: { length names.items ≤ max_variables },
+}
+
+impl<'t> VariableNames<'t> {
+    ghost use Rattle.std.specs.Prelude.{◌≡◌, [], ◌∷◌, bytes_eq, flat_map, map};
+    ghost use Rattle.octets.specs.Ascii.{lowercase_of};
+    ghost use Rattle.octets.specs.Once.{is_listed};
+    ghost use Rattle.sieve_references.specs.References.{names_in};
+    ghost use Rattle.sieve_parser.specs.View.{argument_tree};
+    ghost use Rattle.sieve_check.specs.Refusing.{Adds, listed};
+    ghost use Rattle.sieve_check.specs.Rules.{strings_in, strings_of};
+
+    /// No name.
+    pub fn new() -> VariableNames<'t>
+        ensures { listed result ≡ [] }
+    {
+        VariableNames {
+            names: ArrayVec::new(),
+        }
+    }
+
+    // Whether the name is among them.
+    fn has(&self, name: &[u8]) -> bool
+        ensures { result ≡ is_listed bytes_eq (lowercase_of name.now) (listed self.now) }
+    {
+        for known in self.names.as_slice() {
+            if equal_ignoring_case(name, known) {
+                return true;
+            }
+        }
+        false
+    }
+
+    /// Adds the name, unless it is among them. Where there would be too many, that is [`Fault::Limit`].
+    pub fn add(&mut self, name: &'t [u8]) -> Result<(), Fault>
+        ensures { Adds (listed self.old) (lowercase_of name.now ∷ []) result (listed self.new) }
+    {
+        if self.has(name) {
+            return Ok(());
+        }
+        if self.names.is_full() {
+            return Err(Fault::Limit);
+        }
+        self.names.push(name);
+        Ok(())
+    }
+
+    // Adds the names in a string.
+    fn add_string(&mut self, string: &'t [u8]) -> Result<(), Fault>
+        ensures { Adds (listed self.old) (names_in string.now) result (listed self.new) }
+    {
+        let mut rest = string;
+        'segments: while let Some((segment, after)) = first_segment(rest) {
+            if let Segment::Variable(name) = segment {
+                self.add(name)?;
+            }
+            rest = after;
+        }
+        Ok(())
+    }
+
+    // Adds the names in strings.
+    fn add_strings(&mut self, strings: &'t [Octets]) -> Result<(), Fault>
+        ensures { Adds (listed self.old) (flat_map names_in strings.now) result (listed self.new) }
+    {
+        for string in strings {
+            self.add_string(string.as_slice())?;
+        }
+        Ok(())
+    }
+
+    // Adds the names in the strings of an argument.
+    fn add_argument(&mut self, argument: &'t Argument) -> Result<(), Fault>
+        ensures { Adds (listed self.old) (flat_map names_in (strings_in (argument_tree argument.now))) result (listed self.new) }
+    {
+        match argument {
+            Argument::Text(string) => self.add_string(string.as_slice()),
+            Argument::TextList(first, others) => {
+                self.add_string(first.as_slice())?;
+                self.add_strings(others)
+            }
+            Argument::Number(_) | Argument::Tag(_) => Ok(()),
+        }
+    }
+
+    /// Adds the names in the strings of arguments. Where there would be too many, that is [`Fault::Limit`].
+    pub fn add_arguments(&mut self, arguments: &'t [Argument]) -> Result<(), Fault>
+        ensures { Adds (listed self.old) (flat_map names_in (strings_of (map argument_tree arguments.now))) result (listed self.new) }
+    {
+        for argument in arguments {
+            self.add_argument(argument)?;
+        }
+        Ok(())
+    }
+}

@@ -1,0 +1,52 @@
+// The words of references: names and numbers.
+ghost use Rattle.std.specs.Prelude.{◌≡◌, ◌+◌, Some, None, if◌then◌else◌, min};
+ghost use Rattle.std.specs.List.{list_all};
+ghost use Rattle.sieve_references.specs.References.{is_identifier, is_number, value_after};
+ghost use Rattle.sieve_references.specs.Reading.{is_word_octet, is_element};
+
+use crate::octet::{first, is_letter, is_word_octet};
+
+/// The last capture that a reference can name.
+pub(crate) const LAST_CAPTURE: u8 = 9;
+
+// Whether all of them may stand in a name or a number.
+fn are_word_octets(octets: &[u8]) -> bool
+    ensures { result ≡ list_all is_word_octet octets.now }
+{
+    octets.iter().all(|octet| is_word_octet(*octet))
+}
+
+/// Whether the name is an identifier: a letter of ASCII or `_`, then such letters and digits (RFC 5229, section 3).
+pub fn is_identifier(name: &[u8]) -> bool
+    ensures { result ≡ is_identifier name.now }
+{
+    match first(name) {
+        Some((octet, others)) => is_letter(octet) && are_word_octets(others),
+        None => false,
+    }
+}
+
+/// The number that a word of digits spells, or the one after the last capture where it is above that. None where the word
+/// isn't one or more digits.
+pub(crate) fn number(word: &[u8]) -> Option<u8>
+    ensures { result ≡ (if is_number word.now then Some (min (LAST_CAPTURE + 1) (value_after 0 word.now)) else None) }
+{
+    if word.is_empty() {
+        return None;
+    }
+    let mut value = 0;
+    for octet in word {
+        if !octet.is_ascii_digit() {
+            return None;
+        }
+        value = (value * 10 + (*octet - b'0')).min(LAST_CAPTURE + 1);
+    }
+    Some(value)
+}
+
+/// Whether the word is a name or a number.
+pub(crate) fn is_element(word: &[u8]) -> bool
+    ensures { result ≡ is_element word.now }
+{
+    is_identifier(word) || number(word).is_some()
+}

@@ -1,0 +1,28 @@
+// Octets, one by one.
+ghost use Rattle.std.specs.Prelude.{◌≡◌, ◌∷◌, [], MatchOption};
+ghost use Rattle.sieve_references.specs.References.{is_letter};
+ghost use Rattle.sieve_references.specs.Reading.{is_word_octet};
+
+/// Whether the octet is a letter of ASCII or `_`.
+pub(crate) fn is_letter(octet: u8) -> bool
+    ensures { result ≡ is_letter octet }
+{
+    matches!(octet, b'A'..=b'Z' | b'a'..=b'z' | b'_')
+}
+
+/// Whether the octet may stand in a name or a number.
+pub(crate) fn is_word_octet(octet: u8) -> bool
+    ensures { result ≡ is_word_octet octet }
+{
+    is_letter(octet) || octet.is_ascii_digit()
+}
+
+/// The first octet and what follows it.
+pub(crate) fn first(text: &[u8]) -> Option<(u8, &[u8])>
+    ensures { MatchOption result (text.now ≡ []) (λ parts. text.now ≡ parts.0 ∷ parts.1.now) }
+{
+    match text {
+        [octet, rest @ ..] => Some((*octet, rest)),
+        [] => None,
+    }
+}

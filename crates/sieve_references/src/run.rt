@@ -1,0 +1,40 @@
+// The octets of a class that a text begins with, and the one after them.
+ghost use Rattle.std.specs.Prelude.{◌≡◌, ◌∷◌, ◌++◌, length, true, false, MatchOption};
+ghost use Rattle.std.specs.List.{list_all, take_while};
+ghost use Rattle.sieve_references.specs.Reading.{is_word_octet, is_not_dollar};
+
+use crate::octet::{first, is_word_octet};
+
+// How many octets stand before the first `$`.
+fn plain_len(text: &[u8]) -> usize
+    ensures { result ≡ length (take_while is_not_dollar text.now) }
+{
+    text.iter().take_while(|octet| **octet != b'$').count()
+}
+
+// How many letters and digits the text begins with.
+fn word_len(text: &[u8]) -> usize
+    ensures { result ≡ length (take_while is_word_octet text.now) }
+{
+    text.iter()
+        .take_while(|octet| is_word_octet(**octet))
+        .count()
+}
+
+/// The octets before the first `$`, and what stands after it.
+pub(crate) fn up_to_dollar(text: &[u8]) -> Option<(&[u8], &[u8])>
+    ensures { MatchOption result (list_all is_not_dollar text.now ≡ true) (λ parts. (list_all is_not_dollar parts.0.now ≡ true) × (text.now ≡ parts.0.now ++ 36 ∷ parts.1.now)) }
+{
+    let (plain, at) = text.split_at(plain_len(text));
+    let (_dollar, after) = first(at)?;
+    Some((plain, after))
+}
+
+/// The letters and digits that a text begins with, the octet after them, and what follows that.
+pub(crate) fn word(text: &[u8]) -> Option<(&[u8], u8, &[u8])>
+    ensures { MatchOption result (list_all is_word_octet text.now ≡ true) (λ parts. (list_all is_word_octet parts.0.now ≡ true) × (is_word_octet parts.1 ≡ false) × (text.now ≡ parts.0.now ++ parts.1 ∷ parts.2.now)) }
+{
+    let (octets, at) = text.split_at(word_len(text));
+    let (end, after) = first(at)?;
+    Some((octets, end, after))
+}

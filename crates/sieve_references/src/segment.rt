@@ -1,0 +1,56 @@
+// The segments of a string.
+ghost use Rattle.std.specs.Prelude.{◌≡◌, ◌<◌, ◌∷◌, [], length, MatchOption};
+ghost use Rattle.sieve_references.specs.References.{segments};
+ghost use Rattle.sieve_references.specs.Reading.{octets_before};
+ghost use Rattle.sieve_references.specs.SegmentView.{segment_of};
+
+use crate::reading::{reference_at, reference_behind};
+use crate::run::up_to_dollar;
+
+/// A piece of a string: a reference, or a stretch between references (RFC 5229, section 3).
+#[derive(Clone, Copy, Debug, PartialEq, Eq)]
+pub enum Segment<'s> {
+    /// Octets that stand for themselves.
+    Text(&'s [u8]),
+    /// A reference to the variable of that name, which is as it is written.
+    Variable(&'s [u8]),
+    /// A reference to the capture of that number, which is 9 at most.
+    Capture(u8),
+    /// A reference to a capture after the last one.
+    Beyond,
+    /// A reference into a namespace.
+    Foreign,
+}
+
+/// The first segment of a string, and what stands after it; none where nothing is left.
+///
+/// Segments that are taken one after the other cost time in proportion to the string's length, whatever it has.
+pub fn first_segment(text: &[u8]) -> Option<(Segment<'_>, &[u8])>
+    ensures { MatchOption result (text.now ≡ []) (λ f. (segments text.now ≡ segment_of f.0 ∷ segments f.1.now) × (length f.1.now < length text.now)) }
+{
+    if text.is_empty() {
+        return None;
+    }
+    if let Some((reference, rest)) = reference_at(text) {
+        return Some((reference, rest));
+    }
+    let (octets, rest) = text.split_at(stretch_len(text));
+    Some((Segment::Text(octets), rest))
+}
+
+// How many octets stand before the first reference, or in the whole text where it has none.
+fn stretch_len(text: &[u8]) -> usize
+    ensures { result ≡ octets_before text.now }
+{
+    let mut rest = text;
+    let mut len = 0;
+    'dollars: while let Some((plain, after)) = up_to_dollar(rest) {
+        len += plain.len();
+        if reference_behind(after).is_some() {
+            return len;
+        }
+        len += 1;
+        rest = after;
+    }
+    text.len()
+}
