@@ -7,6 +7,8 @@ use Rattle.bytecode_format.specs.declared.instruction.Instruction.{Instruction}
 use Rattle.bytecode_format.specs.declared.operation.Operation.TheVariants.{Literal, Variable, Set, Size}
 use Rattle.bytecode_format.specs.Operations.{operation_of}
 use Rattle.bytecode_format.specs.Code.{Code}
+use Rattle.bytecode_format.specs.declared.modifiers.Modifiers.{Modifiers}
+use Rattle.bytecode_format.specs.Modifiers.{modifiers_numbered}
 use Rattle.bytecode_verifier.specs.Loops.{same_loops}
 use Rattle.std.specs.Option.{option_and_then}
 use Rattle.bytecode_format.specs.declared.operation.Operation.{Operation}
@@ -41,6 +43,14 @@ empty_from : (entries : Entries) → not (is_empty entries) ≡ false → entrie
 empty_from [] h = refl
 empty_from (entry ∷ entries) h = absurd (cc)
 
+some_modifiers : (o : Option Modifiers) → is_some o ≡ true → (modifiers : Modifiers) × (o ≡ Some modifiers)
+some_modifiers None h = absurd (cc)
+some_modifiers (Some modifiers) h = (modifiers, refl)
+
+first_of_three : (a b c : Bool) → (a && b && c) ≡ true → a ≡ true
+first_of_three true b c h = refl
+first_of_three false b c h = absurd (cc)
+
 -- the entries that an operation leaves, if there is one
 abbrev pub left_by : Code → Option Operation → Instruction → Entries → Option Entries
 left_by code operation i entries = option_and_then (λ o. entries_after code o i entries) operation
@@ -73,6 +83,12 @@ module _ (code : Code) (is : IsAccepted code) where
     set_known set =
         let broken : misses_index code (row_in code i) i ≡ false = rw here at (is.index place) in
         leb-false code.variables i.c (ap (λ o. misses_index code (option_and_then (row_of code.version) o) i) (sym set) ∙ broken)
+
+    -- the number is that of modifiers
+    pub modifiers_known : operation_of i.op ≡ Some Set → (modifiers : Modifiers) × (modifiers_numbered i.a ≡ Some modifiers)
+    modifiers_known set =
+        let formed : is_well_formed (row_of code.version Set) i ≡ true = ap (λ o. is_well_formed (option_and_then (row_of code.version) o) i) (sym set) ∙ well_formed in
+        some_modifiers (modifiers_numbered i.a) (first_of_three _ _ _ formed)
 
     -- an instruction that doesn't end the run isn't the last
     pub not_last : is_halt (operation_of i.op) ≡ false → place + 1 < length code.instructions

@@ -3,7 +3,7 @@ use Rattle.std.proofs.Common.{◌≡◌, ℕ, ◌+◌, ◌*◌, true, false, Lis
 use Rattle.bytecode_format.specs.declared.action.Action.TheVariants as action
 use Rattle.bytecode_format.specs.declared.instruction.Instruction.{Instruction}
 use Rattle.bytecode_format.specs.declared.operation.Operation.{Operation}
-use Rattle.bytecode_format.specs.declared.operation.Operation.TheVariants.{Literal, Header, Exists, File}
+use Rattle.bytecode_format.specs.declared.operation.Operation.TheVariants.{Literal, Variable, Capture, Join, Set, Header, Exists, String, File}
 use Rattle.bytecode_format.specs.Operations.{octet_of}
 use Rattle.bytecode_format.specs.Code.{Code}
 use Rattle.glob_match.specs.declared.comparator.Comparator.TheVariants.{Octet, Casemap}
@@ -92,6 +92,50 @@ module _ (root : Part) where
   not_captured : effect code mail Header (lists Header 2 1 1) (record (with_stack (text (codes "b*") ∷ text (codes "Subject") ∷ [])) { captures = codes "old" ∷ [] })
       ≡ on (record (with_stack (truth false ∷ [])) { captures = codes "old" ∷ [] })
   not_captured = refl
+
+  -- ---- variables
+
+  abbrev with_variables : List (List ℕ) → List Value → State
+  with_variables variables stack = record (with_stack stack) { variables = variables }
+
+  variable : effect code mail Variable (lists Variable 0 0 1) (with_variables (codes "a" ∷ codes "b" ∷ []) []) ≡ on (with_variables (codes "a" ∷ codes "b" ∷ []) (text (codes "b") ∷ []))
+  variable = refl
+
+  no_variable : effect code mail Variable (lists Variable 0 0 2) (with_variables (codes "a" ∷ codes "b" ∷ []) []) ≡ fails
+  no_variable = refl
+
+  -- captures are empty until a match sets them
+  capture : effect code mail Capture (lists Capture 9 0 0) (with_stack []) ≡ on (with_stack (text [] ∷ []))
+  capture = refl
+
+  -- the first text of a join was pushed first
+  joined : effect code mail Join (lists Join 0 2 0) (with_stack (text (codes "b") ∷ text (codes "aa") ∷ truth true ∷ [])) ≡ on (with_stack (text (codes "aab") ∷ truth true ∷ []))
+  joined = refl
+
+  joined_charge : charge_of code mail Join (lists Join 0 2 0) (with_stack (text (codes "b") ∷ text (codes "aa") ∷ truth true ∷ [])) ≡ 1 + 2 + 1
+  joined_charge = refl
+
+  -- a is 9: lower case, and the first octet in upper case
+  set : effect code mail Set (lists Set 9 0 1) (with_variables ([] ∷ codes "old" ∷ []) (text (codes "nEW") ∷ [])) ≡ on (with_variables ([] ∷ codes "New" ∷ []) [])
+  set = refl
+
+  set_charge : charge_of code mail Set (lists Set 9 0 1) (with_variables ([] ∷ codes "old" ∷ []) (text (codes "nEW") ∷ [])) ≡ 1 + 3
+  set_charge = refl
+
+  no_modifiers : effect code mail Set (lists Set 3 0 0) (with_variables ([] ∷ []) (text (codes "new") ∷ [])) ≡ fails
+  no_modifiers = refl
+
+  no_variable_to_set : effect code mail Set (lists Set 0 0 1) (with_variables ([] ∷ []) (text (codes "new") ∷ [])) ≡ fails
+  no_variable_to_set = refl
+
+  -- the second of two sources matches, and it sets captures
+  source_matched : effect code mail String (lists String 2 2 1) (with_stack (text (codes "b*") ∷ text (codes "bc") ∷ text (codes "a") ∷ []))
+      ≡ on (record (with_stack (truth true ∷ [])) { captures = codes "bc" ∷ codes "c" ∷ [] ∷ [] ∷ [] ∷ [] ∷ [] ∷ [] ∷ [] ∷ [] ∷ [] })
+  source_matched = refl
+
+  -- all sources and keys count: one octet and one more, two octets and one more, each times two octets and one more
+  source_charge : charge_of code mail String (lists String 2 2 1) (with_stack (text (codes "b*") ∷ text (codes "bc") ∷ text (codes "a") ∷ [])) ≡ 1 + 2 * 3 + 3 * 3
+  source_charge = refl
 
   exists : effect code mail Exists (lists Exists 0 2 0) (with_stack (text (codes "x") ∷ text (codes "Subject") ∷ [])) ≡ on (with_stack (truth true ∷ []))
   exists = refl

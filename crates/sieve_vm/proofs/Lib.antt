@@ -5,5 +5,6 @@ pub mod Reached
 pub mod Falls
 pub mod Bounds
 pub mod Steps
+pub mod Holding
 pub mod Tests
 pub mod Examples

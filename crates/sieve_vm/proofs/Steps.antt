@@ -1,12 +1,13 @@
 -- How the machine goes on as the run does.
-use Rattle.std.proofs.Common.{◌≡◌, ℕ, suc, ◌+◌, ◌^◌, ◌<◌, ◌≤◌, Bool, true, false, not, ◌==◌, nat_lt, cond, List, [], ◌∷◌, ◌++◌, Option, Some, None, IsSome, is_some, length, map, reverse, slice_get, get_or, refl, sym, ap, subst, ◌∙◌, arith}
+use Rattle.std.proofs.Common.{◌≡◌, ℕ, suc, ◌+◌, ◌^◌, ◌<◌, ◌≤◌, Bool, true, false, not, ◌==◌, nat_lt, cond, List, [], ◌∷◌, ◌++◌, Option, Some, None, IsSome, is_some, length, take, slice_get, slice_set, get_or, refl, sym, ap, subst, ◌∙◌, arith}
+use Rattle.std.proofs.lemmas.Bool.{lt-ltb}
 use Rattle.std.proofs.lemmas.Option.{slice_get-get_or}
 use Rattle.bytecode_format.specs.Actions.{first_occurrences, with_implicit_keep}
 use Rattle.bytecode_format.specs.declared.action.Action.{Action}
 use Rattle.bytecode_format.specs.declared.action.Action.TheVariants as action
 use Rattle.bytecode_format.specs.declared.instruction.Instruction.{Instruction}
 use Rattle.bytecode_format.specs.declared.operation.Operation.{Operation}
-use Rattle.bytecode_format.specs.declared.operation.Operation.TheVariants.{Literal, Bool as BoolOp, Not, JumpIfTrue, JumpIfFalse, Header, Exists, Size, File}
+use Rattle.bytecode_format.specs.declared.operation.Operation.TheVariants.{Literal, Variable, Capture, Join, Set, Bool as BoolOp, Not, JumpIfTrue, JumpIfFalse, Header, Exists, String, Size, File}
 use Rattle.bytecode_format.specs.Operations.{operation_of}
 use Rattle.bytecode_format.specs.Code.{Code}
 use Rattle.std.specs.Option.{option_and_then, unwrap_or}
@@ -15,7 +16,7 @@ use Rattle.bytecode_verifier.specs.Rows.{row_of, is_well_formed, is_jump}
 use Rattle.bytecode_verifier.specs.Rules.{row_in}
 use Rattle.bytecode_verifier.specs.Shape.{Entries, without_truth}
 use Rattle.bytecode_verifier.specs.Acceptance.{IsAccepted}
-use Rattle.bytecode_verifier.proofs.Consequences.{left_by, well_formed, number_known, string_known}
+use Rattle.bytecode_verifier.proofs.Consequences.{left_by, well_formed, number_known, string_known, variable_known, set_known, modifiers_known}
 use Rattle.bytecode_format.specs.Spelling.{IsProgram}
 use Rattle.bytecode_verifier.proofs.Budgets.{budget_small}
 use Rattle.bytecode_verifier.proofs.Short.{shape_small}
@@ -24,21 +25,22 @@ use Rattle.mail_matching.specs.HeaderTests.{exists_in, header_match}
 use Rattle.mail_matching.specs.Texts.{AreTexts}
 use Rattle.mime_decode.specs.Mail.{Mail, IsMail, size_of}
 use Rattle.sieve_vm.specs.declared.machine.Machine.{Machine}
-use Rattle.std.specs.declared.vec.Vec.{Vec}
-use Rattle.std.specs.declared.alloc.Global.{Global}
-use Rattle.sieve_vm.specs.declared.entry.Entry.{Entry}
 use Rattle.sieve_vm.specs.declared.machine.Done.{Done}
 use Rattle.sieve_vm.specs.declared.machine.Flow.{Flow}
 use Rattle.sieve_vm.specs.declared.machine.Flow.TheVariants.{On, To, Ends}
 use Rattle.sieve_vm.specs.State.{Value, truth, text, State, goes, ends, traps, start}
 use Rattle.sieve_vm.specs.Stack.{OnTop, texts_on_top, Lists, lists_on_top}
 use Rattle.sieve_vm.specs.MatchNumbers.{match_numbered}
-use Rattle.sieve_vm.specs.Charge.{cost_of_names, cost_of_matching, charge_of}
-use Rattle.sieve_vm.specs.Machine.{Effect, on, jumps, halts, fails, push, branch, with_truth, with_texts, with_lists, with_number, with_string, test_names, tested, test_values, is_sound_jump, compares, effect, turn, turn_of, turn_at, step}
-use Rattle.sieve_vm.specs.Standing.{value_of, once, StandsFor, IsIn, IsRunning, GoesFrom, HasHad, StepsOn, IsOver}
-use Rattle.mail_matching.specs.FirstMatch.{captures_of}
+use Rattle.sieve_vm.specs.Charge.{cost_of_names, cost_of_matching, cost_of_comparing, octets_on_top, charge_of}
+use Rattle.sieve_vm.specs.Machine.{Effect, on, jumps, halts, fails, push, branch, with_truth, with_texts, with_lists, with_number, with_string, join, test_names, tested, test_values, test_sources, is_sound_jump, compares, effect, turn, turn_of, turn_at, step}
+use Rattle.sieve_vm.specs.Standing.{held_of, once, StandsFor, IsIn, IsRunning, GoesFrom, HasHad, StepsOn, IsOver}
+use Rattle.mail_matching.specs.FirstMatch.{first_match}
+use Rattle.std.specs.List.{concat}
+use Rattle.octets.specs.Limits.{max_string, max_value}
+use Rattle.bytecode_format.specs.declared.modifiers.Modifiers.{Modifiers}
+use Rattle.bytecode_format.specs.Modifiers.{modified, modifiers_numbered}
 use Rattle.sieve_vm.specs.Ending.{IsOutcome}
-use Rattle.sieve_vm.proofs.Taking.{Describes, AreShortTexts, short_texts, names_there, lists_there, folder_there}
+use Rattle.sieve_vm.proofs.Taking.{Describes, AreShortTexts, short_texts, names_there, parts_there, lists_there, folder_there}
 use Rattle.sieve_vm.proofs.Pushed.{texts_are, lists_are}
 use Rattle.sieve_vm.proofs.Reached.{IsReached, IsSound, Costs, Leads, leads, step_is_sound, TopTruth, top_truth, has_truth-some, without_truth-some, length-described, after_of, sound_jump}
 use Rattle.sieve_vm.specs.Potential.{limit_of}
@@ -85,7 +87,7 @@ module _ (code : Code) (mail : Mail) (is : IsAccepted code) (known : IsMail mail
 
     module _ (o : Operation) (named : operation_of i.op ≡ Some o) where
       after : (next : Entries) × (left_by code (Some o) i there.entries ≡ Some next)
-      after = after_of code mail is s i there.entries here_is there.shape there.describes there.outside (Some o) named
+      after = after_of code mail is s i there.entries here_is there.shape there.describes there.outside there.texts (Some o) named
 
       -- the step is the turn of what the operation does
       pub stepped : step code mail s ≡ turn (charge_of code mail o i s) (effect code mail o i s)
@@ -98,10 +100,10 @@ module _ (code : Code) (mail : Mail) (is : IsAccepted code) (known : IsMail mail
 
       -- and that leads on
       fine : Leads code s (effect code mail o i s)
-      fine = leads code mail is s i there.entries here_is there.shape there.describes there.outside o named
+      fine = leads code mail is s i there.entries here_is there.shape there.describes there.outside there.texts o named
 
       pub jumps_soundly : is_jump (row_of code.version o) ≡ true → is_sound_jump code s i ≡ true
-      jumps_soundly jump = sound_jump code mail is s i there.entries here_is there.shape there.describes there.outside (ap (λ x. is_jump (option_and_then (row_of code.version) x)) named ∙ jump)
+      jumps_soundly jump = sound_jump code mail is s i there.entries here_is there.shape there.describes there.outside there.texts (ap (λ x. is_jump (option_and_then (row_of code.version) x)) named ∙ jump)
 
       branch_top : left_by code (Some o) i there.entries ≡ without_truth there.entries → (es : Entries) × TopTruth s.stack es
       branch_top takes =
@@ -154,6 +156,24 @@ module _ (code : Code) (mail : Mail) (is : IsAccepted code) (known : IsMail mail
         let fits : Leads code s (push (text (get_or code.strings i.c [])) s) = subst (λ (o : Option (List ℕ)). Leads code s (with_string s o)) string (fine Literal e) in
         rw string (rw (← right) (had_push (text octets) done m' (rw right fits) pushes))
 
+    -- a text that the variables or the captures hold, pushed
+    abbrev PushesHere : Value → Done → Machine → Type 0
+    PushesHere value done after = (done ≡ once On) × StandsFor (record s { stack = value ∷ s.stack }) after
+
+    had_push_here : (value : Value) (done : Done) (m' : Machine) → Leads code s (push value s) → PushesHere value done m' → HasHad (push value s) 1 done m'
+    had_push_here value done m' fits pushes = rw (pushed code s value s fits, pushes.0) (pushes.1, refl)
+
+    pub had_variable : operation_of i.op ≡ Some Variable → (done : Done) (m' : Machine) → PushesHere (text (get_or s.variables i.c [])) done m' → HasHad (effect code mail Variable i s) 1 done m'
+    had_variable e done m' pushes =
+        let number = there.texts.number in
+        let within : i.c < length s.variables = omega (arith, number, variable_known code is s.place i here_is e) in
+        let value : slice_get s.variables i.c ≡ Some (get_or s.variables i.c []) = slice_get-get_or s.variables i.c [] within in
+        let fits : Leads code s (push (text (get_or s.variables i.c [])) s) = subst (λ (o : Option (List ℕ)). Leads code s (with_string s o)) value (fine Variable e) in
+        rw value (had_push_here (text (get_or s.variables i.c [])) done m' fits pushes)
+
+    pub had_capture : operation_of i.op ≡ Some Capture → (done : Done) (m' : Machine) → PushesHere (text (get_or s.captures i.a [])) done m' → HasHad (effect code mail Capture i s) 1 done m'
+    had_capture e done m' pushes = had_push_here (text (get_or s.captures i.a [])) done m' (fine Capture e) pushes
+
     -- what taking a truth value does to the machine
     abbrev Takes : Bool → Machine → Type 0
     Takes value after = (t : State) (b : Bool) (rest : List Value) → StandsFor t m → t.stack ≡ truth b ∷ rest → (value ≡ b) × StandsFor (record t { stack = rest }) after
@@ -198,6 +218,52 @@ module _ (code : Code) (mail : Mail) (is : IsAccepted code) (known : IsMail mail
         let f = folder_top e in
         let filed = files s f.0 f.1.0 at.stands f.1.1 in
         rw (f.1.1, filed.0) (filed.1, refl)
+
+    -- the text on top is for a variable that is there
+    abbrev HasValue : Type 0
+    HasValue = (t : State) × ((value : List ℕ) × ((rest : List Value) × (StandsFor t m × (t.stack ≡ text value ∷ rest) × (i.c < length t.variables))))
+
+    value_top : operation_of i.op ≡ Some Set → (value : List ℕ) × ((rest : List Value) × (s.stack ≡ text value ∷ rest))
+    value_top e = let a = after Set e in folder_there there.entries a.0 s.stack a.1 there.describes
+
+    variable_within : operation_of i.op ≡ Some Set → i.c < length s.variables
+    variable_within e = let number = there.texts.number in omega (arith, number, set_known code is s.place i here_is e)
+
+    pub value_some : operation_of i.op ≡ Some Set → HasValue
+    value_some e = let v = value_top e in (s, (v.0, (v.1.0, (at.stands, v.1.1, variable_within e))))
+
+    pub modifiers_there : operation_of i.op ≡ Some Set → (modifiers : Modifiers) × (modifiers_numbered i.a ≡ Some modifiers)
+    modifiers_there e = modifiers_known code is s.place i here_is e
+
+    pub modifiers_some : operation_of i.op ≡ Some Set → IsSome (modifiers_numbered i.a)
+    modifiers_some e = rw (modifiers_there e).1 refl
+
+    pub had_set : operation_of i.op ≡ Some Set → (done : Done) (m' : Machine)
+        → ((t : State) (value : List ℕ) (rest : List Value) (modifiers : Modifiers) → StandsFor t m → t.stack ≡ text value ∷ rest → modifiers_numbered i.a ≡ Some modifiers
+        → (done ≡ charged_at (1 + length value)) × StandsFor (record t { stack = rest; variables = slice_set t.variables i.c (take max_value (modified modifiers value)) }) m')
+        → HasHad (effect code mail Set i s) (charge_of code mail Set i s) done m'
+    had_set e done m' sets =
+        let v = value_top e in
+        let k = modifiers_there e in
+        let set = sets s v.0 v.1.0 k.0 at.stands v.1.1 k.1 in
+        rw (v.1.1, k.1, lt-ltb i.c (length s.variables) (variable_within e), set.0) (set.1, refl)
+
+    -- texts to be joined are on top of a state that the machine stands for
+    parts_top : operation_of i.op ≡ Some Join → (top : OnTop) × (texts_on_top i.b s.stack ≡ Some top)
+    parts_top e = let a = after Join e in parts_there i.b there.entries a.0 s.stack a.1 there.describes
+
+    pub parts_some : IsProgram code → operation_of i.op ≡ Some Join → (t : State) × ((top : OnTop) × (StandsFor t m × (texts_on_top i.b t.stack ≡ Some top) × AreTexts top.texts))
+    parts_some fits e = let n = parts_top e in (s, (n.0, (at.stands, n.1, texts_are i.b s.stack n.0 (few fits) (short fits) n.1)))
+
+    pub had_join : operation_of i.op ≡ Some Join → (done : Done) (m' : Machine)
+        → ((t : State) (top : OnTop) → StandsFor t m → texts_on_top i.b t.stack ≡ Some top
+        → (done ≡ charged_at (1 + octets_on_top top)) × StandsFor (record t { stack = text (take max_string (concat top.texts)) ∷ top.below }) m')
+        → HasHad (effect code mail Join i s) (charge_of code mail Join i s) done m'
+    had_join e done m' joins =
+        let n = parts_top e in
+        let joined = joins s n.0 at.stands n.1 in
+        let fits : Leads code s (join n.0.texts (record s { stack = n.0.below })) = subst (λ (o : Option OnTop). Leads code s (with_texts join s o)) n.1 (fine Join e) in
+        rw (n.1, pushed code s (text (take max_string (concat n.0.texts))) (record s { stack = n.0.below }) fits, joined.0) (joined.1, refl)
 
     -- names are on top of a state that the machine stands for
     abbrev HasNames : Type 0
@@ -251,6 +317,29 @@ module _ (code : Code) (mail : Mail) (is : IsAccepted code) (known : IsMail mail
         let fits : Leads code s (tested (record s { stack = l.0.below }) (found_by l.0 s)) = subst (λ (o : Option Lists). Leads code s (with_lists (test_values mail i.a) s o)) l.1 (fine Header e) in
         rw l.1 (had_tested (record s { stack = l.0.below }) (found_by l.0 s) (1 + cost_of_matching mail l.0) done m' fits tested_now.0 tested_now.1)
 
+    sources_top : operation_of i.op ≡ Some String → (top : Lists) × (lists_on_top i.b i.c s.stack ≡ Some top)
+    sources_top e = let a = after String e in lists_there i.b i.c there.entries a.0 s.stack a.1 there.describes
+
+    pub sources_some : IsProgram code → operation_of i.op ≡ Some String → HasLists
+    sources_some fits e =
+        let l = sources_top e in
+        let are = lists_are i.b i.c s.stack l.0 (few fits) (short fits) l.1 in
+        (s, (l.0, (at.stands, l.1, are.0, are.1)))
+
+    -- what a test of sources finds
+    abbrev matched_by : Lists → State → Option (List (List ℕ))
+    matched_by top t = first_match (match_numbered i.a) top.names top.keys t.captures
+
+    pub had_string : operation_of i.op ≡ Some String → (done : Done) (m' : Machine)
+        → ((t : State) (top : Lists) → StandsFor t m → lists_on_top i.b i.c t.stack ≡ Some top
+        → (done ≡ charged_at (1 + cost_of_comparing top)) × StandsFor (record t { stack = truth (is_some (matched_by top t)) ∷ top.below; captures = unwrap_or (matched_by top t) t.captures }) m')
+        → HasHad (effect code mail String i s) (charge_of code mail String i s) done m'
+    had_string e done m' tests =
+        let l = sources_top e in
+        let tested_now = tests s l.0 at.stands l.1 in
+        let fits : Leads code s (tested (record s { stack = l.0.below }) (matched_by l.0 s)) = subst (λ (o : Option Lists). Leads code s (with_lists (test_sources i.a) s o)) l.1 (fine String e) in
+        rw l.1 (had_tested (record s { stack = l.0.below }) (matched_by l.0 s) (1 + cost_of_comparing l.0) done m' fits tested_now.0 tested_now.1)
+
 -- what the machine stands for when it has had an effect
 on_of : (e : Effect) (m : Machine) → GoesFrom e On m → (s : State) × ((e ≡ on s) × StandsFor s m)
 on_of (on s) m h = (s, (refl, h))
@@ -283,38 +372,36 @@ module _ (code : Code) (mail : Mail) (is : IsAccepted code) (known : IsMail mail
         dearer = omega (arith, stands.charge, at.stands.charge);
       }
 
-  pub goes_on : GoesFrom e On m' → (after : Machine) → after.place ≡ m'.place + 1 → after.stack ≡ m'.stack → after.captures ≡ m'.captures → after.actions ≡ m'.actions → after.implicit_keep ≡ m'.implicit_keep → after.charged ≡ m'.charged + cost → StepsOn code mail m after
-  goes_on had after place stack captures actions keep charged =
+  pub goes_on : GoesFrom e On m' → (after : Machine) → after.place ≡ m'.place + 1 → after.work ≡ m'.work → after.actions ≡ m'.actions → after.implicit_keep ≡ m'.implicit_keep → after.charged ≡ m'.charged + cost → StepsOn code mail m after
+  goes_on had after place work actions keep charged =
       let h = on_of e m' had in
       let to : State = record h.0 { place = suc h.0.place; charge = h.0.charge + cost } in
       let one : step code mail s ≡ goes to = stepped ∙ ap (turn cost) h.1.0 in
       let sound : IsSound code mail s (goes to) = subst (IsSound code mail s) (ap (turn cost) h.1.0) sound_turn in
       continues to after one sound.2 (record {
         place = omega (arith, place, h.1.1.place);
-        stack = ap (λ (v : Vec Entry Global). map value_of (reverse v.items)) stack ∙ h.1.1.stack;
-        captures = ap captures_of captures ∙ h.1.1.captures;
+        work = ap held_of work ∙ h.1.1.work;
         actions = actions ∙ h.1.1.actions;
         implicit_keep = keep ∙ h.1.1.implicit_keep;
         charge = omega (arith, charged, h.1.1.charge);
       })
 
-  pub goes_to : (place : ℕ) → GoesFrom e (To place) m' → (after : Machine) → after.place ≡ place → after.stack ≡ m'.stack → after.captures ≡ m'.captures → after.actions ≡ m'.actions → after.implicit_keep ≡ m'.implicit_keep → after.charged ≡ m'.charged + cost → StepsOn code mail m after
-  goes_to place had after there stack captures actions keep charged =
+  pub goes_to : (place : ℕ) → GoesFrom e (To place) m' → (after : Machine) → after.place ≡ place → after.work ≡ m'.work → after.actions ≡ m'.actions → after.implicit_keep ≡ m'.implicit_keep → after.charged ≡ m'.charged + cost → StepsOn code mail m after
+  goes_to place had after there work actions keep charged =
       let h = to_of e place m' had in
       let to : State = record h.0 { place = place; charge = h.0.charge + cost } in
       let one : step code mail s ≡ goes to = stepped ∙ ap (turn cost) h.1.0 in
       let sound : IsSound code mail s (goes to) = subst (IsSound code mail s) (ap (turn cost) h.1.0) sound_turn in
       continues to after one sound.2 (record {
         place = there;
-        stack = ap (λ (v : Vec Entry Global). map value_of (reverse v.items)) stack ∙ h.1.1.stack;
-        captures = ap captures_of captures ∙ h.1.1.captures;
+        work = ap held_of work ∙ h.1.1.work;
         actions = actions ∙ h.1.1.actions;
         implicit_keep = keep ∙ h.1.1.implicit_keep;
         charge = omega (arith, charged, h.1.1.charge);
       })
 
-  pub comes_to_end : GoesFrom e Ends m' → (after : Machine) → after.place ≡ m'.place → after.stack ≡ m'.stack → after.captures ≡ m'.captures → after.actions ≡ m'.actions → after.implicit_keep ≡ m'.implicit_keep → after.charged ≡ m'.charged + cost → IsOver code mail after
-  comes_to_end had after place stack captures actions keep charged =
+  pub comes_to_end : GoesFrom e Ends m' → (after : Machine) → after.place ≡ m'.place → after.work ≡ m'.work → after.actions ≡ m'.actions → after.implicit_keep ≡ m'.implicit_keep → after.charged ≡ m'.charged + cost → IsOver code mail after
+  comes_to_end had after place work actions keep charged =
       let h = ends_of e m' had in
       let end : State = record h.0 { charge = h.0.charge + cost } in
       let one : step code mail s ≡ ends end = stepped ∙ ap (turn cost) h.1.0 in
@@ -323,8 +410,7 @@ module _ (code : Code) (mail : Mail) (is : IsAccepted code) (known : IsMail mail
         over = record { steps = at.steps; last = s; run = at.run; halts = one };
         stands = record {
           place = place ∙ h.1.1.place;
-          stack = ap (λ (v : Vec Entry Global). map value_of (reverse v.items)) stack ∙ h.1.1.stack;
-          captures = ap captures_of captures ∙ h.1.1.captures;
+          work = ap held_of work ∙ h.1.1.work;
           actions = actions ∙ h.1.1.actions;
           implicit_keep = keep ∙ h.1.1.implicit_keep;
           charge = omega (arith, charged, h.1.1.charge);

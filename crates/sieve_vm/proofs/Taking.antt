@@ -1,12 +1,12 @@
 -- The texts on top of a stack that the entries of a shape describe.
-use Rattle.std.proofs.Common.{◌≡◌, ℕ, zero, suc, ◌+◌, ◌≤◌, List, [], ◌∷◌, ◌++◌, Option, Some, None, All, length, length-append, map, reverse, take, drop, refl, sym, ap, subst, ◌∙◌, arith}
+use Rattle.std.proofs.Common.{◌≡◌, ℕ, zero, suc, ◌+◌, ◌≤◌, List, [], ◌∷◌, ◌++◌, Option, Some, None, All, sum, sum_by, length, length-append, map, reverse, take, drop, refl, sym, ap, subst, ◌∙◌, arith}
 use Rattle.std.proofs.lemmas.List.Sums.{sum_by-cons, sum_by_push}
 use Rattle.std.proofs.lemmas.List.Elements.{All-nil, All-push}
 use Rattle.std.proofs.lemmas.List.{reverse-append}
 use Rattle.std.specs.Option.{option_and_then, option_map}
 use Rattle.octets.specs.Limits.{max_string}
 use Rattle.bytecode_verifier.specs.declared.shape.Entry.TheVariants.{Truth, Text}
-use Rattle.bytecode_verifier.specs.Shape.{Entries, Texts, Lists as ListBounds, with_entry, with_text, take_texts, take_lists, with_keys as with_key_bounds}
+use Rattle.bytecode_verifier.specs.Shape.{Entries, Texts, Lists as ListBounds, with_entry, with_text, with_joined, take_texts, take_lists, with_keys as with_key_bounds}
 use Rattle.bytecode_verifier.specs.Budget.{one_more_each}
 use Rattle.bytecode_verifier.specs.Pass.{AreShort}
 use Rattle.mail_matching.specs.Costs.{extent_of}
@@ -27,6 +27,14 @@ IsShort t = length t ≤ max_string
 abbrev pub octets_in : Value → List ℕ
 octets_in (truth b) = []
 octets_in (text t) = t
+
+-- one more for each
+pub one_more_each_is : {A : Type 0} (f : A → ℕ) (xs : List A) → sum_by (λ x. f x + 1) xs ≡ sum_by f xs + length xs
+one_more_each_is f [] = refl
+one_more_each_is f (x ∷ xs) =
+    let ones : sum_by (λ y. f y + 1) (x ∷ xs) ≡ (f x + 1) + sum_by (λ y. f y + 1) xs = sum_by-cons (λ y. f y + 1) x xs in
+    let all : sum_by f (x ∷ xs) ≡ f x + sum_by f xs = sum_by-cons f x xs in
+    omega (arith, ones, all, one_more_each_is f xs)
 
 -- so many texts are on top of the stack, no longer than their bounds
 pub record AreOnTop (n : ℕ) (bounds : Texts) (stack : List Value) : Type 0 where
@@ -147,6 +155,20 @@ is_top (suc n) (text t ∷ vs) top e = go (texts_on_top n vs) refl e (λ others 
         })
 
 -- ---- what an accepted program's stack has on top
+
+pub parts_there : (n : ℕ) (entries after : Entries) (stack : List Value) → option_and_then with_joined (take_texts n entries) ≡ Some after → Describes entries stack → (top : OnTop) × (texts_on_top n stack ≡ Some top)
+parts_there n entries after stack e d = go (take_texts n entries) refl e
+  where
+    go : (o : Option Texts) → take_texts n entries ≡ o → option_and_then with_joined o ≡ Some after → (top : OnTop) × (texts_on_top n stack ≡ Some top)
+    go None h f = absurd cc
+    go (Some bounds) h f = let are = on_top n entries bounds stack h d in (are.top, are.is)
+
+-- texts on top have no more octets than their bounds say
+pub octets_within : (n : ℕ) (bounds : Texts) (stack : List Value) (are : AreOnTop n bounds stack) → sum_by length are.top.texts ≤ sum bounds.bounds
+octets_within n bounds stack are =
+    let texts : extent_of are.top.texts ≡ sum_by length are.top.texts + length are.top.texts = one_more_each_is length are.top.texts in
+    let most : one_more_each bounds.bounds ≡ sum bounds.bounds + length bounds.bounds = one_more_each_is (λ b. b) bounds.bounds in
+    omega (arith, texts, most, are.extent, are.number)
 
 pub names_there : (n : ℕ) (entries after : Entries) (stack : List Value) → option_and_then (λ (names : Texts). with_entry Truth names.rest) (take_texts n entries) ≡ Some after → Describes entries stack → (top : OnTop) × (texts_on_top n stack ≡ Some top)
 names_there n entries after stack e d = go (take_texts n entries) refl e

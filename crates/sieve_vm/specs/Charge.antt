@@ -1,5 +1,5 @@
 -- What a step costs.
-use Rattle.std.specs.Prelude.{ℕ, ◌+◌, None}
+use Rattle.std.specs.Prelude.{ℕ, ◌+◌, None, length, sum_by}
 use Rattle.std.specs.Option.{option_map_or}
 use Rattle.bytecode_format.specs.declared.instruction.Instruction.{Instruction}
 use Rattle.bytecode_format.specs.declared.operation.Operation.{Operation}
@@ -7,6 +7,7 @@ use Rattle.bytecode_format.specs.declared.operation.Operation.TheVariants.{Halt,
 use Rattle.bytecode_format.specs.Code.{Code}
 use Rattle.mime_decode.specs.Mail.{Mail}
 use Rattle.mime_decode.specs.Scope.{Root, Value as WholeValue}
+use Rattle.mail_matching.specs.Costs.{values_cost}
 use Rattle.mail_matching.specs.HeaderTests.{exists_cost, header_cost}
 use Rattle.sieve_vm.specs.State.{State}
 use Rattle.sieve_vm.specs.Stack.{OnTop, Lists, texts_on_top, lists_on_top, length_on_top}
@@ -19,14 +20,22 @@ cost_of_names mail names = exists_cost Root None names.texts mail
 abbrev pub cost_of_matching : Mail → Lists → ℕ
 cost_of_matching mail lists = header_cost Root None WholeValue lists.names lists.keys mail
 
+-- comparing each source with each key
+abbrev pub cost_of_comparing : Lists → ℕ
+cost_of_comparing lists = values_cost lists.names lists.keys
+
+-- how many octets texts have
+abbrev pub octets_on_top : OnTop → ℕ
+octets_on_top top = sum_by length top.texts
+
 -- the charge of an instruction, from the state that it meets
 abbrev pub charge_of : Code → Mail → Operation → Instruction → State → ℕ
 charge_of code mail Halt i state = 1
 charge_of code mail Literal i state = 1
 charge_of code mail Variable i state = 1
 charge_of code mail Capture i state = 1
-charge_of code mail Join i state = 1
-charge_of code mail Set i state = 1
+charge_of code mail Join i state = 1 + option_map_or octets_on_top (texts_on_top i.b state.stack) 0
+charge_of code mail Set i state = 1 + length_on_top state.stack
 charge_of code mail BoolOp i state = 1
 charge_of code mail Not i state = 1
 charge_of code mail Jump i state = 1
@@ -34,7 +43,7 @@ charge_of code mail JumpIfTrue i state = 1
 charge_of code mail JumpIfFalse i state = 1
 charge_of code mail Header i state = 1 + option_map_or (cost_of_matching mail) (lists_on_top i.b i.c state.stack) 0
 charge_of code mail Exists i state = 1 + option_map_or (cost_of_names mail) (texts_on_top i.b state.stack) 0
-charge_of code mail String i state = 1
+charge_of code mail String i state = 1 + option_map_or cost_of_comparing (lists_on_top i.b i.c state.stack) 0
 charge_of code mail Size i state = 1
 charge_of code mail PartSize i state = 1
 charge_of code mail PartBody i state = 1

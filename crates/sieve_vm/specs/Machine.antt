@@ -1,17 +1,21 @@
 -- The machine: what each instruction does, and where the run goes then.
-use Rattle.std.specs.Prelude.{ℕ, suc, ◌+◌, Bool, true, false, ◌&&◌, cond, not, ◌==◌, nat_lt, List, [], ◌∷◌, ◌++◌, Option, Some, None, length, slice_get, if◌then◌else◌}
-use Rattle.octets.specs.Limits.{max_stack}
+use Rattle.std.specs.Prelude.{ℕ, suc, ◌+◌, Bool, true, false, ◌&&◌, cond, not, ◌==◌, nat_lt, List, [], ◌∷◌, ◌++◌, Option, Some, None, length, take, slice_get, slice_index_or, slice_set, if◌then◌else◌}
+use Rattle.std.specs.List.{concat}
+use Rattle.octets.specs.Limits.{max_stack, max_string, max_value}
 use Rattle.bytecode_format.specs.declared.action.Action.TheVariants as action
 use Rattle.bytecode_format.specs.declared.instruction.Instruction.{Instruction}
 use Rattle.bytecode_format.specs.declared.operation.Operation.{Operation}
 use Rattle.bytecode_format.specs.declared.operation.Operation.TheVariants.{Halt, Literal, Variable, Capture, Join, Set, Bool as BoolOp, Not, Jump, JumpIfTrue, JumpIfFalse, Header, Exists, String, Size, PartSize, PartBody, PartDigest, Keep, Discard, File, Store, Each, Next, Break}
 use Rattle.bytecode_format.specs.Operations.{operation_of}
 use Rattle.bytecode_format.specs.Code.{Code}
+use Rattle.bytecode_format.specs.declared.modifiers.Modifiers.{Modifiers}
+use Rattle.bytecode_format.specs.Modifiers.{modified, modifiers_numbered}
 use Rattle.bytecode_verifier.specs.Rows.{is_well_formed}
 use Rattle.bytecode_verifier.specs.Rules.{row_in}
 use Rattle.bytecode_verifier.specs.Loops.{same_loops}
 use Rattle.mime_decode.specs.Mail.{Mail, size_of}
 use Rattle.mime_decode.specs.Scope.{Root, Value as WholeValue}
+use Rattle.mail_matching.specs.FirstMatch.{first_match}
 use Rattle.mail_matching.specs.HeaderTests.{exists_in, header_match}
 use Rattle.sieve_vm.specs.State.{Value, truth, text, State, Turn, goes, ends, traps}
 use Rattle.sieve_vm.specs.Stack.{OnTop, Lists, texts_on_top, lists_on_top}
@@ -70,6 +74,19 @@ abbrev pub with_string : State → Option (List ℕ) → Effect
 with_string state None = fails
 with_string state (Some string) = push (text string) state
 
+-- the texts, one after the other, as one text, of which the first octets stay
+abbrev pub join : List (List ℕ) → State → Effect
+join texts state = push (text (take max_string (concat texts))) state
+
+-- the variable's value is the text, modified, of which the first octets stay
+abbrev pub set_modified : ℕ → Option Modifiers → List ℕ → State → Effect
+set_modified variable None value state = fails
+set_modified variable (Some modifiers) value state =
+    if nat_lt variable (length state.variables) then on (record state { variables = slice_set state.variables variable (take max_value (modified modifiers value)) }) else fails
+
+abbrev pub set_variable : Instruction → List ℕ → State → Effect
+set_variable i value state = set_modified i.c (modifiers_numbered i.a) value state
+
 -- the folder is listed, and the implicit keep is taken away
 abbrev pub file : List ℕ → State → Effect
 file folder state = on (record state { actions = state.actions ++ action.File folder ∷ []; implicit_keep = false })
@@ -87,14 +104,18 @@ tested state (Some captures) = push (truth true) (record state { captures = capt
 abbrev pub test_values : Mail → ℕ → List (List ℕ) → List (List ℕ) → State → Effect
 test_values mail number names keys state = tested state (header_match (match_numbered number) Root None WholeValue names keys mail state.captures)
 
+-- whether a source matches a key
+abbrev pub test_sources : ℕ → List (List ℕ) → List (List ℕ) → State → Effect
+test_sources number sources keys state = tested state (first_match (match_numbered number) sources keys state.captures)
+
 -- what each operation does; one that hasn't come fails
 abbrev pub effect : Code → Mail → Operation → Instruction → State → Effect
 effect code mail Halt i state = halts state
 effect code mail Literal i state = with_string state (slice_get code.strings i.c)
-effect code mail Variable i state = fails
-effect code mail Capture i state = fails
-effect code mail Join i state = fails
-effect code mail Set i state = fails
+effect code mail Variable i state = with_string state (slice_get state.variables i.c)
+effect code mail Capture i state = push (text (slice_index_or state.captures i.a [])) state
+effect code mail Join i state = with_texts join state (texts_on_top i.b state.stack)
+effect code mail Set i state = with_text (set_variable i) state state.stack
 effect code mail BoolOp i state = push (truth (i.a == 1)) state
 effect code mail Not i state = with_truth (λ b s. on (record s { stack = truth (not b) ∷ s.stack })) state state.stack
 effect code mail Jump i state = if is_sound_jump code state i then jumps i.c state else fails
@@ -102,7 +123,7 @@ effect code mail JumpIfTrue i state = if is_sound_jump code state i then with_tr
 effect code mail JumpIfFalse i state = if is_sound_jump code state i then with_truth (branch i.c false) state state.stack else fails
 effect code mail Header i state = with_lists (test_values mail i.a) state (lists_on_top i.b i.c state.stack)
 effect code mail Exists i state = with_texts (test_names mail) state (texts_on_top i.b state.stack)
-effect code mail String i state = fails
+effect code mail String i state = with_lists (test_sources i.a) state (lists_on_top i.b i.c state.stack)
 effect code mail Size i state = with_number i mail state (slice_get code.numbers i.c)
 effect code mail PartSize i state = fails
 effect code mail PartBody i state = fails

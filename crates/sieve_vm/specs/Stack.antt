@@ -19,7 +19,7 @@ texts_on_top (suc n) [] = None
 texts_on_top (suc n) (truth b ∷ stack) = None
 texts_on_top (suc n) (text octets ∷ stack) = option_map (with_last octets) (texts_on_top n stack)
 
--- two lists of texts: names, the keys that were pushed after them, and the entries below
+-- two lists of texts: names or sources, the keys that were pushed after them, and the entries below
 pub record Lists : Type 0 where
   pub names : List (List ℕ)
   pub keys : List (List ℕ)
@@ -28,7 +28,7 @@ pub record Lists : Type 0 where
 abbrev pub with_keys : List (List ℕ) → OnTop → Lists
 with_keys keys top = record { names = top.texts; keys = keys; below = top.below }
 
--- so many names, and so many keys above them
+-- so many names or sources, and so many keys above them
 abbrev pub lists_on_top : ℕ → ℕ → List Value → Option Lists
 lists_on_top names keys stack =
     option_and_then (λ (top : OnTop). option_map (with_keys top.texts) (texts_on_top names top.below)) (texts_on_top keys stack)

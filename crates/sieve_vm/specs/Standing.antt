@@ -1,28 +1,64 @@
 -- How the machine's fields stand for a state of a run.
-use Rattle.std.specs.Prelude.{◌≡◌, ◌<◌, ℕ, List, [], Option, Some, None, map, replicate, reverse}
+use Rattle.std.specs.Prelude.{◌≡◌, ◌<◌, ℕ, true, None, List, [], map, reverse, slice_index_or}
+use Rattle.std.specs.Cow.{cow_slice_items}
 use Rattle.bytecode_format.specs.Actions.{first_occurrences}
 use Rattle.bytecode_format.specs.Code.{Code}
 use Rattle.mail_matching.specs.FirstMatch.{captures_of}
 use Rattle.mime_decode.specs.Mail.{Mail}
 use Rattle.sieve_vm.specs.declared.entry.Entry.{Entry}
-use Rattle.sieve_vm.specs.declared.entry.Entry.TheVariants.{Truth, Text}
+use Rattle.sieve_vm.specs.declared.entry.Entry.TheVariants.{Truth, Text, Variable, Capture}
 use Rattle.sieve_vm.specs.declared.machine.Done.{Done}
 use Rattle.sieve_vm.specs.declared.machine.Flow.{Flow}
 use Rattle.sieve_vm.specs.declared.machine.Flow.TheVariants.{On, To, Ends}
 use Rattle.sieve_vm.specs.declared.machine.Machine.{Machine}
+use Rattle.sieve_vm.specs.declared.workspace.Pushed.{Pushed}
+use Rattle.sieve_vm.specs.declared.workspace.Workspace.{Workspace}
 use Rattle.sieve_vm.specs.State.{Value, truth, text, State, start}
 use Rattle.sieve_vm.specs.Machine.{Effect, on, jumps, halts}
 use Rattle.sieve_vm.specs.Runs.{Run, RunEnds}
 
--- an entry of the stack as the value that it is
-abbrev pub value_of : Entry → Value
-value_of (Truth b) = truth b
-value_of (Text octets) = text octets.now
+-- an entry of the stack as the value that it is, among these variables and captures
+abbrev pub value_of : List (List ℕ) → List (List ℕ) → Entry → Value
+value_of variables captures (Truth b) = truth b
+value_of variables captures (Text octets) = text (cow_slice_items octets)
+value_of variables captures (Variable number) = text (slice_index_or variables number [])
+value_of variables captures (Capture number) = text (slice_index_or captures number [])
 
 -- the octets of an entry that is a text
-abbrev pub octets_of : Entry → List ℕ
-octets_of (Truth b) = []
-octets_of (Text octets) = octets.now
+abbrev pub octets_of : List (List ℕ) → List (List ℕ) → Entry → List ℕ
+octets_of variables captures (Truth b) = []
+octets_of variables captures (Text octets) = cow_slice_items octets
+octets_of variables captures (Variable number) = slice_index_or variables number []
+octets_of variables captures (Capture number) = slice_index_or captures number []
+
+-- what the stack, the variables and the captures hold
+pub record Held : Type 0 where
+  pub stack : List Value
+  pub variables : List (List ℕ)
+  pub captures : List (List ℕ)
+
+abbrev pub variables_of : Workspace → List (List ℕ)
+variables_of work = map cow_slice_items work.variables.items
+
+abbrev pub held_of : Workspace → Held
+held_of work =
+    record {
+      stack = map (value_of (variables_of work) (captures_of work.captures)) (reverse work.entries.items);
+      variables = variables_of work;
+      captures = captures_of work.captures;
+    }
+
+-- a workspace with which nothing was done
+abbrev pub IsNew : Workspace → Type 0
+IsNew work = (work.entries.items ≡ []) × (work.variables.items ≡ []) × (work.captures ≡ None)
+
+-- what a state holds there
+abbrev pub held_by : State → Held
+held_by state = record { stack = state.stack; variables = state.variables; captures = state.captures }
+
+-- the octets of the entries that are lent for a test
+abbrev pub texts_of : Pushed → List (List ℕ)
+texts_of pushed = map (octets_of (variables_of pushed.work.now) (captures_of pushed.work.now.captures)) pushed.entries.now
 
 -- what is charged once
 abbrev pub once : Flow → Done
@@ -31,11 +67,18 @@ once flow = record { flow = flow; charge = 1 }
 -- the machine stands for the state
 pub record StandsFor (state : State) (machine : Machine) : Type 0 where
   pub place : machine.place ≡ state.place
-  pub stack : map value_of (reverse machine.stack.items) ≡ state.stack
-  pub captures : captures_of machine.captures ≡ state.captures
+  pub work : held_of machine.work ≡ held_by state
   pub actions : machine.actions ≡ first_occurrences state.actions
   pub implicit_keep : machine.implicit_keep ≡ state.implicit_keep
   pub charge : machine.charged ≡ state.charge
+
+-- a machine with which nothing was done
+pub record IsNewMachine (machine : Machine) : Type 0 where
+  pub place : machine.place ≡ 0
+  pub work : IsNew machine.work
+  pub actions : machine.actions ≡ []
+  pub implicit_keep : machine.implicit_keep ≡ true
+  pub charge : machine.charged ≡ 0
 
 -- the machine stands for this state of the program's run
 pub record IsIn (code : Code) (mail : Mail) (state : State) (machine : Machine) : Type 0 where

@@ -9,5 +9,6 @@ mod entry;
 pub mod laws;
 mod machine;
 mod outcome;
+mod workspace;
 
 pub use outcome::{Outcome, run};

@@ -4,22 +4,20 @@ ghost use Rattle.sieve_vm.specs.Machine.{compares};
 ghost use Rattle.sieve_vm.specs.MatchNumbers.{match_numbered};
 ghost use Rattle.sieve_vm.specs.Standing.{once};
 
-use crate::entry::{Entry, Pushed};
-use bytecode_format::{Action, ActionList, Instruction, Operation, Program};
+use crate::entry::Entry;
+use crate::workspace::Workspace;
+use bytecode_format::{Action, ActionList, Instruction, Modifiers, Operation, Program};
 use glob_match::{Comparator, Match, MatchType};
-use mail_matching::{Captured, Outcome, exists, header};
+use mail_matching::{Answer, exists, header, string};
 use mime_decode::Message;
-use octets::Octets;
 use std::alloc::{AllocError, Global};
+use std::borrow::CowSlice;
 
 /// What a run carries from one instruction to the next. Texts are lent by the program and the message.
 #[derive(Drop)]
 pub struct Machine<'p, 'm> {
     pub place: usize,
-    // The top entry is the last one.
-    pub stack: Vec<Entry<'p>>,
-    // Those of the last match that has set them.
-    pub captures: Option<Captured<'m>>,
+    pub work: Workspace<'p, 'm>,
     pub actions: ActionList,
     pub implicit_keep: bool,
     pub charged: u128,
@@ -51,7 +49,12 @@ pub enum Turn {
 }
 
 impl<'p, 'm> Machine<'p, 'm> {
-    ghost use Rattle.std.specs.Prelude.{◌≡◌, ◌<◌, ◌+◌, ℕ, List, [], ◌∷◌, ◌++◌, Bool, false, not, Some, None, IfOk, OnOk, length, slice_get, is_some};
+    ghost use Rattle.std.specs.Prelude.{◌≡◌, ◌<◌, ◌+◌, ℕ, List, [], ◌∷◌, ◌++◌, Bool, false, not, Some, None, IfOk, OnOk, IsSome, length, take, slice_get, slice_index_or, slice_set, is_some};
+    ghost use Rattle.std.specs.List.{concat};
+    ghost use Rattle.octets.specs.Limits.{max_string, max_value};
+    ghost use Rattle.bytecode_format.specs.declared.modifiers.Modifiers.{Modifiers};
+    ghost use Rattle.bytecode_format.specs.Modifiers.{modified, modifiers_numbered};
+    ghost use Rattle.mail_matching.specs.FirstMatch.{first_match};
     ghost use Rattle.std.specs.Option.{unwrap_or};
     ghost use Rattle.bytecode_format.specs.Code.{Code};
     ghost use Rattle.bytecode_format.specs.Spelling.{IsProgram};
@@ -64,22 +67,18 @@ impl<'p, 'm> Machine<'p, 'm> {
     ghost use Rattle.mail_matching.specs.Texts.{AreTexts};
     ghost use Rattle.sieve_vm.specs.State.{State, Value, truth, text};
     ghost use Rattle.sieve_vm.specs.Stack.{OnTop, Lists, texts_on_top, lists_on_top};
-    ghost use Rattle.sieve_vm.specs.Charge.{cost_of_names, cost_of_matching, charge_of};
+    ghost use Rattle.sieve_vm.specs.Charge.{cost_of_names, cost_of_matching, cost_of_comparing, octets_on_top, charge_of};
     ghost use Rattle.sieve_vm.specs.Machine.{branch, effect};
-    ghost use Rattle.sieve_vm.specs.Standing.{StandsFor, IsIn, IsRunning, HasHad, StepsOn, IsOver};
+    ghost use Rattle.sieve_vm.specs.Standing.{IsNewMachine, StandsFor, IsIn, IsRunning, HasHad, StepsOn, IsOver};
 
-    /// Before the first instruction.
-    pub fn new(alloc: Global) -> Machine<'p, 'm>
-        ensures { (code : Code) (mail : Mail) → IsRunning code mail result }
+    /// Goes before the first instruction of the program.
+    ///
+    /// An error comes only where memory was refused.
+    pub fn begin(&mut self, program: &Program) -> Result<(), AllocError>
+        requires { IsNewMachine self.old }
+        ensures { OnOk result ((mail : Mail) → IsRunning program.now mail self.new) }
     {
-        Machine {
-            place: 0,
-            stack: Vec::new(alloc),
-            captures: None,
-            actions: ActionList::new(alloc),
-            implicit_keep: true,
-            charged: 0,
-        }
+        self.work.begin(program.variables())
     }
 
     /// Takes the step of the instruction at the machine's place.
@@ -138,6 +137,10 @@ impl<'p, 'm> Machine<'p, 'm> {
             Operation::Literal => {
                 self.push_text(program.strings()[instruction.c as usize].as_slice())
             }
+            Operation::Variable => self.push_variable(instruction.c as usize),
+            Operation::Capture => self.push_capture(instruction.a as usize),
+            Operation::Join => self.join(alloc, instruction.b as usize),
+            Operation::Set => self.set(alloc, instruction),
             Operation::Bool => self.push(instruction.a == 1),
             Operation::Not => {
                 let value = self.take();
@@ -148,6 +151,7 @@ impl<'p, 'm> Machine<'p, 'm> {
             Operation::JumpIfFalse => Ok(self.branch(instruction.c, false)),
             Operation::Header => self.header(alloc, message, instruction),
             Operation::Exists => self.exists(message, instruction.b as usize),
+            Operation::String => self.string(alloc, instruction),
             Operation::Size => {
                 let number = program.numbers()[instruction.c as usize];
                 self.push(compares(instruction, number, message.size() as u64))
@@ -155,12 +159,7 @@ impl<'p, 'm> Machine<'p, 'm> {
             Operation::Keep => self.keep(),
             Operation::Discard => Ok(self.discard()),
             Operation::File => self.file(alloc),
-            Operation::Variable
-            | Operation::Capture
-            | Operation::Join
-            | Operation::Set
-            | Operation::String
-            | Operation::PartSize
+            Operation::PartSize
             | Operation::PartBody
             | Operation::PartDigest
             | Operation::Store
@@ -175,16 +174,34 @@ impl<'p, 'm> Machine<'p, 'm> {
     fn push(&mut self, value: bool) -> Result<Done, AllocError>
         ensures { IfOk result (λ done. (done ≡ once Flow.On) × ((s : State) → StandsFor s self.old → StandsFor (record s { stack = truth value ∷ s.stack }) self.new)) }
     {
-        self.stack.push(Entry::Truth(value))?;
+        self.work.push(Entry::Truth(value))?;
         Ok(once(Flow::On))
     }
 
-    // Puts a text on top of the stack.
+    // Puts a text that the program lends on top of the stack.
     #[inline(always)]
     fn push_text(&mut self, octets: &'p [u8]) -> Result<Done, AllocError>
         ensures { IfOk result (λ done. (done ≡ once Flow.On) × ((s : State) → StandsFor s self.old → StandsFor (record s { stack = text octets.now ∷ s.stack }) self.new)) }
     {
-        self.stack.push(Entry::Text(octets))?;
+        self.work.push(Entry::Text(CowSlice::Borrowed(octets)))?;
+        Ok(once(Flow::On))
+    }
+
+    // Puts the value of a variable on top of the stack.
+    #[inline(always)]
+    fn push_variable(&mut self, number: usize) -> Result<Done, AllocError>
+        ensures { IfOk result (λ done. (done ≡ once Flow.On) × ((s : State) → StandsFor s self.old → StandsFor (record s { stack = text (slice_index_or s.variables number []) ∷ s.stack }) self.new)) }
+    {
+        self.work.push(Entry::Variable(number))?;
+        Ok(once(Flow::On))
+    }
+
+    // Puts a capture on top of the stack.
+    #[inline(always)]
+    fn push_capture(&mut self, number: usize) -> Result<Done, AllocError>
+        ensures { IfOk result (λ done. (done ≡ once Flow.On) × ((s : State) → StandsFor s self.old → StandsFor (record s { stack = text (slice_index_or s.captures number []) ∷ s.stack }) self.new)) }
+    {
+        self.work.push(Entry::Capture(number))?;
         Ok(once(Flow::On))
     }
 
@@ -194,21 +211,7 @@ impl<'p, 'm> Machine<'p, 'm> {
         requires { (s : State) × ((b : Bool) × ((rest : List Value) × (StandsFor s self.old × (s.stack ≡ truth b ∷ rest)))) }
         ensures { (s : State) (b : Bool) (rest : List Value) → StandsFor s self.old → s.stack ≡ truth b ∷ rest → (result ≡ b) × StandsFor (record s { stack = rest }) self.new }
     {
-        match self.stack.pop() {
-            Some(Entry::Truth(value)) => value,
-            _ => unreachable!(),
-        }
-    }
-
-    // Takes the text on top of the stack.
-    fn take_text(&mut self) -> &'p [u8]
-        requires { (s : State) × ((t : List ℕ) × ((rest : List Value) × (StandsFor s self.old × (s.stack ≡ text t ∷ rest)))) }
-        ensures { (s : State) (t : List ℕ) (rest : List Value) → StandsFor s self.old → s.stack ≡ text t ∷ rest → (result.now ≡ t) × StandsFor (record s { stack = rest }) self.new }
-    {
-        match self.stack.pop() {
-            Some(Entry::Text(octets)) => octets,
-            _ => unreachable!(),
-        }
+        self.work.take_truth()
     }
 
     // Takes the truth value on top of the stack, and goes to the target where it is this one.
@@ -242,13 +245,11 @@ impl<'p, 'm> Machine<'p, 'm> {
         ensures { IfOk result (λ done. (s : State) (t : List ℕ) (rest : List Value) → StandsFor s self.old → s.stack ≡ text t ∷ rest
             → (done ≡ record { flow = Flow.On; charge = 1 + length t }) × StandsFor (record s { stack = rest; actions = s.actions ++ Action.File t ∷ []; implicit_keep = false }) self.new) }
     {
-        let folder = self.take_text();
-        self.list(Action::File(Octets::from_vec(folder.to_vec(alloc)?)))?;
+        let folder = self.work.take_text(alloc)?;
+        let charge = 1 + folder.len() as u128;
+        self.list(Action::File(folder))?;
         let Done { flow, .. } = self.discard();
-        Ok(Done {
-            flow,
-            charge: 1 + folder.len() as u128,
-        })
+        Ok(Done { flow, charge })
     }
 
     // Lists an action.
@@ -273,12 +274,9 @@ impl<'p, 'm> Machine<'p, 'm> {
         ensures { IfOk result (λ done. (s : State) (top : OnTop) → StandsFor s self.old → texts_on_top number s.stack ≡ Some top
             → (done ≡ record { flow = Flow.On; charge = 1 + cost_of_names message.now top }) × StandsFor (record s { stack = truth (exists_in Root None top.texts message.now) ∷ top.below }) self.new) }
     {
-        let below = self.stack.len() - number;
-        let names = Pushed {
-            entries: &self.stack[below..],
-        };
+        let names = self.work.texts(number);
         let (found, cost) = exists(message, &names);
-        self.stack.truncate(below);
+        self.work.drop_texts(number);
         self.push(found)?;
         Ok(Done {
             flow: Flow::On,
@@ -302,17 +300,39 @@ impl<'p, 'm> Machine<'p, 'm> {
               captures = unwrap_or (header_match (match_numbered instruction.now.a) Root None WholeValue top.names top.keys message.now s.captures) s.captures;
             }) self.new) }
     {
-        let above = self.stack.len() - instruction.c as usize;
-        let below = above - instruction.b as usize;
-        let names = Pushed {
-            entries: &self.stack[below..above],
-        };
-        let keys = Pushed {
-            entries: &self.stack[above..],
-        };
+        let (number, above) = (instruction.b as usize, instruction.c as usize);
+        let (names, keys) = self.work.lists(number, above);
         let answer = header(alloc, message, &names, &keys, match_numbered(instruction.a))?;
-        self.stack.truncate(below);
-        let matched = self.settle(answer.outcome);
+        self.work.drop_lists(number, above);
+        self.settle(alloc, answer)
+    }
+
+    // Takes sources and the keys above them, and pushes whether a source matches a key.
+    fn string(&mut self, alloc: Global, instruction: &Instruction) -> Result<Done, AllocError>
+        requires { (s : State) × ((top : Lists) × (StandsFor s self.old × (lists_on_top instruction.now.b instruction.now.c s.stack ≡ Some top) × AreTexts top.names × AreTexts top.keys)) }
+        ensures { IfOk result (λ done. (s : State) (top : Lists) → StandsFor s self.old → lists_on_top instruction.now.b instruction.now.c s.stack ≡ Some top
+            → (done ≡ record { flow = Flow.On; charge = 1 + cost_of_comparing top })
+            × StandsFor (record s {
+              stack = truth (is_some (first_match (match_numbered instruction.now.a) top.names top.keys s.captures)) ∷ top.below;
+              captures = unwrap_or (first_match (match_numbered instruction.now.a) top.names top.keys s.captures) s.captures;
+            }) self.new) }
+    {
+        let (number, above) = (instruction.b as usize, instruction.c as usize);
+        let (sources, keys) = self.work.lists(number, above);
+        let answer = string(alloc, &sources, &keys, match_numbered(instruction.a))?;
+        self.work.drop_lists(number, above);
+        self.settle(alloc, answer)
+    }
+
+    // Keeps the captures that a test has set, and pushes whether it has matched.
+    fn settle(&mut self, alloc: Global, answer: Answer<'m>) -> Result<Done, AllocError>
+        ensures { IfOk result (λ done. (done ≡ record { flow = Flow.On; charge = 1 + answer.entry.cost })
+            × ((s : State) → StandsFor s self.old → StandsFor (record s {
+              stack = truth (is_some (after answer.entry.outcome s.captures)) ∷ s.stack;
+              captures = unwrap_or (after answer.entry.outcome s.captures) s.captures;
+            }) self.new)) }
+    {
+        let matched = self.work.settle(alloc, answer.outcome)?;
         self.push(matched)?;
         Ok(Done {
             flow: Flow::On,
@@ -320,18 +340,32 @@ impl<'p, 'm> Machine<'p, 'm> {
         })
     }
 
-    // Keeps the captures that a test has set, and says whether it has matched.
-    fn settle(&mut self, outcome: Outcome<'m>) -> bool
-        ensures { (s : State) → StandsFor s self.old → (result ≡ is_some (after outcome.entry s.captures)) × StandsFor (record s { captures = unwrap_or (after outcome.entry s.captures) s.captures }) self.new }
+    // Joins so many texts on top of the stack.
+    fn join(&mut self, alloc: Global, number: usize) -> Result<Done, AllocError>
+        requires { (s : State) × ((top : OnTop) × (StandsFor s self.old × (texts_on_top number s.stack ≡ Some top) × AreTexts top.texts)) }
+        ensures { IfOk result (λ done. (s : State) (top : OnTop) → StandsFor s self.old → texts_on_top number s.stack ≡ Some top
+            → (done ≡ record { flow = Flow.On; charge = 1 + octets_on_top top }) × StandsFor (record s { stack = text (take max_string (concat top.texts)) ∷ top.below }) self.new) }
     {
-        match outcome {
-            Outcome::Fails => false,
-            Outcome::Holds => true,
-            Outcome::Captures(captured) => {
-                self.captures = Some(captured);
-                true
-            }
-        }
+        let len = self.work.join(alloc, number)?;
+        Ok(Done {
+            flow: Flow::On,
+            charge: 1 + len as u128,
+        })
+    }
+
+    // Takes the text on top of the stack, and gives it, modified, to a variable.
+    fn set(&mut self, alloc: Global, instruction: &Instruction) -> Result<Done, AllocError>
+        requires modifiers { IsSome (modifiers_numbered instruction.now.a) }
+        requires top { (s : State) × ((t : List ℕ) × ((rest : List Value) × (StandsFor s self.old × (s.stack ≡ text t ∷ rest) × (instruction.now.c < length s.variables)))) }
+        ensures { IfOk result (λ done. (s : State) (t : List ℕ) (rest : List Value) (modifiers : Modifiers) → StandsFor s self.old → s.stack ≡ text t ∷ rest → modifiers_numbered instruction.now.a ≡ Some modifiers
+            → (done ≡ record { flow = Flow.On; charge = 1 + length t }) × StandsFor (record s { stack = rest; variables = slice_set s.variables instruction.now.c (take max_value (modified modifiers t)) }) self.new) }
+    {
+        let modifiers = Modifiers::of(instruction.a).unwrap();
+        let taken = self.work.set(alloc, instruction.c as usize, modifiers)?;
+        Ok(Done {
+            flow: Flow::On,
+            charge: 1 + taken as u128,
+        })
     }
 }
 

@@ -3,7 +3,8 @@ ghost use Rattle.std.specs.Prelude.{IfOk};
 ghost use Rattle.sieve_vm.specs.Ending.{IsOutcome};
 
 use crate::machine::{Machine, Turn};
-use bytecode_format::Action;
+use crate::workspace::Workspace;
+use bytecode_format::{Action, ActionList};
 use bytecode_verifier::Verified;
 use mime_decode::Message;
 use std::alloc::{AllocError, Global};
@@ -27,7 +28,14 @@ pub fn run(alloc: Global, verified: &Verified, message: &Message<'_>) -> Result<
     let program = verified.program();
     // What holds of every message is known where it is asked.
     let _size = message.size();
-    let mut machine = Machine::new(alloc);
+    let mut machine = Machine {
+        place: 0,
+        work: Workspace::new(alloc),
+        actions: ActionList::new(alloc),
+        implicit_keep: true,
+        charged: 0,
+    };
+    machine.begin(program)?;
     'steps: loop {
         match machine.advance(alloc, program, message)? {
             Turn::GoesOn => {}

@@ -4,6 +4,9 @@ use Rattle.sieve_vm.specs.Potential.{limit_of}
 use Rattle.sieve_vm.proofs.Steps.{running_within, outcome_of}
 use Rattle.sieve_vm.proofs.outcome.run.Goals as goal
 
+pub steps-init : goal.steps-init
+steps-init c = rw c.program-program.ensures.value at (c.in_ok-begin.ensures c.args.message.now)
+
 pub steps-smaller : goal.steps-smaller
 steps-smaller c =
     let value = c.program-program.ensures.value in

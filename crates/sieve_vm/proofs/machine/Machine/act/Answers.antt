@@ -4,7 +4,7 @@ use Rattle.bytecode_verifier.proofs.Consequences.{string_known}
 use Rattle.std.proofs.lemmas.Result.{IfOk-weaker}
 use Rattle.bytecode_format.specs.declared.operation.Operation.TheVariants.{JumpIfTrue, JumpIfFalse}
 use Rattle.sieve_vm.specs.Machine.{compares}
-use Rattle.sieve_vm.proofs.Steps.{not_some, if_true_some, if_false_some, folder_some, names_some, lists_some, had_bool, had_not, had_size, had_literal, had_branch, had_file, had_exists, had_header}
+use Rattle.sieve_vm.proofs.Steps.{not_some, if_true_some, if_false_some, folder_some, names_some, lists_some, parts_some, sources_some, modifiers_some, value_some, had_variable, had_capture, had_join, had_set, had_string, had_bool, had_not, had_size, had_literal, had_branch, had_file, had_exists, had_header}
 use Rattle.sieve_vm.proofs.machine.Machine.act.Goals as goal
 
 pub take-value-requires : goal.take-value-requires
@@ -83,3 +83,44 @@ pub returns-in-Header : goal.returns-in-Header
 returns-in-Header c =
     rw c.in-Header.is (IfOk-weaker c.header.result _ _
     (λ done h s at. had_header c.args.program.now c.args.message.now c.requires.accepted c.requires.mail c.args.self.now s at c.args.instruction.now c.requires.here (c.requires.named ∙ ap (λ o. Some o) c.in-Header.is) done c.header.new.self h) c.header.ensures)
+
+pub join-requires : goal.join-requires
+join-requires c =
+    parts_some c.args.program.now c.args.message.now c.requires.accepted c.requires.mail c.args.self.now c.requires.running.0 c.requires.running.1 c.args.instruction.now c.requires.here c.requires.program (c.requires.named ∙ ap (λ o. Some o) c.in-Join.is)
+
+pub string-requires : goal.string-requires
+string-requires c =
+    sources_some c.args.program.now c.args.message.now c.requires.accepted c.requires.mail c.args.self.now c.requires.running.0 c.requires.running.1 c.args.instruction.now c.requires.here c.requires.program (c.requires.named ∙ ap (λ o. Some o) c.in-String.is)
+
+pub set-requires-clause-modifiers : goal.set-requires-clause-modifiers
+set-requires-clause-modifiers c =
+    modifiers_some c.args.program.now c.args.message.now c.requires.accepted c.requires.mail c.args.self.now c.requires.running.0 c.requires.running.1 c.args.instruction.now c.requires.here (c.requires.named ∙ ap (λ o. Some o) c.in-Set.is)
+
+pub set-requires-clause-top : goal.set-requires-clause-top
+set-requires-clause-top c =
+    value_some c.args.program.now c.args.message.now c.requires.accepted c.requires.mail c.args.self.now c.requires.running.0 c.requires.running.1 c.args.instruction.now c.requires.here (c.requires.named ∙ ap (λ o. Some o) c.in-Set.is)
+
+pub returns-in-Variable : goal.returns-in-Variable
+returns-in-Variable c =
+    rw c.in-Variable.is (IfOk-weaker c.push_variable.result _ _
+    (λ done h s at. had_variable c.args.program.now c.args.message.now c.requires.accepted c.requires.mail c.args.self.now s at c.args.instruction.now c.requires.here (c.requires.named ∙ ap (λ o. Some o) c.in-Variable.is) done c.push_variable.new.self (h.0, h.1 s at.stands)) c.push_variable.ensures)
+
+pub returns-in-Capture : goal.returns-in-Capture
+returns-in-Capture c =
+    rw c.in-Capture.is (IfOk-weaker c.push_capture.result _ _
+    (λ done h s at. had_capture c.args.program.now c.args.message.now c.requires.accepted c.requires.mail c.args.self.now s at c.args.instruction.now c.requires.here (c.requires.named ∙ ap (λ o. Some o) c.in-Capture.is) done c.push_capture.new.self (h.0, h.1 s at.stands)) c.push_capture.ensures)
+
+pub returns-in-Join : goal.returns-in-Join
+returns-in-Join c =
+    rw c.in-Join.is (IfOk-weaker c.join.result _ _
+    (λ done h s at. had_join c.args.program.now c.args.message.now c.requires.accepted c.requires.mail c.args.self.now s at c.args.instruction.now c.requires.here (c.requires.named ∙ ap (λ o. Some o) c.in-Join.is) done c.join.new.self h) c.join.ensures)
+
+pub returns-in-Set : goal.returns-in-Set
+returns-in-Set c =
+    rw c.in-Set.is (IfOk-weaker c.set.result _ _
+    (λ done h s at. had_set c.args.program.now c.args.message.now c.requires.accepted c.requires.mail c.args.self.now s at c.args.instruction.now c.requires.here (c.requires.named ∙ ap (λ o. Some o) c.in-Set.is) done c.set.new.self h) c.set.ensures)
+
+pub returns-in-String : goal.returns-in-String
+returns-in-String c =
+    rw c.in-String.is (IfOk-weaker c.string.result _ _
+    (λ done h s at. had_string c.args.program.now c.args.message.now c.requires.accepted c.requires.mail c.args.self.now s at c.args.instruction.now c.requires.here (c.requires.named ∙ ap (λ o. Some o) c.in-String.is) done c.string.new.self h) c.string.ensures)

@@ -65,7 +65,7 @@ returns-in-On-clause-goes_on c =
     let had = c.in_ok-done.ensures c.requires.running.0 c.requires.running.1 in
     let one = stepped c.args.program.now c.args.message.now c.requires.accepted c.requires.mail c.args.self.now c.requires.running.0 c.requires.running.1 i here c.unwrap-operation.result (sym c.of.ensures ∙ c.unwrap-operation.ensures) in
     let went : GoesFrom done On c.act.new.self = subst (λ f. GoesFrom done f c.act.new.self) c.in-On.is had.0 in
-    λ _. goes_on c.args.program.now c.args.message.now c.requires.accepted c.requires.mail c.args.self.now c.requires.running.0 c.requires.running.1 cost done one c.act.new.self went _ refl refl refl refl refl (ap (λ n. c.act.new.self.charged + n) had.1)
+    λ _. goes_on c.args.program.now c.args.message.now c.requires.accepted c.requires.mail c.args.self.now c.requires.running.0 c.requires.running.1 cost done one c.act.new.self went _ refl refl refl refl (ap (λ n. c.act.new.self.charged + n) had.1)
 
 pub returns-in-To-clause-goes_on : goal.returns-in-To-clause-goes_on
 returns-in-To-clause-goes_on c =
@@ -78,7 +78,7 @@ returns-in-To-clause-goes_on c =
     let had = c.in_ok-done.ensures c.requires.running.0 c.requires.running.1 in
     let one = stepped c.args.program.now c.args.message.now c.requires.accepted c.requires.mail c.args.self.now c.requires.running.0 c.requires.running.1 i here c.unwrap-operation.result (sym c.of.ensures ∙ c.unwrap-operation.ensures) in
     let went : GoesFrom done (To c.in-To.place) c.act.new.self = subst (λ f. GoesFrom done f c.act.new.self) c.in-To.is had.0 in
-    λ _. goes_to c.args.program.now c.args.message.now c.requires.accepted c.requires.mail c.args.self.now c.requires.running.0 c.requires.running.1 cost done one c.act.new.self c.in-To.place went _ refl refl refl refl refl (ap (λ n. c.act.new.self.charged + n) had.1)
+    λ _. goes_to c.args.program.now c.args.message.now c.requires.accepted c.requires.mail c.args.self.now c.requires.running.0 c.requires.running.1 cost done one c.act.new.self c.in-To.place went _ refl refl refl refl (ap (λ n. c.act.new.self.charged + n) had.1)
 
 pub returns-in-Ends-clause-ends : goal.returns-in-Ends-clause-ends
 returns-in-Ends-clause-ends c =
@@ -91,4 +91,4 @@ returns-in-Ends-clause-ends c =
     let had = c.in_ok-done.ensures c.requires.running.0 c.requires.running.1 in
     let one = stepped c.args.program.now c.args.message.now c.requires.accepted c.requires.mail c.args.self.now c.requires.running.0 c.requires.running.1 i here c.unwrap-operation.result (sym c.of.ensures ∙ c.unwrap-operation.ensures) in
     let went : GoesFrom done Ends c.act.new.self = subst (λ f. GoesFrom done f c.act.new.self) c.in-Ends.is had.0 in
-    λ _. comes_to_end c.args.program.now c.args.message.now c.requires.accepted c.requires.mail c.args.self.now c.requires.running.0 c.requires.running.1 cost done one c.act.new.self went _ refl refl refl refl refl (ap (λ n. c.act.new.self.charged + n) had.1)
+    λ _. comes_to_end c.args.program.now c.args.message.now c.requires.accepted c.requires.mail c.args.self.now c.requires.running.0 c.requires.running.1 cost done one c.act.new.self went _ refl refl refl refl (ap (λ n. c.act.new.self.charged + n) had.1)

@@ -1,26 +1,20 @@
-use Rattle.std.proofs.Common.{length, subst, sym, ap, ◌∙◌, arith}
-use Rattle.mail_matching.specs.Texts.{AreTexts}
-use Rattle.sieve_vm.proofs.Pushed.{lent, last_texts}
-use Rattle.sieve_vm.proofs.Tests.{names_tested}
+use Rattle.std.proofs.Common.{◌≡◌, ◌+◌, ◌∷◌, None, Bool, subst, ap, ◌∙◌}
+use Rattle.mime_decode.specs.Scope.{Root}
+use Rattle.mail_matching.specs.HeaderTests.{exists_in, exists_cost}
+use Rattle.sieve_vm.specs.State.{truth}
+use Rattle.sieve_vm.specs.Standing.{Held, StandsFor}
+use Rattle.sieve_vm.proofs.Steps.{charged_at}
+use Rattle.sieve_vm.proofs.Tests.{texts_there, holds_now}
 use Rattle.sieve_vm.proofs.machine.Machine.exists.Goals as goal
-
-pub overflow_sub-below : goal.overflow_sub-below
-overflow_sub-below c =
-    let at = c.requires.1.1 in
-    let is = lent c.args.number c.args.self.now.stack.items c.requires.0.stack c.requires.1.0 at.0.stack at.1 in
-    omega (arith, is.within)
-
-pub exists-found-requires : goal.exists-found-requires
-exists-found-requires c =
-    let at = c.requires.1.1 in
-    let is = lent c.args.number c.args.self.now.stack.items c.requires.0.stack c.requires.1.0 at.0.stack at.1 in
-    subst AreTexts (sym (last_texts c.args.number c.len.result c.args.self.now.stack.items c.deref.result.now c.requires.1.0.texts c.deref.ensures.value (c.len.ensures ∙ sym c.deref.ensures.len ∙ ap length c.deref.ensures.value) is.texts)) at.2
 
 pub returns : goal.returns
 returns c = λ s top stands e.
-    let is = lent c.args.number c.args.self.now.stack.items s.stack top stands.stack e in
-    let counted = c.len.ensures ∙ sym c.deref.ensures.len ∙ ap length c.deref.ensures.value in
-    let same = last_texts c.args.number c.len.result c.args.self.now.stack.items c.deref.result.now top.texts c.deref.ensures.value counted is.texts in
-    let pushes = c.in_ok-push.ensures in
-    names_tested c.args.message.now c.args.self.now s stands c.truncate.new.self c.len.result counted c.args.number top _ c.exists-found.result.0 c.exists-found.result.1 c.push.new.self e same c.truncate.ensures.items
-    c.exists-found.ensures.value c.exists-found.ensures.cost pushes.1
+    let there = texts_there s c.args.self.now stands c.args.number top e in
+    let same = c.texts-names.ensures top there in
+    let mail = c.args.message.now in
+    let right : c.exists-found.result.0 ≡ exists_in Root None top.texts mail = c.exists-found.ensures.value ∙ ap (λ ts. exists_in Root None ts mail) same in
+    let spent : c.exists-found.result.1 ≡ exists_cost Root None top.texts mail = c.exists-found.ensures.cost ∙ ap (λ ts. exists_cost Root None ts mail) same in
+    let left = holds_now s c.args.self.now stands c.drop_texts.new.self (λ (h : Held). record h { stack = top.below }) (c.drop_texts.ensures top there) in (
+      ap (λ n. charged_at (1 + n)) spent,
+      subst (λ (b : Bool). StandsFor (record s { stack = truth b ∷ top.below }) c.push.new.self) right (c.in_ok-push.ensures.1 (record s { stack = top.below }) left),
+    )

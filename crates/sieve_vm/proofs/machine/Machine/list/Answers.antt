@@ -7,8 +7,7 @@ pub returns : goal.returns
 returns c = λ s stands.
     record {
       place = stands.place;
-      stack = stands.stack;
-      captures = stands.captures;
+      work = stands.work;
       actions = c.in_ok-push.ensures.ok ∙ ap (λ l. with_action l c.args.action) stands.actions ∙ sym (first_occurrences-push s.actions c.args.action);
       implicit_keep = stands.implicit_keep;
       charge = stands.charge;

@@ -1,0 +1,18 @@
+use Rattle.std.proofs.Common.{◌≡◌, ◌∷◌, Bool, is_some, refl, subst, ap, ◌∙◌}
+use Rattle.std.specs.Option.{unwrap_or}
+use Rattle.mail_matching.specs.Outcomes.{after}
+use Rattle.sieve_vm.specs.State.{truth}
+use Rattle.sieve_vm.specs.Standing.{Held, StandsFor}
+use Rattle.sieve_vm.proofs.Tests.{holds_now}
+use Rattle.sieve_vm.proofs.machine.Machine.settle.Goals as goal
+
+pub returns : goal.returns
+returns c = (
+  refl,
+  λ s stands.
+      let outcome = c.args.answer.outcome in
+      let kept = holds_now s c.args.self.now stands c.settle.new.self (λ (h : Held). record h { captures = unwrap_or (after outcome h.captures) h.captures }) c.in_ok-matched.ensures.1 in
+      let told : c.in_ok-matched.matched ≡ is_some (after outcome s.captures) = c.in_ok-matched.ensures.0 ∙ ap (λ (h : Held). is_some (after outcome h.captures)) stands.work in
+      subst (λ (b : Bool). StandsFor (record s { stack = truth b ∷ s.stack; captures = unwrap_or (after outcome s.captures) s.captures }) c.push.new.self) told
+      (c.in_ok-push.ensures.1 (record s { captures = unwrap_or (after outcome s.captures) s.captures }) kept),
+)
