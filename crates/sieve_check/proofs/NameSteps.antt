@@ -9,8 +9,7 @@ use Rattle.std.specs.Global.{Vec}
 use Rattle.std.proofs.lemmas.Grind.{flat_map-append}
 use Rattle.std.proofs.lemmas.Bool.{cases_Bool}
 use Rattle.std.proofs.lemmas.List.{length-map, map-append}
-use Rattle.std.proofs.lemmas.Slice.Eq.{bytes_eq-Decides}
-use Rattle.octets.specs.Ascii.{lowercase_of, EqualIgnoringCase}
+use Rattle.octets.specs.Ascii.{lowercase_of}
 use Rattle.octets.specs.Limits.{max_variables}
 use Rattle.octets.specs.Once.{is_listed, with_one, with_more}
 use Rattle.octets.proofs.Once.{more_after, unlisted_added}
@@ -26,29 +25,18 @@ use Rattle.sieve_check.proofs.FromIndex.{split_at}
 
 -- ---- whether a name is among them
 
--- what the comparison says
-same_name : (a b : List ℕ) → EqualIgnoringCase a b → bytes_eq (lowercase_of a) (lowercase_of b) ≡ true
-same_name a b same = (bytes_eq-Decides (lowercase_of a) (lowercase_of b)).1 same
-
-other_name : (a b : List ℕ) → (EqualIgnoringCase a b → ⊥) → bytes_eq (lowercase_of a) (lowercase_of b) ≡ false
-other_name a b differs =
-    elim (cases_Bool (bytes_eq (lowercase_of a) (lowercase_of b))) [
-      | inl same ↦ absurd (differs ((bytes_eq-Decides (lowercase_of a) (lowercase_of b)).0 same))
-      | inr other ↦ other
-    ]
-
 at_index : (name : List ℕ) (names : List (Bor (List ℕ))) (i : ℕ) (d : Bor (List ℕ)) → i < length names
     → is_listed bytes_eq (lowercase_of name) (shown (drop i names)) ≡ (bytes_eq (lowercase_of name) (lowercase_of (get_or names i d).now) || is_listed bytes_eq (lowercase_of name) (shown (drop (i + 1) names)))
 at_index name names i d lt = ap (λ l. is_listed bytes_eq (lowercase_of name) (shown l)) (drop-cons names i d lt ∙ ap (λ n. get_or names i d ∷ drop n names) (sym (add-one i)))
 
-pub found_at_index : (name : List ℕ) (names : List (Bor (List ℕ))) (i : ℕ) (d : Bor (List ℕ)) → i < length names → EqualIgnoringCase name (get_or names i d).now
+pub found_at_index : (name : List ℕ) (names : List (Bor (List ℕ))) (i : ℕ) (d : Bor (List ℕ)) → i < length names → bytes_eq (lowercase_of name) (lowercase_of (get_or names i d).now) ≡ true
     → is_listed bytes_eq (lowercase_of name) (shown (drop i names)) ≡ true
-found_at_index name names i d lt same = at_index name names i d lt ∙ ap (λ b. b || is_listed bytes_eq (lowercase_of name) (shown (drop (i + 1) names))) (same_name name (get_or names i d).now same)
+found_at_index name names i d lt same = at_index name names i d lt ∙ ap (λ b. b || is_listed bytes_eq (lowercase_of name) (shown (drop (i + 1) names))) same
 
-pub passed_at_index : (name : List ℕ) (names : List (Bor (List ℕ))) (i : ℕ) (d : Bor (List ℕ)) → i < length names → (EqualIgnoringCase name (get_or names i d).now → ⊥)
+pub passed_at_index : (name : List ℕ) (names : List (Bor (List ℕ))) (i : ℕ) (d : Bor (List ℕ)) → i < length names → bytes_eq (lowercase_of name) (lowercase_of (get_or names i d).now) ≡ false
     → is_listed bytes_eq (lowercase_of name) (shown (drop (i + 1) names)) ≡ is_listed bytes_eq (lowercase_of name) (shown (drop i names))
 passed_at_index name names i d lt differs =
-    sym (at_index name names i d lt ∙ ap (λ b. b || is_listed bytes_eq (lowercase_of name) (shown (drop (i + 1) names))) (other_name name (get_or names i d).now differs))
+    sym (at_index name names i d lt ∙ ap (λ b. b || is_listed bytes_eq (lowercase_of name) (shown (drop (i + 1) names))) differs)
 
 -- ---- names that are added
 

@@ -20,10 +20,14 @@ pub enum CheckError {
     /// `require` names a capability that isn't known (RFC 5228, section 3.2).
     #[error("refused 17 UnknownCapability at {place}")]
     UnknownCapability { place: usize },
-    /// The command or test stands at a wrong place, or with other arguments, tests or another end than it takes.
+    /// The command or test stands at a wrong place, or with other arguments, tests or another end than it takes; or a
+    /// string of it that is expanded has a reference into a namespace or to a capture after the last one; or `set` gives
+    /// a name that is no identifier (RFC 5229, sections 3 and 4).
     #[error("refused 18 BadArguments at {place}")]
     BadArguments { place: usize },
-    /// A string of the command or test has more octets than the limit, or the lists of a test have more strings.
+    /// A string of the command or test has more octets than the limit, or the lists of a test have more strings; or a
+    /// string of it that is expanded has more segments, or a name of a variable has more octets; or this is the command or
+    /// test with which the script has more variables.
     #[error("refused 19 Limit at {place}")]
     Limit { place: usize },
 }

@@ -53,11 +53,7 @@ impl<'t> Mentions<'t> {
 
     /// Those of a command that is known by that name: none where variables weren't required, or where its arguments aren't
     /// what it takes.
-    pub fn of_command(
-        surroundings: Surroundings,
-        name: CommandName,
-        head: &'t Head,
-    ) -> Mentions<'t>
+    pub fn of_command(surroundings: Surroundings, name: CommandName, head: &'t Head) -> Mentions<'t>
         ensures { mentions_in result ≡ command_mentions (context_of surroundings) name (arguments_of head.now) }
     {
         if !surroundings.required.has(Capability::Variables) {

@@ -1,8 +1,8 @@
 // The static rules: what is wrong with commands and tests (RFC 5228, section 8.2, and each command's own section).
-ghost use Rattle.std.specs.Prelude.{◌≡◌, ◌&&◌, ◌||◌, [], ◌∷◌, map, length, nat_lt};
+ghost use Rattle.std.specs.Prelude.{◌≡◌, ◌&&◌, ◌||◌, [], ◌∷◌, map, length, nat_lt, IsOk, MatchResult};
 ghost use Rattle.octets.specs.Limits.{max_test_strings};
 ghost use Rattle.sieve_parser.specs.View.{argument_tree, command_tree, commands_tree, invocation_tree, more_tests_of};
-ghost use Rattle.sieve_check.specs.Rules.{arguments_of, command_needs, command_visit, command_visits, commands_visits, fault_of, has_large_mention, has_long_string, has_many_strings, head_visits, is_well_formed, known_command_fault, known_test_fault, may_stand, more_visits, same_ending, strings_in, strings_of, test_needs, test_visit, test_visits};
+ghost use Rattle.sieve_check.specs.Rules.{arguments_of, command_needs, command_visit, command_visits, commands_visits, fault_of, has_large_mention, has_long_string, has_many_strings, head_visits, is_well_formed, known_command_fault, known_test_fault, may_stand, more_visits, refusal, same_ending, strings_in, strings_of, test_needs, test_visit, test_visits};
 ghost use Rattle.sieve_check.specs.Signatures.{command_signature, ending_of, reading};
 ghost use Rattle.sieve_check.specs.Refusing.{Judges, Passes, Refuses, context_of, listed, mentions_in, known_command_visit, known_test_visit};
 
@@ -293,6 +293,13 @@ fn known_test<'t>(
     }
 }
 
+// What was found of a command or test, with its place: the number of its identifier's token.
+fn at(head: &Head, judged: Result<(), Fault>) -> Result<(), CheckError>
+    ensures { MatchResult judged (λ _. IsOk result) (λ fault. result ≡ Err (refusal head.now.token fault)) }
+{
+    judged.map_err(|fault| CheckError::of(fault, head.token))
+}
+
 // Nothing, where nothing is wrong with a command, apart from its tests and its block.
 fn command_alone<'t>(
     names: &mut VariableNames<'t>,
@@ -307,7 +314,7 @@ fn command_alone<'t>(
         Some(name) => known_command(names, surroundings, name, head, tests, ending),
         None => Err(Fault::UnknownCommand),
     };
-    judged.map_err(|fault| CheckError::of(fault, head.token))
+    at(head, judged)
 }
 
 // Nothing, where nothing is wrong with a test, apart from its own tests.
@@ -323,7 +330,7 @@ fn test_alone<'t>(
         Some(name) => known_test(names, surroundings, name, head, tests),
         None => Err(Fault::UnknownCommand),
     };
-    judged.map_err(|fault| CheckError::of(fault, head.token))
+    at(head, judged)
 }
 
 // Nothing, where nothing is wrong with a test and its own tests.

@@ -1,5 +1,6 @@
 // The names of variables, as they are met.
-ghost use Rattle.std.specs.Prelude.{◌≤◌, length};
+ghost use Rattle.std.specs.Prelude.{◌≡◌, ◌≤◌, bytes_eq, length};
+ghost use Rattle.octets.specs.Ascii.{lowercase_of};
 ghost use Rattle.octets.specs.Limits.{max_variables};
 
 use crate::error::Fault;
@@ -10,6 +11,13 @@ use sieve_references::{Segment, first_segment};
 
 /// The most variables of a script.
 const MAX_VARIABLES: usize = 128;
+
+// Whether the names are of one variable.
+fn is_same(name: &[u8], other: &[u8]) -> bool
+    ensures { result ≡ bytes_eq (lowercase_of name.now) (lowercase_of other.now) }
+{
+    equal_ignoring_case(name, other)
+}
 
 /// The different names of variables so far, in the order of their first use, lent by the script. Case doesn't matter.
 ///
@@ -43,7 +51,7 @@ impl<'t> VariableNames<'t> {
         ensures { result ≡ is_listed bytes_eq (lowercase_of name.now) (listed self.now) }
     {
         for known in self.names.as_slice() {
-            if equal_ignoring_case(name, known) {
+            if is_same(name, known) {
                 return true;
             }
         }

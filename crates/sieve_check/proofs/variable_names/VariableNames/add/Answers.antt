@@ -12,9 +12,10 @@ returns-then-has c = added_kept (listed c.args.self.now) (lowercase_of c.args.na
 pub returns-then-is_full : goal.returns-then-is_full
 returns-then-is_full c =
     let fresh : is_listed bytes_eq (lowercase_of c.args.name.now) (listed c.args.self.now) ≡ false = sym c.has.ensures ∙ c.if-has.false in
-    let full : length c.args.self.now.names.items ≡ 128 = eqb-true _ _ (sym c.if-is_full.ensures.value) in
-    (refl,
-    omega (arith, full, shown_len c.args.self.now.names.items, ap length (added_new (listed c.args.self.now) (lowercase_of c.args.name.now) fresh), length-append (listed c.args.self.now) (lowercase_of c.args.name.now ∷ [])))
+    let full : length c.args.self.now.names.items ≡ 128 = eqb-true _ _ (sym c.if-is_full.ensures.value) in (
+      refl,
+      omega (arith, full, shown_len c.args.self.now.names.items, ap length (added_new (listed c.args.self.now) (lowercase_of c.args.name.now) fresh), length-append (listed c.args.self.now) (lowercase_of c.args.name.now ∷ [])),
+    )
 
 pub returns : goal.returns
 returns c =

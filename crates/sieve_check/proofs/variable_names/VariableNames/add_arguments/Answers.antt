@@ -13,10 +13,12 @@ returns-in_err-add_argument c =
     let p = err_from_is_err_and c.from_residual.result c.from_residual.ensures.1 in
     let i = c.loop-argument.argument-index in
     let here = arguments_names c.args.arguments.now i c.argument-item.result c.loop-argument-test.true c.argument-item.is in
-    rw (p.1, p.2) (c.in_err-add_argument.ensures.0,
-    many_of_all (listed c.loop-argument.self) (flat_map names_in (strings_in (argument_tree c.argument-item.result))) (flat_map names_in (strings_of (map argument_tree (drop (i + 1) c.args.arguments.now)))) (listed c.args.self.now)
-    (flat_map names_in (strings_of (map argument_tree c.args.arguments.now)))
-    (ap (with_more bytes_eq (listed c.loop-argument.self)) (sym here) ∙ c.loop-argument.invariant) c.in_err-add_argument.ensures.1)
+    rw (p.1, p.2) (
+      c.in_err-add_argument.ensures.0,
+      many_of_all (listed c.loop-argument.self) (flat_map names_in (strings_in (argument_tree c.argument-item.result))) (flat_map names_in (strings_of (map argument_tree (drop (i + 1) c.args.arguments.now)))) (listed c.args.self.now)
+          (flat_map names_in (strings_of (map argument_tree c.args.arguments.now)))
+          (ap (with_more bytes_eq (listed c.loop-argument.self)) (sym here) ∙ c.loop-argument.invariant) c.in_err-add_argument.ensures.1,
+    )
 
 pub loop-argument-preserved : goal.loop-argument-preserved
 loop-argument-preserved c =

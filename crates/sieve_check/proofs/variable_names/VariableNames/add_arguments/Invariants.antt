@@ -10,4 +10,3 @@ use Rattle.sieve_check.proofs.variable_names.VariableNames.add_arguments.Given a
 abbrev pub invariant-loop-argument : goal.invariant-loop-argument
 invariant-loop-argument l =
     (with_more bytes_eq (listed l.self) (flat_map names_in (strings_of (map argument_tree (drop l.argument-index l.arguments)))) ≡ with_more bytes_eq (listed l.fn.self) (flat_map names_in (strings_of (map argument_tree l.arguments))))
-   

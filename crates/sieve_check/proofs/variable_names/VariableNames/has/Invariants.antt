@@ -1,7 +1,6 @@
 use Rattle.std.proofs.Common.{◌≡◌, bytes_eq, drop}
 use Rattle.octets.specs.Ascii.{lowercase_of}
 use Rattle.octets.specs.Once.{is_listed}
-
 use Rattle.sieve_check.specs.Refusing.{shown}
 use Rattle.sieve_check.proofs.variable_names.VariableNames.has.Given as goal
 
