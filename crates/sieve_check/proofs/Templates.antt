@@ -44,6 +44,23 @@ all_fit : (ps : List references.Segment) → sum_by segment_extent (flat_map mea
 all_fit [] = omega arith
 all_fit (p ∷ ps) = omega (arith, meant_fits p, all_fit ps, sum_by-append segment_extent (meant p) (flat_map meant ps), sum_by-cons extent_of p ps)
 
+meant_written : (p : references.Segment) → IsWellFormed p → length (meant p) ≤ sum_by segment_extent (meant p)
+meant_written (stretch octets) formed = omega (arith, formed)
+meant_written (variable name) formed = omega arith
+meant_written (capture n) formed = omega arith
+meant_written beyond formed = omega arith
+meant_written foreign formed = omega arith
+
+all_written : (ps : List references.Segment) → All IsWellFormed ps → length (flat_map meant ps) ≤ sum_by segment_extent (flat_map meant ps)
+all_written [] formed = omega arith
+all_written (p ∷ ps) formed = omega (
+  arith,
+  meant_written p (All-head IsWellFormed p ps formed),
+  all_written ps (All-tail IsWellFormed p ps formed),
+  length-append (meant p) (flat_map meant ps),
+  sum_by-append segment_extent (meant p) (flat_map meant ps),
+)
+
 same_names : (ps : List references.Segment) → flat_map segment_variables (flat_map meant ps) ≡ flat_map names_of ps
 same_names [] = refl
 same_names (stretch octets ∷ ps) = same_names ps
@@ -78,8 +95,8 @@ pub record IsSound (b : Bool) (x : List ℕ) : Type 0 where
   pub few : b ≡ true → length (segments x) ≤ max_segments
 
 pub template_bounded : (b : Bool) (x : List ℕ) → IsSound b x → IsBoundedString (template_at b x)
-template_bounded true x sound = record { few = omega (arith, all_few (segments x), sound.few refl); segments = all_bounded (length x) sound.short (segments x) (each x) (all_formed x) }
-template_bounded false x sound = record { few = omega arith; segments = All-cons IsBoundedSegment (Text x) [] sound.short (All-nil IsBoundedSegment) }
+template_bounded true x sound = record { few = omega (arith, all_few (segments x), sound.few refl); written = omega (arith, all_written (segments x) (all_formed x)); segments = all_bounded (length x) sound.short (segments x) (each x) (all_formed x) }
+template_bounded false x sound = record { few = omega arith; written = omega arith; segments = All-cons IsBoundedSegment (Text x) [] sound.short (All-nil IsBoundedSegment) }
 
 pub template_fits : (b : Bool) (x : List ℕ) → string_extent (template_at b x) ≤ 2 + length x
 template_fits true x = omega (arith, all_fit (segments x), together x)

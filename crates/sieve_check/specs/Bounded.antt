@@ -6,7 +6,7 @@ use Rattle.sieve_references.specs.References.{last_capture}
 use Rattle.sieve_check.specs.declared.typed.Segment.{Segment}
 use Rattle.sieve_check.specs.declared.typed.Segment.TheVariants.{Text, Variable, Capture}
 use Rattle.sieve_check.specs.Typed.{Template, TestForm, constant, negation, all_of, any_of, header, exists, size, string, TestForms, no_test, test, CommandForm, keep, discard, file_into, set, stop, choice, CommandForms, no_command, command, BranchForms, no_branch, otherwise, branch}
-use Rattle.sieve_check.specs.Extent.{commands_extent}
+use Rattle.sieve_check.specs.Extent.{commands_extent, string_extent}
 use Rattle.sieve_check.specs.Variables.{commands_variables}
 
 -- the stretch is no longer than a string may be, and the capture is one of those that there are
@@ -15,9 +15,10 @@ IsBoundedSegment (Text octets) = length octets ≤ max_string
 IsBoundedSegment (Variable name) = Unit {0}
 IsBoundedSegment (Capture n) = n ≤ last_capture
 
--- the string has no more segments than one may have
+-- the string has no more segments than one may have, and none of several is empty
 pub record IsBoundedString (template : Template) : Type 0 where
   pub few : length template ≤ max_segments
+  pub written : length template < string_extent template
   pub segments : All IsBoundedSegment template
 
 -- the list of a test has a string, and no more than one test may have

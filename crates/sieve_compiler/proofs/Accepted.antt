@@ -38,14 +38,14 @@ sound_at all tables last place (j ∷ piece) (suc k) i h e =
     let here : suc place + k ≡ place + suc k = omega arith in
     subst (λ p. IsSound all tables last p i) here (sound_at all tables last (suc place) piece k i h.1 e)
 
-index_kept : (code : Code) (tables : Tables) (o : Option Operation) (i : Instruction) → (code.numbers ≡ tables.numbers) × (code.strings ≡ tables.strings) → IsKnown tables o i → misses_index code (option_and_then (row_of code.version) o) i ≡ false
+index_kept : (code : Code) (tables : Tables) (o : Option Operation) (i : Instruction) → (code.numbers ≡ tables.numbers) × (code.strings ≡ tables.strings) × (code.variables ≡ length tables.variables) → IsKnown tables o i → misses_index code (option_and_then (row_of code.version) o) i ≡ false
 index_kept code tables None i same h = refl
 index_kept code tables (Some Halt) i same h = refl
 index_kept code tables (Some Literal) i same h = let lt = slice_get_within tables.strings i.c h.0 h.1 in rw same.1 (lt-leb (length tables.strings) i.c lt)
-index_kept code tables (Some Variable) i same h = refl
+index_kept code tables (Some Variable) i same h = let lt = slice_get_within tables.variables i.c h.0 h.1 in rw same.2 (lt-leb (length tables.variables) i.c lt)
 index_kept code tables (Some Capture) i same h = refl
 index_kept code tables (Some Join) i same h = refl
-index_kept code tables (Some Set) i same h = refl
+index_kept code tables (Some Set) i same h = let lt = slice_get_within tables.variables i.c h.0 h.1 in rw same.2 (lt-leb (length tables.variables) i.c lt)
 index_kept code tables (Some BoolOp) i same h = refl
 index_kept code tables (Some Not) i same h = refl
 index_kept code tables (Some Jump) i same h = refl
@@ -171,7 +171,7 @@ module _ (script : CommandForms) (bounded : AreBoundedCommands script) where
 
   pub code_accepted : IsAccepted code
   code_accepted = record {
-    index = λ place. nowhere code place _ (λ i e. index_kept code tables (operation_of i.op) i (refl, refl) (sound place i e).index);
+    index = λ place. nowhere code place _ (λ i e. index_kept code tables (operation_of i.op) i (refl, refl, refl) (sound place i e).index);
     form = formed;
     end = ended;
     loop = λ place. nowhere code place _ (λ i e. misses_no_loop code place (operation_of i.op) i (sound place i e).form);

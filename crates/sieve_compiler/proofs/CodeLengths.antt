@@ -1,17 +1,24 @@
 -- The code of each piece is as long as is said.
-use Rattle.std.proofs.Common.{◌≡◌, ℕ, ◌+◌, Bool, false, List, ◌++◌, refl, arith, length}
+use Rattle.std.proofs.Common.{◌≡◌, ℕ, ◌+◌, Bool, false, List, [], ◌∷◌, ◌++◌, refl, sym, ◌∙◌, arith, length, map}
 use Rattle.std.proofs.lemmas.List.{length-append, length-map}
-use Rattle.sieve_check.specs.Typed.{TestForm, constant, negation, all_of, any_of, size, header, exists, TestForms, no_test, test, CommandForm, keep, discard, file_into, stop, choice, CommandForms, no_command, command, BranchForms, no_branch, otherwise, branch}
+use Rattle.std.proofs.lemmas.List.Sums.{sum_by-cons}
+use Rattle.sieve_check.specs.Typed.{Template, TestForm, constant, negation, all_of, any_of, size, header, exists, string, TestForms, no_test, test, CommandForm, keep, discard, file_into, set, stop, choice, CommandForms, no_command, command, BranchForms, no_branch, otherwise, branch}
 use Rattle.sieve_compiler.specs.Tables.{Tables}
-use Rattle.sieve_compiler.specs.Lengths.{test_length, tests_length, leave_length, command_length, commands_length, branches_length}
-use Rattle.sieve_compiler.specs.Coding.{push_string, push_strings, test_code, tests_code, leave_code, command_code, commands_code, branches_code}
+use Rattle.sieve_compiler.specs.Lengths.{string_length, strings_length, test_length, tests_length, leave_length, command_length, commands_length, branches_length}
+use Rattle.sieve_compiler.specs.Coding.{join_texts, push_segment, string_code, strings_code, test_code, tests_code, leave_code, command_code, commands_code, branches_code}
 
 pub length_two : {A : Type 0} (a b : List A) (m n : ℕ) → length a ≡ m → length b ≡ n → length (a ++ b) ≡ m + n
 length_two a b m n e f = let all = length-append a b in omega (arith, all, e, f)
 
 module _ (tables : Tables) where
-  pub strings_length : (ss : List (List ℕ)) → length (push_strings tables ss) ≡ length ss
-  strings_length ss = length-map ss (push_string tables)
+  pub string_code_length : (segments : Template) → length (string_code tables segments) ≡ string_length segments
+  string_code_length [] = refl
+  string_code_length (segment ∷ []) = refl
+  string_code_length (one ∷ other ∷ more) = length_two (map (push_segment tables) (one ∷ other ∷ more)) (join_texts (length (one ∷ other ∷ more)) ∷ []) _ 1 (length-map (one ∷ other ∷ more) (push_segment tables)) refl
+
+  pub strings_code_length : (ss : List Template) → length (strings_code tables ss) ≡ strings_length ss
+  strings_code_length [] = refl
+  strings_code_length (segments ∷ ss) = length_two (string_code tables segments) (strings_code tables ss) _ _ (string_code_length segments) (strings_code_length ss) ∙ sym (sum_by-cons string_length segments ss)
 
   mutual
     pub test_code_length : (t : TestForm) (place : ℕ) (asked : Bool) (target : ℕ) → length (test_code tables place t asked target) ≡ test_length t
@@ -21,8 +28,10 @@ module _ (tables : Tables) where
     test_code_length (any_of t ts) place asked target = length_two _ _ _ _ (test_code_length t place _ _) (tests_code_length ts (place + test_length t) _ _ _ target)
     test_code_length (size order number) place asked target = refl
     test_code_length (header how names keys) place asked target =
-        length_two (push_strings tables names ++ push_strings tables keys) _ (length names + length keys) 2 (length_two (push_strings tables names) (push_strings tables keys) _ _ (strings_length names) (strings_length keys)) refl
-    test_code_length (exists names) place asked target = length_two (push_strings tables names) _ (length names) 2 (strings_length names) refl
+        length_two (strings_code tables names ++ strings_code tables keys) _ (strings_length names + strings_length keys) 2 (length_two (strings_code tables names) (strings_code tables keys) _ _ (strings_code_length names) (strings_code_length keys)) refl
+    test_code_length (exists names) place asked target = length_two (strings_code tables names) _ (strings_length names) 2 (strings_code_length names) refl
+    test_code_length (string how sources keys) place asked target =
+        length_two (strings_code tables sources ++ strings_code tables keys) _ (strings_length sources + strings_length keys) 2 (length_two (strings_code tables sources) (strings_code tables keys) _ _ (strings_code_length sources) (strings_code_length keys)) refl
 
     pub tests_code_length : (ts : TestForms) (place : ℕ) (deciding asked : Bool) (following target : ℕ) → length (tests_code tables place ts deciding asked following target) ≡ tests_length ts
     tests_code_length no_test place deciding asked following target = refl
@@ -37,7 +46,8 @@ module _ (tables : Tables) where
     pub command_code_length : (c : CommandForm) (place : ℕ) → length (command_code tables place c) ≡ command_length c
     command_code_length keep place = refl
     command_code_length discard place = refl
-    command_code_length (file_into folder) place = refl
+    command_code_length (file_into folder) place = length_two (string_code tables folder) _ _ 1 (string_code_length folder) refl
+    command_code_length (set modifiers name value) place = length_two (string_code tables value) _ _ 1 (string_code_length value) refl
     command_code_length stop place = refl
     command_code_length (choice bs) place = branches_code_length bs place _
 

@@ -3,6 +3,7 @@ pub mod CodeLengths
 pub mod Known
 pub mod Sound
 pub mod Accepted
+pub mod Values
 pub mod Meets
 pub mod Walks
 pub mod NumberingLemmas

@@ -1,11 +1,20 @@
 -- The run of a script's code does what the script means.
-use Rattle.std.proofs.Common.{◌≡◌, ℕ, zero, suc, ◌+◌, ◌<◌, ◌≤◌, Bool, true, false, not, List, [], ◌∷◌, ◌++◌, Option, Some, None, option_map, length, append-nil, append_assoc, slice_get, refl, sym, ap, subst, ◌∙◌, arith, if◌then◌else◌}
+use Rattle.std.proofs.Common.{◌≡◌, ℕ, zero, suc, ◌+◌, ◌<◌, ◌≤◌, Bool, true, false, not, bytes_eq, List, [], ◌∷◌, ◌++◌, Option, Some, None, option_map, All, length, map, take, append-nil, append_assoc, slice_get, refl, sym, ap, subst, ◌∙◌, arith, if◌then◌else◌}
+use Rattle.std.specs.List.{concat, flat_map}
 use Rattle.std.proofs.lemmas.Bool.{lt-ltb, le-leb}
+use Rattle.std.proofs.lemmas.List.{length-map, take_all}
+use Rattle.std.proofs.lemmas.List.Elements.{All-head, All-tail}
+use Rattle.std.proofs.lemmas.List.Sums.{sum_by-cons}
+use Rattle.std.proofs.lemmas.Option.{slice_get-map, slice_get_within}
 use Rattle.bytecode_format.specs.declared.instruction.Instruction.{Instruction}
-use Rattle.bytecode_format.specs.declared.operation.Operation.TheVariants.{Halt, Jump, Header, Exists, Keep, Discard, File}
+use Rattle.bytecode_format.specs.declared.modifiers.Modifiers.{Modifiers}
+use Rattle.bytecode_format.specs.declared.operation.Operation.TheVariants.{Halt, Variable as VariableOp, Capture as CaptureOp, Join, Set, String, Jump, Header, Exists, Keep, Discard, File}
 use Rattle.bytecode_format.specs.declared.action.Action.TheVariants as action
 use Rattle.bytecode_format.specs.Actions.{final_actions}
 use Rattle.bytecode_format.specs.Code.{Code}
+use Rattle.bytecode_format.specs.Modifiers.{modified}
+use Rattle.bytecode_format.proofs.ModifierLemmas.{number_again}
+use Rattle.bytecode_verifier.specs.Loops.{loops}
 use Rattle.mime_decode.specs.Mail.{Mail, size_of}
 use Rattle.glob_match.specs.declared.comparator.Comparator.{Comparator}
 use Rattle.glob_match.specs.declared.comparator.Comparator.TheVariants.{Octet, Casemap}
@@ -13,13 +22,19 @@ use Rattle.glob_match.specs.declared.match_type.Match.{Match}
 use Rattle.glob_match.specs.declared.match_type.MatchType.{MatchType}
 use Rattle.glob_match.specs.declared.match_type.MatchType.TheVariants.{Is, Contains, Matches}
 use Rattle.mime_decode.specs.Scope.{Root, Value as WholeValue}
+use Rattle.mail_matching.specs.Costs.{values_cost}
+use Rattle.mail_matching.specs.FirstMatch.{first_match}
 use Rattle.mail_matching.specs.HeaderTests.{exists_in, header_match, header_cost}
-use Rattle.octets.specs.Limits.{max_stack}
-use Rattle.sieve_check.specs.Bounded.{IsBoundedList, AreBoundedLists, IsBoundedTest, AreBoundedTests, IsBoundedCommand, AreBoundedCommands, AreBoundedBranches}
+use Rattle.octets.specs.Limits.{max_stack, max_string, max_value}
+use Rattle.octets.specs.Once.{is_listed}
+use Rattle.sieve_check.specs.Bounded.{IsBoundedSegment, IsBoundedString, IsBoundedList, AreBoundedLists, IsBoundedTest, AreBoundedTests, IsBoundedCommand, AreBoundedCommands, AreBoundedBranches}
 use Rattle.sieve_check.specs.declared.typed.Order.{Order}
 use Rattle.sieve_check.specs.declared.typed.Order.TheVariants.{Over, Under}
-use Rattle.sieve_check.specs.Typed.{TestForm, constant, negation, all_of, any_of, size, header, exists, TestForms, no_test, test, CommandForm, keep, discard, file_into, stop, choice, CommandForms, no_command, command, BranchForms, no_branch, otherwise, branch}
-use Rattle.sieve_meaning.specs.Meaning.{Effects, no_effects, Verdict, verdict, matched, Ending, normal, stopped, broken, effects_of, followed_by, is_size, test_does, all_do, any_do, command_does, commands_do, choice_does, meaning}
+use Rattle.sieve_check.specs.declared.typed.Segment.{Segment}
+use Rattle.sieve_check.specs.declared.typed.Segment.TheVariants.{Text, Variable, Capture}
+use Rattle.sieve_check.specs.Typed.{Template, TestForm, constant, negation, all_of, any_of, size, header, exists, string, TestForms, no_test, test, CommandForm, keep, discard, file_into, set, stop, choice, CommandForms, no_command, command, BranchForms, no_branch, otherwise, branch}
+use Rattle.sieve_check.specs.Variables.{string_variables, commands_variables}
+use Rattle.sieve_meaning.specs.Meaning.{Effects, no_effects, value_of, expanded, all_expanded, with_value, Verdict, verdict, matched, Ending, normal, stopped, broken, effects_of, followed_by, is_size, test_does, all_do, any_do, command_does, commands_do, choice_does, meaning}
 use Rattle.sieve_vm.specs.State.{Value, truth, text, State, Turn, goes, ends, start}
 use Rattle.sieve_vm.specs.Machine.{is_sound_jump, tested, turn, step, turn_at}
 use Rattle.sieve_vm.specs.MatchNumbers.{match_numbered}
@@ -27,16 +42,17 @@ use Rattle.sieve_vm.specs.Stack.{OnTop, with_last, texts_on_top, lists_on_top}
 use Rattle.sieve_vm.specs.Charge.{charge_of}
 use Rattle.sieve_vm.specs.Runs.{Run}
 use Rattle.sieve_vm.specs.Ending.{IsOutcome}
-use Rattle.sieve_compiler.specs.Tables.{Tables, tables_of, place_of_number, place_of_string}
-use Rattle.sieve_compiler.specs.Lengths.{test_length, tests_length, leave_length, command_length, commands_length, branches_length}
-use Rattle.sieve_compiler.specs.Strings.{test_strings, tests_strings, command_strings, commands_strings, branches_strings}
-use Rattle.sieve_compiler.specs.Numbers.{test_numbers, tests_numbers, command_numbers, commands_numbers, branches_numbers}
-use Rattle.sieve_compiler.specs.Coding.{plain, instruction, jump_if, push_bool, push_size, push_string, push_strings, kind_number, comparator_number, match_number, match_fields, find_fields, asked_of, aim_of, test_code, tests_code, leave_code, command_code, commands_code, branches_code, code_of}
+use Rattle.sieve_compiler.specs.Growing.{Uses, uses_with, joined, segment_uses, string_uses, strings_uses, test_uses, tests_uses, command_uses, commands_uses, branches_uses}
+use Rattle.sieve_compiler.specs.Tables.{Tables, tables_of, place_of_number, place_of_string, place_of_variable}
+use Rattle.sieve_compiler.specs.Lengths.{string_length, strings_length, test_length, tests_length, leave_length, command_length, commands_length, branches_length}
+use Rattle.sieve_compiler.specs.Strings.{segment_strings, string_strings}
+use Rattle.sieve_compiler.specs.Coding.{plain, instruction, jump_if, push_bool, push_size, push_text, push_segment, join_texts, string_code, strings_code, set_variable, kind_number, comparator_number, match_number, match_fields, match_texts, find_fields, asked_of, aim_of, test_code, tests_code, leave_code, command_code, commands_code, branches_code, code_of}
 use Rattle.sieve_compiler.proofs.Standing.{Stands, stands_first, stands_next, stands_left, stands_right}
-use Rattle.sieve_compiler.proofs.CodeLengths.{length_two, strings_length, test_code_length, command_code_length}
-use Rattle.sieve_compiler.proofs.Known.{Has, has_left, has_right, has_rest, found, found_string, tables_have}
+use Rattle.sieve_compiler.proofs.CodeLengths.{length_two, string_code_length, strings_code_length, test_code_length, command_code_length}
+use Rattle.sieve_compiler.proofs.Known.{Has, has_left, has_right, found, found_string, found_variable, tables_have}
 use Rattle.sieve_compiler.proofs.Sound.{match_fits, branch_parts_of}
 use Rattle.sieve_compiler.proofs.Accepted.{halt_at, sound, loopless}
+use Rattle.sieve_compiler.proofs.Values.{AreShort, capture_short, none_short, test_short, command_short, variable_set, all_empty, name_itself}
 
 -- where code that was asked for a value stands after it
 abbrev lands : Bool → Bool → ℕ → ℕ → ℕ
@@ -56,7 +72,77 @@ aim_lands true false t ts following target = refl
 aim_lands false true t ts following target = refl
 aim_lands false false t ts following target = refl
 
-module _ (script : CommandForms) (bounded : AreBoundedCommands script) (mail : Mail) where
+-- ---- strings on the stack
+
+-- strings on the stack, the last one on top
+abbrev onto : List (List ℕ) → List Value → List Value
+onto [] stack = stack
+onto (s ∷ ss) stack = onto ss (text s ∷ stack)
+
+on_top_of : (ss : List (List ℕ)) (k : ℕ) (stack : List Value) (top : OnTop) → texts_on_top k stack ≡ Some top → texts_on_top (length ss + k) (onto ss stack) ≡ Some (record { texts = top.texts ++ ss; below = top.below })
+on_top_of [] k stack top e =
+    let same : k ≡ 0 + k = omega arith in
+    subst (λ n. texts_on_top n stack ≡ Some (record { texts = top.texts ++ []; below = top.below })) same
+    (e ∙ ap (λ texts. Some (let t : OnTop = record { texts = texts; below = top.below } in t)) (sym (append-nil top.texts)))
+on_top_of (s ∷ ss) k stack top e =
+    let one : texts_on_top (suc k) (text s ∷ stack) ≡ Some (with_last s top) = ap (option_map (with_last s)) e in
+    let same : length ss + suc k ≡ suc (length ss) + k = omega arith in
+    subst (λ n. texts_on_top n (onto ss (text s ∷ stack)) ≡ Some (record { texts = top.texts ++ (s ∷ ss); below = top.below })) same
+    (on_top_of ss (suc k) (text s ∷ stack) (with_last s top) one ∙ ap (λ texts. Some (let t : OnTop = record { texts = texts; below = top.below } in t)) (append_assoc top.texts (s ∷ []) ss))
+
+-- they are found there again
+on_top : (n : ℕ) (ss : List (List ℕ)) (stack : List Value) → length ss ≡ n → texts_on_top n (onto ss stack) ≡ Some (record { texts = ss; below = stack })
+on_top n ss stack number =
+    let same : length ss + 0 ≡ n = omega (arith, number) in
+    subst (λ m. texts_on_top m (onto ss stack) ≡ Some (record { texts = ss; below = stack })) same (on_top_of ss 0 stack (record { texts = []; below = stack }) refl)
+
+onto_number : (ss : List (List ℕ)) (stack : List Value) → length (onto ss stack) ≡ length ss + length stack
+onto_number [] stack = omega arith
+onto_number (s ∷ ss) stack = omega (arith, onto_number ss (text s ∷ stack))
+
+-- names, and keys above them, are found again
+lists_again : (n k : ℕ) (names keys : List (List ℕ)) → length names ≡ n → length keys ≡ k → lists_on_top n k (onto keys (onto names [])) ≡ Some (record { names = names; keys = keys; below = [] })
+lists_again n k names keys e f = rw (on_top k keys (onto names []) f, on_top n names [] e) refl
+
+-- ---- strings as they are expanded
+
+joined_texts : (e : Effects) (segments : List Segment) → concat (map (value_of e) segments) ≡ flat_map (value_of e) segments
+joined_texts e [] = refl
+joined_texts e (s ∷ ss) = ap (λ rest. value_of e s ++ rest) (joined_texts e ss)
+
+value_short : (e : Effects) (segment : Segment) → AreShort e → IsBoundedSegment segment → length (value_of e segment) ≤ max_string
+value_short e (Text octets) short b = b
+value_short e (Variable name) short b = omega (arith, short.variables name)
+value_short e (Capture n) short b = omega (arith, capture_short e.captures n short.captures)
+
+-- one segment is its value
+one_value : (e : Effects) (segment : Segment) → AreShort e → IsBoundedSegment segment → value_of e segment ≡ expanded e (segment ∷ [])
+one_value e segment short b = sym (ap (take max_string) (append-nil (value_of e segment)) ∙ take_all max_string (value_of e segment) (value_short e segment short b))
+
+no_value : (e : Effects) → [] ≡ expanded e []
+no_value e = sym (take_all max_string [] (omega arith))
+
+-- ---- matches
+
+match_again : (kind : MatchType) (comparator : Comparator) → match_numbered (kind_number kind + comparator_number comparator) ≡ record { kind = kind; comparator = comparator }
+match_again Is Casemap = refl
+match_again Is Octet = refl
+match_again Contains Casemap = refl
+match_again Contains Octet = refl
+match_again Matches Casemap = refl
+match_again Matches Octet = refl
+
+how_again : (how : Match) → match_numbered (match_number how) ≡ how
+how_again how = match_again how.kind how.comparator
+
+turned : (b asked : Bool) (target following : ℕ) → lands b (not asked) target following ≡ lands (not b) asked target following
+turned true true target following = refl
+turned true false target following = refl
+turned false true target following = refl
+turned false false target following = refl
+
+-- where the program has no loops, and each of its jumps leads forward
+module _ (script : CommandForms) (mail : Mail) (no_loop : loops (code_of script) ≡ []) (aimed_forward : (p : ℕ) (asked : Bool) (target : ℕ) → slice_get (code_of script).instructions p ≡ Some (jump_if asked target) → p < target) where
   abbrev code : Code
   code = code_of script
 
@@ -66,13 +152,18 @@ module _ (script : CommandForms) (bounded : AreBoundedCommands script) (mail : M
   abbrev tables : Tables
   tables = tables_of script
 
-  -- at a place where nothing is on the stack, after these effects
+  -- at a place with this stack, after these effects
+  abbrev with_stack : List Value → ℕ → Effects → ℕ → State
+  with_stack stack place e charge =
+      record (start code) { place = place; stack = stack; variables = map e.variables tables.variables; captures = e.captures; actions = e.actions; implicit_keep = e.implicit_keep; charge = charge }
+
+  -- where nothing is on the stack
   abbrev at : ℕ → Effects → ℕ → State
-  at place e charge = record (start code) { place = place; captures = e.captures; actions = e.actions; implicit_keep = e.implicit_keep; charge = charge }
+  at place e charge = with_stack [] place e charge
 
   -- the same, with a truth value on the stack
   abbrev holding : Bool → ℕ → Effects → ℕ → State
-  holding b place e charge = record (at place e charge) { stack = truth b ∷ [] }
+  holding b place e charge = with_stack (truth b ∷ []) place e charge
 
   abbrev Reaches : State → State → Type 0
   Reaches from to = (n : ℕ) × Run code mail n from to
@@ -101,13 +192,13 @@ module _ (script : CommandForms) (bounded : AreBoundedCommands script) (mail : M
   step_at s i turn here h = ap (turn_at code mail s) here ∙ h
 
   sound_jump : (s : State) (i : Instruction) → slice_get all s.place ≡ Some i → s.place < i.c → is_sound_jump code s i ≡ true
-  sound_jump s i here forward = rw (lt-ltb s.place i.c forward, loopless script bounded) refl
+  sound_jump s i here forward = rw (lt-ltb s.place i.c forward, no_loop) refl
 
   bool_step : (p c : ℕ) (b : Bool) (e : Effects) → slice_get all p ≡ Some (push_bool b) → Goes (at p e c) (holding b (suc p) e (c + 1))
   bool_step p c true e here = step_at (at p e c) (push_bool true) _ here refl
   bool_step p c false e here = step_at (at p e c) (push_bool false) _ here refl
 
-  size_step : (p c : ℕ) (order : Order) (n : ℕ) (e : Effects) → Has tables (n ∷ []) [] → slice_get all p ≡ Some (push_size order (place_of_number tables n)) → Goes (at p e c) (holding (is_size order n (size_of mail)) (suc p) e (c + 1))
+  size_step : (p c : ℕ) (order : Order) (n : ℕ) (e : Effects) → Has tables (uses_with (n ∷ []) [] []) → slice_get all p ≡ Some (push_size order (place_of_number tables n)) → Goes (at p e c) (holding (is_size order n (size_of mail)) (suc p) e (c + 1))
   size_step p c Over n e known here = step_at (at p e c) (push_size Over (place_of_number tables n)) _ here (rw (found tables n known) refl)
   size_step p c Under n e known here = step_at (at p e c) (push_size Under (place_of_number tables n)) _ here (rw (found tables n known) refl)
 
@@ -119,10 +210,6 @@ module _ (script : CommandForms) (bounded : AreBoundedCommands script) (mail : M
 
   jump_step : (p c target : ℕ) (e : Effects) → slice_get all p ≡ Some (instruction Jump 0 target) → p < target → Goes (at p e c) (at target e (c + 1))
   jump_step p c target e here forward = step_at (at p e c) (instruction Jump 0 target) _ here (rw (sound_jump (at p e c) (instruction Jump 0 target) here forward) refl)
-
-  aimed_forward : (p : ℕ) (asked : Bool) (target : ℕ) → slice_get all p ≡ Some (jump_if asked target) → p < target
-  aimed_forward p true target here = ((sound script bounded p (jump_if true target) here).jump refl).forward
-  aimed_forward p false target here = ((sound script bounded p (jump_if false target) here).jump refl).forward
 
   -- a test that leaves its truth value, after these effects, and its jump
   tail_run : (p c : ℕ) (i : Instruction) (b asked : Bool) (target : ℕ) (before : State) (f : Effects) → Stands all p (i ∷ jump_if asked target ∷ []) → Goes before (holding b (suc p) f c) → (d : ℕ) × Reaches before (at (lands b asked target (p + 2)) f d)
@@ -138,173 +225,237 @@ module _ (script : CommandForms) (bounded : AreBoundedCommands script) (mail : M
 
   -- ---- strings
 
-  -- strings on the stack, the last one on top
-  abbrev onto : List (List ℕ) → List Value → List Value
-  onto [] stack = stack
-  onto (s ∷ ss) stack = onto ss (text s ∷ stack)
+  -- one step to the next place
+  next_place : (p d : ℕ) (a : State) (stack : List Value) (e : Effects) → Goes a (with_stack stack (suc p) e d) → Reaches a (with_stack stack (p + 1) e d)
+  next_place p d a stack e h = let same : suc p ≡ p + 1 = omega arith in one_step a (with_stack stack (p + 1) e d) (subst (λ n. Goes a (with_stack stack n e d)) same h)
 
-  on_top_of : (ss : List (List ℕ)) (k : ℕ) (stack : List Value) (top : OnTop) → texts_on_top k stack ≡ Some top → texts_on_top (length ss + k) (onto ss stack) ≡ Some (record { texts = top.texts ++ ss; below = top.below })
-  on_top_of [] k stack top e =
-      let same : k ≡ 0 + k = omega arith in
-      subst (λ n. texts_on_top n stack ≡ Some (record { texts = top.texts ++ []; below = top.below })) same
-      (e ∙ ap (λ texts. Some (let t : OnTop = record { texts = texts; below = top.below } in t)) (sym (append-nil top.texts)))
-  on_top_of (s ∷ ss) k stack top e =
-      let one : texts_on_top (suc k) (text s ∷ stack) ≡ Some (with_last s top) = ap (option_map (with_last s)) e in
-      let same : length ss + suc k ≡ suc (length ss) + k = omega arith in
-      subst (λ n. texts_on_top n (onto ss (text s ∷ stack)) ≡ Some (record { texts = top.texts ++ (s ∷ ss); below = top.below })) same
-      (on_top_of ss (suc k) (text s ∷ stack) (with_last s top) one ∙ ap (λ texts. Some (let t : OnTop = record { texts = texts; below = top.below } in t)) (append_assoc top.texts (s ∷ []) ss))
-
-  -- they are found there again
-  on_top : (ss : List (List ℕ)) (stack : List Value) → texts_on_top (length ss) (onto ss stack) ≡ Some (record { texts = ss; below = stack })
-  on_top ss stack =
-      let same : length ss + 0 ≡ length ss = omega arith in
-      subst (λ n. texts_on_top n (onto ss stack) ≡ Some (record { texts = ss; below = stack })) same (on_top_of ss 0 stack (record { texts = []; below = stack }) refl)
-
-  -- at a place with this stack, after these effects
-  abbrev with_stack : List Value → ℕ → Effects → ℕ → State
-  with_stack stack place e charge = record (at place e charge) { stack = stack }
-
-  string_step : (p c : ℕ) (s : List ℕ) (stack : List Value) (e : Effects) → slice_get tables.strings (place_of_string tables s) ≡ Some s → length stack < max_stack → slice_get all p ≡ Some (push_string tables s)
+  text_step : (p c : ℕ) (s : List ℕ) (stack : List Value) (e : Effects) → slice_get tables.strings (place_of_string tables s) ≡ Some s → length stack < max_stack → slice_get all p ≡ Some (push_text tables s)
       → Goes (with_stack stack p e c) (with_stack (text s ∷ stack) (suc p) e (c + 1))
-  string_step p c s stack e there room here = step_at (with_stack stack p e c) (push_string tables s) _ here (rw (there, lt-ltb (length stack) max_stack room) refl)
+  text_step p c s stack e there room here = step_at (with_stack stack p e c) (push_text tables s) _ here (rw (there, lt-ltb (length stack) max_stack room) refl)
 
-  strings_run : (ss : List (List ℕ)) (p c : ℕ) (stack : List Value) (e : Effects) → Stands all p (push_strings tables ss) → Has tables [] ss → length stack + length ss ≤ max_stack
-      → (d : ℕ) × Reaches (with_stack stack p e c) (with_stack (onto ss stack) (p + length ss) e d)
-  strings_run [] p c stack e h known room = let same : p ≡ p + 0 = omega arith in (c, (0, ap (λ n. with_stack stack n e c) same))
-  strings_run (s ∷ ss) p c stack e h known room =
-      let first = string_step p c s stack e (found_string tables s ss known) (omega (arith, room)) (stands_first all p _ _ h) in
+  variable_at : (name : List ℕ) (e : Effects) → Has tables (uses_with [] [] (name ∷ [])) → slice_get (map e.variables tables.variables) (place_of_variable tables name) ≡ Some (e.variables name)
+  variable_at name e known = slice_get-map e.variables tables.variables (place_of_variable tables name) ∙ ap (option_map e.variables) (found_variable tables name [] [] known)
+
+  segment_step : (p c : ℕ) (segment : Segment) (stack : List Value) (e : Effects) → Has tables (segment_uses segment) → IsBoundedSegment segment → length stack < max_stack → slice_get all p ≡ Some (push_segment tables segment)
+      → Goes (with_stack stack p e c) (with_stack (text (value_of e segment) ∷ stack) (suc p) e (c + 1))
+  segment_step p c (Text octets) stack e known b room here = text_step p c octets stack e (found_string tables octets [] [] known) room here
+  segment_step p c (Variable name) stack e known b room here =
+      step_at (with_stack stack p e c) (instruction VariableOp 0 (place_of_variable tables name)) _ here (rw (variable_at name e known, lt-ltb (length stack) max_stack room) refl)
+  segment_step p c (Capture n) stack e known b room here =
+      step_at (with_stack stack p e c) (instruction CaptureOp n 0) _ here (rw (lt-ltb n 10 (omega (arith, b)), lt-ltb (length stack) max_stack room) refl)
+
+  abbrev segments_uses : List Segment → Uses
+  segments_uses segments = uses_with [] (flat_map segment_strings segments) (string_variables segments)
+
+  segments_run : (segments : List Segment) (p c : ℕ) (stack : List Value) (e : Effects) → Stands all p (map (push_segment tables) segments) → Has tables (segments_uses segments) → All IsBoundedSegment segments → length stack + length segments ≤ max_stack
+      → (d : ℕ) × Reaches (with_stack stack p e c) (with_stack (onto (map (value_of e) segments) stack) (p + length segments) e d)
+  segments_run [] p c stack e h known b room = let same : p ≡ p + 0 = omega arith in (c, (0, ap (λ n. with_stack stack n e c) same))
+  segments_run (s ∷ ss) p c stack e h known b room =
+      let first = segment_step p c s stack e (has_left tables (segment_uses s) (segments_uses ss) known) (All-head IsBoundedSegment s ss b) (omega (arith, room)) (stands_first all p _ _ h) in
       let same : suc p + length ss ≡ p + suc (length ss) = omega arith in
-      let rest = strings_run ss (suc p) (c + 1) (text s ∷ stack) e (stands_next all p _ _ h) (has_rest tables s ss known) (omega (arith, room)) in
-      let others = subst (λ n. Reaches (with_stack (text s ∷ stack) (suc p) e (c + 1)) (with_stack (onto (s ∷ ss) stack) n e rest.0)) same rest.1 in
-      (rest.0, after_steps 1 (with_stack stack p e c) (with_stack (text s ∷ stack) (suc p) e (c + 1)) (with_stack (onto (s ∷ ss) stack) (p + suc (length ss)) e rest.0) (with_stack (text s ∷ stack) (suc p) e (c + 1), first, refl) others)
+      let pushed : List Value = text (value_of e s) ∷ stack in
+      let rest = segments_run ss (suc p) (c + 1) pushed e (stands_next all p _ _ h) (has_right tables (segment_uses s) (segments_uses ss) known) (All-tail IsBoundedSegment s ss b) (omega (arith, room)) in
+      let end : ℕ → State = (λ (n : ℕ). with_stack (onto (map (value_of e) (s ∷ ss)) stack) n e rest.0) in
+      let others = subst (λ n. Reaches (with_stack pushed (suc p) e (c + 1)) (end n)) same rest.1 in
+      (rest.0, after_steps 1 (with_stack stack p e c) (with_stack pushed (suc p) e (c + 1)) (end (p + suc (length ss))) (with_stack pushed (suc p) e (c + 1), first, refl) others)
 
-  onto_number : (ss : List (List ℕ)) (stack : List Value) → length (onto ss stack) ≡ length ss + length stack
-  onto_number [] stack = omega arith
-  onto_number (s ∷ ss) stack = omega (arith, onto_number ss (text s ∷ stack))
+  abbrev join_charge : List Segment → List Value → ℕ → Effects → ℕ → ℕ
+  join_charge segments stack p e c = charge_of code mail Join (join_texts (length segments)) (with_stack (onto (map (value_of e) segments) stack) p e c)
 
-  -- ---- tests on fields
+  join_step : (p c : ℕ) (segments : List Segment) (stack : List Value) (e : Effects) → 2 ≤ length segments → length segments ≤ 256 → length stack < max_stack → slice_get all p ≡ Some (join_texts (length segments))
+      → Goes (with_stack (onto (map (value_of e) segments) stack) p e c) (with_stack (text (expanded e segments) ∷ stack) (suc p) e (c + join_charge segments stack p e c))
+  join_step p c segments stack e some few room here =
+      step_at (with_stack (onto (map (value_of e) segments) stack) p e c) (join_texts (length segments)) _ here
+      (rw (le-leb 2 (length segments) some, le-leb (length segments) 256 few, on_top (length segments) (map (value_of e) segments) stack (length-map segments (value_of e)), lt-ltb (length stack) max_stack room, joined_texts e segments) refl)
 
-  match_again : (kind : MatchType) (comparator : Comparator) → match_numbered (kind_number kind + comparator_number comparator) ≡ record { kind = kind; comparator = comparator }
-  match_again Is Casemap = refl
-  match_again Is Octet = refl
-  match_again Contains Casemap = refl
-  match_again Contains Octet = refl
-  match_again Matches Casemap = refl
-  match_again Matches Octet = refl
+  string_run : (segments : Template) (p c : ℕ) (stack : List Value) (e : Effects) → AreShort e → IsBoundedString segments → Stands all p (string_code tables segments) → Has tables (string_uses segments) → length stack ≤ 512
+      → (d : ℕ) × Reaches (with_stack stack p e c) (with_stack (text (expanded e segments) ∷ stack) (p + string_length segments) e d)
+  string_run [] p c stack e short b h known room =
+      let first = text_step p c [] stack e (found_string tables [] [] [] known) (omega (arith, room)) (stands_first all p (push_text tables []) [] h) in
+      (c + 1, subst (λ v. Reaches (with_stack stack p e c) (with_stack (text v ∷ stack) (p + 1) e (c + 1))) (no_value e) (next_place p (c + 1) (with_stack stack p e c) (text [] ∷ stack) e first))
+  string_run (s ∷ []) p c stack e short b h known room =
+      let bound = All-head IsBoundedSegment s [] b.segments in
+      let first = segment_step p c s stack e (has_left tables (segment_uses s) (segments_uses []) known) bound (omega (arith, room)) (stands_first all p (push_segment tables s) [] h) in
+      (c + 1, subst (λ v. Reaches (with_stack stack p e c) (with_stack (text v ∷ stack) (p + 1) e (c + 1))) (one_value e s short bound) (next_place p (c + 1) (with_stack stack p e c) (text (value_of e s) ∷ stack) e first))
+  string_run (one ∷ other ∷ more) p c stack e short b h known room =
+      let segments : List Segment = one ∷ other ∷ more in
+      let pushes = map (push_segment tables) segments in
+      let n : ℕ = length segments in
+      let some : 2 ≤ n = omega arith in
+      let fits : length stack + n ≤ max_stack = omega (arith, room, b.few) in
+      let first = segments_run segments p c stack e (stands_left all p pushes (join_texts n ∷ []) h) known b.segments fits in
+      let there = stands_right all p n pushes (join_texts n ∷ []) (length-map segments (push_segment tables)) h in
+      let d = first.0 + join_charge segments stack (p + n) e first.0 in
+      let last = join_step (p + n) first.0 segments stack e some b.few (omega (arith, room)) (stands_first all (p + n) (join_texts n) [] there) in
+      let middle = with_stack (onto (map (value_of e) segments) stack) (p + n) e first.0 in
+      let end : ℕ → State = (λ (q : ℕ). with_stack (text (expanded e segments) ∷ stack) q e d) in
+      let same : (p + n) + 1 ≡ p + (n + 1) = omega arith in
+      let joins = subst (λ q. Reaches middle (end q)) same (next_place (p + n) d middle (text (expanded e segments) ∷ stack) e last) in
+      (d, after_steps first.1.0 (with_stack stack p e c) middle (end (p + (n + 1))) first.1.1 joins)
 
-  how_again : (how : Match) → match_numbered (match_number how) ≡ how
-  how_again how = match_again how.kind how.comparator
+  strings_run : (ss : List Template) (p c : ℕ) (stack : List Value) (e : Effects) → AreShort e → All IsBoundedString ss → Stands all p (strings_code tables ss) → Has tables (strings_uses ss) → length stack + length ss ≤ 512
+      → (d : ℕ) × Reaches (with_stack stack p e c) (with_stack (onto (all_expanded e ss) stack) (p + strings_length ss) e d)
+  strings_run [] p c stack e short b h known room = let same : p ≡ p + strings_length [] = omega arith in (c, (0, ap (λ n. with_stack stack n e c) same))
+  strings_run (s ∷ ss) p c stack e short b h known room =
+      let first = string_run s p c stack e short (All-head IsBoundedString s ss b) (stands_left all p (string_code tables s) (strings_code tables ss) h) (has_left tables (string_uses s) (strings_uses ss) known) (omega (arith, room)) in
+      let there = stands_right all p (string_length s) (string_code tables s) (strings_code tables ss) (string_code_length tables s) h in
+      let pushed : List Value = text (expanded e s) ∷ stack in
+      let q : ℕ = p + string_length s in
+      let rest = strings_run ss q first.0 pushed e short (All-tail IsBoundedString s ss b) there (has_right tables (string_uses s) (strings_uses ss) known) (omega (arith, room)) in
+      let sum : strings_length (s ∷ ss) ≡ string_length s + strings_length ss = sum_by-cons string_length s ss in
+      let same : q + strings_length ss ≡ p + strings_length (s ∷ ss) = omega (arith, sum) in
+      let end : ℕ → State = (λ (n : ℕ). with_stack (onto (all_expanded e (s ∷ ss)) stack) n e rest.0) in
+      let others = subst (λ n. Reaches (with_stack pushed q e first.0) (end n)) same rest.1 in
+      (rest.0, after_steps first.1.0 (with_stack stack p e c) (with_stack pushed q e first.0) (end (p + strings_length (s ∷ ss))) first.1.1 others)
 
-  -- names, and keys above them, are found again
-  lists_again : (names keys : List (List ℕ)) → lists_on_top (length names) (length keys) (onto keys (onto names [])) ≡ Some (record { names = names; keys = keys; below = [] })
-  lists_again names keys = rw (on_top keys (onto names []), on_top names []) refl
+  -- two lists of strings on the stack
+  abbrev both : Effects → List Template → List Template → List Value
+  both e names keys = onto (all_expanded e keys) (onto (all_expanded e names) [])
+
+  lists_run : (names keys : List Template) (p c : ℕ) (e : Effects) → AreShort e → AreBoundedLists names keys → Stands all p (strings_code tables names ++ strings_code tables keys) → Has tables (joined (strings_uses names) (strings_uses keys))
+      → (d : ℕ) × Reaches (at p e c) (with_stack (both e names keys) (p + (strings_length names + strings_length keys)) e d)
+  lists_run names keys p c e short b h known =
+      let first = strings_run names p c [] e short b.bounded_first (stands_left all p (strings_code tables names) (strings_code tables keys) h) (has_left tables (strings_uses names) (strings_uses keys) known) (omega (arith, b.few)) in
+      let there = stands_right all p (strings_length names) (strings_code tables names) (strings_code tables keys) (strings_code_length tables names) h in
+      let below : List Value = onto (all_expanded e names) [] in
+      let q : ℕ = p + strings_length names in
+      let size = onto_number (all_expanded e names) [] in
+      let own = length-map names (expanded e) in
+      let second = strings_run keys q first.0 below e short b.bounded_second there (has_right tables (strings_uses names) (strings_uses keys) known) (omega (arith, size, own, b.few)) in
+      let same : q + strings_length keys ≡ p + (strings_length names + strings_length keys) = omega arith in
+      let end : ℕ → State = (λ (n : ℕ). with_stack (both e names keys) n e second.0) in
+      let others = subst (λ n. Reaches (with_stack below q e first.0) (end n)) same second.1 in
+      (second.0, after_steps first.1.0 (at p e c) (with_stack below q e first.0) (end (p + (strings_length names + strings_length keys))) first.1.1 others)
+
+  -- ---- tests on fields and texts
 
   -- the turn after a test of values, from what it came to
   tested_turn : (o : Option (List (List ℕ))) (stack : List Value) (p c cost : ℕ) (e : Effects) → turn cost (tested (record (with_stack stack p e c) { stack = [] }) o) ≡ goes (holding (matched o e).value (suc p) (matched o e).effects (c + cost))
   tested_turn None stack p c cost e = refl
   tested_turn (Some captures) stack p c cost e = refl
 
-  abbrev fields_charge : Match → List (List ℕ) → List (List ℕ) → ℕ → Effects → ℕ → ℕ
-  fields_charge how names keys p e c = charge_of code mail Header (match_fields how (length names) (length keys)) (with_stack (onto keys (onto names [])) p e c)
+  abbrev fields_charge : Match → List Template → List Template → ℕ → Effects → ℕ → ℕ
+  fields_charge how names keys p e c = charge_of code mail Header (match_fields how (length names) (length keys)) (with_stack (both e names keys) p e c)
 
-  fields_step : (p c : ℕ) (how : Match) (names keys : List (List ℕ)) (e : Effects) → AreBoundedLists names keys → slice_get all p ≡ Some (match_fields how (length names) (length keys))
-      → let v = test_does mail None (header how names keys) e in Goes (with_stack (onto keys (onto names [])) p e c) (holding v.value (suc p) v.effects (c + fields_charge how names keys p e c))
+  both_again : (e : Effects) (names keys : List Template) → lists_on_top (length names) (length keys) (both e names keys) ≡ Some (record { names = all_expanded e names; keys = all_expanded e keys; below = [] })
+  both_again e names keys = lists_again (length names) (length keys) (all_expanded e names) (all_expanded e keys) (length-map names (expanded e)) (length-map keys (expanded e))
+
+  fields_step : (p c : ℕ) (how : Match) (names keys : List Template) (e : Effects) → AreBoundedLists names keys → slice_get all p ≡ Some (match_fields how (length names) (length keys))
+      → let v = test_does mail None (header how names keys) e in Goes (with_stack (both e names keys) p e c) (holding v.value (suc p) v.effects (c + fields_charge how names keys p e c))
   fields_step p c how names keys e b here =
-      let s = with_stack (onto keys (onto names [])) p e c in
+      let s = with_stack (both e names keys) p e c in
       let i = match_fields how (length names) (length keys) in
-      let o = header_match how Root None WholeValue names keys mail e.captures in
+      let o = header_match how Root None WholeValue (all_expanded e names) (all_expanded e keys) mail e.captures in
       step_at s i _ here
-      (rw (match_fits how.kind how.comparator, le-leb 1 (length names) b.some_first, le-leb (length names) 512 (omega (arith, b.few)), le-leb 1 (length keys) b.some_second, le-leb (length keys) 512 (omega (arith, b.few)), lists_again names keys, how_again how)
-      (tested_turn o (onto keys (onto names [])) p c (1 + header_cost Root None WholeValue names keys mail) e))
+      (rw (match_fits how.kind how.comparator, le-leb 1 (length names) b.some_first, le-leb (length names) 512 (omega (arith, b.few)), le-leb 1 (length keys) b.some_second, le-leb (length keys) 512 (omega (arith, b.few)), both_again e names keys, how_again how)
+      (tested_turn o (both e names keys) p c (1 + header_cost Root None WholeValue (all_expanded e names) (all_expanded e keys) mail) e))
 
-  names_step : (p c : ℕ) (names : List (List ℕ)) (e : Effects) → IsBoundedList names → slice_get all p ≡ Some (find_fields (length names))
-      → Goes (with_stack (onto names []) p e c) (holding (exists_in Root None names mail) (suc p) e (c + charge_of code mail Exists (find_fields (length names)) (with_stack (onto names []) p e c)))
+  abbrev texts_charge : Match → List Template → List Template → ℕ → Effects → ℕ → ℕ
+  texts_charge how sources keys p e c = charge_of code mail String (match_texts how (length sources) (length keys)) (with_stack (both e sources keys) p e c)
+
+  texts_step : (p c : ℕ) (how : Match) (sources keys : List Template) (e : Effects) → AreBoundedLists sources keys → slice_get all p ≡ Some (match_texts how (length sources) (length keys))
+      → let v = test_does mail None (string how sources keys) e in Goes (with_stack (both e sources keys) p e c) (holding v.value (suc p) v.effects (c + texts_charge how sources keys p e c))
+  texts_step p c how sources keys e b here =
+      let s = with_stack (both e sources keys) p e c in
+      let i = match_texts how (length sources) (length keys) in
+      let o = first_match how (all_expanded e sources) (all_expanded e keys) e.captures in
+      step_at s i _ here
+      (rw (match_fits how.kind how.comparator, le-leb 1 (length sources) b.some_first, le-leb (length sources) 512 (omega (arith, b.few)), le-leb 1 (length keys) b.some_second, le-leb (length keys) 512 (omega (arith, b.few)), both_again e sources keys, how_again how)
+      (tested_turn o (both e sources keys) p c (1 + values_cost (all_expanded e sources) (all_expanded e keys)) e))
+
+  abbrev names_charge : List Template → ℕ → Effects → ℕ → ℕ
+  names_charge names p e c = charge_of code mail Exists (find_fields (length names)) (with_stack (onto (all_expanded e names) []) p e c)
+
+  names_step : (p c : ℕ) (names : List Template) (e : Effects) → IsBoundedList names → slice_get all p ≡ Some (find_fields (length names))
+      → Goes (with_stack (onto (all_expanded e names) []) p e c) (holding (exists_in Root None (all_expanded e names) mail) (suc p) e (c + names_charge names p e c))
   names_step p c names e b here =
-      let s = with_stack (onto names []) p e c in
+      let s = with_stack (onto (all_expanded e names) []) p e c in
       let i = find_fields (length names) in
-      step_at s i _ here (rw (le-leb 1 (length names) b.some, le-leb (length names) 512 (omega (arith, b.few)), on_top names []) refl)
+      step_at s i _ here (rw (le-leb 1 (length names) b.some, le-leb (length names) 512 (omega (arith, b.few)), on_top (length names) (all_expanded e names) [] (length-map names (expanded e))) refl)
 
-  turned : (b asked : Bool) (target following : ℕ) → lands b (not asked) target following ≡ lands (not b) asked target following
-  turned true true target following = refl
-  turned true false target following = refl
-  turned false true target following = refl
-  turned false false target following = refl
+  -- a test of two lists: they are pushed, and then its instruction leaves its truth value
+  two_lists_run : (names keys : List Template) (p : ℕ) (i : Instruction) (v : Verdict) (cost : ℕ → ℕ) (asked : Bool) (target : ℕ) (e : Effects) → AreShort e → AreBoundedLists names keys
+      → Stands all p (strings_code tables names ++ strings_code tables keys ++ i ∷ jump_if asked target ∷ []) → Has tables (joined (strings_uses names) (strings_uses keys))
+      → ((c : ℕ) → slice_get all (p + (strings_length names + strings_length keys)) ≡ Some i → Goes (with_stack (both e names keys) (p + (strings_length names + strings_length keys)) e c) (holding v.value (suc (p + (strings_length names + strings_length keys))) v.effects (c + cost c)))
+      → Comes p e (lands v.value asked target (p + (strings_length names + strings_length keys + 2))) v.effects
+  two_lists_run names keys p i v cost asked target e short b h known does = λ c.
+      let pushes = strings_code tables names ++ strings_code tables keys in
+      let n : ℕ = strings_length names + strings_length keys in
+      let number = length_two (strings_code tables names) (strings_code tables keys) _ _ (strings_code_length tables names) (strings_code_length tables keys) in
+      let first = lists_run names keys p c e short b (stands_left all p pushes _ h) known in
+      let q : ℕ = p + n in
+      let rest = stands_right all p n pushes (i ∷ jump_if asked target ∷ []) number h in
+      let middle = with_stack (both e names keys) q e first.0 in
+      let second = tail_run q (first.0 + cost first.0) i v.value asked target middle v.effects rest (does first.0 (stands_first all q i (jump_if asked target ∷ []) rest)) in
+      let done : q + 2 ≡ p + (n + 2) = omega arith in
+      let last = subst (λ m. Reaches middle (at (lands v.value asked target m) v.effects second.0)) done second.1 in
+      (second.0, after_steps first.1.0 (at p e c) middle _ first.1.1 last)
 
   -- a test goes to its target where it is as asked, and on after its code where it isn't
   mutual
-    test_run : (t : TestForm) (p : ℕ) (asked : Bool) (target : ℕ) (e : Effects) → Stands all p (test_code tables p t asked target) → Has tables (test_numbers t) (test_strings t) → IsBoundedTest t
+    test_run : (t : TestForm) (p : ℕ) (asked : Bool) (target : ℕ) (e : Effects) → Stands all p (test_code tables p t asked target) → Has tables (test_uses t) → IsBoundedTest t → AreShort e
         → Comes p e (lands (test_does mail None t e).value asked target (p + test_length t)) (test_does mail None t e).effects
-    test_run (constant v) p asked target e h known b = λ c.
+    test_run (constant v) p asked target e h known b short = λ c.
         simple_run p c (push_bool v) v asked target e h (bool_step p c v e (stands_first all p (push_bool v) (jump_if asked target ∷ []) h))
-    test_run (size order n) p asked target e h known b = λ c.
+    test_run (size order n) p asked target e h known b short = λ c.
         simple_run p c (push_size order (place_of_number tables n)) (is_size order n (size_of mail)) asked target e h (size_step p c order n e known (stands_first all p (push_size order (place_of_number tables n)) (jump_if asked target ∷ []) h))
-    test_run (header how names keys) p asked target e h known b = λ c.
-        let ln = strings_length tables names in
-        let lk = strings_length tables keys in
-        let number = length_two (push_strings tables names) (push_strings tables keys) _ _ ln lk in
-        let strings = stands_left all p (push_strings tables names ++ push_strings tables keys) _ h in
-        let first = strings_run names p c [] e (stands_left all p (push_strings tables names) _ strings) (has_left tables [] [] names keys known) (omega (arith, b.few)) in
-        let there = stands_right all p (length names) (push_strings tables names) _ ln strings in
-        let size = onto_number names [] in
-        let second = strings_run keys (p + length names) first.0 (onto names []) e there (has_right tables [] [] names keys known) (omega (arith, size, b.few)) in
-        let q = p + length names + length keys in
-        let same : p + (length names + length keys) ≡ q = omega arith in
-        let i = match_fields how (length names) (length keys) in
-        let tail = subst (λ n. Stands all n (i ∷ jump_if asked target ∷ [])) same (stands_right all p (length names + length keys) (push_strings tables names ++ push_strings tables keys) (i ∷ jump_if asked target ∷ []) number h) in
+    test_run (header how names keys) p asked target e h known b short =
         let v = test_does mail None (header how names keys) e in
-        let third = tail_run q (second.0 + fields_charge how names keys q e second.0) i v.value asked target (with_stack (onto keys (onto names [])) q e second.0) v.effects tail (fields_step q second.0 how names keys e b (stands_first all q i (jump_if asked target ∷ []) tail)) in
-        let done : q + 2 ≡ p + (length names + length keys + 2) = omega arith in
-        let last = subst (λ n. Reaches (with_stack (onto keys (onto names [])) q e second.0) (at (lands v.value asked target n) v.effects third.0)) done third.1 in
-        (third.0, after_steps first.1.0 (at p e c) (with_stack (onto names []) (p + length names) e first.0) _ first.1.1 (after_steps second.1.0 (with_stack (onto names []) (p + length names) e first.0) (with_stack (onto keys (onto names [])) q e second.0) _ second.1.1 last))
-    test_run (exists names) p asked target e h known b = λ c.
-        let ln = strings_length tables names in
-        let first = strings_run names p c [] e (stands_left all p (push_strings tables names) _ h) known (omega (arith, b.few)) in
-        let q = p + length names in
+        let q : ℕ = p + (strings_length names + strings_length keys) in
+        two_lists_run names keys p (match_fields how (length names) (length keys)) v (λ c. fields_charge how names keys q e c) asked target e short b h known (λ c here. fields_step q c how names keys e b here)
+    test_run (string how sources keys) p asked target e h known b short =
+        let v = test_does mail None (string how sources keys) e in
+        let q : ℕ = p + (strings_length sources + strings_length keys) in
+        two_lists_run sources keys p (match_texts how (length sources) (length keys)) v (λ c. texts_charge how sources keys q e c) asked target e short b h known (λ c here. texts_step q c how sources keys e b here)
+    test_run (exists names) p asked target e h known b short = λ c.
+        let first = strings_run names p c [] e short b.bounded (stands_left all p (strings_code tables names) _ h) known (omega (arith, b.few)) in
+        let q : ℕ = p + strings_length names in
         let i = find_fields (length names) in
-        let tail = stands_right all p (length names) (push_strings tables names) (i ∷ jump_if asked target ∷ []) ln h in
-        let v = exists_in Root None names mail in
-        let second = tail_run q (first.0 + charge_of code mail Exists i (with_stack (onto names []) q e first.0)) i v asked target (with_stack (onto names []) q e first.0) e tail (names_step q first.0 names e b (stands_first all q i (jump_if asked target ∷ []) tail)) in
-        let done : q + 2 ≡ p + (length names + 2) = omega arith in
-        let last = subst (λ n. Reaches (with_stack (onto names []) q e first.0) (at (lands v asked target n) e second.0)) done second.1 in
-        (second.0, after_steps first.1.0 (at p e c) (with_stack (onto names []) q e first.0) _ first.1.1 last)
-    test_run (negation t) p asked target e h known b =
+        let rest = stands_right all p (strings_length names) (strings_code tables names) (i ∷ jump_if asked target ∷ []) (strings_code_length tables names) h in
+        let v = exists_in Root None (all_expanded e names) mail in
+        let middle = with_stack (onto (all_expanded e names) []) q e first.0 in
+        let second = tail_run q (first.0 + names_charge names q e first.0) i v asked target middle e rest (names_step q first.0 names e b (stands_first all q i (jump_if asked target ∷ []) rest)) in
+        let done : q + 2 ≡ p + (strings_length names + 2) = omega arith in
+        let last = subst (λ n. Reaches middle (at (lands v asked target n) e second.0)) done second.1 in
+        (second.0, after_steps first.1.0 (at p e c) middle _ first.1.1 last)
+    test_run (negation t) p asked target e h known b short =
         let v = test_does mail None t e in
-        subst (λ q. Comes p e q v.effects) (turned (test_does mail None t e).value asked target (p + test_length t)) (test_run t p (not asked) target e h known b)
-    test_run (all_of t ts) p asked target e h known b =
+        subst (λ q. Comes p e q v.effects) (turned (test_does mail None t e).value asked target (p + test_length t)) (test_run t p (not asked) target e h known b short)
+    test_run (all_of t ts) p asked target e h known b short =
         let following = p + (test_length t + tests_length ts) in
         let same : (p + test_length t) + tests_length ts ≡ following = omega arith in
-        let first = test_run t p _ _ e (stands_left all p _ _ h) (has_left tables (test_numbers t) (tests_numbers ts) (test_strings t) (tests_strings ts) known) b.0 in
+        let first = test_run t p _ _ e (stands_left all p _ _ h) (has_left tables (test_uses t) (tests_uses ts) known) b.0 short in
         let there = stands_right all p (test_length t) _ _ (test_code_length tables t p _ _) h in
-        let rest = tests_run ts (p + test_length t) false asked following target (test_does mail None t e).value (test_does mail None t e).effects there (has_right tables (test_numbers t) (tests_numbers ts) (test_strings t) (tests_strings ts) known) b.1 same in
+        let rest = tests_run ts (p + test_length t) false asked following target (test_does mail None t e).value (test_does mail None t e).effects there (has_right tables (test_uses t) (tests_uses ts) known) b.1 (test_short mail t e short) same in
         comes_then p _ _ e (test_does mail None t e).effects (listed mail false (test_does mail None t e).value (test_does mail None t e).effects ts).effects first rest
-    test_run (any_of t ts) p asked target e h known b =
+    test_run (any_of t ts) p asked target e h known b short =
         let following = p + (test_length t + tests_length ts) in
         let same : (p + test_length t) + tests_length ts ≡ following = omega arith in
-        let first = test_run t p _ _ e (stands_left all p _ _ h) (has_left tables (test_numbers t) (tests_numbers ts) (test_strings t) (tests_strings ts) known) b.0 in
+        let first = test_run t p _ _ e (stands_left all p _ _ h) (has_left tables (test_uses t) (tests_uses ts) known) b.0 short in
         let there = stands_right all p (test_length t) _ _ (test_code_length tables t p _ _) h in
-        let rest = tests_run ts (p + test_length t) true asked following target (test_does mail None t e).value (test_does mail None t e).effects there (has_right tables (test_numbers t) (tests_numbers ts) (test_strings t) (tests_strings ts) known) b.1 same in
+        let rest = tests_run ts (p + test_length t) true asked following target (test_does mail None t e).value (test_does mail None t e).effects there (has_right tables (test_uses t) (tests_uses ts) known) b.1 (test_short mail t e short) same in
         comes_then p _ _ e (test_does mail None t e).effects (listed mail true (test_does mail None t e).value (test_does mail None t e).effects ts).effects first rest
 
     -- from where the test before the rest has gone, by its value v and the effects by then
-    tests_run : (ts : TestForms) (p : ℕ) (deciding asked : Bool) (following target : ℕ) (v : Bool) (e : Effects) → Stands all p (tests_code tables p ts deciding asked following target) → Has tables (tests_numbers ts) (tests_strings ts) → AreBoundedTests ts → p + tests_length ts ≡ following
+    tests_run : (ts : TestForms) (p : ℕ) (deciding asked : Bool) (following target : ℕ) (v : Bool) (e : Effects) → Stands all p (tests_code tables p ts deciding asked following target) → Has tables (tests_uses ts) → AreBoundedTests ts → AreShort e → p + tests_length ts ≡ following
         → Comes (lands v (asked_of deciding asked ts) (aim_of deciding asked ts following target) p) e (lands (listed mail deciding v e ts).value asked target following) (listed mail deciding v e ts).effects
-    tests_run no_test p false asked following target true e h known b done = comes_here _ _ e (let here : p ≡ following = omega (arith, done) in rw here refl)
-    tests_run no_test p false asked following target false e h known b done = comes_here _ _ e (let here : p ≡ following = omega (arith, done) in rw here refl)
-    tests_run no_test p true asked following target true e h known b done = comes_here _ _ e (let here : p ≡ following = omega (arith, done) in rw here refl)
-    tests_run no_test p true asked following target false e h known b done = comes_here _ _ e (let here : p ≡ following = omega (arith, done) in rw here refl)
-    tests_run (test t ts) p false asked following target false e h known b done = comes_here _ _ e (aim_lands false asked t ts following target)
-    tests_run (test t ts) p true asked following target true e h known b done = comes_here _ _ e (aim_lands true asked t ts following target)
-    tests_run (test t ts) p false asked following target true e h known b done =
+    tests_run no_test p false asked following target true e h known b short done = comes_here _ _ e (let here : p ≡ following = omega (arith, done) in rw here refl)
+    tests_run no_test p false asked following target false e h known b short done = comes_here _ _ e (let here : p ≡ following = omega (arith, done) in rw here refl)
+    tests_run no_test p true asked following target true e h known b short done = comes_here _ _ e (let here : p ≡ following = omega (arith, done) in rw here refl)
+    tests_run no_test p true asked following target false e h known b short done = comes_here _ _ e (let here : p ≡ following = omega (arith, done) in rw here refl)
+    tests_run (test t ts) p false asked following target false e h known b short done = comes_here _ _ e (aim_lands false asked t ts following target)
+    tests_run (test t ts) p true asked following target true e h known b short done = comes_here _ _ e (aim_lands true asked t ts following target)
+    tests_run (test t ts) p false asked following target true e h known b short done =
         let same : (p + test_length t) + tests_length ts ≡ following = omega (arith, done) in
-        let first = test_run t p _ _ e (stands_left all p _ _ h) (has_left tables (test_numbers t) (tests_numbers ts) (test_strings t) (tests_strings ts) known) b.0 in
+        let first = test_run t p _ _ e (stands_left all p _ _ h) (has_left tables (test_uses t) (tests_uses ts) known) b.0 short in
         let there = stands_right all p (test_length t) _ _ (test_code_length tables t p _ _) h in
-        let rest = tests_run ts (p + test_length t) false asked following target (test_does mail None t e).value (test_does mail None t e).effects there (has_right tables (test_numbers t) (tests_numbers ts) (test_strings t) (tests_strings ts) known) b.1 same in
+        let rest = tests_run ts (p + test_length t) false asked following target (test_does mail None t e).value (test_does mail None t e).effects there (has_right tables (test_uses t) (tests_uses ts) known) b.1 (test_short mail t e short) same in
         comes_then p _ _ e (test_does mail None t e).effects (listed mail false (test_does mail None t e).value (test_does mail None t e).effects ts).effects first rest
-    tests_run (test t ts) p true asked following target false e h known b done =
+    tests_run (test t ts) p true asked following target false e h known b short done =
         let same : (p + test_length t) + tests_length ts ≡ following = omega (arith, done) in
-        let first = test_run t p _ _ e (stands_left all p _ _ h) (has_left tables (test_numbers t) (tests_numbers ts) (test_strings t) (tests_strings ts) known) b.0 in
+        let first = test_run t p _ _ e (stands_left all p _ _ h) (has_left tables (test_uses t) (tests_uses ts) known) b.0 short in
         let there = stands_right all p (test_length t) _ _ (test_code_length tables t p _ _) h in
-        let rest = tests_run ts (p + test_length t) true asked following target (test_does mail None t e).value (test_does mail None t e).effects there (has_right tables (test_numbers t) (tests_numbers ts) (test_strings t) (tests_strings ts) known) b.1 same in
+        let rest = tests_run ts (p + test_length t) true asked following target (test_does mail None t e).value (test_does mail None t e).effects there (has_right tables (test_uses t) (tests_uses ts) known) b.1 (test_short mail t e short) same in
         comes_then p _ _ e (test_does mail None t e).effects (listed mail true (test_does mail None t e).value (test_does mail None t e).effects ts).effects first rest
 
   -- where commands lead that begin at a place, by how they end
@@ -318,10 +469,10 @@ module _ (script : CommandForms) (bounded : AreBoundedCommands script) (mail : M
   arrives_after (broken n g) p q r e f h k = absurd k
   arrives_after (stopped g) p q r e f h k = (k.0, comes_then p q k.0 e f g h k.1, k.2)
 
-  arrives_then : (x : Ending) (next : Effects → Ending) (p q r : ℕ) (e : Effects) → Arrives x p q e → ((f : Effects) → Arrives (next f) q r f) → Arrives (followed_by x next) p r e
-  arrives_then (normal f) next p q r e h k = arrives_after (next f) p q r e f h (k f)
-  arrives_then (broken n f) next p q r e h k = absurd h
-  arrives_then (stopped f) next p q r e h k = h
+  arrives_then : (x : Ending) (next : Effects → Ending) (p q r : ℕ) (e : Effects) → Arrives x p q e → AreShort (effects_of x) → ((f : Effects) → AreShort f → Arrives (next f) q r f) → Arrives (followed_by x next) p r e
+  arrives_then (normal f) next p q r e h short k = arrives_after (next f) p q r e f h (k f short)
+  arrives_then (broken n f) next p q r e h short k = absurd h
+  arrives_then (stopped f) next p q r e h short k = h
 
   arrives_at : (x : Ending) (p q r : ℕ) (e : Effects) → ((f : Effects) → Comes q f r f) → Arrives x p q e → Arrives x p r e
   arrives_at (normal f) p q r e go h = comes_then p q r e f f h (go f)
@@ -342,16 +493,40 @@ module _ (script : CommandForms) (bounded : AreBoundedCommands script) (mail : M
       let step_here : Goes (at p e c) (at (suc p) f (c + 1)) = step_at (at p e c) (plain Discard) _ here refl in
       (c + 1, one_step (at p e c) (at (p + 1) f (c + 1)) (subst (λ n. Goes (at p e c) (at n f (c + 1))) same step_here))
 
-  file_run : (p : ℕ) (folder : List ℕ) (e : Effects) → Stands all p (push_string tables folder ∷ plain File ∷ []) → slice_get tables.strings (place_of_string tables folder) ≡ Some folder
-      → Comes p e (p + 2) (record e { actions = e.actions ++ action.File folder ∷ []; implicit_keep = false })
-  file_run p folder e h there c =
-      let f : Effects = record e { actions = e.actions ++ action.File folder ∷ []; implicit_keep = false } in
-      let room : 0 < max_stack = omega arith in
-      let middle = with_stack (text folder ∷ []) (suc p) e (c + 1) in
-      let first = string_step p c folder [] e there room (stands_first all p (push_string tables folder) (plain File ∷ []) h) in
-      let last : Goes middle (at (suc (suc p)) f (c + 1 + (1 + length folder))) = step_at middle (plain File) _ (stands_first all (suc p) (plain File) [] (stands_next all p (push_string tables folder) (plain File ∷ []) h)) refl in
-      let same : suc (suc p) ≡ p + 2 = omega arith in
-      (c + 1 + (1 + length folder), (2, (middle, first, (at (p + 2) f (c + 1 + (1 + length folder)), subst (λ n. Goes middle (at n f (c + 1 + (1 + length folder)))) same last, refl))))
+  -- a string, then the instruction that takes it
+  taken_run : (segments : Template) (p : ℕ) (i : Instruction) (cost : ℕ → ℕ) (e f : Effects) → AreShort e → IsBoundedString segments → Stands all p (string_code tables segments ++ i ∷ []) → Has tables (string_uses segments)
+      → ((c : ℕ) → slice_get all (p + string_length segments) ≡ Some i → Goes (with_stack (text (expanded e segments) ∷ []) (p + string_length segments) e c) (at (suc (p + string_length segments)) f (c + cost c)))
+      → Comes p e (p + (string_length segments + 1)) f
+  taken_run segments p i cost e f short b h known does = λ c.
+      let first = string_run segments p c [] e short b (stands_left all p (string_code tables segments) (i ∷ []) h) known (omega arith) in
+      let q : ℕ = p + string_length segments in
+      let rest = stands_right all p (string_length segments) (string_code tables segments) (i ∷ []) (string_code_length tables segments) h in
+      let middle = with_stack (text (expanded e segments) ∷ []) q e first.0 in
+      let d : ℕ = first.0 + cost first.0 in
+      let last = next_place q d middle [] f (does first.0 (stands_first all q i [] rest)) in
+      let same : q + 1 ≡ p + (string_length segments + 1) = omega arith in
+      (d, after_steps first.1.0 (at p e c) middle (at (p + (string_length segments + 1)) f d) first.1.1 (subst (λ n. Reaches middle (at n f d)) same last))
+
+  file_step : (p c : ℕ) (folder : List ℕ) (e : Effects) → slice_get all p ≡ Some (plain File)
+      → Goes (with_stack (text folder ∷ []) p e c) (at (suc p) (record e { actions = e.actions ++ action.File folder ∷ []; implicit_keep = false }) (c + (1 + length folder)))
+  file_step p c folder e here = step_at (with_stack (text folder ∷ []) p e c) (plain File) _ here refl
+
+  variable_listed : (name : List ℕ) (uses : Uses) → Has tables (joined uses (uses_with [] [] (name ∷ []))) → is_listed bytes_eq name tables.variables ≡ true
+  variable_listed name uses known = (has_right tables uses (uses_with [] [] (name ∷ [])) known).variables name (name_itself name)
+
+  set_step : (p c : ℕ) (modifiers : Modifiers) (name octets : List ℕ) (e : Effects) → Has tables (uses_with [] [] (name ∷ [])) → slice_get all p ≡ Some (set_variable tables modifiers name)
+      → Goes (with_stack (text octets ∷ []) p e c) (at (suc p) (record e { variables = with_value name (take max_value (modified modifiers octets)) e.variables }) (c + (1 + length octets)))
+  set_step p c modifiers name octets e known here =
+      let place = place_of_variable tables name in
+      let inside : place < length tables.variables = slice_get_within tables.variables place name (found_variable tables name [] [] known) in
+      let room : place < length (map e.variables tables.variables) = omega (arith, inside, length-map tables.variables e.variables) in
+      let listed_here = known.variables name (name_itself name) in
+      step_at (with_stack (text octets ∷ []) p e c) (set_variable tables modifiers name) _ here
+      (rw (number_again modifiers, lt-ltb place (length (map e.variables tables.variables)) room, variable_set (commands_variables script) e.variables name (take max_value (modified modifiers octets)) listed_here) refl)
+
+  -- what a value and the variable that is set use
+  set_uses : (value : Template) (name : List ℕ) → Has tables (uses_with [] (string_strings value) (string_variables value ++ name ∷ [])) → Has tables (joined (string_uses value) (uses_with [] [] (name ∷ [])))
+  set_uses value name known = subst (λ ss. Has tables (uses_with [] ss (string_variables value ++ name ∷ []))) (sym (append-nil (string_strings value))) known
 
   leave_run : (bs : BranchForms) (p end : ℕ) (e : Effects) → Stands all p (leave_code bs end) → p + leave_length bs + branches_length bs ≡ end → Comes p e end e
   leave_run no_branch p end e h done = let same : p ≡ end = omega (arith, done) in comes_here p end e same
@@ -364,41 +539,54 @@ module _ (script : CommandForms) (bounded : AreBoundedCommands script) (mail : M
   decided false x y p block next end e f go h k = arrives_after y p next end e f go k
 
   mutual
-    command_run : (c : CommandForm) (p : ℕ) (e : Effects) → Stands all p (command_code tables p c) → Has tables (command_numbers c) (command_strings c) → IsBoundedCommand c → Arrives (command_does mail None c e) p (p + command_length c) e
-    command_run keep p e h known b = keep_run p e (stands_first all p _ [] h)
-    command_run discard p e h known b = discard_run p e (stands_first all p _ [] h)
-    command_run (file_into folder) p e h known b = file_run p folder e h (found_string tables folder [] known)
-    command_run stop p e h known b = (p, comes_here p p e refl, stands_first all p _ [] h)
-    command_run (choice bs) p e h known b = branches_run bs p (p + branches_length bs) e h known b refl
+    command_run : (c : CommandForm) (p : ℕ) (e : Effects) → Stands all p (command_code tables p c) → Has tables (command_uses c) → IsBoundedCommand c → AreShort e → Arrives (command_does mail None c e) p (p + command_length c) e
+    command_run keep p e h known b short = keep_run p e (stands_first all p _ [] h)
+    command_run discard p e h known b short = discard_run p e (stands_first all p _ [] h)
+    command_run (file_into folder) p e h known b short =
+        let f : Effects = record e { actions = e.actions ++ action.File (expanded e folder) ∷ []; implicit_keep = false } in
+        taken_run folder p (plain File) (λ c. 1 + length (expanded e folder)) e f short b h known (λ c here. file_step (p + string_length folder) c (expanded e folder) e here)
+    command_run (set modifiers name value) p e h known b short =
+        let f : Effects = record e { variables = with_value name (take max_value (modified modifiers (expanded e value))) e.variables } in
+        let uses = set_uses value name known in
+        let own = has_right tables (string_uses value) (uses_with [] [] (name ∷ [])) uses in
+        taken_run value p (set_variable tables modifiers name) (λ c. 1 + length (expanded e value)) e f short b h (has_left tables (string_uses value) (uses_with [] [] (name ∷ [])) uses)
+        (λ c here. set_step (p + string_length value) c modifiers name (expanded e value) e own here)
+    command_run stop p e h known b short = (p, comes_here p p e refl, stands_first all p _ [] h)
+    command_run (choice bs) p e h known b short = branches_run bs p (p + branches_length bs) e h known b short refl
 
-    commands_run : (cs : CommandForms) (p : ℕ) (e : Effects) → Stands all p (commands_code tables p cs) → Has tables (commands_numbers cs) (commands_strings cs) → AreBoundedCommands cs → Arrives (commands_do mail None cs e) p (p + commands_length cs) e
-    commands_run no_command p e h known b = let same : p ≡ p + 0 = omega arith in comes_here p (p + 0) e same
-    commands_run (command c cs) p e h known b =
+    commands_run : (cs : CommandForms) (p : ℕ) (e : Effects) → Stands all p (commands_code tables p cs) → Has tables (commands_uses cs) → AreBoundedCommands cs → AreShort e → Arrives (commands_do mail None cs e) p (p + commands_length cs) e
+    commands_run no_command p e h known b short = let same : p ≡ p + 0 = omega arith in comes_here p (p + 0) e same
+    commands_run (command c cs) p e h known b short =
         let same : p + command_length c + commands_length cs ≡ p + (command_length c + commands_length cs) = omega arith in
-        let first = command_run c p e (stands_left all p _ _ h) (has_left tables (command_numbers c) (commands_numbers cs) (command_strings c) (commands_strings cs) known) b.0 in
+        let first = command_run c p e (stands_left all p _ _ h) (has_left tables (command_uses c) (commands_uses cs) known) b.0 short in
         let there = stands_right all p (command_length c) _ _ (command_code_length tables c p) h in
-        arrives_then (command_does mail None c e) (λ f. commands_do mail None cs f) p (p + command_length c) _ e first
-        (λ f. subst (λ q. Arrives (commands_do mail None cs f) (p + command_length c) q f) same (commands_run cs (p + command_length c) f there (has_right tables (command_numbers c) (commands_numbers cs) (command_strings c) (commands_strings cs) known) b.1))
+        arrives_then (command_does mail None c e) (λ f. commands_do mail None cs f) p (p + command_length c) _ e first (command_short mail c e short)
+        (λ f after. subst (λ q. Arrives (commands_do mail None cs f) (p + command_length c) q f) same (commands_run cs (p + command_length c) f there (has_right tables (command_uses c) (commands_uses cs) known) b.1 after))
 
-    branches_run : (bs : BranchForms) (p end : ℕ) (e : Effects) → Stands all p (branches_code tables p bs end) → Has tables (branches_numbers bs) (branches_strings bs) → AreBoundedBranches bs → p + branches_length bs ≡ end → Arrives (choice_does mail None bs e) p end e
-    branches_run no_branch p end e h known b done = let same : p ≡ end = omega (arith, done) in comes_here p end e same
-    branches_run (otherwise cs) p end e h known b done = subst (λ q. Arrives (commands_do mail None cs e) p q e) done (commands_run cs p e h known b)
-    branches_run (branch t cs bs) p end e h known b done =
+    branches_run : (bs : BranchForms) (p end : ℕ) (e : Effects) → Stands all p (branches_code tables p bs end) → Has tables (branches_uses bs) → AreBoundedBranches bs → AreShort e → p + branches_length bs ≡ end → Arrives (choice_does mail None bs e) p end e
+    branches_run no_branch p end e h known b short done = let same : p ≡ end = omega (arith, done) in comes_here p end e same
+    branches_run (otherwise cs) p end e h known b short done = subst (λ q. Arrives (commands_do mail None cs e) p q e) done (commands_run cs p e h known b short)
+    branches_run (branch t cs bs) p end e h known b short done =
         let block = p + test_length t in
         let leave = block + commands_length cs in
         let next = leave + leave_length bs in
         let same : next + branches_length bs ≡ end = omega (arith, done) in
-        let numbers = has_left tables (test_numbers t ++ commands_numbers cs) (branches_numbers bs) (test_strings t ++ commands_strings cs) (branches_strings bs) known in
+        let both_uses = has_left tables (joined (test_uses t) (commands_uses cs)) (branches_uses bs) known in
         let parts = branch_parts_of all tables t cs bs p end h in
-        let tested = test_run t p false next e parts.test (has_left tables (test_numbers t) (commands_numbers cs) (test_strings t) (commands_strings cs) numbers) b.0 in
+        let tested = test_run t p false next e parts.test (has_left tables (test_uses t) (commands_uses cs) both_uses) b.0 short in
         let f = (test_does mail None t e).effects in
-        let inner = commands_run cs block f parts.block (has_right tables (test_numbers t) (commands_numbers cs) (test_strings t) (commands_strings cs) numbers) b.1 in
+        let after = test_short mail t e short in
+        let inner = commands_run cs block f parts.block (has_right tables (test_uses t) (commands_uses cs) both_uses) b.1 after in
         let taken = arrives_at (commands_do mail None cs f) block leave end f (λ g. leave_run bs leave end g parts.leave same) inner in
-        let others = branches_run bs next end f parts.rest (has_right tables (test_numbers t ++ commands_numbers cs) (branches_numbers bs) (test_strings t ++ commands_strings cs) (branches_strings bs) known) b.2 same in
+        let others = branches_run bs next end f parts.rest (has_right tables (joined (test_uses t) (commands_uses cs)) (branches_uses bs) known) b.2 after same in
         decided (test_does mail None t e).value (commands_do mail None cs f) (choice_does mail None bs f) p block next end e f tested taken others
 
   halted : (p : ℕ) (e : Effects) (c : ℕ) → slice_get all p ≡ Some (plain Halt) → step code mail (at p e c) ≡ ends (at p e (c + 1))
   halted p e c here = step_at (at p e c) (plain Halt) _ here refl
+
+  -- at first nothing was done
+  begins : at 0 no_effects 0 ≡ start code
+  begins = ap (λ values. let s : State = record (start code) { variables = values } in s) (sym (all_empty tables.variables))
 
   ends_with : (p : ℕ) (f : Effects) → Comes 0 no_effects p f → slice_get all p ≡ Some (plain Halt) → (charged : ℕ) × IsOutcome code mail (final_actions f.actions f.implicit_keep) charged
   ends_with p f go here =
@@ -406,17 +594,25 @@ module _ (script : CommandForms) (bounded : AreBoundedCommands script) (mail : M
         r.0 + 1,
         record {
           end = at p f (r.0 + 1);
-          over = record { steps = r.1.0; last = at p f r.0; run = r.1.1; halts = halted p f r.0 here };
+          over = record { steps = r.1.0; last = at p f r.0; run = subst (λ s. Run code mail r.1.0 s (at p f r.0)) begins r.1.1; halts = halted p f r.0 here };
           actions_are = refl;
           charge_is = refl;
         },
       )
 
-  outcome : (x : Ending) → Arrives x 0 (0 + commands_length script) no_effects → (charged : ℕ) × IsOutcome code mail (final_actions (effects_of x).actions (effects_of x).implicit_keep) charged
-  outcome (normal f) h = let same : 0 + commands_length script ≡ commands_length script = omega arith in ends_with (0 + commands_length script) f h (ap (slice_get all) same ∙ halt_at script bounded)
-  outcome (broken n f) h = absurd h
-  outcome (stopped f) h = ends_with h.0 f h.1 h.2
+  outcome : (x : Ending) → slice_get all (commands_length script) ≡ Some (plain Halt) → Arrives x 0 (0 + commands_length script) no_effects → (charged : ℕ) × IsOutcome code mail (final_actions (effects_of x).actions (effects_of x).implicit_keep) charged
+  outcome (normal f) here h = let same : 0 + commands_length script ≡ commands_length script = omega arith in ends_with (0 + commands_length script) f h (ap (slice_get all) same ∙ here)
+  outcome (broken n f) here h = absurd h
+  outcome (stopped f) here h = ends_with h.0 f h.1 h.2
 
-  -- the run of the code ends with the final actions of the meaning
-  pub code_means : (charged : ℕ) × IsOutcome code mail (meaning mail script) charged
-  code_means = outcome (commands_do mail None script no_effects) (commands_run script 0 no_effects (plain Halt ∷ [], refl) (tables_have script) bounded)
+  -- where it ends with a halt, the run of the code ends with the final actions of the meaning
+  ends_as_meant : AreBoundedCommands script → slice_get all (commands_length script) ≡ Some (plain Halt) → (charged : ℕ) × IsOutcome code mail (meaning mail script) charged
+  ends_as_meant bounded here = outcome (commands_do mail None script no_effects) here (commands_run script 0 no_effects (plain Halt ∷ [], refl) (tables_have script) bounded none_short)
+
+-- jumps of accepted code lead forward
+forward : (script : CommandForms) → AreBoundedCommands script → (p : ℕ) (asked : Bool) (target : ℕ) → slice_get (code_of script).instructions p ≡ Some (jump_if asked target) → p < target
+forward script bounded p true target here = ((sound script bounded p (jump_if true target) here).jump refl).forward
+forward script bounded p false target here = ((sound script bounded p (jump_if false target) here).jump refl).forward
+
+pub code_means : (script : CommandForms) → AreBoundedCommands script → (mail : Mail) → (charged : ℕ) × IsOutcome (code_of script) mail (meaning mail script) charged
+code_means script bounded mail = ends_as_meant script mail (loopless script bounded) (forward script bounded) bounded (halt_at script bounded)

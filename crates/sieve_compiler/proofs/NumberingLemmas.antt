@@ -1,24 +1,33 @@
 -- The first pass, one piece at a time.
-use Rattle.std.proofs.Common.{◌≡◌, ℕ, nat_eq, bytes_eq, ◌+◌, ◌<◌, ◌≤◌, List, [], ◌++◌, map, drop, length, get_or, Option, Result, Ok, Err, OnOk, ◌⊎◌, inl, inr, sym, ap, subst, ◌∙◌, refl}
+use Rattle.std.proofs.Common.{◌≡◌, ℕ, nat_eq, bytes_eq, ◌+◌, ◌<◌, ◌≤◌, List, [], ◌∷◌, ◌++◌, map, add-one, drop, length, get_or, Option, Result, Ok, Err, OnOk, ◌⊎◌, inl, inr, sym, ap, subst, ◌∙◌, refl}
 use Rattle.std.specs.Global.{Vec, Box}
+use Rattle.std.proofs.Math.Seq.{drop-cons}
+use Rattle.std.proofs.lemmas.List.{append-nil}
 use Rattle.octets.proofs.Once.{more_after}
 use Rattle.sieve_check.specs.declared.typed.Test.{Test}
-use Rattle.sieve_check.specs.declared.typed.Test.TheVariants.{AllOf, AnyOf, Header, rolls-Header}
+use Rattle.sieve_check.specs.declared.typed.Test.TheVariants.{AllOf, AnyOf, Header, String, rolls-Header, rolls-String}
 use Rattle.sieve_check.specs.declared.typed.Test.TheOpen as test_layer
 use Rattle.sieve_check.specs.declared.typed.Test.TheFolds.{fold-roll-Test}
 use Rattle.glob_match.specs.declared.match_type.Match.{Match}
 use Rattle.sieve_check.specs.declared.typed.Branch.{Branch}
 use Rattle.sieve_check.specs.declared.typed.Command.{Command}
-use Rattle.sieve_check.specs.declared.typed.Command.TheVariants.{If}
-use Rattle.sieve_check.specs.Typed.{TestForm, header, BranchForms}
-use Rattle.sieve_check.specs.TypedView.{test_step, test_form, tests_of, command_form, commands_form, branch_forms, else_form}
-use Rattle.sieve_compiler.specs.Growing.{Uses, uses_with, joined, test_uses, tests_uses, command_uses, commands_uses, branches_uses, with_uses}
+use Rattle.sieve_check.specs.declared.typed.Command.TheVariants.{If, Set, rolls-Set}
+use Rattle.sieve_check.specs.declared.typed.Command.TheOpen as command_layer
+use Rattle.sieve_check.specs.declared.typed.Command.TheFolds.{fold-roll-Command}
+use Rattle.bytecode_format.specs.declared.modifiers.Modifiers.{Modifiers}
+use Rattle.octets.specs.declared.owned.Octets.{Octets}
+use Rattle.sieve_check.specs.Variables.{string_variables}
+use Rattle.sieve_compiler.specs.Strings.{string_strings}
+use Rattle.sieve_check.specs.declared.typed.Segment.{Segment}
+use Rattle.sieve_check.specs.Typed.{TestForm, CommandForm, set, BranchForms}
+use Rattle.sieve_check.specs.TypedView.{GuardedForm, branch_step, command_step, templates_of, test_step, test_form, tests_of, command_form, commands_form, branch_forms, else_form}
+use Rattle.sieve_compiler.specs.Growing.{Uses, uses_with, joined, segment_uses, segments_uses, string_uses, strings_uses, test_uses, tests_uses, command_uses, commands_uses, branches_uses, with_uses}
 use Rattle.sieve_compiler.specs.Tables.{Tables}
 use Rattle.sieve_compiler.proofs.Walks.{all_form, any_form, first_test, first_command, first_branch, no_branch_left, if_form}
 
 -- what one piece uses, and then another
 pub uses_after : (table : Tables) (ms ns : Uses) → with_uses table (joined ms ns) ≡ with_uses (with_uses table ms) ns
-uses_after table ms ns = rw (more_after nat_eq table.numbers ms.numbers ns.numbers, more_after bytes_eq table.strings ms.strings ns.strings) refl
+uses_after table ms ns = rw (more_after nat_eq table.numbers ms.numbers ns.numbers, more_after bytes_eq table.strings ms.strings ns.strings, more_after bytes_eq table.variables ms.variables ns.variables) refl
 
 -- what one piece uses, then what is left
 then_left : (table next : Tables) (ms ns all : Uses) → next ≡ with_uses table ms → joined ms ns ≡ all → with_uses next ns ≡ with_uses table all
@@ -41,13 +50,34 @@ list_added r table middle new t first others inner items is f g e h =
     let ns : Uses = tests_uses (tests_of (map test_form items)) in
     subst (λ (l : Uses). OnOk r (new ≡ with_uses table l)) (list_numbers t first others inner items is f g) (added_after r table middle new ms ns e h)
 
--- the names and keys of a test
-pub lists_added : {T E : Type 0} (r : Result T E) (table middle new : Tables) (t : Test) (how : Match) (names keys : Vec (List ℕ)) (ns ks : List (List ℕ)) → t ≡ Header how names keys → ns ≡ names.items → ks ≡ keys.items
-    → middle ≡ with_uses table (uses_with [] ns) → OnOk r (new ≡ with_uses middle (uses_with [] ks)) → OnOk r (new ≡ with_uses table (test_uses (test_form t)))
-lists_added r table middle new t how names keys ns ks is f g e h =
-    let form : test_form t ≡ header how names.items keys.items = ap test_form (is ∙ sym (rolls-Header how names keys)) ∙ fold-roll-Test TestForm test_step (test_layer.Header how names keys) in
-    let uses : uses_with [] (ns ++ ks) ≡ test_uses (test_form t) = rw (f, g) (sym (ap test_uses form)) in
-    subst (λ (l : Uses). OnOk r (new ≡ with_uses table l)) uses (added_after r table middle new (uses_with [] ns) (uses_with [] ks) e h)
+-- the two lists of strings of a test
+pub both_added : {T E : Type 0} (r : Result T E) (table middle new : Tables) (uses : Uses) (first second : Vec (Vec Segment)) (ns ks : List (Vec Segment)) → ns ≡ first.items → ks ≡ second.items
+    → joined (strings_uses (templates_of first.items)) (strings_uses (templates_of second.items)) ≡ uses
+    → middle ≡ with_uses table (strings_uses (templates_of ns)) → OnOk r (new ≡ with_uses middle (strings_uses (templates_of ks))) → OnOk r (new ≡ with_uses table uses)
+both_added r table middle new uses first second ns ks f g same e h =
+    let all : joined (strings_uses (templates_of ns)) (strings_uses (templates_of ks)) ≡ uses = rw (f, g) same in
+    subst (λ (l : Uses). OnOk r (new ≡ with_uses table l)) all (added_after r table middle new (strings_uses (templates_of ns)) (strings_uses (templates_of ks)) e h)
+
+pub header_uses : (t : Test) (how : Match) (names keys : Vec (Vec Segment)) → t ≡ Header how names keys → joined (strings_uses (templates_of names.items)) (strings_uses (templates_of keys.items)) ≡ test_uses (test_form t)
+header_uses t how names keys is = sym (ap test_uses (ap test_form (is ∙ sym (rolls-Header how names keys)) ∙ fold-roll-Test TestForm test_step (test_layer.Header how names keys)))
+
+pub string_test_uses : (t : Test) (how : Match) (sources keys : Vec (Vec Segment)) → t ≡ String how sources keys → joined (strings_uses (templates_of sources.items)) (strings_uses (templates_of keys.items)) ≡ test_uses (test_form t)
+string_test_uses t how sources keys is = sym (ap test_uses (ap test_form (is ∙ sym (rolls-String how sources keys)) ∙ fold-roll-Test TestForm test_step (test_layer.String how sources keys)))
+
+-- the first that is left, and those after it
+split : {A : Type 0} (xs : List A) (i : ℕ) (x : A) → i < length xs → x ≡ get_or xs i x → drop i xs ≡ x ∷ drop (i + 1) xs
+split xs i x lt is = drop-cons xs i x lt ∙ ap (λ n. get_or xs i x ∷ drop n xs) (sym (add-one i)) ∙ ap (λ y. y ∷ drop (i + 1) xs) (sym is)
+
+pub segment_added : (table next : Tables) (segments : List Segment) (i : ℕ) (segment : Segment) → i < length segments → segment ≡ get_or segments i segment → next ≡ with_uses table (segment_uses segment)
+    → with_uses next (segments_uses (drop (i + 1) segments)) ≡ with_uses table (segments_uses (drop i segments))
+segment_added table next segments i segment lt is e =
+    then_left table next (segment_uses segment) (segments_uses (drop (i + 1) segments)) (segments_uses (drop i segments)) e (sym (ap segments_uses (split segments i segment lt is)))
+
+pub string_added : (table next : Tables) (strings : List (Vec Segment)) (i : ℕ) (s : Vec Segment) (segments : List Segment) → i < length strings → s ≡ get_or strings i s → segments ≡ s.items → next ≡ with_uses table (string_uses segments)
+    → with_uses next (strings_uses (templates_of (drop (i + 1) strings))) ≡ with_uses table (strings_uses (templates_of (drop i strings)))
+string_added table next strings i s segments lt is same e =
+    then_left table next (string_uses s.items) (strings_uses (templates_of (drop (i + 1) strings))) (strings_uses (templates_of (drop i strings)))
+    (e ∙ ap (λ t. with_uses table (string_uses t)) same) (sym (ap (λ ss. strings_uses (templates_of ss)) (split strings i s lt is)))
 
 pub test_added : (table next : Tables) (ts : List Test) (i : ℕ) (t : Test) → i < length ts → t ≡ get_or ts i t → next ≡ with_uses table (test_uses (test_form t)) → with_uses next (tests_uses (tests_of (map test_form (drop (i + 1) ts)))) ≡ with_uses table (tests_uses (tests_of (map test_form (drop i ts))))
 test_added table next ts i t lt is e = then_left table next (test_uses (test_form t)) (tests_uses (tests_of (map test_form (drop (i + 1) ts)))) (tests_uses (tests_of (map test_form (drop i ts)))) e (sym (ap tests_uses (first_test ts i t lt is)))
@@ -72,3 +102,13 @@ branches_added start table c branches last items i is same le h =
     ap (λ bs. with_uses table (branches_uses bs)) (sym (no_branch_left items i (else_form last) le))
     ∙ h
     ∙ ap (λ f. with_uses start (command_uses f)) (sym (if_form c branches last items is same))
+
+-- a value, and then the variable that it is given to
+pub set_added : (table middle new : Tables) (c : Command) (m : Modifiers) (name : Octets) (value : Vec Segment) (n : List ℕ) (segments : List Segment) → c ≡ Set m name value → n ≡ name → segments ≡ value.items
+    → middle ≡ with_uses table (string_uses segments) → new ≡ with_uses middle (uses_with [] [] (n ∷ [])) → new ≡ with_uses table (command_uses (command_form c))
+set_added table middle new c m name value n segments is named same e f =
+    let form : command_form c ≡ set m name value.items = ap command_form (is ∙ sym (rolls-Set m name value)) ∙ fold-roll-Command CommandForm GuardedForm command_step branch_step (command_layer.Set m name value) in
+    let strings : string_strings value.items ++ [] ≡ string_strings value.items = append-nil (string_strings value.items) in
+    let uses : joined (string_uses segments) (uses_with [] [] (n ∷ [])) ≡ command_uses (command_form c) =
+    rw (same, named) (ap (λ ss. uses_with [] ss (string_variables value.items ++ name ∷ [])) strings ∙ sym (ap command_uses form)) in
+    f ∙ then_left table middle (string_uses segments) (uses_with [] [] (n ∷ [])) (command_uses (command_form c)) e uses

@@ -1,16 +1,22 @@
 -- The second pass, one piece at a time.
-use Rattle.std.proofs.Common.{◌≡◌, ℕ, ◌+◌, Bool, true, false, List, ◌++◌, map, length, ap, subst, ◌∙◌, arith}
-use Rattle.std.proofs.lemmas.List.{length-append, append_assoc}
+use Rattle.std.proofs.Common.{◌≡◌, ℕ, ◌+◌, Bool, true, false, List, [], ◌∷◌, ◌++◌, Result, Ok, Err, OnOk, map, length, ap, sym, subst, ◌∙◌, arith}
+use Rattle.std.specs.Global.{Vec}
+use Rattle.std.proofs.lemmas.List.{length-append, length-map, append_assoc}
 use Rattle.bytecode_format.specs.declared.instruction.Instruction.{Instruction}
 use Rattle.sieve_check.specs.declared.typed.Test.{Test}
-use Rattle.sieve_check.specs.Typed.{TestForm, all_of, any_of, TestForms}
-use Rattle.sieve_check.specs.TypedView.{test_form, tests_of}
+use Rattle.glob_match.specs.declared.match_type.Match.{Match}
+use Rattle.sieve_check.specs.declared.typed.Segment.{Segment}
+use Rattle.sieve_check.specs.declared.typed.Test.TheVariants.{Header, Exists, String, rolls-Header, rolls-Exists, rolls-String}
+use Rattle.sieve_check.specs.declared.typed.Test.TheOpen as test_layer
+use Rattle.sieve_check.specs.declared.typed.Test.TheFolds.{fold-roll-Test}
+use Rattle.sieve_check.specs.Typed.{Template, TestForm, all_of, any_of, header, exists, string, TestForms}
+use Rattle.sieve_check.specs.TypedView.{templates_of, test_form, test_step, tests_of}
 use Rattle.sieve_compiler.specs.Tables.{Tables}
 use Rattle.sieve_compiler.specs.declared.coder.Coder.{Coder}
 use Rattle.sieve_compiler.specs.declared.exits.ListExit.{ListExit}
 use Rattle.sieve_compiler.specs.declared.exits.Exit.{Exit}
 use Rattle.sieve_compiler.specs.Lengths.{test_length, tests_length}
-use Rattle.sieve_compiler.specs.Coding.{asked_of, aim_of, test_code, tests_code}
+use Rattle.sieve_compiler.specs.Coding.{asked_of, aim_of, find_fields, jump_if, match_fields, match_texts, strings_code, test_code, tests_code}
 use Rattle.sieve_compiler.specs.Putting.{Puts}
 use Rattle.sieve_compiler.proofs.CodeLengths.{test_code_length}
 
@@ -66,3 +72,61 @@ list_put a b c deciding exit step list t first h1 h2 others o1 o2 o3 form eh1 eh
     let Q : List Instruction → Type 0 = λ l. Puts b c l in
     let R : List Instruction → Type 0 = λ l. Puts a c l in
     subst R code (list_puts a b c deciding exit.asked list.following exit.target (test_form first) ts following (subst P code1 p) (subst Q code2 q))
+
+-- ---- tests with lists of strings
+
+on_ok : {T E : Type 0} {P Q : Type 0} (r : Result T E) → (P → Q) → OnOk r P → OnOk r Q
+on_ok (Ok x) step h = step h
+on_ok (Err e) step h = h
+
+-- one piece of code after another
+pub puts_both : (a b c : Coder) (p q : List Instruction) → Puts a b p → Puts b c q → Puts a c (p ++ q)
+puts_both a b c p q first second = record {
+  tables = second.tables ∙ first.tables;
+  instructions = second.instructions ∙ ap (λ l. l ++ q) first.instructions ∙ append_assoc a.instructions.items p q;
+}
+
+-- two lists of strings, and the test of them with its jump
+lists_put : (a b c d : Coder) (first second : List Template) (test jump : Instruction) → Puts a b (strings_code a.tables.now first) → Puts b c (strings_code b.tables.now second) → Puts c d (test ∷ jump ∷ [])
+    → Puts a d (strings_code a.tables.now first ++ strings_code a.tables.now second ++ test ∷ jump ∷ [])
+lists_put a b c d first second test jump p q r =
+    puts_both a c d _ _ (puts_both a b c _ _ p (subst (λ (tables : Tables). Puts b c (strings_code tables second)) p.tables q)) r
+
+-- the same as the code has it
+pub header_put : {T E : Type 0} (r : Result T E) (a b c d : Coder) (t : Test) (exit : Exit) (how : Match) (names keys : Vec (Vec Segment)) (ns ks : List (Vec Segment)) (n k : ℕ) (test : Instruction)
+    → t ≡ Header how names keys → ns ≡ names.items → ks ≡ keys.items → n ≡ length names.items → k ≡ length keys.items → test ≡ match_fields how n k
+    → Puts a b (strings_code a.tables.now (templates_of ns)) → Puts b c (strings_code b.tables.now (templates_of ks)) → OnOk r (Puts c d (test ∷ jump_if exit.asked exit.target ∷ []))
+    → OnOk r (Puts a d (test_code a.tables.now (length a.instructions.items) (test_form t) exit.asked exit.target))
+header_put r a b c d t exit how names keys ns ks n k test is e f en ek et p q h =
+    let form : test_form t ≡ header how (templates_of names.items) (templates_of keys.items) = ap test_form (is ∙ sym (rolls-Header how names keys)) ∙ fold-roll-Test TestForm test_step (test_layer.Header how names keys) in
+    let counts : test ≡ match_fields how (length (templates_of names.items)) (length (templates_of keys.items)) =
+    et ∙ ap (λ m. match_fields how m k) (en ∙ sym (length-map names.items (λ (s : Vec Segment). s.items))) ∙ ap (match_fields how (length (templates_of names.items))) (ek ∙ sym (length-map keys.items (λ (s : Vec Segment). s.items))) in
+    let jump = jump_if exit.asked exit.target in
+    let code : strings_code a.tables.now (templates_of ns) ++ strings_code a.tables.now (templates_of ks) ++ test ∷ jump ∷ [] ≡ test_code a.tables.now (length a.instructions.items) (test_form t) exit.asked exit.target =
+    rw (e, f, counts) (sym (ap (λ g. test_code a.tables.now (length a.instructions.items) g exit.asked exit.target) form)) in
+    on_ok r (λ third. subst (λ (l : List Instruction). Puts a d l) code (lists_put a b c d (templates_of ns) (templates_of ks) test jump p q third)) h
+
+pub string_put : {T E : Type 0} (r : Result T E) (a b c d : Coder) (t : Test) (exit : Exit) (how : Match) (sources keys : Vec (Vec Segment)) (ns ks : List (Vec Segment)) (n k : ℕ) (test : Instruction)
+    → t ≡ String how sources keys → ns ≡ sources.items → ks ≡ keys.items → n ≡ length sources.items → k ≡ length keys.items → test ≡ match_texts how n k
+    → Puts a b (strings_code a.tables.now (templates_of ns)) → Puts b c (strings_code b.tables.now (templates_of ks)) → OnOk r (Puts c d (test ∷ jump_if exit.asked exit.target ∷ []))
+    → OnOk r (Puts a d (test_code a.tables.now (length a.instructions.items) (test_form t) exit.asked exit.target))
+string_put r a b c d t exit how sources keys ns ks n k test is e f en ek et p q h =
+    let form : test_form t ≡ string how (templates_of sources.items) (templates_of keys.items) = ap test_form (is ∙ sym (rolls-String how sources keys)) ∙ fold-roll-Test TestForm test_step (test_layer.String how sources keys) in
+    let counts : test ≡ match_texts how (length (templates_of sources.items)) (length (templates_of keys.items)) =
+    et ∙ ap (λ m. match_texts how m k) (en ∙ sym (length-map sources.items (λ (s : Vec Segment). s.items))) ∙ ap (match_texts how (length (templates_of sources.items))) (ek ∙ sym (length-map keys.items (λ (s : Vec Segment). s.items))) in
+    let jump = jump_if exit.asked exit.target in
+    let code : strings_code a.tables.now (templates_of ns) ++ strings_code a.tables.now (templates_of ks) ++ test ∷ jump ∷ [] ≡ test_code a.tables.now (length a.instructions.items) (test_form t) exit.asked exit.target =
+    rw (e, f, counts) (sym (ap (λ g. test_code a.tables.now (length a.instructions.items) g exit.asked exit.target) form)) in
+    on_ok r (λ third. subst (λ (l : List Instruction). Puts a d l) code (lists_put a b c d (templates_of ns) (templates_of ks) test jump p q third)) h
+
+pub exists_put : {T E : Type 0} (r : Result T E) (a b c : Coder) (t : Test) (exit : Exit) (names : Vec (Vec Segment)) (ns : List (Vec Segment)) (n : ℕ) (test : Instruction)
+    → t ≡ Exists names → ns ≡ names.items → n ≡ length names.items → test ≡ find_fields n
+    → Puts a b (strings_code a.tables.now (templates_of ns)) → OnOk r (Puts b c (test ∷ jump_if exit.asked exit.target ∷ []))
+    → OnOk r (Puts a c (test_code a.tables.now (length a.instructions.items) (test_form t) exit.asked exit.target))
+exists_put r a b c t exit names ns n test is e en et p h =
+    let form : test_form t ≡ exists (templates_of names.items) = ap test_form (is ∙ sym (rolls-Exists names)) ∙ fold-roll-Test TestForm test_step (test_layer.Exists names) in
+    let counts : test ≡ find_fields (length (templates_of names.items)) = et ∙ ap find_fields (en ∙ sym (length-map names.items (λ (s : Vec Segment). s.items))) in
+    let jump = jump_if exit.asked exit.target in
+    let code : strings_code a.tables.now (templates_of ns) ++ test ∷ jump ∷ [] ≡ test_code a.tables.now (length a.instructions.items) (test_form t) exit.asked exit.target =
+    rw (e, counts) (sym (ap (λ g. test_code a.tables.now (length a.instructions.items) g exit.asked exit.target) form)) in
+    on_ok r (λ second. subst (λ (l : List Instruction). Puts a c l) code (puts_both a b c _ _ p second)) h

@@ -1,17 +1,22 @@
 -- Each instruction of a script's code keeps the rules, at its place.
-use Rattle.std.proofs.Common.{◌≡◌, ℕ, zero, suc, ◌+◌, ◌<◌, ◌≤◌, Bool, true, false, List, [], ◌∷◌, ◌++◌, Option, Some, None, unwrap_or, option_map, map, slice_get, length, refl, sym, ap, subst, ◌∙◌, arith}
+use Rattle.std.proofs.Common.{◌≡◌, ℕ, zero, suc, ◌+◌, ◌<◌, ◌≤◌, Bool, true, false, List, [], ◌∷◌, ◌++◌, Option, Some, None, unwrap_or, option_map, map, flat_map, slice_get, length, min, sum, All, refl, sym, ap, subst, ◌∙◌, arith}
 use Rattle.bytecode_format.specs.declared.instruction.Instruction.{Instruction}
 use Rattle.bytecode_format.specs.declared.operation.Operation.{Operation}
-use Rattle.bytecode_format.specs.declared.operation.Operation.TheVariants.{Halt, Literal, Bool as BoolOp, Jump, Header, Exists, Size, Keep, Discard, File}
+use Rattle.bytecode_format.specs.declared.operation.Operation.TheVariants.{Halt, Literal, Variable as VariableOp, Capture as CaptureOp, Join, Set, String, Bool as BoolOp, Jump, Header, Exists, Size, Keep, Discard, File}
 use Rattle.bytecode_format.specs.Operations.{operation_of}
-use Rattle.std.specs.Option.{option_and_then}
+use Rattle.std.specs.Option.{option_and_then, option_map_or}
 use Rattle.std.proofs.lemmas.Bool.{lt-ltb, le-leb}
+use Rattle.std.proofs.lemmas.List.{append-nil, length-map}
+use Rattle.std.proofs.lemmas.List.Elements.{All-head, All-tail}
+use Rattle.std.proofs.lemmas.List.Sums.{sum_by-cons}
 use Rattle.bytecode_format.specs.Code.{Code}
+use Rattle.bytecode_format.specs.declared.modifiers.Modifiers.{Modifiers}
+use Rattle.bytecode_format.proofs.ModifierLemmas.{number_again}
 use Rattle.bytecode_verifier.specs.Rows.{row_named, is_well_formed, is_match_number, is_jump}
-use Rattle.bytecode_verifier.specs.Shape.{Entries, with_text, take_texts, entries_after}
+use Rattle.bytecode_verifier.specs.Shape.{Entries, Texts, with_text, take_texts, entries_after}
 use Rattle.bytecode_verifier.specs.declared.shape.Entry.TheVariants.{Truth, Text}
-use Rattle.octets.specs.Limits.{max_stack}
-use Rattle.sieve_check.specs.Bounded.{IsBoundedList, AreBoundedLists, IsBoundedTest, AreBoundedTests, IsBoundedCommand, AreBoundedCommands, AreBoundedBranches}
+use Rattle.octets.specs.Limits.{max_string, max_segments, max_value, max_stack}
+use Rattle.sieve_check.specs.Bounded.{IsBoundedSegment, IsBoundedString, IsBoundedList, AreBoundedLists, IsBoundedTest, AreBoundedTests, IsBoundedCommand, AreBoundedCommands, AreBoundedBranches}
 use Rattle.glob_match.specs.declared.comparator.Comparator.{Comparator}
 use Rattle.glob_match.specs.declared.comparator.Comparator.TheVariants.{Octet, Casemap}
 use Rattle.glob_match.specs.declared.match_type.Match.{Match}
@@ -19,27 +24,38 @@ use Rattle.glob_match.specs.declared.match_type.MatchType.{MatchType}
 use Rattle.glob_match.specs.declared.match_type.MatchType.TheVariants.{Is, Contains, Matches}
 use Rattle.sieve_check.specs.declared.typed.Order.{Order}
 use Rattle.sieve_check.specs.declared.typed.Order.TheVariants.{Over, Under}
-use Rattle.sieve_check.specs.Typed.{TestForm, constant, negation, all_of, any_of, size, header, exists, TestForms, no_test, test, CommandForm, keep, discard, file_into, stop, choice, CommandForms, no_command, command, BranchForms, no_branch, otherwise, branch}
-use Rattle.sieve_compiler.specs.Tables.{Tables, place_of_number, place_of_string}
-use Rattle.sieve_compiler.specs.Lengths.{test_length, tests_length, leave_length, command_length, commands_length, branches_length}
-use Rattle.sieve_compiler.specs.Strings.{test_strings, tests_strings, command_strings, commands_strings, branches_strings}
-use Rattle.sieve_compiler.specs.Numbers.{test_numbers, tests_numbers, command_numbers, commands_numbers, branches_numbers}
-use Rattle.sieve_compiler.specs.Coding.{plain, instruction, jump_if, push_bool, push_size, push_string, push_strings, kind_number, comparator_number, match_fields, find_fields, aim_of, test_code, tests_code, leave_code, command_code, commands_code, branches_code}
+use Rattle.sieve_check.specs.declared.typed.Segment.{Segment}
+use Rattle.sieve_check.specs.declared.typed.Segment.TheVariants.{Text as Stretch, Variable, Capture}
+use Rattle.sieve_check.specs.Variables.{segment_variables, string_variables}
+use Rattle.sieve_check.specs.Typed.{Template, TestForm, constant, negation, all_of, any_of, size, header, exists, string, TestForms, no_test, test, CommandForm, keep, discard, file_into, set, stop, choice, CommandForms, no_command, command, BranchForms, no_branch, otherwise, branch}
+use Rattle.sieve_compiler.specs.Tables.{Tables, place_of_number, place_of_string, place_of_variable}
+use Rattle.sieve_compiler.specs.Lengths.{string_length, strings_length, test_length, tests_length, leave_length, command_length, commands_length, branches_length}
+use Rattle.sieve_compiler.specs.Strings.{segment_strings, string_strings}
+use Rattle.sieve_compiler.specs.Growing.{Uses, uses_with, joined, segment_uses, string_uses, strings_uses, test_uses, tests_uses, command_uses, commands_uses, branches_uses}
+use Rattle.sieve_compiler.specs.Coding.{plain, instruction, jump_if, push_bool, push_size, push_text, push_segment, join_texts, string_code, strings_code, set_variable, kind_number, comparator_number, match_fields, match_texts, find_fields, aim_of, test_code, tests_code, leave_code, command_code, commands_code, branches_code}
 use Rattle.sieve_compiler.proofs.Standing.{Stands, stands_first, stands_next, stands_left, stands_right}
-use Rattle.sieve_compiler.proofs.CodeLengths.{length_two, strings_length, test_code_length, leave_code_length, command_code_length, commands_code_length}
-use Rattle.sieve_compiler.proofs.Known.{Has, has_left, has_right, has_rest, found, found_string}
+use Rattle.sieve_compiler.proofs.CodeLengths.{length_two, string_code_length, strings_code_length, test_code_length, leave_code_length, command_code_length, commands_code_length}
+use Rattle.sieve_compiler.proofs.Known.{Has, has_left, has_right, found, found_string, found_variable}
 
 -- the string at a place of the table, empty where there is none
 abbrev string_at : Tables → ℕ → List ℕ
 string_at tables place = unwrap_or (slice_get tables.strings place) []
 
--- the entries that an operation of a script's code leaves: a string goes on those that are there, a test leaves its truth value alone
+-- texts as one
+abbrev pub joined_text : Texts → Entries
+joined_text parts = Text (min (sum parts.bounds) max_string) ∷ parts.rest
+
+-- the entries that an operation of a script's code leaves: a text goes on those that are there, a test leaves its truth value alone
 abbrev pub leaves : Tables → Option Operation → Instruction → Entries → Entries
 leaves tables (Some Literal) i entries = Text (length (string_at tables i.c)) ∷ entries
+leaves tables (Some VariableOp) i entries = Text max_value ∷ entries
+leaves tables (Some CaptureOp) i entries = Text max_value ∷ entries
+leaves tables (Some Join) i entries = option_map_or joined_text (take_texts i.b entries) []
 leaves tables (Some BoolOp) i entries = Truth ∷ []
 leaves tables (Some Size) i entries = Truth ∷ []
 leaves tables (Some Header) i entries = Truth ∷ []
 leaves tables (Some Exists) i entries = Truth ∷ []
+leaves tables (Some String) i entries = Truth ∷ []
 leaves tables _ i entries = []
 
 abbrev pub left_by : Tables → Option Instruction → Entries → Entries
@@ -60,6 +76,8 @@ pub record IsAimed (all : List Instruction) (tables : Tables) (last place target
 -- the index of an operation is one of its table
 abbrev pub IsKnown : Tables → Option Operation → Instruction → Type 0
 IsKnown tables (Some Literal) i = (s : List ℕ) × (slice_get tables.strings i.c ≡ Some s)
+IsKnown tables (Some VariableOp) i = (s : List ℕ) × (slice_get tables.variables i.c ≡ Some s)
+IsKnown tables (Some Set) i = (s : List ℕ) × (slice_get tables.variables i.c ≡ Some s)
 IsKnown tables (Some Size) i = (n : ℕ) × (slice_get tables.numbers i.c ≡ Some n)
 IsKnown tables _ i = Unit {0}
 
@@ -74,37 +92,52 @@ pub record IsSound (all : List Instruction) (tables : Tables) (last place : ℕ)
   pub jump : is_jump (row_named 1 i.op) ≡ true → IsAimed all tables last place i.c
   pub stack : TurnsInto tables (operation_of i.op) i (standing tables all place) (leaves tables (operation_of i.op) i (standing tables all place))
 
--- the entries of strings that were pushed, the last one first
-abbrev pub pushed : List (List ℕ) → Entries → Entries
+-- the entries of texts that were pushed, the last one first, by their bounds
+abbrev pub pushed : List ℕ → Entries → Entries
 pushed [] entries = entries
-pushed (s ∷ ss) entries = pushed ss (Text (length s) ∷ entries)
+pushed (bound ∷ bounds) entries = pushed bounds (Text bound ∷ entries)
 
--- their bounds, before those of others
-abbrev bounds_onto : List (List ℕ) → List ℕ → List ℕ
-bounds_onto [] bounds = bounds
-bounds_onto (s ∷ ss) bounds = bounds_onto ss (length s ∷ bounds)
+-- bounds, the last one first, before others
+abbrev pub bounds_onto : List ℕ → List ℕ → List ℕ
+bounds_onto [] others = others
+bounds_onto (bound ∷ bounds) others = bounds_onto bounds (bound ∷ others)
 
-pushed_are : (ss : List (List ℕ)) (bounds : List ℕ) (entries : Entries) → pushed ss (map Text bounds ++ entries) ≡ map Text (bounds_onto ss bounds) ++ entries
-pushed_are [] bounds entries = refl
-pushed_are (s ∷ ss) bounds entries = pushed_are ss (length s ∷ bounds) entries
+-- how long the value of a segment may be, and that of a string
+abbrev pub segment_bound : Segment → ℕ
+segment_bound (Stretch octets) = length octets
+segment_bound (Variable name) = max_value
+segment_bound (Capture n) = max_value
 
-bounds_number : (ss : List (List ℕ)) (bounds : List ℕ) → length (bounds_onto ss bounds) ≡ length ss + length bounds
-bounds_number [] bounds = omega arith
-bounds_number (s ∷ ss) bounds = omega (arith, bounds_number ss (length s ∷ bounds))
+abbrev pub bound_of : Template → ℕ
+bound_of [] = 0
+bound_of (segment ∷ []) = segment_bound segment
+bound_of (one ∷ other ∷ more) = min (sum (bounds_onto (map segment_bound (one ∷ other ∷ more)) [])) max_string
 
-pub pushed_number : (ss : List (List ℕ)) (entries : Entries) → length (pushed ss entries) ≡ length ss + length entries
-pushed_number [] entries = omega arith
-pushed_number (s ∷ ss) entries = omega (arith, pushed_number ss (Text (length s) ∷ entries))
+pushed_are : (own others : List ℕ) (entries : Entries) → pushed own (map Text others ++ entries) ≡ map Text (bounds_onto own others) ++ entries
+pushed_are [] others entries = refl
+pushed_are (bound ∷ own) others entries = pushed_are own (bound ∷ others) entries
+
+bounds_number : (own others : List ℕ) → length (bounds_onto own others) ≡ length own + length others
+bounds_number [] others = omega arith
+bounds_number (bound ∷ own) others = omega (arith, bounds_number own (bound ∷ others))
+
+pushed_each : (bounds : List ℕ) (entries : Entries) → length (pushed bounds entries) ≡ length bounds + length entries
+pushed_each [] entries = omega arith
+pushed_each (bound ∷ bounds) entries = omega (arith, pushed_each bounds (Text bound ∷ entries))
+
+pub pushed_number : {A : Type 0} (bound : A → ℕ) (xs : List A) (entries : Entries) → length (pushed (map bound xs) entries) ≡ length xs + length entries
+pushed_number bound xs entries = omega (arith, pushed_each (map bound xs) entries, length-map xs bound)
 
 taken : (bounds : List ℕ) (entries : Entries) → take_texts (length bounds) (map Text bounds ++ entries) ≡ Some (record { bounds = bounds; rest = entries })
 taken [] entries = refl
-taken (b ∷ bounds) entries = ap (option_map (with_text b)) (taken bounds entries)
+taken (bound ∷ bounds) entries = ap (option_map (with_text bound)) (taken bounds entries)
 
 -- as many texts as were pushed can be taken
-pub taken_back : (ss : List (List ℕ)) (entries : Entries) → take_texts (length ss) (pushed ss entries) ≡ Some (record { bounds = bounds_onto ss []; rest = entries })
-taken_back ss entries =
-    let number : length (bounds_onto ss []) ≡ length ss = omega (arith, bounds_number ss []) in
-    ap (take_texts (length ss)) (pushed_are ss [] entries) ∙ ap (λ n. take_texts n (map Text (bounds_onto ss []) ++ entries)) (sym number) ∙ taken (bounds_onto ss []) entries
+pub taken_back : {A : Type 0} (bound : A → ℕ) (xs : List A) (entries : Entries) → take_texts (length xs) (pushed (map bound xs) entries) ≡ Some (record { bounds = bounds_onto (map bound xs) []; rest = entries })
+taken_back bound xs entries =
+    let own : List ℕ = map bound xs in
+    let number : length (bounds_onto own []) ≡ length xs = omega (arith, bounds_number own [], length-map xs bound) in
+    ap (take_texts (length xs)) (pushed_are own [] entries) ∙ ap (λ n. take_texts n (map Text (bounds_onto own []) ++ entries)) (sym number) ∙ taken (bounds_onto own []) entries
 
 -- the number of a match is one
 pub match_fits : (kind : MatchType) (comparator : Comparator) → is_match_number (kind_number kind + comparator_number comparator) ≡ true
@@ -172,7 +205,7 @@ module _ (all : List Instruction) (tables : Tables) (last : ℕ) where
   bool_sound place true h = record { form = refl; index = tt; jump = λ e. absurd (cc); stack = λ code same. rw h refl }
   bool_sound place false h = record { form = refl; index = tt; jump = λ e. absurd (cc); stack = λ code same. rw h refl }
 
-  size_sound : (place : ℕ) (order : Order) (n : ℕ) → Has tables (n ∷ []) [] → standing tables all place ≡ [] → IsSound all tables last place (push_size order (place_of_number tables n))
+  size_sound : (place : ℕ) (order : Order) (n : ℕ) → Has tables (uses_with (n ∷ []) [] []) → standing tables all place ≡ [] → IsSound all tables last place (push_size order (place_of_number tables n))
   size_sound place Over n known h = record { form = refl; index = (n, found tables n known); jump = λ e. absurd (cc); stack = λ code same. rw h refl }
   size_sound place Under n known h = record { form = refl; index = (n, found tables n known); jump = λ e. absurd (cc); stack = λ code same. rw h refl }
 
@@ -185,40 +218,150 @@ module _ (all : List Instruction) (tables : Tables) (last : ℕ) where
 
   -- ---- strings
 
-  string_sound : (place : ℕ) (s : List ℕ) → slice_get tables.strings (place_of_string tables s) ≡ Some s → length (standing tables all place) < max_stack → IsSound all tables last place (push_string tables s)
-  string_sound place s there room = record {
+  text_sound : (place : ℕ) (s : List ℕ) → slice_get tables.strings (place_of_string tables s) ≡ Some s → length (standing tables all place) < max_stack → IsSound all tables last place (push_text tables s)
+  text_sound place s there room = record {
     form = refl;
     index = (s, there);
     jump = λ e. absurd (cc);
     stack = λ code same. rw (same, there, lt-ltb (length (standing tables all place)) max_stack room) refl;
   }
 
-  following_string : (place : ℕ) (s : List ℕ) → slice_get tables.strings (place_of_string tables s) ≡ Some s → slice_get all place ≡ Some (push_string tables s) → standing tables all (suc place) ≡ Text (length s) ∷ standing tables all place
-  following_string place s there here = rw (here, there) refl
+  following_text : (place : ℕ) (s : List ℕ) → slice_get tables.strings (place_of_string tables s) ≡ Some s → slice_get all place ≡ Some (push_text tables s) → standing tables all (suc place) ≡ Text (length s) ∷ standing tables all place
+  following_text place s there here = rw (here, there) refl
 
-  -- after strings they are on top of the entries before them
-  pub following_strings : (ss : List (List ℕ)) (place : ℕ) (entries : Entries) → Stands all place (push_strings tables ss) → Has tables [] ss → standing tables all place ≡ entries → standing tables all (place + length ss) ≡ pushed ss entries
-  following_strings [] place entries h known start = let same : place ≡ place + 0 = omega arith in subst (λ p. standing tables all p ≡ entries) same start
-  following_strings (s ∷ ss) place entries h known start =
-      let there = found_string tables s ss known in
-      let first = following_string place s there (stands_first all place _ _ h) ∙ ap (λ es. Text (length s) ∷ es) start in
-      let same : suc place + length ss ≡ place + suc (length ss) = omega arith in
-      subst (λ p. standing tables all p ≡ pushed (s ∷ ss) entries) same
-      (following_strings ss (suc place) (Text (length s) ∷ entries) (stands_next all place _ _ h) (has_rest tables s ss known) first)
+  segment_sound : (place : ℕ) (segment : Segment) → Has tables (segment_uses segment) → IsBoundedSegment segment → length (standing tables all place) < max_stack → IsSound all tables last place (push_segment tables segment)
+  segment_sound place (Stretch octets) known b room = text_sound place octets (found_string tables octets [] [] known) room
+  segment_sound place (Variable name) known b room = record {
+    form = refl;
+    index = (name, found_variable tables name [] [] known);
+    jump = λ e. absurd (cc);
+    stack = λ code same. rw (lt-ltb (length (standing tables all place)) max_stack room) refl;
+  }
+  segment_sound place (Capture n) known b room = record {
+    form = rw (lt-ltb n 10 (omega (arith, b))) refl;
+    index = tt;
+    jump = λ e. absurd (cc);
+    stack = λ code same. rw (lt-ltb (length (standing tables all place)) max_stack room) refl;
+  }
 
-  strings_sound : (ss : List (List ℕ)) (place : ℕ) (entries : Entries) → Stands all place (push_strings tables ss) → Has tables [] ss → standing tables all place ≡ entries → length entries + length ss ≤ max_stack → AreSound place (push_strings tables ss)
-  strings_sound [] place entries h known start room = tt
-  strings_sound (s ∷ ss) place entries h known start room =
-      let there = found_string tables s ss known in
+  following_segment : (place : ℕ) (segment : Segment) → Has tables (segment_uses segment) → slice_get all place ≡ Some (push_segment tables segment) → standing tables all (suc place) ≡ Text (segment_bound segment) ∷ standing tables all place
+  following_segment place (Stretch octets) known here = following_text place octets (found_string tables octets [] [] known) here
+  following_segment place (Variable name) known here = rw here refl
+  following_segment place (Capture n) known here = rw here refl
+
+  -- what segments use, the first of them, and the others
+  abbrev segments_uses : List Segment → Uses
+  segments_uses segments = uses_with [] (flat_map segment_strings segments) (flat_map segment_variables segments)
+
+  has_first : (segment : Segment) (segments : List Segment) → Has tables (segments_uses (segment ∷ segments)) → Has tables (segment_uses segment)
+  has_first segment segments known = has_left tables (segment_uses segment) (segments_uses segments) known
+
+  has_others : (segment : Segment) (segments : List Segment) → Has tables (segments_uses (segment ∷ segments)) → Has tables (segments_uses segments)
+  has_others segment segments known = has_right tables (segment_uses segment) (segments_uses segments) known
+
+  -- after segments their texts are on top of the entries before them
+  following_segments : (segments : List Segment) (place : ℕ) (entries : Entries) → Stands all place (map (push_segment tables) segments) → Has tables (segments_uses segments) → standing tables all place ≡ entries
+      → standing tables all (place + length segments) ≡ pushed (map segment_bound segments) entries
+  following_segments [] place entries h known start = let same : place ≡ place + 0 = omega arith in subst (λ p. standing tables all p ≡ entries) same start
+  following_segments (segment ∷ segments) place entries h known start =
+      let first = following_segment place segment (has_first segment segments known) (stands_first all place _ _ h) ∙ ap (λ es. Text (segment_bound segment) ∷ es) start in
+      let same : suc place + length segments ≡ place + suc (length segments) = omega arith in
+      subst (λ p. standing tables all p ≡ pushed (map segment_bound (segment ∷ segments)) entries) same
+      (following_segments segments (suc place) (Text (segment_bound segment) ∷ entries) (stands_next all place _ _ h) (has_others segment segments known) first)
+
+  segments_sound : (segments : List Segment) (place : ℕ) (entries : Entries) → Stands all place (map (push_segment tables) segments) → Has tables (segments_uses segments) → All IsBoundedSegment segments → standing tables all place ≡ entries
+      → length entries + length segments ≤ max_stack → AreSound place (map (push_segment tables) segments)
+  segments_sound [] place entries h known b start room = tt
+  segments_sound (segment ∷ segments) place entries h known b start room =
       let number = ap length start in
-      let first = following_string place s there (stands_first all place _ _ h) ∙ ap (λ es. Text (length s) ∷ es) start in (
-        string_sound place s there (omega (arith, number, room)),
-        strings_sound ss (suc place) (Text (length s) ∷ entries) (stands_next all place _ _ h) (has_rest tables s ss known) first (omega (arith, room)),
+      let of_first = has_first segment segments known in
+      let first = following_segment place segment of_first (stands_first all place _ _ h) ∙ ap (λ es. Text (segment_bound segment) ∷ es) start in (
+        segment_sound place segment of_first (All-head IsBoundedSegment segment segments b) (omega (arith, number, room)),
+        segments_sound segments (suc place) (Text (segment_bound segment) ∷ entries) (stands_next all place _ _ h) (has_others segment segments known) (All-tail IsBoundedSegment segment segments b) first (omega (arith, room)),
       )
 
-  -- ---- tests on fields
+  following_join : (place : ℕ) (segments : List Segment) (entries : Entries) → slice_get all place ≡ Some (join_texts (length segments)) → standing tables all place ≡ pushed (map segment_bound segments) entries
+      → standing tables all (suc place) ≡ Text (min (sum (bounds_onto (map segment_bound segments) [])) max_string) ∷ entries
+  following_join place segments entries here start = rw (here, start, taken_back segment_bound segments entries) refl
 
-  fields_sound : (place : ℕ) (how : Match) (names keys : List (List ℕ)) → AreBoundedLists names keys → standing tables all place ≡ pushed keys (pushed names []) → IsSound all tables last place (match_fields how (length names) (length keys))
+  join_sound : (place : ℕ) (segments : List Segment) (entries : Entries) → 2 ≤ length segments → length segments ≤ max_segments → length entries < max_stack → standing tables all place ≡ pushed (map segment_bound segments) entries
+      → IsSound all tables last place (join_texts (length segments))
+  join_sound place segments entries some few room start = record {
+    form = rw (le-leb 2 (length segments) some, le-leb (length segments) max_segments few) refl;
+    index = tt;
+    jump = λ e. absurd (cc);
+    stack = λ code same. rw (start, taken_back segment_bound segments entries, lt-ltb (length entries) max_stack room) refl;
+  }
+
+  -- after a string its text is on top of the entries before it
+  pub following_string : (s : Template) (place : ℕ) (entries : Entries) → Stands all place (string_code tables s) → Has tables (string_uses s) → standing tables all place ≡ entries → standing tables all (place + string_length s) ≡ Text (bound_of s) ∷ entries
+  following_string [] place entries h known start =
+      let same : suc place ≡ place + 1 = omega arith in
+      subst (λ p. standing tables all p ≡ Text 0 ∷ entries) same (following_text place [] (found_string tables [] [] [] known) (stands_first all place _ [] h) ∙ ap (λ es. Text 0 ∷ es) start)
+  following_string (segment ∷ []) place entries h known start =
+      let same : suc place ≡ place + 1 = omega arith in
+      subst (λ p. standing tables all p ≡ Text (segment_bound segment) ∷ entries) same
+      (following_segment place segment (has_first segment [] known) (stands_first all place _ [] h) ∙ ap (λ es. Text (segment_bound segment) ∷ es) start)
+  following_string (one ∷ other ∷ more) place entries h known start =
+      let segments : List Segment = one ∷ other ∷ more in
+      let pieces = map (push_segment tables) segments in
+      let pieces_stand = stands_left all place pieces (join_texts (length segments) ∷ []) h in
+      let join_stands = stands_right all place (length segments) pieces (join_texts (length segments) ∷ []) (length-map segments (push_segment tables)) h in
+      let same : suc (place + length segments) ≡ place + (length segments + 1) = omega arith in
+      subst (λ p. standing tables all p ≡ Text (bound_of segments) ∷ entries) same
+      (following_join (place + length segments) segments entries (stands_first all (place + length segments) _ [] join_stands) (following_segments segments place entries pieces_stand known start))
+
+  string_sound : (s : Template) (place : ℕ) (entries : Entries) → Stands all place (string_code tables s) → Has tables (string_uses s) → IsBoundedString s → standing tables all place ≡ entries → length entries + max_segments ≤ max_stack → AreSound place (string_code tables s)
+  string_sound [] place entries h known b start room = let number = ap length start in (text_sound place [] (found_string tables [] [] [] known) (omega (arith, number, room)), tt)
+  string_sound (segment ∷ []) place entries h known b start room =
+      let number = ap length start in
+      (segment_sound place segment (has_first segment [] known) (All-head IsBoundedSegment segment [] b.segments) (omega (arith, number, room)), tt)
+  string_sound (one ∷ other ∷ more) place entries h known b start room =
+      let segments : List Segment = one ∷ other ∷ more in
+      let pieces = map (push_segment tables) segments in
+      let pieces_stand = stands_left all place pieces (join_texts (length segments) ∷ []) h in
+      let after = following_segments segments place entries pieces_stand known start in
+      let some : 2 ≤ length segments = omega arith in
+      let pieces_sound = segments_sound segments place entries pieces_stand known b.segments start (omega (arith, room, b.few)) in
+      sound_both pieces (join_texts (length segments) ∷ []) place (length segments) (length-map segments (push_segment tables)) pieces_sound
+      (join_sound (place + length segments) segments entries some b.few (omega (arith, room)) after, tt)
+
+  has_string : (s : Template) (ss : List Template) → Has tables (strings_uses (s ∷ ss)) → Has tables (string_uses s)
+  has_string s ss known = has_left tables (string_uses s) (strings_uses ss) known
+
+  has_strings : (s : Template) (ss : List Template) → Has tables (strings_uses (s ∷ ss)) → Has tables (strings_uses ss)
+  has_strings s ss known = has_right tables (string_uses s) (strings_uses ss) known
+
+  -- after strings their texts are on top of the entries before them
+  pub following_strings : (ss : List Template) (place : ℕ) (entries : Entries) → Stands all place (strings_code tables ss) → Has tables (strings_uses ss) → standing tables all place ≡ entries → standing tables all (place + strings_length ss) ≡ pushed (map bound_of ss) entries
+  following_strings [] place entries h known start = let same : place ≡ place + 0 = omega arith in subst (λ p. standing tables all p ≡ entries) same start
+  following_strings (s ∷ ss) place entries h known start =
+      let here = stands_left all place (string_code tables s) (strings_code tables ss) h in
+      let there = stands_right all place (string_length s) (string_code tables s) (strings_code tables ss) (string_code_length tables s) h in
+      let first = following_string s place entries here (has_string s ss known) start in
+      let same : place + string_length s + strings_length ss ≡ place + strings_length (s ∷ ss) = omega (arith, sum_by-cons string_length s ss) in
+      subst (λ p. standing tables all p ≡ pushed (map bound_of (s ∷ ss)) entries) same
+      (following_strings ss (place + string_length s) (Text (bound_of s) ∷ entries) there (has_strings s ss known) first)
+
+  strings_sound : (ss : List Template) (place : ℕ) (entries : Entries) → Stands all place (strings_code tables ss) → Has tables (strings_uses ss) → All IsBoundedString ss → standing tables all place ≡ entries → length entries + length ss + max_segments ≤ max_stack
+      → AreSound place (strings_code tables ss)
+  strings_sound [] place entries h known b start room = tt
+  strings_sound (s ∷ ss) place entries h known b start room =
+      let here = stands_left all place (string_code tables s) (strings_code tables ss) h in
+      let there = stands_right all place (string_length s) (string_code tables s) (strings_code tables ss) (string_code_length tables s) h in
+      let of_first = has_string s ss known in
+      let first = following_string s place entries here of_first start in
+      sound_both (string_code tables s) (strings_code tables ss) place (string_length s) (string_code_length tables s)
+      (string_sound s place entries here of_first (All-head IsBoundedString s ss b) start (omega (arith, room)))
+      (strings_sound ss (place + string_length s) (Text (bound_of s) ∷ entries) there (has_strings s ss known) (All-tail IsBoundedString s ss b) first (omega (arith, room)))
+
+  -- ---- tests of strings
+
+  -- the entries of two lists of strings
+  abbrev pub two_pushed : List Template → List Template → Entries
+  two_pushed names keys = pushed (map bound_of keys) (pushed (map bound_of names) [])
+
+  fields_sound : (place : ℕ) (how : Match) (names keys : List Template) → AreBoundedLists names keys → standing tables all place ≡ two_pushed names keys → IsSound all tables last place (match_fields how (length names) (length keys))
   fields_sound place how names keys b h = record {
     form =
         rw (
@@ -231,15 +374,31 @@ module _ (all : List Instruction) (tables : Tables) (last : ℕ) where
         refl;
     index = tt;
     jump = λ e. absurd (cc);
-    stack = λ code same. rw (h, taken_back keys (pushed names []), taken_back names []) refl;
+    stack = λ code same. rw (h, taken_back bound_of keys (pushed (map bound_of names) []), taken_back bound_of names []) refl;
   }
 
-  names_sound : (place : ℕ) (names : List (List ℕ)) → IsBoundedList names → standing tables all place ≡ pushed names [] → IsSound all tables last place (find_fields (length names))
+  texts_sound : (place : ℕ) (how : Match) (sources keys : List Template) → AreBoundedLists sources keys → standing tables all place ≡ two_pushed sources keys → IsSound all tables last place (match_texts how (length sources) (length keys))
+  texts_sound place how sources keys b h = record {
+    form =
+        rw (
+          match_fits how.kind how.comparator,
+          le-leb 1 (length sources) b.some_first,
+          le-leb (length sources) 512 (omega (arith, b.few)),
+          le-leb 1 (length keys) b.some_second,
+          le-leb (length keys) 512 (omega (arith, b.few)),
+        )
+        refl;
+    index = tt;
+    jump = λ e. absurd (cc);
+    stack = λ code same. rw (h, taken_back bound_of keys (pushed (map bound_of sources) []), taken_back bound_of sources []) refl;
+  }
+
+  names_sound : (place : ℕ) (names : List Template) → IsBoundedList names → standing tables all place ≡ pushed (map bound_of names) [] → IsSound all tables last place (find_fields (length names))
   names_sound place names b h = record {
     form = rw (le-leb 1 (length names) b.some, le-leb (length names) 512 (omega (arith, b.few))) refl;
     index = tt;
     jump = λ e. absurd (cc);
-    stack = λ code same. rw (h, taken_back names []) refl;
+    stack = λ code same. rw (h, taken_back bound_of names []) refl;
   }
 
   -- after strings, a test and its jump no entry is left
@@ -257,6 +416,32 @@ module _ (all : List Instruction) (tables : Tables) (last : ℕ) where
       let here = stands_first all (place + n) i (jump_if asked target ∷ []) tail in
       let after : standing tables all (suc (place + n)) ≡ Truth ∷ [] = ap (λ o. left_by tables o (standing tables all (place + n))) here ∙ leaves_truth (standing tables all (place + n)) in
       sound_both strings (i ∷ jump_if asked target ∷ []) place n e sound (simple_sound (place + n) asked target i tested after aimed)
+
+  -- two lists of strings, which are one after the other on top
+  both_length : (first second : List Template) → length (strings_code tables first ++ strings_code tables second) ≡ strings_length first + strings_length second
+  both_length first second = length_two (strings_code tables first) (strings_code tables second) _ _ (strings_code_length tables first) (strings_code_length tables second)
+
+  following_both : (first second : List Template) (place : ℕ) → Stands all place (strings_code tables first ++ strings_code tables second) → Has tables (joined (strings_uses first) (strings_uses second)) → standing tables all place ≡ []
+      → standing tables all (place + (strings_length first + strings_length second)) ≡ two_pushed first second
+  following_both first second place h known start =
+      let here = stands_left all place (strings_code tables first) (strings_code tables second) h in
+      let there = stands_right all place (strings_length first) (strings_code tables first) (strings_code tables second) (strings_code_length tables first) h in
+      let below = following_strings first place [] here (has_left tables (strings_uses first) (strings_uses second) known) start in
+      let above = following_strings second (place + strings_length first) (pushed (map bound_of first) []) there (has_right tables (strings_uses first) (strings_uses second) known) below in
+      let same : place + strings_length first + strings_length second ≡ place + (strings_length first + strings_length second) = omega arith in
+      subst (λ p. standing tables all p ≡ two_pushed first second) same above
+
+  both_sound : (first second : List Template) (place : ℕ) → Stands all place (strings_code tables first ++ strings_code tables second) → Has tables (joined (strings_uses first) (strings_uses second)) → AreBoundedLists first second → standing tables all place ≡ []
+      → AreSound place (strings_code tables first ++ strings_code tables second)
+  both_sound first second place h known b start =
+      let here = stands_left all place (strings_code tables first) (strings_code tables second) h in
+      let there = stands_right all place (strings_length first) (strings_code tables first) (strings_code tables second) (strings_code_length tables first) h in
+      let of_first = has_left tables (strings_uses first) (strings_uses second) known in
+      let below = following_strings first place [] here of_first start in
+      let bounds = pushed_number bound_of first [] in
+      sound_both (strings_code tables first) (strings_code tables second) place (strings_length first) (strings_code_length tables first)
+      (strings_sound first place [] here of_first b.bounded_first start (omega (arith, b.few)))
+      (strings_sound second (place + strings_length first) (pushed (map bound_of first) []) there (has_right tables (strings_uses first) (strings_uses second) known) b.bounded_second below (omega (arith, bounds, b.few)))
 
   -- what a target has to be for code that ends at a place
   abbrev pub IsTarget : ℕ → ℕ → Type 0
@@ -279,9 +464,10 @@ module _ (all : List Instruction) (tables : Tables) (last : ℕ) where
         let same : suc (suc place) ≡ place + 2 = omega arith in
         subst (λ p. standing tables all p ≡ []) same (following_jump (suc place) asked target (stands_first all (suc place) _ [] (stands_next all place _ (jump_if asked target ∷ []) h)))
     test_ends (header how names keys) place asked target h =
-        let number = length_two (push_strings tables names) (push_strings tables keys) _ _ (strings_length tables names) (strings_length tables keys) in
-        tail_ends place (length names + length keys) _ _ asked target number h
-    test_ends (exists names) place asked target h = tail_ends place (length names) _ _ asked target (strings_length tables names) h
+        tail_ends place (strings_length names + strings_length keys) _ _ asked target (both_length names keys) h
+    test_ends (exists names) place asked target h = tail_ends place (strings_length names) _ _ asked target (strings_code_length tables names) h
+    test_ends (string how sources keys) place asked target h =
+        tail_ends place (strings_length sources + strings_length keys) _ _ asked target (both_length sources keys) h
     test_ends (negation t) place asked target h = test_ends t place _ target h
     test_ends (all_of t ts) place asked target h =
         let first = test_ends t place _ _ (stands_left all place _ _ h) in
@@ -300,36 +486,28 @@ module _ (all : List Instruction) (tables : Tables) (last : ℕ) where
         subst (λ p. standing tables all p ≡ []) same (tests_end ts (place + test_length t) deciding asked following target (stands_right all place (test_length t) _ _ (test_code_length tables t place _ _) h) first)
 
   mutual
-    pub test_sound : (t : TestForm) (place : ℕ) (asked : Bool) (target : ℕ) → Stands all place (test_code tables place t asked target) → Has tables (test_numbers t) (test_strings t) → IsBoundedTest t → standing tables all place ≡ [] → IsTarget (place + test_length t) target → AreSound place (test_code tables place t asked target)
+    pub test_sound : (t : TestForm) (place : ℕ) (asked : Bool) (target : ℕ) → Stands all place (test_code tables place t asked target) → Has tables (test_uses t) → IsBoundedTest t → standing tables all place ≡ [] → IsTarget (place + test_length t) target → AreSound place (test_code tables place t asked target)
     test_sound (constant v) place asked target h known b start aim =
         simple_sound place asked target (push_bool v) (bool_sound place v start) (following_bool place v (stands_first all place _ (jump_if asked target ∷ []) h)) (record { forward = omega (arith, aim.0); within = aim.1; between = aim.2 })
     test_sound (size order n) place asked target h known b start aim =
         simple_sound place asked target (push_size order (place_of_number tables n)) (size_sound place order n known start) (following_size place order (place_of_number tables n) (stands_first all place _ (jump_if asked target ∷ []) h)) (record { forward = omega (arith, aim.0); within = aim.1; between = aim.2 })
     test_sound (header how names keys) place asked target h known b start aim =
-        let ln = strings_length tables names in
-        let lk = strings_length tables keys in
-        let number = length_two (push_strings tables names) (push_strings tables keys) _ _ ln lk in
-        let strings = stands_left all place (push_strings tables names ++ push_strings tables keys) _ h in
-        let first = stands_left all place (push_strings tables names) _ strings in
-        let second = stands_right all place (length names) (push_strings tables names) _ ln strings in
-        let of_names = has_left tables [] [] names keys known in
-        let of_keys = has_right tables [] [] names keys known in
-        let named = following_strings names place [] first of_names start in
-        let keyed = following_strings keys (place + length names) (pushed names []) second of_keys named in
-        let bounds = pushed_number names [] in
-        let same : place + length names + length keys ≡ place + (length names + length keys) = omega arith in
-        let sound =
-        sound_both (push_strings tables names) (push_strings tables keys) place (length names) ln
-        (strings_sound names place [] first of_names start (omega (arith, b.few)))
-        (strings_sound keys (place + length names) (pushed names []) second of_keys named (omega (arith, bounds, b.few))) in
-        tail_sound place (length names + length keys) _ _ asked target number h sound
-        (fields_sound (place + (length names + length keys)) how names keys b (subst (λ p. standing tables all p ≡ pushed keys (pushed names [])) same keyed)) (λ entries. refl)
+        let lists = stands_left all place (strings_code tables names ++ strings_code tables keys) _ h in
+        let after = following_both names keys place lists known start in
+        tail_sound place (strings_length names + strings_length keys) _ _ asked target (both_length names keys) h (both_sound names keys place lists known b start)
+        (fields_sound (place + (strings_length names + strings_length keys)) how names keys b after) (λ entries. refl)
         (record { forward = omega (arith, aim.0); within = aim.1; between = aim.2 })
     test_sound (exists names) place asked target h known b start aim =
-        let ln = strings_length tables names in
-        let first = stands_left all place (push_strings tables names) _ h in
-        let named = following_strings names place [] first known start in
-        tail_sound place (length names) _ _ asked target ln h (strings_sound names place [] first known start (omega (arith, b.few))) (names_sound (place + length names) names b named) (λ entries. refl)
+        let list = stands_left all place (strings_code tables names) _ h in
+        let after = following_strings names place [] list known start in
+        tail_sound place (strings_length names) _ _ asked target (strings_code_length tables names) h (strings_sound names place [] list known b.bounded start (omega (arith, b.few)))
+        (names_sound (place + strings_length names) names b after) (λ entries. refl)
+        (record { forward = omega (arith, aim.0); within = aim.1; between = aim.2 })
+    test_sound (string how sources keys) place asked target h known b start aim =
+        let lists = stands_left all place (strings_code tables sources ++ strings_code tables keys) _ h in
+        let after = following_both sources keys place lists known start in
+        tail_sound place (strings_length sources + strings_length keys) _ _ asked target (both_length sources keys) h (both_sound sources keys place lists known b start)
+        (texts_sound (place + (strings_length sources + strings_length keys)) how sources keys b after) (λ entries. refl)
         (record { forward = omega (arith, aim.0); within = aim.1; between = aim.2 })
     test_sound (negation t) place asked target h known b start aim = test_sound t place _ target h known b start aim
     test_sound (all_of t ts) place asked target h known b start aim =
@@ -340,8 +518,8 @@ module _ (all : List Instruction) (tables : Tables) (last : ℕ) where
         let here = stands_left all place _ _ h in
         let there = stands_right all place (test_length t) _ _ (test_code_length tables t place _ _) h in
         let first_aim = aim_is_target false asked ts (place + test_length t) following target near aim.0 closed aim in
-        let first = test_sound t place _ _ here (has_left tables (test_numbers t) (tests_numbers ts) (test_strings t) (tests_strings ts) known) b.0 start first_aim in
-        let rest = tests_sound ts (place + test_length t) false asked following target there (has_right tables (test_numbers t) (tests_numbers ts) (test_strings t) (tests_strings ts) known) b.1 (test_ends t place _ _ here) same aim.0 closed aim in
+        let first = test_sound t place _ _ here (has_left tables (test_uses t) (tests_uses ts) known) b.0 start first_aim in
+        let rest = tests_sound ts (place + test_length t) false asked following target there (has_right tables (test_uses t) (tests_uses ts) known) b.1 (test_ends t place _ _ here) same aim.0 closed aim in
         sound_both _ _ place (test_length t) (test_code_length tables t place _ _) first rest
     test_sound (any_of t ts) place asked target h known b start aim =
         let following = place + (test_length t + tests_length ts) in
@@ -351,11 +529,11 @@ module _ (all : List Instruction) (tables : Tables) (last : ℕ) where
         let here = stands_left all place _ _ h in
         let there = stands_right all place (test_length t) _ _ (test_code_length tables t place _ _) h in
         let first_aim = aim_is_target true asked ts (place + test_length t) following target near aim.0 closed aim in
-        let first = test_sound t place _ _ here (has_left tables (test_numbers t) (tests_numbers ts) (test_strings t) (tests_strings ts) known) b.0 start first_aim in
-        let rest = tests_sound ts (place + test_length t) true asked following target there (has_right tables (test_numbers t) (tests_numbers ts) (test_strings t) (tests_strings ts) known) b.1 (test_ends t place _ _ here) same aim.0 closed aim in
+        let first = test_sound t place _ _ here (has_left tables (test_uses t) (tests_uses ts) known) b.0 start first_aim in
+        let rest = tests_sound ts (place + test_length t) true asked following target there (has_right tables (test_uses t) (tests_uses ts) known) b.1 (test_ends t place _ _ here) same aim.0 closed aim in
         sound_both _ _ place (test_length t) (test_code_length tables t place _ _) first rest
 
-    tests_sound : (ts : TestForms) (place : ℕ) (deciding asked : Bool) (following target : ℕ) → Stands all place (tests_code tables place ts deciding asked following target) → Has tables (tests_numbers ts) (tests_strings ts) → AreBoundedTests ts → standing tables all place ≡ []
+    tests_sound : (ts : TestForms) (place : ℕ) (deciding asked : Bool) (following target : ℕ) → Stands all place (tests_code tables place ts deciding asked following target) → Has tables (tests_uses ts) → AreBoundedTests ts → standing tables all place ≡ []
         → following ≡ place + tests_length ts → following ≤ target → IsTarget following following → IsTarget following target → AreSound place (tests_code tables place ts deciding asked following target)
     tests_sound no_test place deciding asked following target h known b start at le closed aim = tt
     tests_sound (test t ts) place deciding asked following target h known b start at le closed aim =
@@ -364,8 +542,8 @@ module _ (all : List Instruction) (tables : Tables) (last : ℕ) where
         let here = stands_left all place _ _ h in
         let there = stands_right all place (test_length t) _ _ (test_code_length tables t place _ _) h in
         let first_aim = aim_is_target deciding asked ts (place + test_length t) following target near le closed aim in
-        let first = test_sound t place _ _ here (has_left tables (test_numbers t) (tests_numbers ts) (test_strings t) (tests_strings ts) known) b.0 start first_aim in
-        let rest = tests_sound ts (place + test_length t) deciding asked following target there (has_right tables (test_numbers t) (tests_numbers ts) (test_strings t) (tests_strings ts) known) b.1 (test_ends t place _ _ here) same le closed aim in
+        let first = test_sound t place _ _ here (has_left tables (test_uses t) (tests_uses ts) known) b.0 start first_aim in
+        let rest = tests_sound ts (place + test_length t) deciding asked following target there (has_right tables (test_uses t) (tests_uses ts) known) b.1 (test_ends t place _ _ here) same le closed aim in
         sound_both _ _ place (test_length t) (test_code_length tables t place _ _) first rest
 
   at_same : (p q : ℕ) → p ≡ q → standing tables all p ≡ [] → standing tables all q ≡ []
@@ -374,6 +552,13 @@ module _ (all : List Instruction) (tables : Tables) (last : ℕ) where
   -- after an instruction that leaves no entry
   after_plain : (place : ℕ) (i : Instruction) → slice_get all place ≡ Some i → left_by tables (Some i) (standing tables all place) ≡ [] → standing tables all (place + 1) ≡ []
   after_plain place i h none = let same : suc place ≡ place + 1 = omega arith in at_same (suc place) (place + 1) same (ap (λ o. left_by tables o (standing tables all place)) h ∙ none)
+
+  -- after a string and an instruction that leaves no entry
+  after_string : (place : ℕ) (s : Template) (i : Instruction) → Stands all place (string_code tables s ++ i ∷ []) → left_by tables (Some i) (standing tables all (place + string_length s)) ≡ [] → standing tables all (place + (string_length s + 1)) ≡ []
+  after_string place s i h none =
+      let there = stands_right all place (string_length s) (string_code tables s) (i ∷ []) (string_code_length tables s) h in
+      let same : place + string_length s + 1 ≡ place + (string_length s + 1) = omega arith in
+      at_same _ _ same (after_plain (place + string_length s) i (stands_first all (place + string_length s) i [] there) none)
 
   leave_end : (bs : BranchForms) (place end : ℕ) → Stands all place (leave_code bs end) → standing tables all place ≡ [] → standing tables all (place + leave_length bs) ≡ []
   leave_end no_branch place end h start = let same : place ≡ place + 0 = omega arith in at_same place (place + 0) same start
@@ -386,8 +571,8 @@ module _ (all : List Instruction) (tables : Tables) (last : ℕ) where
     command_ends keep place h start = after_plain place _ (stands_first all place _ [] h) refl
     command_ends discard place h start = after_plain place _ (stands_first all place _ [] h) refl
     command_ends (file_into folder) place h start =
-        let same : suc place + 1 ≡ place + 2 = omega arith in
-        at_same _ _ same (after_plain (suc place) _ (stands_first all (suc place) _ [] (stands_next all place _ (plain File ∷ []) h)) refl)
+        after_string place folder (plain File) h refl
+    command_ends (set modifiers name value) place h start = after_string place value (set_variable tables modifiers name) h refl
     command_ends stop place h start = after_plain place _ (stands_first all place _ [] h) refl
     command_ends (choice bs) place h start = branches_end bs place _ h start
 
@@ -421,6 +606,26 @@ module _ (all : List Instruction) (tables : Tables) (last : ℕ) where
   file_sound : (place bound : ℕ) → standing tables all place ≡ Text bound ∷ [] → IsSound all tables last place (plain File)
   file_sound place bound start = record { form = refl; index = tt; jump = λ e. absurd (cc); stack = λ code same. rw start refl }
 
+  set_sound : (place bound : ℕ) (modifiers : Modifiers) (name : List ℕ) → Has tables (uses_with [] [] (name ∷ [])) → standing tables all place ≡ Text bound ∷ [] → IsSound all tables last place (set_variable tables modifiers name)
+  set_sound place bound modifiers name known start = record {
+    form = rw (number_again modifiers) refl;
+    index = (name, found_variable tables name [] [] known);
+    jump = λ e. absurd (cc);
+    stack = λ code same. rw start refl;
+  }
+
+  -- a string and an instruction that takes its text
+  taking_sound : (place : ℕ) (s : Template) (i : Instruction) → Stands all place (string_code tables s ++ i ∷ []) → Has tables (string_uses s) → IsBoundedString s → standing tables all place ≡ []
+      → (standing tables all (place + string_length s) ≡ Text (bound_of s) ∷ [] → IsSound all tables last (place + string_length s) i) → AreSound place (string_code tables s ++ i ∷ [])
+  taking_sound place s i h known b start sound =
+      let here = stands_left all place (string_code tables s) (i ∷ []) h in
+      let after = following_string s place [] here known start in
+      sound_both (string_code tables s) (i ∷ []) place (string_length s) (string_code_length tables s) (string_sound s place [] here known b start (omega arith)) (sound after, tt)
+
+  -- the value of a variable that is set, and its name
+  pub has_setting : (name : List ℕ) (value : Template) → Has tables (uses_with [] (string_strings value) (string_variables value ++ name ∷ [])) → Has tables (joined (string_uses value) (uses_with [] [] (name ∷ [])))
+  has_setting name value known = subst (λ ss. Has tables (uses_with [] ss (string_variables value ++ name ∷ []))) (sym (append-nil (string_strings value))) known
+
   jump_sound : (place end : ℕ) → standing tables all place ≡ [] → IsAimed all tables last place end → IsSound all tables last place (instruction Jump 0 end)
   jump_sound place end start aimed = record { form = refl; index = tt; jump = λ e. aimed; stack = λ code same. rw start refl }
 
@@ -430,31 +635,32 @@ module _ (all : List Instruction) (tables : Tables) (last : ℕ) where
   leave_sound (branch t cs bs) place end start le within between = (jump_sound place end start (record { forward = omega (arith, le); within = within; between = between }), tt)
 
   mutual
-    pub command_sound : (c : CommandForm) (place : ℕ) → Stands all place (command_code tables place c) → Has tables (command_numbers c) (command_strings c) → IsBoundedCommand c → standing tables all place ≡ [] → place + command_length c ≤ last → AreSound place (command_code tables place c)
+    pub command_sound : (c : CommandForm) (place : ℕ) → Stands all place (command_code tables place c) → Has tables (command_uses c) → IsBoundedCommand c → standing tables all place ≡ [] → place + command_length c ≤ last → AreSound place (command_code tables place c)
     command_sound keep place h known b start within = (keep_sound place start, tt)
     command_sound discard place h known b start within = (discard_sound place start, tt)
-    command_sound (file_into folder) place h known b start within =
-        let there = found_string tables folder [] known in
-        let first = following_string place folder there (stands_first all place (push_string tables folder) (plain File ∷ []) h) ∙ ap (λ es. Text (length folder) ∷ es) start in
-        let number = ap length start in
-        (string_sound place folder there (omega (arith, number)), (file_sound (suc place) (length folder) first, tt))
+    command_sound (file_into folder) place h known b start within = taking_sound place folder (plain File) h known b start (λ after. file_sound (place + string_length folder) (bound_of folder) after)
+    command_sound (set modifiers name value) place h known b start within =
+        let both = has_setting name value known in
+        let of_value = has_left tables (string_uses value) (uses_with [] [] (name ∷ [])) both in
+        let of_name = has_right tables (string_uses value) (uses_with [] [] (name ∷ [])) both in
+        taking_sound place value (set_variable tables modifiers name) h of_value b start (λ after. set_sound (place + string_length value) (bound_of value) modifiers name of_name after)
     command_sound stop place h known b start within = (halt_sound place start, tt)
     command_sound (choice bs) place h known b start within =
         let same : place + branches_length bs ≤ place + branches_length bs = omega arith in
         branches_sound bs place (place + branches_length bs) h known b start same within (branches_end bs place _ h start)
 
-    pub commands_sound : (cs : CommandForms) (place : ℕ) → Stands all place (commands_code tables place cs) → Has tables (commands_numbers cs) (commands_strings cs) → AreBoundedCommands cs → standing tables all place ≡ [] → place + commands_length cs ≤ last → AreSound place (commands_code tables place cs)
+    pub commands_sound : (cs : CommandForms) (place : ℕ) → Stands all place (commands_code tables place cs) → Has tables (commands_uses cs) → AreBoundedCommands cs → standing tables all place ≡ [] → place + commands_length cs ≤ last → AreSound place (commands_code tables place cs)
     commands_sound no_command place h known b start within = tt
     commands_sound (command c cs) place h known b start within =
         let first_within : place + command_length c ≤ last = omega (arith, within) in
         let rest_within : place + command_length c + commands_length cs ≤ last = omega (arith, within) in
         let here = stands_left all place _ _ h in
         let there = stands_right all place (command_length c) _ _ (command_code_length tables c place) h in
-        let first = command_sound c place here (has_left tables (command_numbers c) (commands_numbers cs) (command_strings c) (commands_strings cs) known) b.0 start first_within in
-        let rest = commands_sound cs (place + command_length c) there (has_right tables (command_numbers c) (commands_numbers cs) (command_strings c) (commands_strings cs) known) b.1 (command_ends c place here start) rest_within in
+        let first = command_sound c place here (has_left tables (command_uses c) (commands_uses cs) known) b.0 start first_within in
+        let rest = commands_sound cs (place + command_length c) there (has_right tables (command_uses c) (commands_uses cs) known) b.1 (command_ends c place here start) rest_within in
         sound_both _ _ place (command_length c) (command_code_length tables c place) first rest
 
-    pub branches_sound : (bs : BranchForms) (place end : ℕ) → Stands all place (branches_code tables place bs end) → Has tables (branches_numbers bs) (branches_strings bs) → AreBoundedBranches bs → standing tables all place ≡ [] → place + branches_length bs ≤ end → end ≤ last → standing tables all end ≡ [] → AreSound place (branches_code tables place bs end)
+    pub branches_sound : (bs : BranchForms) (place end : ℕ) → Stands all place (branches_code tables place bs end) → Has tables (branches_uses bs) → AreBoundedBranches bs → standing tables all place ≡ [] → place + branches_length bs ≤ end → end ≤ last → standing tables all end ≡ [] → AreSound place (branches_code tables place bs end)
     branches_sound no_branch place end h known b start le within between = tt
     branches_sound (otherwise cs) place end h known b start le within between = let fits : place + commands_length cs ≤ last = omega (arith, le, within) in commands_sound cs place h known b start fits
     branches_sound (branch t cs bs) place end h known limits start le within between =
@@ -468,15 +674,15 @@ module _ (all : List Instruction) (tables : Tables) (last : ℕ) where
         let rest_le : next + branches_length bs ≤ end = omega (arith, le) in
         let of_place : place + (test_length t + commands_length cs) ≡ leave = omega arith in
         let of_next : place + (test_length t + commands_length cs + leave_length bs) ≡ next = omega arith in
-        let numbers = has_left tables (test_numbers t ++ commands_numbers cs) (branches_numbers bs) (test_strings t ++ commands_strings cs) (branches_strings bs) known in
+        let both = has_left tables (joined (test_uses t) (commands_uses cs)) (branches_uses bs) known in
         let parts = branch_parts_of all tables t cs bs place end h in
         let tested = test_ends t place false _ parts.test in
         let blocked = commands_end cs block parts.block tested in
         let left = leave_end bs leave end parts.leave blocked in
-        let a = test_sound t place false next parts.test (has_left tables (test_numbers t) (commands_numbers cs) (test_strings t) (commands_strings cs) numbers) limits.0 start (near, inside, left) in
-        let b = commands_sound cs block parts.block (has_right tables (test_numbers t) (commands_numbers cs) (test_strings t) (commands_strings cs) numbers) limits.1 tested fits in
+        let a = test_sound t place false next parts.test (has_left tables (test_uses t) (commands_uses cs) both) limits.0 start (near, inside, left) in
+        let b = commands_sound cs block parts.block (has_right tables (test_uses t) (commands_uses cs) both) limits.1 tested fits in
         let c = leave_sound bs leave end blocked leaves within between in
-        let d = branches_sound bs next end parts.rest (has_right tables (test_numbers t ++ commands_numbers cs) (branches_numbers bs) (test_strings t ++ commands_strings cs) (branches_strings bs) known) limits.2 left rest_le within between in
+        let d = branches_sound bs next end parts.rest (has_right tables (joined (test_uses t) (commands_uses cs)) (branches_uses bs) known) limits.2 left rest_le within between in
         let la = test_code_length tables t place false next in
         let lab = length_two _ _ _ _ la (commands_code_length tables cs block) in
         let labc = length_two _ _ _ _ lab (leave_code_length tables bs end) in

@@ -1,5 +1,5 @@
 -- Tables as they grow.
-use Rattle.std.specs.Prelude.{ℕ, nat_eq, bytes_eq, List, [], ◌++◌, Option}
+use Rattle.std.specs.Prelude.{ℕ, nat_eq, bytes_eq, List, [], ◌++◌, flat_map, Option}
 use Rattle.octets.specs.Once as once
 use Rattle.sieve_check.specs.declared.typed.Segment.{Segment}
 use Rattle.sieve_check.specs.Variables.{segment_variables, string_variables, strings_variables, test_variables, tests_variables, command_variables, commands_variables, branches_variables}
@@ -38,6 +38,9 @@ joined a b = uses_with (a.numbers ++ b.numbers) (a.strings ++ b.strings) (a.vari
 
 abbrev pub segment_uses : Segment → Uses
 segment_uses segment = uses_with [] (segment_strings segment) (segment_variables segment)
+
+abbrev pub segments_uses : Template → Uses
+segments_uses segments = uses_with [] (flat_map segment_strings segments) (string_variables segments)
 
 abbrev pub string_uses : Template → Uses
 string_uses string = uses_with [] (string_strings string) (string_variables string)

@@ -6,10 +6,10 @@ use sieve_check::{Command, Segment, Test};
 use std::alloc::{AllocError, Global};
 
 impl<'a> Tables<'a> {
-    ghost use Rattle.std.specs.Prelude.{◌≡◌, [], map, OnOk, IfOk};
+    ghost use Rattle.std.specs.Prelude.{◌≡◌, [], ◌∷◌, map, OnOk, IfOk};
     ghost use Rattle.sieve_check.specs.TypedView.{templates_of, test_form, tests_of, command_form, commands_form};
     ghost use Rattle.sieve_compiler.specs.Tables.{tables_of};
-    ghost use Rattle.sieve_compiler.specs.Growing.{segment_uses, string_uses, strings_uses, test_uses, tests_uses, command_uses, commands_uses, with_uses};
+    ghost use Rattle.sieve_compiler.specs.Growing.{uses_with, segment_uses, segments_uses, string_uses, strings_uses, test_uses, tests_uses, command_uses, commands_uses, with_uses};
 
     /// The tables of a script: each of its numbers, texts and variables once, in the order of their first use in its code.
     ///
@@ -22,28 +22,42 @@ impl<'a> Tables<'a> {
         Ok(tables)
     }
 
+    // Adds a variable.
+    fn add_variable(&mut self, name: &'a [u8]) -> Result<(), AllocError>
+        ensures { OnOk result (self.new ≡ with_uses self.old (uses_with [] [] (name.now ∷ []))) }
+    {
+        self.variables.add(name)
+    }
+
     // Adds what a segment uses.
     fn add_segment(&mut self, segment: &'a Segment) -> Result<(), AllocError>
         ensures { OnOk result (self.new ≡ with_uses self.old (segment_uses segment.now)) }
     {
         match segment {
             Segment::Text(octets) => self.strings.add(octets.as_slice()),
-            Segment::Variable(name) => self.variables.add(name.as_slice()),
+            Segment::Variable(name) => self.add_variable(name.as_slice()),
             Segment::Capture(_) => Ok(()),
         }
+    }
+
+    // Adds what segments use, one after the other.
+    fn add_segments(&mut self, segments: &'a [Segment]) -> Result<(), AllocError>
+        ensures { OnOk result (self.new ≡ with_uses self.old (segments_uses segments.now)) }
+    {
+        for segment in segments {
+            self.add_segment(segment)?;
+        }
+        Ok(())
     }
 
     // Adds what a string uses. The empty string is a text.
     fn add_string(&mut self, string: &'a [Segment]) -> Result<(), AllocError>
         ensures { OnOk result (self.new ≡ with_uses self.old (string_uses string.now)) }
     {
-        if string.is_empty() {
-            self.strings.add(b"")?;
+        match string {
+            [] => self.strings.add(b""),
+            [_, ..] => self.add_segments(string),
         }
-        for segment in string {
-            self.add_segment(segment)?;
-        }
-        Ok(())
     }
 
     // Adds what strings use, one after the other.
@@ -102,7 +116,7 @@ impl<'a> Tables<'a> {
             Command::FileInto(folder) => self.add_string(folder)?,
             Command::Set { name, value, .. } => {
                 self.add_string(value)?;
-                self.variables.add(name.as_slice())?;
+                self.add_variable(name.as_slice())?;
             }
             Command::If(branches, otherwise) => {
                 'branches: for branch in branches {

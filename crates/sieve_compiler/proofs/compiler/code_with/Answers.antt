@@ -20,3 +20,9 @@ new-coder-requires-clause-strings c = few_strings (commands_form c.args.commands
 
 pub put_commands-requires-clause-room : goal.put_commands-requires-clause-room
 put_commands-requires-clause-room c = omega (arith, c.requires.bounded.octets, commands_within (commands_form c.args.commands.now), ap length c.new-coder.ensures.instructions)
+
+few_variables : (cs : CommandForms) (tables : Tables) → IsBounded cs → tables ≡ tables_of cs → length tables.variables < 2 ^ 32
+few_variables cs tables short e = omega (arith, short.variables, ap (λ (t : Tables). length t.variables) e)
+
+pub new-coder-requires-clause-variables : goal.new-coder-requires-clause-variables
+new-coder-requires-clause-variables c = few_variables (commands_form c.args.commands.now) c.args.tables.now c.requires.bounded c.requires.tables

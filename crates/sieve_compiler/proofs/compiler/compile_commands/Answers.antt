@@ -1,4 +1,4 @@
-use Rattle.std.proofs.Common.{◌≡◌, ℕ, ◌<◌, ◌^◌, List, All, Result, Ok, Err, IfErr, IsOk, refl, sym, ap, subst, ◌∙◌}
+use Rattle.std.proofs.Common.{◌≡◌, ℕ, ◌<◌, ◌^◌, List, All, length, Result, Ok, Err, IfErr, IsOk, refl, sym, ap, subst, ◌∙◌}
 use Rattle.bytecode_format.specs.declared.error.FormatError.{FormatError}
 use Rattle.bytecode_format.specs.declared.error.FormatError.TheVariants.{Spelling}
 use Rattle.bytecode_format.specs.Code.{Code}
@@ -21,6 +21,7 @@ unwrap-requires c =
     let numbers : c.into_numbers-numbers.result.items ≡ (tables_of cs).numbers = c.into_numbers-numbers.ensures.list ∙ ap (λ (t : Tables). t.numbers) c.in_ok-tables.ensures in
     let strings : c.in_ok-strings.strings.items ≡ (tables_of cs).strings = c.in_ok-strings.ensures ∙ ap (λ (t : Tables). t.strings) c.in_ok-tables.ensures in
     let instructions : c.in_ok-instructions.instructions.items ≡ (code_of cs).instructions = c.in_ok-instructions.ensures.code in
-    let made : Code = record { version = 1; variables = 0; numbers = c.into_numbers-numbers.result.items; strings = c.in_ok-strings.strings.items; instructions = c.in_ok-instructions.instructions.items } in
-    let same : made ≡ code_of cs = rw (numbers, strings, instructions) in
+    let variables : c.variable_count-variables.result ≡ length (tables_of cs).variables = c.variable_count-variables.ensures ∙ ap (λ (t : Tables). length t.variables) c.in_ok-tables.ensures in
+    let made : Code = record { version = 1; variables = c.variable_count-variables.result; numbers = c.into_numbers-numbers.result.items; strings = c.in_ok-strings.strings.items; instructions = c.in_ok-instructions.instructions.items } in
+    let same : made ≡ code_of cs = rw (variables, numbers, strings, instructions) in
     is_built c.build.result made (code_of cs) (is_program cs c.requires (subst (λ (l : List ℕ). All (λ n. n < 2 ^ 64) l) numbers c.into_numbers-numbers.ensures.numbers)) same c.build.ensures.refused

@@ -1,6 +1,8 @@
-use Rattle.std.proofs.Common.{◌≡◌, bytes_eq, drop}
-use Rattle.octets.specs.Once.{with_more}
+use Rattle.std.proofs.Common.{◌≡◌, drop}
+use Rattle.sieve_check.specs.TypedView.{templates_of}
+use Rattle.sieve_compiler.specs.Growing.{strings_uses, with_uses}
 use Rattle.sieve_compiler.proofs.tables.Tables.add_strings.Given as goal
 
-abbrev pub invariant-loop-text : goal.invariant-loop-text
-invariant-loop-text l = (with_more bytes_eq l.self-inside.strings (drop l.text-index l.strings) ≡ with_more bytes_eq l.initial.self-inside.strings l.strings) × (l.self-inside.numbers ≡ l.initial.self-inside.numbers)
+-- what is left, after what was added, gives the same tables as all of it
+abbrev pub invariant-loop-string : goal.invariant-loop-string
+invariant-loop-string l = with_uses l.self (strings_uses (templates_of (drop l.string-index l.strings))) ≡ with_uses l.initial.self (strings_uses (templates_of l.strings))

@@ -1,0 +1,226 @@
+-- The values of variables and captures stay as short as they are cut, and the values of the variables of a table are a list.
+use Rattle.std.proofs.Common.{◌≡◌, ℕ, zero, suc, ◌-◌, ◌<◌, ◌≤◌, Bool, true, false, not, bytes_eq, List, [], ◌∷◌, ◌++◌, Option, Some, None, IfSome, option_map, All, length, map, take, filter, replicate, slice_get, slice_set, refl, sym, ap, subst, ◌∙◌, inl, inr, arith, if◌then◌else◌, length-take}
+use Rattle.std.specs.Option.{option_or}
+use Rattle.std.specs.List.{slice_index_or}
+use Rattle.std.proofs.lemmas.Bool.{cases_Bool}
+use Rattle.std.proofs.lemmas.Cmp.{nat_list_eq_equiv}
+use Rattle.std.proofs.lemmas.List.Elements.{All-nil, All-cons, All-head, All-tail, All-append, All-map, All-replicate}
+use Rattle.std.proofs.lemmas.Map.Views.{any-filter_same}
+use Rattle.std.proofs.lemmas.Slice.Eq.{bytes_eq-Decides}
+use Rattle.octets.specs.Limits.{max_value}
+use Rattle.octets.specs.Once.{each_once, is_listed, place_in}
+use Rattle.bytecode_format.specs.Modifiers.{modified}
+use Rattle.glob_match.specs.Matching.{captures_of, least_fit, max_capture, max_captures}
+use Rattle.glob_match.specs.Tokens.{tokens_of}
+use Rattle.glob_match.specs.Comparison.{is_match}
+use Rattle.glob_match.specs.Containment.{contains_match}
+use Rattle.glob_match.specs.declared.comparator.Comparator.{Comparator}
+use Rattle.glob_match.specs.declared.match_type.Match.{Match}
+use Rattle.glob_match.specs.declared.match_type.MatchType.{MatchType}
+use Rattle.glob_match.specs.declared.match_type.MatchType.TheVariants.{Is, Contains, Matches}
+use Rattle.mail_matching.specs.FirstMatch.{after_comparison, first_key, first_match, ten_of}
+use Rattle.mime_decode.specs.Mail.{Mail}
+use Rattle.mime_decode.specs.Scope.{Root, Value, selected_values}
+use Rattle.sieve_check.specs.Typed.{TestForm, constant, negation, all_of, any_of, size, header, exists, string, TestForms, no_test, test, CommandForm, keep, discard, file_into, set, stop, choice, CommandForms, no_command, command, BranchForms, no_branch, otherwise, branch}
+use Rattle.sieve_meaning.specs.Meaning.{Effects, no_effects, all_expanded, expanded, with_value, Verdict, verdict, matched, and_then, or_else, Ending, normal, stopped, broken, effects_of, followed_by, test_does, all_do, any_do, command_does, commands_do, choice_does}
+
+-- ---- short values
+
+abbrev pub IsShort : List ℕ → Type 0
+IsShort text = length text ≤ max_value
+
+pub record AreShort (e : Effects) : Type 0 where
+  pub variables : (name : List ℕ) → IsShort (e.variables name)
+  pub captures : All IsShort e.captures
+
+cut_short : (text : List ℕ) → IsShort (take max_value text)
+cut_short text = omega (arith, length-take max_value text)
+
+empty_short : IsShort []
+empty_short = omega arith
+
+each : (P : List ℕ → Type 0) → ((x : List ℕ) → P x) → (xs : List (List ℕ)) → All P xs
+each P holds [] = All-nil P
+each P holds (x ∷ xs) = All-cons P x xs (holds x) (each P holds xs)
+
+captures_short : (value : List ℕ) (stretches : List (List ℕ)) → All IsShort (captures_of value stretches)
+captures_short value stretches = All-map IsShort (take max_capture) (take max_captures (value ∷ stretches)) (each (λ y. IsShort (take max_capture y)) cut_short (take max_captures (value ∷ stretches)))
+
+ten_short : (captures : List (List ℕ)) → All IsShort captures → All IsShort (ten_of captures)
+ten_short captures short = All-append IsShort captures _ short (All-replicate IsShort (max_captures - length captures) [] empty_short)
+
+either : (a b : Option (List (List ℕ))) → IfSome a (All IsShort) → IfSome b (All IsShort) → IfSome (option_or a b) (All IsShort)
+either None b first second = second
+either (Some x) b first second = first
+
+kept_if : (b : Bool) (captures : List (List ℕ)) → All IsShort captures → IfSome (if b then Some captures else None) (All IsShort)
+kept_if true captures short = short
+kept_if false captures short = tt
+
+set_of : (value : List ℕ) (fit : Option (List (List ℕ))) → IfSome (option_map ten_of (option_map (captures_of value) fit)) (All IsShort)
+set_of value None = tt
+set_of value (Some stretches) = ten_short (captures_of value stretches) (captures_short value stretches)
+
+after_one : (kind : MatchType) (comparator : Comparator) (value key : List ℕ) (captures : List (List ℕ)) → All IsShort captures → IfSome (after_comparison kind comparator value key captures) (All IsShort)
+after_one Is comparator value key captures short = kept_if (is_match comparator value key) captures short
+after_one Contains comparator value key captures short = kept_if (contains_match comparator value key) captures short
+after_one Matches comparator value key captures short = set_of value (least_fit comparator (tokens_of key) value)
+
+after_keys : (how : Match) (value : List ℕ) (keys captures : List (List ℕ)) → All IsShort captures → IfSome (first_key how value keys captures) (All IsShort)
+after_keys how value [] captures short = tt
+after_keys how value (key ∷ keys) captures short = either _ _ (after_one how.kind how.comparator value key captures short) (after_keys how value keys captures short)
+
+after_values : (how : Match) (values keys captures : List (List ℕ)) → All IsShort captures → IfSome (first_match how values keys captures) (All IsShort)
+after_values how [] keys captures short = tt
+after_values how (value ∷ values) keys captures short = either _ _ (after_keys how value keys captures short) (after_values how values keys captures short)
+
+pub capture_short : (captures : List (List ℕ)) (n : ℕ) → All IsShort captures → IsShort (slice_index_or captures n [])
+capture_short [] n short = empty_short
+capture_short (x ∷ xs) zero short = All-head IsShort x xs short
+capture_short (x ∷ xs) (suc n) short = capture_short xs n (All-tail IsShort x xs short)
+
+pub none_short : AreShort no_effects
+none_short = record { variables = λ name. empty_short; captures = All-replicate IsShort max_captures [] empty_short }
+
+-- with other actions
+still : (e f : Effects) → f.variables ≡ e.variables → f.captures ≡ e.captures → AreShort e → AreShort f
+still e f variables captures short = record {
+  variables = λ name. subst (λ v. IsShort (v name)) (sym variables) (short.variables name);
+  captures = subst (All IsShort) (sym captures) short.captures;
+}
+
+matched_short : (o : Option (List (List ℕ))) (e : Effects) → AreShort e → IfSome o (All IsShort) → AreShort (matched o e).effects
+matched_short None e short h = short
+matched_short (Some captures) e short h = record { variables = short.variables; captures = h }
+
+and_short : (b : Bool) (e : Effects) (next : Effects → Verdict) → AreShort e → ((f : Effects) → AreShort f → AreShort (next f).effects) → AreShort (and_then (verdict b e) next).effects
+and_short true e next short h = h e short
+and_short false e next short h = short
+
+or_short : (b : Bool) (e : Effects) (next : Effects → Verdict) → AreShort e → ((f : Effects) → AreShort f → AreShort (next f).effects) → AreShort (or_else (verdict b e) next).effects
+or_short true e next short h = short
+or_short false e next short h = h e short
+
+set_short : (name text : List ℕ) (f : List ℕ → List ℕ) → ((other : List ℕ) → IsShort (f other)) → (other : List ℕ) → IsShort (with_value name (take max_value text) f other)
+set_short name text f short other = step (bytes_eq name other)
+  where
+    step : (b : Bool) → IsShort (if b then take max_value text else f other)
+    step true = cut_short text
+    step false = short other
+
+followed_short : (x : Ending) (next : Effects → Ending) → AreShort (effects_of x) → ((f : Effects) → AreShort f → AreShort (effects_of (next f))) → AreShort (effects_of (followed_by x next))
+followed_short (normal e) next short h = h e short
+followed_short (stopped e) next short h = short
+followed_short (broken n e) next short h = short
+
+decided_short : (b : Bool) (x y : Ending) → AreShort (effects_of x) → AreShort (effects_of y) → AreShort (effects_of (if b then x else y))
+decided_short true x y h k = h
+decided_short false x y h k = k
+
+module _ (mail : Mail) where
+  mutual
+    -- after a test
+    pub test_short : (t : TestForm) (e : Effects) → AreShort e → AreShort (test_does mail None t e).effects
+    test_short (constant b) e short = short
+    test_short (negation t) e short = test_short t e short
+    test_short (all_of t ts) e short = let v = test_does mail None t e in and_short v.value v.effects (λ f. all_do mail None ts f) (test_short t e short) (λ f h. all_short ts f h)
+    test_short (any_of t ts) e short = let v = test_does mail None t e in or_short v.value v.effects (λ f. any_do mail None ts f) (test_short t e short) (λ f h. any_short ts f h)
+    test_short (size order number) e short = short
+    test_short (header how names keys) e short =
+        matched_short _ e short (after_values how (selected_values Root None Value (all_expanded e names) mail) (all_expanded e keys) e.captures short.captures)
+    test_short (exists names) e short = short
+    test_short (string how sources keys) e short = matched_short _ e short (after_values how (all_expanded e sources) (all_expanded e keys) e.captures short.captures)
+
+    all_short : (ts : TestForms) (e : Effects) → AreShort e → AreShort (all_do mail None ts e).effects
+    all_short no_test e short = short
+    all_short (test t ts) e short = let v = test_does mail None t e in and_short v.value v.effects (λ f. all_do mail None ts f) (test_short t e short) (λ f h. all_short ts f h)
+
+    any_short : (ts : TestForms) (e : Effects) → AreShort e → AreShort (any_do mail None ts e).effects
+    any_short no_test e short = short
+    any_short (test t ts) e short = let v = test_does mail None t e in or_short v.value v.effects (λ f. any_do mail None ts f) (test_short t e short) (λ f h. any_short ts f h)
+
+  mutual
+    -- after a command
+    pub command_short : (c : CommandForm) (e : Effects) → AreShort e → AreShort (effects_of (command_does mail None c e))
+    command_short keep e short = still e _ refl refl short
+    command_short discard e short = still e _ refl refl short
+    command_short (file_into folder) e short = still e _ refl refl short
+    command_short (set modifiers name value) e short = record { variables = set_short name (modified modifiers (expanded e value)) e.variables short.variables; captures = short.captures }
+    command_short stop e short = short
+    command_short (choice bs) e short = choice_short bs e short
+
+    commands_short : (cs : CommandForms) (e : Effects) → AreShort e → AreShort (effects_of (commands_do mail None cs e))
+    commands_short no_command e short = short
+    commands_short (command c cs) e short = followed_short (command_does mail None c e) (λ f. commands_do mail None cs f) (command_short c e short) (λ f h. commands_short cs f h)
+
+    choice_short : (bs : BranchForms) (e : Effects) → AreShort e → AreShort (effects_of (choice_does mail None bs e))
+    choice_short no_branch e short = short
+    choice_short (otherwise cs) e short = commands_short cs e short
+    choice_short (branch t cs bs) e short =
+        let v = test_does mail None t e in
+        let h = test_short t e short in
+        decided_short v.value (commands_do mail None cs v.effects) (choice_does mail None bs v.effects) (commands_short cs v.effects h) (choice_short bs v.effects h)
+
+-- ---- the values of a table's variables
+
+abbrev IsOnce : List (List ℕ) → Type 0
+IsOnce [] = Unit {0}
+IsOnce (x ∷ xs) = (is_listed bytes_eq x xs ≡ false) × IsOnce xs
+
+filter_unlisted : (p : List ℕ → Bool) (x : List ℕ) (xs : List (List ℕ)) → is_listed bytes_eq x xs ≡ false → is_listed bytes_eq x (filter p xs) ≡ false
+filter_unlisted p x [] h = refl
+filter_unlisted p x (y ∷ ys) h =
+    elim (cases_Bool (bytes_eq x y)) [
+      | inl here ↦ let no : true ≡ false = rw here at h in absurd (cc)
+      | inr other ↦ step (p y) other (filter_unlisted p x ys (rw other at h))
+    ]
+  where
+    step : (b : Bool) → bytes_eq x y ≡ false → is_listed bytes_eq x (filter p ys) ≡ false → is_listed bytes_eq x (if b then y ∷ filter p ys else filter p ys) ≡ false
+    step true other rest = rw other rest
+    step false other rest = rest
+
+filter_once : (p : List ℕ → Bool) (xs : List (List ℕ)) → IsOnce xs → IsOnce (filter p xs)
+filter_once p [] h = tt
+filter_once p (x ∷ xs) h = step (p x) (filter_unlisted p x xs h.0) (filter_once p xs h.1)
+  where
+    step : (b : Bool) → is_listed bytes_eq x (filter p xs) ≡ false → IsOnce (filter p xs) → IsOnce (if b then x ∷ filter p xs else filter p xs)
+    step true fresh rest = (fresh, rest)
+    step false fresh rest = rest
+
+each_once_is : (xs : List (List ℕ)) → IsOnce (each_once bytes_eq xs)
+each_once_is [] = tt
+each_once_is (x ∷ xs) =
+    let others : List ℕ → Bool = λ y. not (bytes_eq x y) in
+    (any-filter_same (bytes_eq x) others false (λ y e. rw e refl) (each_once bytes_eq xs), filter_once others (each_once bytes_eq xs) (each_once_is xs))
+
+unchanged : (names : List (List ℕ)) (f : List ℕ → List ℕ) (name value : List ℕ) → is_listed bytes_eq name names ≡ false → map f names ≡ map (with_value name value f) names
+unchanged [] f name value h = refl
+unchanged (x ∷ xs) f name value h =
+    elim (cases_Bool (bytes_eq name x)) [
+      | inl here ↦ let no : true ≡ false = rw here at h in absurd (cc)
+      | inr other ↦ rw other (ap (λ l. f x ∷ l) (unchanged xs f name value (rw other at h)))
+    ]
+
+one_set : (names : List (List ℕ)) (f : List ℕ → List ℕ) (name value : List ℕ) → IsOnce names → is_listed bytes_eq name names ≡ true → slice_set (map f names) (place_in bytes_eq names name) value ≡ map (with_value name value f) names
+one_set [] f name value once h = absurd (cc)
+one_set (x ∷ xs) f name value once h =
+    elim (cases_Bool (bytes_eq name x)) [
+      | inl here ↦
+          let same : x ≡ name = sym ((bytes_eq-Decides name x).0 here) in
+          let fresh : is_listed bytes_eq name xs ≡ false = subst (λ y. is_listed bytes_eq y xs ≡ false) same once.0 in
+          rw here (ap (λ l. value ∷ l) (unchanged xs f name value fresh))
+      | inr other ↦ rw other (ap (λ l. f x ∷ l) (one_set xs f name value once.1 (rw other at h)))
+    ]
+
+-- one variable of those that stand once each is set
+pub variable_set : (all : List (List ℕ)) (f : List ℕ → List ℕ) (name value : List ℕ) → is_listed bytes_eq name (each_once bytes_eq all) ≡ true
+    → slice_set (map f (each_once bytes_eq all)) (place_in bytes_eq (each_once bytes_eq all) name) value ≡ map (with_value name value f) (each_once bytes_eq all)
+variable_set all f name value h = one_set (each_once bytes_eq all) f name value (each_once_is all) h
+
+-- at first all are empty
+pub all_empty : (names : List (List ℕ)) → replicate (length names) [] ≡ map (λ (name : List ℕ). let value : List ℕ = [] in value) names
+all_empty [] = refl
+all_empty (x ∷ xs) = ap (λ (l : List (List ℕ)). [] ∷ l) (all_empty xs)
+
+pub name_itself : (name : List ℕ) → is_listed bytes_eq name (name ∷ []) ≡ true
+name_itself name = rw (nat_list_eq_equiv.refl name) refl
