@@ -45,18 +45,30 @@ const DOUBLING: &[u8] = b"set \"a\" \"${a}${a}\";\n";
 
 // How many octets a value has, and how many of them a joined text.
 const LONGEST_VALUE: usize = 4_096;
+
 const VALUES: u16 = 4;
 
 // A stack full of joined texts: sources and keys of a test.
 const SOURCES: u16 = 512;
+
 const KEYS: u16 = 509;
 
 pub(crate) fn run(rt: &HostRuntime) -> anyhow::Result<()> {
     let alloc = rt.alloc();
     let ten = compiled(alloc, TEN_OF_EACH)?;
     measure(rt, "ten set and ten string", &ten, ROUNDS)?;
-    measure(rt, "forty doublings", &compiled(alloc, &doublings(alloc)?)?, ROUNDS / 100)?;
-    measure(rt, "the largest stack of joined texts", &largest_stack(alloc)?, 10)
+    measure(
+        rt,
+        "forty doublings",
+        &compiled(alloc, &doublings(alloc)?)?,
+        ROUNDS / 100,
+    )?;
+    measure(
+        rt,
+        "the largest stack of joined texts",
+        &largest_stack(alloc)?,
+        10,
+    )
 }
 
 fn measure(rt: &HostRuntime, name: &str, verified: &Verified, rounds: u64) -> anyhow::Result<()> {

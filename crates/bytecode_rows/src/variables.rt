@@ -8,6 +8,7 @@ use std::test::Fail;
 
 // How many octets a string of a program, and the value of a variable, have at most.
 const LONGEST_STRING: usize = 16_384;
+
 const LONGEST_VALUE: usize = 4_096;
 
 // How many texts are joined at most.
@@ -34,6 +35,7 @@ fn string(how: u8, sources: u16, keys: u32) -> Instruction {
 }
 
 const FILE: Operation = Operation::File;
+
 const HALT: Operation = Operation::Halt;
 
 // The folders that are filed into, each followed by a bar.
@@ -128,14 +130,28 @@ fn values_are_cut(rt: HostRuntime) -> Result<(), Fail> {
     assert!(rt; files(&cut.actions, &long[..LONGEST_VALUE]));
     assert_eq!(rt; cut.charged, 1 + (1 + 4_097) + 1 + (1 + 4_096) + 1);
     // the characters are counted before the cut
-    let counted = [literal(0), set(32, 0), variable(0), plain(FILE), plain(HALT)];
+    let counted = [
+        literal(0),
+        set(32, 0),
+        variable(0),
+        plain(FILE),
+        plain(HALT),
+    ];
     let counted = outcome(alloc, &[&long], &counted, b"")?;
     assert!(rt; files(&counted.actions, b"4097"));
     // quoting makes twice as many octets, and these are cut
     let stars = vec![in alloc; b'*'; LONGEST_VALUE]?;
-    let quoted = [literal(0), set(16, 0), variable(0), plain(FILE), plain(HALT)];
+    let quoted = [
+        literal(0),
+        set(16, 0),
+        variable(0),
+        plain(FILE),
+        plain(HALT),
+    ];
     let quoted = outcome(alloc, &[&stars], &quoted, b"")?;
-    assert!(rt; matches!(quoted.actions.as_slice(), [Action::File(folder)] if folder.len() == LONGEST_VALUE));
+    assert!(rt;
+        matches!(quoted.actions.as_slice(), [Action::File(folder)] if folder.len() == LONGEST_VALUE)
+    );
     Ok(())
 }
 
@@ -187,10 +203,22 @@ fn quoted(alloc: Global, text: &[u8]) -> Result<Vec<u8>, Fail> {
 #[test]
 fn every_modifier(rt: HostRuntime) -> Result<(), Fail> {
     let alloc = rt.alloc();
-    let texts: [&[u8]; 5] = [b"", b"juMBlEd lETteRS", b"\xC3\xA9t\xC3\x89 *?\\*", b"Z", b"\x80az{`@[AZ"];
+    let texts: [&[u8]; 5] = [
+        b"",
+        b"juMBlEd lETteRS",
+        b"\xC3\xA9t\xC3\x89 *?\\*",
+        b"Z",
+        b"\x80az{`@[AZ",
+    ];
     let mut accepted = 0;
     for modifiers in 0..=255 {
-        let code = [literal(0), set(modifiers, 0), variable(0), plain(FILE), plain(HALT)];
+        let code = [
+            literal(0),
+            set(modifiers, 0),
+            variable(0),
+            plain(FILE),
+            plain(HALT),
+        ];
         if modifiers < 64 && modifiers % 4 < 3 && modifiers / 4 % 4 < 3 {
             accepted += 1;
             for text in texts {
@@ -199,7 +227,10 @@ fn every_modifier(rt: HostRuntime) -> Result<(), Fail> {
                 assert!(rt; files(&outcome.actions, &wanted), "modifiers {modifiers}");
             }
         } else {
-            assert_eq!(rt; answer(alloc, &[b"x"], &code)?.as_str(), "refused 22 Form at 1");
+            assert_eq!(rt;
+                answer(alloc, &[b"x"], &code)?.as_str(),
+                "refused 22 Form at 1"
+            );
         }
     }
     assert_eq!(rt; accepted, 36);
@@ -245,7 +276,10 @@ fn texts_pushed_before(rt: HostRuntime) -> Result<(), Fail> {
         plain(HALT),
     ];
     let moved = outcome(alloc, &[b"ab"], &code, b"")?;
-    assert_eq!(rt; folders(alloc, &moved.actions)?.as_slice(), b"abAB|abAB|".as_slice());
+    assert_eq!(rt;
+        folders(alloc, &moved.actions)?.as_slice(),
+        b"abAB|abAB|".as_slice()
+    );
     Ok(())
 }
 
@@ -313,13 +347,25 @@ fn stacks_that_do_not_suffice(rt: HostRuntime) -> Result<(), Fail> {
     let alloc = rt.alloc();
     let truth = instruction(Operation::Bool, 1, 0, 0);
     let table = [
-        ([set(0, 0), plain(HALT), plain(HALT)], "refused 27 Stack at 0"),
+        (
+            [set(0, 0), plain(HALT), plain(HALT)],
+            "refused 27 Stack at 0",
+        ),
         ([truth, set(0, 0), plain(HALT)], "refused 27 Stack at 1"),
         ([literal(0), join(2), plain(HALT)], "refused 27 Stack at 1"),
         ([truth, literal(0), join(2)], "refused 23 End at 2"),
-        ([literal(0), string(0, 1, 1), plain(HALT)], "refused 27 Stack at 1"),
-        ([variable(0), plain(HALT), plain(HALT)], "refused 27 Stack at 1"),
-        ([capture(9), plain(Operation::Not), plain(HALT)], "refused 27 Stack at 1"),
+        (
+            [literal(0), string(0, 1, 1), plain(HALT)],
+            "refused 27 Stack at 1",
+        ),
+        (
+            [variable(0), plain(HALT), plain(HALT)],
+            "refused 27 Stack at 1",
+        ),
+        (
+            [capture(9), plain(Operation::Not), plain(HALT)],
+            "refused 27 Stack at 1",
+        ),
     ];
     for (code, wanted) in table {
         assert_eq!(rt; answer(alloc, &[b"x"], code.as_slice())?.as_str(), wanted);
@@ -376,7 +422,10 @@ fn captured(source: u32, key: u32) -> [Instruction; 11] {
 fn captures_of_a_source(rt: HostRuntime) -> Result<(), Fail> {
     let alloc = rt.alloc();
     let found = outcome(alloc, &[b"aXbXb", b"*X*b"], &captured(0, 1), b"")?;
-    assert_eq!(rt; folders(alloc, &found.actions)?.as_slice(), b"a|bX|aXbXb|".as_slice());
+    assert_eq!(rt;
+        folders(alloc, &found.actions)?.as_slice(),
+        b"a|bX|aXbXb|".as_slice()
+    );
     // a match that fails afterwards leaves them
     let mut code = Vec::new(alloc);
     code.extend_from_slice(&captured(0, 1)[..3])?;
@@ -385,7 +434,10 @@ fn captures_of_a_source(rt: HostRuntime) -> Result<(), Fail> {
     code.push(instruction(Operation::JumpIfFalse, 0, 0, 8))?;
     code.extend_from_slice(&captured(0, 1)[4..])?;
     let left = outcome(alloc, &[b"aXbXb", b"*X*b", b"*Y"], &code, b"")?;
-    assert_eq!(rt; folders(alloc, &left.actions)?.as_slice(), b"a|bX|aXbXb|".as_slice());
+    assert_eq!(rt;
+        folders(alloc, &left.actions)?.as_slice(),
+        b"a|bX|aXbXb|".as_slice()
+    );
     Ok(())
 }
 
@@ -431,7 +483,10 @@ fn long_sources_are_captured_cut(rt: HostRuntime) -> Result<(), Fail> {
     wanted.extend_from_slice(&longest[..LONGEST_VALUE])?;
     wanted.push(b'|')?;
     // the whole value, cut, is the same folder as the second capture
-    assert_eq!(rt; folders(alloc, &outcome.actions)?.as_slice(), wanted.as_slice());
+    assert_eq!(rt;
+        folders(alloc, &outcome.actions)?.as_slice(),
+        wanted.as_slice()
+    );
     Ok(())
 }
 
@@ -458,7 +513,9 @@ fn doublings(rt: HostRuntime) -> Result<(), Fail> {
     let message = Message::read(alloc, b"")?;
     let outcome = run(alloc, &verified, &message)?;
     let value = vec![in alloc; b'a'; LONGEST_VALUE]?;
-    assert!(rt; matches!(outcome.actions.as_slice(), [Action::File(folder)] if folder.len() == value.len()));
+    assert!(rt;
+        matches!(outcome.actions.as_slice(), [Action::File(folder)] if folder.len() == value.len())
+    );
     assert!(rt; outcome.charged <= verified.budget().at(0, 1));
     Ok(())
 }

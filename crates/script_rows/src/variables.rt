@@ -72,10 +72,14 @@ fn a_source_that_was_never_set(rt: HostRuntime) -> Result<(), Fail> {
 #[test]
 fn a_capture_as_a_folder(rt: HostRuntime) -> Result<(), Fail> {
     let alloc = rt.alloc();
-    let script = b"require [\"variables\", \"fileinto\"]; if header :matches \"Subject\" \"[*] *\" { fileinto \"${1}\"; }";
+    let script =
+        b"require [\"variables\", \"fileinto\"]; if header :matches \"Subject\" \"[*] *\" { fileinto \"${1}\"; }";
     let message = b"Subject: [acme] [fwd] x\r\n\r\n";
     let report = evaluate(alloc, script, message)?;
-    assert_eq!(rt; folders(alloc, &report.outcome.actions)?.as_slice(), b"acme|".as_slice());
+    assert_eq!(rt;
+        folders(alloc, &report.outcome.actions)?.as_slice(),
+        b"acme|".as_slice()
+    );
     assert_eq!(rt; report.outcome.charged, 117);
     assert_eq!(rt; report.limit, 4495);
     let second = b"if header :matches \"Subject\" \"[*] *\" { fileinto \"${2}\"; }".as_slice();
@@ -86,14 +90,32 @@ fn a_capture_as_a_folder(rt: HostRuntime) -> Result<(), Fail> {
 #[test]
 fn captures_of_a_match(rt: HostRuntime) -> Result<(), Fail> {
     let rows: [(&[u8], &[u8]); 6] = [
-        (b"if header :matches \"x\" \"*X*b\" {} fileinto \"${1},${2},${3}\";", b"a,bX,|"),
+        (
+            b"if header :matches \"x\" \"*X*b\" {} fileinto \"${1},${2},${3}\";",
+            b"a,bX,|",
+        ),
         // a failed match leaves them, and so do the other ways to match
-        (b"if header :matches \"x\" \"*X*b\" {} if header :matches \"x\" \"*Y\" {} fileinto \"${1},${2}\";", b"a,bX|"),
-        (b"if header :matches \"x\" \"*X*b\" {} if header :contains \"x\" \"b\" {} fileinto \"${1},${2}\";", b"a,bX|"),
+        (
+            b"if header :matches \"x\" \"*X*b\" {} if header :matches \"x\" \"*Y\" {} fileinto \"${1},${2}\";",
+            b"a,bX|",
+        ),
+        (
+            b"if header :matches \"x\" \"*X*b\" {} if header :contains \"x\" \"b\" {} fileinto \"${1},${2}\";",
+            b"a,bX|",
+        ),
         // a match within a not, and one in an allof that fails later
-        (b"if not header :matches \"x\" \"*X*b\" {} fileinto \"${2}\";", b"bX|"),
-        (b"if allof (header :matches \"x\" \"?*\", false) {} fileinto \"${1}-${2}-${0}\";", b"a-XbXb-aXbXb|"),
-        (b"if string :matches \"One Two\" \"* *\" { fileinto \"${2} ${1}\"; }", b"Two One|"),
+        (
+            b"if not header :matches \"x\" \"*X*b\" {} fileinto \"${2}\";",
+            b"bX|",
+        ),
+        (
+            b"if allof (header :matches \"x\" \"?*\", false) {} fileinto \"${1}-${2}-${0}\";",
+            b"a-XbXb-aXbXb|",
+        ),
+        (
+            b"if string :matches \"One Two\" \"* *\" { fileinto \"${2} ${1}\"; }",
+            b"Two One|",
+        ),
     ];
     assert!(rt; all_do(rt.alloc(), b"X: aXbXb\n\n", &rows)?);
     Ok(())
@@ -102,23 +124,41 @@ fn captures_of_a_match(rt: HostRuntime) -> Result<(), Fail> {
 #[test]
 fn references_in_strings(rt: HostRuntime) -> Result<(), Fail> {
     let rows: [(&[u8], &[u8]); 16] = [
-        (b"set \"company\" \"ACME\"; fileinto \"${BAD${Company}\";", b"${BADACME|"),
+        (
+            b"set \"company\" \"ACME\"; fileinto \"${BAD${Company}\";",
+            b"${BADACME|",
+        ),
         (b"fileinto \"&%${}!\";", b"&%${}!|"),
         (b"set \"b\" \"x\"; fileinto \"${a${b}}\";", b"${ax}|"),
         (b"fileinto \"${a\";", b"${a|"),
         (b"fileinto \"${\";", b"${|"),
         (b"fileinto \"$${a}$\";", b"$$|"),
-        (b"fileinto \"${1.a}${a.1b}${a..b}${a.}${.a}\";", b"${1.a}${a.1b}${a..b}${a.}${.a}|"),
+        (
+            b"fileinto \"${1.a}${a.1b}${a..b}${a.}${.a}\";",
+            b"${1.a}${a.1b}${a..b}${a.}${.a}|",
+        ),
         (b"fileinto \"x${1a}${a-b}${ a}\";", b"x${1a}${a-b}${ a}|"),
         // what comes of a reference isn't looked at again
-        (b"set \"a\" \"$\"; set \"b\" \"x\"; fileinto \"${a}{b}\";", b"${b}|"),
+        (
+            b"set \"a\" \"$\"; set \"b\" \"x\"; fileinto \"${a}{b}\";",
+            b"${b}|",
+        ),
         (b"set \"a\" \"${unset}\"; fileinto \"<${A}>\";", b"<>|"),
         // leading zeros, and names in every case
-        (b"if string :matches \"q\" \"?\" { fileinto \"${0001}${00}\"; }", b"qq|"),
+        (
+            b"if string :matches \"q\" \"?\" { fileinto \"${0001}${00}\"; }",
+            b"qq|",
+        ),
         (b"set \"NaMe_1\" \"v\"; fileinto \"${nAmE_1}\";", b"v|"),
         // a value is expanded before its variable changes
-        (b"set \"a\" \"1\"; set \"a\" \"${a}2${a}\"; fileinto \"${a}\";", b"121|"),
-        (b"set \"a\" \"1\"; set \"b\" \"${a}\"; set \"a\" \"2\"; fileinto \"${b}${a}\";", b"12|"),
+        (
+            b"set \"a\" \"1\"; set \"a\" \"${a}2${a}\"; fileinto \"${a}\";",
+            b"121|",
+        ),
+        (
+            b"set \"a\" \"1\"; set \"b\" \"${a}\"; set \"a\" \"2\"; fileinto \"${b}${a}\";",
+            b"12|",
+        ),
         // escapes are taken away before
         (b"set \"a\" \"x\"; fileinto \"\\${a}\";", b"x|"),
         (b"fileinto text:\n${a}.\n.\n;", b".\n|"),
@@ -131,16 +171,40 @@ fn references_in_strings(rt: HostRuntime) -> Result<(), Fail> {
 #[test]
 fn strings_that_are_expanded(rt: HostRuntime) -> Result<(), Fail> {
     let rows: [(&[u8], &[u8]); 8] = [
-        (b"set \"n\" \"subject\"; if header \"${n}\" \"hello\" { fileinto \"yes\"; }", b"yes|"),
-        (b"set \"k\" \"HELLO\"; if header \"subject\" [\"x\", \"${k}\"] { fileinto \"yes\"; }", b"yes|"),
-        (b"set \"n\" \"subject\"; if exists [\"${n}\", \"x-${n}\"] { fileinto \"yes\"; }", b"yes|"),
+        (
+            b"set \"n\" \"subject\"; if header \"${n}\" \"hello\" { fileinto \"yes\"; }",
+            b"yes|",
+        ),
+        (
+            b"set \"k\" \"HELLO\"; if header \"subject\" [\"x\", \"${k}\"] { fileinto \"yes\"; }",
+            b"yes|",
+        ),
+        (
+            b"set \"n\" \"subject\"; if exists [\"${n}\", \"x-${n}\"] { fileinto \"yes\"; }",
+            b"yes|",
+        ),
         // no field has the empty name
-        (b"if anyof (exists \"${n}\", header :contains \"${n}\" \"\") { fileinto \"yes\"; }", b"keep|"),
+        (
+            b"if anyof (exists \"${n}\", header :contains \"${n}\" \"\") { fileinto \"yes\"; }",
+            b"keep|",
+        ),
         // what was set is a key of `:matches` with its wildcards
-        (b"set \"k\" \"h*\"; if header :matches \"subject\" \"${k}\" { fileinto \"${1}\"; }", b"ello|"),
-        (b"set :quotewildcard \"k\" \"h*\"; if header :matches \"subject\" \"${k}\" { fileinto \"${1}\"; }", b"keep|"),
-        (b"set \"s\" \"Ab\"; if string :comparator \"i;octet\" [\"q\", \"${s}\"] [\"ab\", \"Ab\"] { fileinto \"yes\"; }", b"yes|"),
-        (b"set \"s\" \"Ab\"; if string :comparator \"i;octet\" \"${s}\" \"ab\" { fileinto \"yes\"; }", b"keep|"),
+        (
+            b"set \"k\" \"h*\"; if header :matches \"subject\" \"${k}\" { fileinto \"${1}\"; }",
+            b"ello|",
+        ),
+        (
+            b"set :quotewildcard \"k\" \"h*\"; if header :matches \"subject\" \"${k}\" { fileinto \"${1}\"; }",
+            b"keep|",
+        ),
+        (
+            b"set \"s\" \"Ab\"; if string :comparator \"i;octet\" [\"q\", \"${s}\"] [\"ab\", \"Ab\"] { fileinto \"yes\"; }",
+            b"yes|",
+        ),
+        (
+            b"set \"s\" \"Ab\"; if string :comparator \"i;octet\" \"${s}\" \"ab\" { fileinto \"yes\"; }",
+            b"keep|",
+        ),
     ];
     assert!(rt; all_do(rt.alloc(), b"Subject: hello\nX-Subject:\n\n", &rows)?);
     // without `variables` nothing is
@@ -152,15 +216,42 @@ fn strings_that_are_expanded(rt: HostRuntime) -> Result<(), Fail> {
 #[test]
 fn modifiers_of_set(rt: HostRuntime) -> Result<(), Fail> {
     let rows: [(&[u8], &[u8]); 10] = [
-        (b"set \"a\" \"juMBlEd lETteRS\"; fileinto \"${a}\";", b"juMBlEd lETteRS|"),
-        (b"set :length \"a\" \"juMBlEd lETteRS\"; fileinto \"${a}\";", b"15|"),
-        (b"set :lower \"a\" \"juMBlEd lETteRS\"; fileinto \"${a}\";", b"jumbled letters|"),
-        (b"set :upperfirst \"a\" \"juMBlEd lETteRS\"; fileinto \"${a}\";", b"JuMBlEd lETteRS|"),
-        (b"set :upperfirst :lower \"a\" \"juMBlEd lETteRS\"; fileinto \"${a}\";", b"Jumbled letters|"),
-        (b"set :lower :upperfirst \"a\" \"juMBlEd lETteRS\"; fileinto \"${a}\";", b"Jumbled letters|"),
-        (b"set :lowerfirst :UPPER \"a\" \"abc\"; fileinto \"${a}\";", b"aBC|"),
-        (b"set :quotewildcard \"a\" \"Rock*\"; fileinto \"${a}\";", b"Rock\\*|"),
-        (b"set :length :quotewildcard \"a\" \"R*\xC3\xA9\"; fileinto \"${a}\";", b"4|"),
+        (
+            b"set \"a\" \"juMBlEd lETteRS\"; fileinto \"${a}\";",
+            b"juMBlEd lETteRS|",
+        ),
+        (
+            b"set :length \"a\" \"juMBlEd lETteRS\"; fileinto \"${a}\";",
+            b"15|",
+        ),
+        (
+            b"set :lower \"a\" \"juMBlEd lETteRS\"; fileinto \"${a}\";",
+            b"jumbled letters|",
+        ),
+        (
+            b"set :upperfirst \"a\" \"juMBlEd lETteRS\"; fileinto \"${a}\";",
+            b"JuMBlEd lETteRS|",
+        ),
+        (
+            b"set :upperfirst :lower \"a\" \"juMBlEd lETteRS\"; fileinto \"${a}\";",
+            b"Jumbled letters|",
+        ),
+        (
+            b"set :lower :upperfirst \"a\" \"juMBlEd lETteRS\"; fileinto \"${a}\";",
+            b"Jumbled letters|",
+        ),
+        (
+            b"set :lowerfirst :UPPER \"a\" \"abc\"; fileinto \"${a}\";",
+            b"aBC|",
+        ),
+        (
+            b"set :quotewildcard \"a\" \"Rock*\"; fileinto \"${a}\";",
+            b"Rock\\*|",
+        ),
+        (
+            b"set :length :quotewildcard \"a\" \"R*\xC3\xA9\"; fileinto \"${a}\";",
+            b"4|",
+        ),
         (b"set :length \"a\" \"\"; fileinto \"${a}\";", b"0|"),
     ];
     assert!(rt; all_do(rt.alloc(), b"", &rows)?);
@@ -208,18 +299,42 @@ fn faults_of_set_and_string(rt: HostRuntime) {
         (b"require \"variables\"; set \"a\" :lower \"b\";", 18, 3),
         (b"require \"variables\"; set :is \"a\" \"b\";", 18, 3),
         (b"require \"variables\"; set :encodeurl \"a\" \"b\";", 18, 3),
-        (b"require \"variables\"; set :lower :upper \"a\" \"b\";", 18, 3),
-        (b"require \"variables\"; set :lower :lower \"a\" \"b\";", 18, 3),
-        (b"require \"variables\"; set :upperfirst :lowerfirst \"a\" \"b\";", 18, 3),
-        (b"require \"variables\"; set :length :length \"a\" \"b\";", 18, 3),
-        (b"require \"variables\"; set :quotewildcard :quotewildcard \"a\" \"b\";", 18, 3),
+        (
+            b"require \"variables\"; set :lower :upper \"a\" \"b\";",
+            18,
+            3,
+        ),
+        (
+            b"require \"variables\"; set :lower :lower \"a\" \"b\";",
+            18,
+            3,
+        ),
+        (
+            b"require \"variables\"; set :upperfirst :lowerfirst \"a\" \"b\";",
+            18,
+            3,
+        ),
+        (
+            b"require \"variables\"; set :length :length \"a\" \"b\";",
+            18,
+            3,
+        ),
+        (
+            b"require \"variables\"; set :quotewildcard :quotewildcard \"a\" \"b\";",
+            18,
+            3,
+        ),
         (b"require \"variables\"; set \"\" \"b\";", 18, 3),
         (b"require \"variables\"; set \"1a\" \"b\";", 18, 3),
         (b"require \"variables\"; set \"a.b\" \"c\";", 18, 3),
         (b"require \"variables\"; set \"a b\" \"c\";", 18, 3),
         (b"require \"variables\"; set \"${a}\" \"c\";", 18, 3),
         (b"require \"variables\"; if string \"a\" {}", 18, 4),
-        (b"require \"variables\"; if string :lower \"a\" \"b\" {}", 18, 4),
+        (
+            b"require \"variables\"; if string :lower \"a\" \"b\" {}",
+            18,
+            4,
+        ),
     ];
     assert!(rt; all_named(rt.alloc(), &rows));
 }
@@ -227,40 +342,126 @@ fn faults_of_set_and_string(rt: HostRuntime) {
 #[test]
 fn faults_of_references(rt: HostRuntime) {
     let rows: [(&[u8], u8, usize); 16] = [
-        (b"require [\"variables\", \"fileinto\"]; fileinto \"${10}\";", 18, 7),
-        (b"require [\"variables\", \"fileinto\"]; fileinto \"${0010}\";", 18, 7),
-        (b"require [\"variables\", \"fileinto\"]; fileinto \"x${99999999999999999999999}\";", 18, 7),
-        (b"require [\"variables\", \"fileinto\"]; fileinto \"${a.b}\";", 18, 7),
-        (b"require [\"variables\", \"fileinto\"]; fileinto \"${a.1}\";", 18, 7),
-        (b"require [\"variables\", \"fileinto\"]; fileinto \"${a.1.b}\";", 18, 7),
-        (b"require [\"variables\", \"fileinto\"]; fileinto \"${a.1.10}\";", 18, 7),
-        (b"require [\"variables\", \"fileinto\"]; fileinto \"${a${b.c}}\";", 18, 7),
+        (
+            b"require [\"variables\", \"fileinto\"]; fileinto \"${10}\";",
+            18,
+            7,
+        ),
+        (
+            b"require [\"variables\", \"fileinto\"]; fileinto \"${0010}\";",
+            18,
+            7,
+        ),
+        (
+            b"require [\"variables\", \"fileinto\"]; fileinto \"x${99999999999999999999999}\";",
+            18,
+            7,
+        ),
+        (
+            b"require [\"variables\", \"fileinto\"]; fileinto \"${a.b}\";",
+            18,
+            7,
+        ),
+        (
+            b"require [\"variables\", \"fileinto\"]; fileinto \"${a.1}\";",
+            18,
+            7,
+        ),
+        (
+            b"require [\"variables\", \"fileinto\"]; fileinto \"${a.1.b}\";",
+            18,
+            7,
+        ),
+        (
+            b"require [\"variables\", \"fileinto\"]; fileinto \"${a.1.10}\";",
+            18,
+            7,
+        ),
+        (
+            b"require [\"variables\", \"fileinto\"]; fileinto \"${a${b.c}}\";",
+            18,
+            7,
+        ),
         (b"require \"variables\"; set \"a\" \"${10}\";", 18, 3),
-        (b"require \"variables\"; if header \"a\" [\"b\", \"${10}\"] {}", 18, 4),
+        (
+            b"require \"variables\"; if header \"a\" [\"b\", \"${10}\"] {}",
+            18,
+            4,
+        ),
         (b"require \"variables\"; if exists [\"${a.b}\"] {}", 18, 4),
         (b"require \"variables\"; if string \"${10}\" \"\" {}", 18, 4),
-        (b"require \"variables\"; if not string \"\" \"${a.b}\" {}", 18, 5),
+        (
+            b"require \"variables\"; if not string \"\" \"${a.b}\" {}",
+            18,
+            5,
+        ),
         // the namespace comes first, wherever it stands
-        (b"require \"variables\"; if string \"${aaaaaaaaaaaaaaaaaaaaaaaaaaaaaaaaa}\" \"${a.b}\" {}", 18, 4),
+        (
+            b"require \"variables\"; if string \"${aaaaaaaaaaaaaaaaaaaaaaaaaaaaaaaaa}\" \"${a.b}\" {}",
+            18,
+            4,
+        ),
         // names of comparators are taken as they are written
-        (b"require \"variables\"; if string :comparator \"${10}\" \"\" \"\" {}", 18, 4),
+        (
+            b"require \"variables\"; if string :comparator \"${10}\" \"\" \"\" {}",
+            18,
+            4,
+        ),
         (b"require \"${10}\";", 17, 0),
     ];
     assert!(rt; all_named(rt.alloc(), &rows));
     // before `variables` was required, and where it wasn't, nothing is a reference
-    assert_eq!(rt; outcome_of(rt.alloc(), b"if header \"a\" \"${10}\" {}"), (0, 0));
-    assert_eq!(rt; outcome_of(rt.alloc(), b"require \"fileinto\"; fileinto \"${a.b}\";"), (0, 0));
+    assert_eq!(rt;
+        outcome_of(rt.alloc(), b"if header \"a\" \"${10}\" {}"),
+        (0, 0)
+    );
+    assert_eq!(rt;
+        outcome_of(rt.alloc(), b"require \"fileinto\"; fileinto \"${a.b}\";"),
+        (0, 0)
+    );
 }
 
 #[test]
 fn names_of_32_octets(rt: HostRuntime) -> Result<(), Fail> {
     let alloc = rt.alloc();
-    let short = repeated(alloc, b"require [\"variables\", \"fileinto\"]; set \"", b"a", 32, b"\" \"b\";");
-    let long = repeated(alloc, b"require [\"variables\", \"fileinto\"]; set \"", b"a", 33, b"\" \"b\";");
-    let read = repeated(alloc, b"require [\"variables\", \"fileinto\"]; fileinto \"${", b"a", 32, b"}\";");
-    let too_long = repeated(alloc, b"require [\"variables\", \"fileinto\"]; fileinto \"${", b"a", 33, b"}\";");
-    let unread = repeated(alloc, b"require [\"variables\", \"fileinto\"]; fileinto \"${", b"a", 33, b"\";");
-    let (Some(short), Some(long), Some(read), Some(too_long), Some(unread)) = (short, long, read, too_long, unread) else {
+    let short = repeated(
+        alloc,
+        b"require [\"variables\", \"fileinto\"]; set \"",
+        b"a",
+        32,
+        b"\" \"b\";",
+    );
+    let long = repeated(
+        alloc,
+        b"require [\"variables\", \"fileinto\"]; set \"",
+        b"a",
+        33,
+        b"\" \"b\";",
+    );
+    let read = repeated(
+        alloc,
+        b"require [\"variables\", \"fileinto\"]; fileinto \"${",
+        b"a",
+        32,
+        b"}\";",
+    );
+    let too_long = repeated(
+        alloc,
+        b"require [\"variables\", \"fileinto\"]; fileinto \"${",
+        b"a",
+        33,
+        b"}\";",
+    );
+    let unread = repeated(
+        alloc,
+        b"require [\"variables\", \"fileinto\"]; fileinto \"${",
+        b"a",
+        33,
+        b"\";",
+    );
+    let (Some(short), Some(long), Some(read), Some(too_long), Some(unread)) = (
+        short, long, read, too_long, unread,
+    ) else {
         return Err(Fail::from("no memory"));
     };
     assert_eq!(rt; outcome_of(alloc, &short), (0, 0));
@@ -274,10 +475,34 @@ fn names_of_32_octets(rt: HostRuntime) -> Result<(), Fail> {
 #[test]
 fn segments_of_a_string(rt: HostRuntime) -> Result<(), Fail> {
     let alloc = rt.alloc();
-    let most = repeated(alloc, b"require [\"variables\", \"fileinto\"]; fileinto \"", b"${a}x", 128, b"\";");
-    let more = repeated(alloc, b"require [\"variables\", \"fileinto\"]; fileinto \"", b"${a}x", 128, b"${a}\";");
-    let side = repeated(alloc, b"require [\"variables\", \"fileinto\"]; fileinto \"", b"${1}", 257, b"\";");
-    let text = repeated(alloc, b"require \"fileinto\"; fileinto \"", b"${a}x", 300, b"\";");
+    let most = repeated(
+        alloc,
+        b"require [\"variables\", \"fileinto\"]; fileinto \"",
+        b"${a}x",
+        128,
+        b"\";",
+    );
+    let more = repeated(
+        alloc,
+        b"require [\"variables\", \"fileinto\"]; fileinto \"",
+        b"${a}x",
+        128,
+        b"${a}\";",
+    );
+    let side = repeated(
+        alloc,
+        b"require [\"variables\", \"fileinto\"]; fileinto \"",
+        b"${1}",
+        257,
+        b"\";",
+    );
+    let text = repeated(
+        alloc,
+        b"require \"fileinto\"; fileinto \"",
+        b"${a}x",
+        300,
+        b"\";",
+    );
     let (Some(most), Some(more), Some(side), Some(text)) = (most, more, side, text) else {
         return Err(Fail::from("no memory"));
     };
@@ -349,7 +574,13 @@ fn as_many_variables_as_there_may_be(rt: HostRuntime) -> Result<(), Fail> {
 fn doublings(rt: HostRuntime) -> Result<(), Fail> {
     let alloc = rt.alloc();
     let head = b"require [\"variables\", \"fileinto\"]; set \"a\" \"xy\"; ";
-    let Some(script) = repeated(alloc, head, b"set \"a\" \"${a}${a}\"; ", 40, b"fileinto \"${a}\";") else {
+    let Some(script) = repeated(
+        alloc,
+        head,
+        b"set \"a\" \"${a}${a}\"; ",
+        40,
+        b"fileinto \"${a}\";",
+    ) else {
         return Err(Fail::from("no memory"));
     };
     let Some(wanted) = repeated(alloc, b"", b"xy", 2_048, b"|") else {
@@ -364,7 +595,13 @@ fn doublings(rt: HostRuntime) -> Result<(), Fail> {
 fn strings_and_values_are_cut(rt: HostRuntime) -> Result<(), Fail> {
     let alloc = rt.alloc();
     let head = b"require [\"variables\", \"fileinto\"]; set \"a\" \"";
-    let Some(script) = repeated(alloc, head, b"x", 4_095, b"yz\"; fileinto \"${a}${a}${a}${a}!\"; set :length \"a\" \"${a}z\"; fileinto \"${a}\";") else {
+    let Some(script) = repeated(
+        alloc,
+        head,
+        b"x",
+        4_095,
+        b"yz\"; fileinto \"${a}${a}${a}${a}!\"; set :length \"a\" \"${a}z\"; fileinto \"${a}\";",
+    ) else {
         return Err(Fail::from("no memory"));
     };
     let Some(value) = repeated(alloc, b"", b"x", 4_095, b"y") else {
@@ -382,18 +619,36 @@ fn strings_and_values_are_cut(rt: HostRuntime) -> Result<(), Fail> {
 fn long_scripts(rt: HostRuntime) -> Result<(), Fail> {
     let alloc = rt.alloc();
     let head = b"require [\"variables\", \"fileinto\"];";
-    let Some(sets) = repeated(alloc, head, b"set \"a\" \"${a}b\";", 4_000, b"fileinto \"${a}\";") else {
+    let Some(sets) = repeated(
+        alloc,
+        head,
+        b"set \"a\" \"${a}b\";",
+        4_000,
+        b"fileinto \"${a}\";",
+    ) else {
         return Err(Fail::from("no memory"));
     };
     let Some(wanted) = repeated(alloc, b"", b"b", 4_000, b"|") else {
         return Err(Fail::from("no memory"));
     };
     assert!(rt; does(alloc, &sets, b"", &wanted)?);
-    let Some(test) = repeated(alloc, b"require [\"variables\", \"fileinto\"]; if string \"a\" [", b"\"${x}b${y}\", ", 510, b"\"${x}a\"] { fileinto \"yes\"; }") else {
+    let Some(test) = repeated(
+        alloc,
+        b"require [\"variables\", \"fileinto\"]; if string \"a\" [",
+        b"\"${x}b${y}\", ",
+        510,
+        b"\"${x}a\"] { fileinto \"yes\"; }",
+    ) else {
         return Err(Fail::from("no memory"));
     };
     assert!(rt; does(alloc, &test, b"", b"yes|")?);
-    let Some(references) = repeated(alloc, b"require [\"variables\", \"fileinto\"]; if string [", b"\"${x}${y}${z}${0}${1}\", ", 480, b"\"a\"] \"A\" { fileinto \"yes\"; }") else {
+    let Some(references) = repeated(
+        alloc,
+        b"require [\"variables\", \"fileinto\"]; if string [",
+        b"\"${x}${y}${z}${0}${1}\", ",
+        480,
+        b"\"a\"] \"A\" { fileinto \"yes\"; }",
+    ) else {
         return Err(Fail::from("no memory"));
     };
     assert!(rt; does(alloc, &references, b"", b"yes|")?);
