@@ -1,8 +1,7 @@
 // Scripts with strings that are checked: the faults that are named, the limits, and the typed form.
 use crate::repeated::repeated;
 use glob_match::{Comparator, Match, MatchType};
-use octets::Octets;
-use sieve_check::{CheckError, Command, Test, check};
+use sieve_check::{CheckError, Command, Segment, Test, check};
 use sieve_parser::parse;
 use std::alloc::Global;
 
@@ -469,12 +468,21 @@ fn strings_too_long_and_worse(rt: HostRuntime) {
     );
 }
 
-fn are(strings: &[Octets], texts: &[&[u8]]) -> bool {
+// Whether a string is only octets that stand for themselves, and these.
+fn is(string: &[Segment], text: &[u8]) -> bool {
+    match string {
+        [] => text.is_empty(),
+        [Segment::Text(own)] => own.as_slice() == text,
+        _ => false,
+    }
+}
+
+fn are(strings: &[Vec<Segment>], texts: &[&[u8]]) -> bool {
     if strings.len() != texts.len() {
         return false;
     }
     for (string, text) in strings.iter().zip(texts) {
-        if string.as_slice() != *text {
+        if !is(string.as_slice(), *text) {
             return false;
         }
     }
@@ -494,7 +502,7 @@ fn is_header(test: &Test, wanted: Match, first: &[&[u8]], second: &[&[u8]]) -> b
 
 fn files_into(commands: &[Command], folder: &[u8]) -> bool {
     match commands {
-        [Command::FileInto(name)] => name.as_slice() == folder,
+        [Command::FileInto(name)] => is(name.as_slice(), folder),
         _ => false,
     }
 }
@@ -524,7 +532,7 @@ fn typed_forms_with_strings(rt: HostRuntime) {
         kind: MatchType::Contains,
         comparator: Comparator::Octet,
     };
-    let is = Match {
+    let exactly = Match {
         kind: MatchType::Is,
         comparator: Comparator::Casemap,
     };
@@ -534,7 +542,7 @@ fn typed_forms_with_strings(rt: HostRuntime) {
     };
     assert!(rt; is_header(&first.test, contains, &[b"Subject", b"X"], &[b"invoice"]));
     assert!(rt; files_into(&first.block, b"Invoices"));
-    assert!(rt; is_header(&second.test, is, &[b"n"], &[b"k", b"l"]));
+    assert!(rt; is_header(&second.test, exactly, &[b"n"], &[b"k", b"l"]));
     assert!(rt; files_into(&second.block, b".a\n"));
     let Test::Not(inner) = &third.test else {
         assert!(rt; false);

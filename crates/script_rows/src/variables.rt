@@ -517,14 +517,14 @@ fn segments_of_a_string(rt: HostRuntime) -> Result<(), Fail> {
 }
 
 // Adds a name of two letters.
-fn add_name(script: &mut Vec<u8>, number: usize, first: u8) -> Result<(), Fail> {
-    script.push(first + (number / 26) as u8)?;
-    script.push(first + (number % 26) as u8)?;
+fn add_name(script: &mut Vec<u8>, number: u8, first: u8) -> Result<(), Fail> {
+    script.push(first.wrapping_add(number / 26))?;
+    script.push(first.wrapping_add(number % 26))?;
     Ok(())
 }
 
 // A script that sets so many variables, refers to as many more, and then to those that it has set in another case.
-fn with_variables(alloc: Global, set: usize, read: usize, after: &[u8]) -> Result<Vec<u8>, Fail> {
+fn with_variables(alloc: Global, set: u8, read: u8, after: &[u8]) -> Result<Vec<u8>, Fail> {
     let mut script = b"require [\"variables\", \"fileinto\"];".to_vec(alloc)?;
     for number in 0..set {
         script.extend_from_slice(b"set \"")?;
@@ -533,7 +533,7 @@ fn with_variables(alloc: Global, set: usize, read: usize, after: &[u8]) -> Resul
     }
     for number in 0..read {
         script.extend_from_slice(b"fileinto \"${")?;
-        add_name(&mut script, set + number, b'a')?;
+        add_name(&mut script, set.wrapping_add(number), b'a')?;
         script.extend_from_slice(b"}\";")?;
     }
     for number in 0..set {
