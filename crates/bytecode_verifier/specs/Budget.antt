@@ -1,5 +1,5 @@
 -- The budget of a program: the sums of its instructions' caps, by the number of open loops.
-use Rattle.std.specs.Prelude.{ℕ, ◌+◌, ◌*◌, Option, Some, None, List, [], ◌∷◌, if◌then◌else◌, length, ◌==◌, slice_get, sum, sum_by}
+use Rattle.std.specs.Prelude.{ℕ, ◌+◌, ◌*◌, max, Option, Some, None, List, [], ◌∷◌, if◌then◌else◌, length, ◌==◌, slice_get, sum, sum_by}
 use Rattle.std.specs.Option.{option_map_or}
 use Rattle.bytecode_format.specs.declared.instruction.Instruction.{Instruction}
 use Rattle.bytecode_format.specs.declared.operation.Operation.{Operation}
@@ -9,6 +9,7 @@ use Rattle.bytecode_format.specs.Code.{Code}
 use Rattle.bytecode_cost.specs.Sums.{Sums}
 use Rattle.bytecode_verifier.specs.Places.{sum_below}
 use Rattle.bytecode_verifier.specs.Loops.{open_loops}
+use Rattle.bytecode_verifier.specs.Rows.{keys_in, params_in}
 use Rattle.bytecode_verifier.specs.Shape.{Entries, Texts, Lists, take_texts, take_lists, shape_at}
 use Rattle.bytecode_verifier.specs.declared.cap.Cap.{Cap}
 
@@ -31,13 +32,27 @@ cap_of_octets taken = record { fixed = 1 + sum taken.bounds; scaled = 0 }
 abbrev pub cap_of_names : Texts → Cap
 cap_of_names names = record { fixed = 1; scaled = one_more_each names.bounds }
 
--- the same, and for each name the keys, each with one more: the values of a name's fields have no more octets than the message
+-- the same, and for each name, or each parameter of each name, the keys, each with one more: what a name, or a parameter of that name,
+-- selects of all fields has no more octets than the message
 abbrev pub cap_of_matching : Lists → Cap
-cap_of_matching lists = record { fixed = 1; scaled = one_more_each lists.names + length lists.names * one_more_each lists.keys }
+cap_of_matching lists =
+    record { fixed = 1; scaled = one_more_each lists.names + length lists.names * max (length lists.params) 1 * one_more_each lists.keys }
 
 -- one charge, and for each source the keys, both with one more for each
 abbrev pub cap_of_comparing : Lists → Cap
 cap_of_comparing lists = record { fixed = 1 + one_more_each lists.names * one_more_each lists.keys; scaled = 0 }
+
+-- for each octet of the message and one more, the keys, each with one more: a part's content has no more octets than the message
+abbrev pub cap_of_body : Texts → Cap
+cap_of_body keys = record { fixed = 1; scaled = one_more_each keys.bounds }
+
+-- how many octets a digest has
+abbrev pub digest_length : ℕ
+digest_length = 64
+
+-- one charge, and for each octet of a digest and one more the keys, each with one more
+abbrev pub cap_of_digest : Texts → Cap
+cap_of_digest keys = record { fixed = 1 + (digest_length + 1) * one_more_each keys.bounds; scaled = 0 }
 
 -- the cap of an instruction that finds these entries
 abbrev pub cap_of : Option Operation → Instruction → Entries → Cap
@@ -53,17 +68,17 @@ cap_of (Some Not) i entries = one_charge
 cap_of (Some Jump) i entries = one_charge
 cap_of (Some JumpIfTrue) i entries = one_charge
 cap_of (Some JumpIfFalse) i entries = one_charge
-cap_of (Some Header) i entries = option_map_or cap_of_matching (take_lists i.b i.c entries) one_charge
+cap_of (Some Header) i entries = option_map_or cap_of_matching (take_lists i.b (params_in i.c) (keys_in i.c) entries) one_charge
 cap_of (Some Exists) i entries = option_map_or cap_of_names (take_texts i.b entries) one_charge
-cap_of (Some String) i entries = option_map_or cap_of_comparing (take_lists i.b i.c entries) one_charge
+cap_of (Some String) i entries = option_map_or cap_of_comparing (take_lists i.b 0 i.c entries) one_charge
 cap_of (Some Size) i entries = one_charge
 cap_of (Some PartSize) i entries = one_charge
-cap_of (Some PartBody) i entries = one_charge
-cap_of (Some PartDigest) i entries = one_charge
+cap_of (Some PartBody) i entries = option_map_or cap_of_body (take_texts i.c entries) one_charge
+cap_of (Some PartDigest) i entries = option_map_or cap_of_digest (take_texts i.c entries) one_charge
 cap_of (Some Keep) i entries = one_charge
 cap_of (Some Discard) i entries = one_charge
 cap_of (Some File) i entries = option_map_or cap_of_octets (take_texts 1 entries) one_charge
-cap_of (Some Store) i entries = one_charge
+cap_of (Some Store) i entries = option_map_or cap_of_octets (take_texts 1 entries) one_charge
 cap_of (Some Each) i entries = one_charge
 cap_of (Some Next) i entries = one_charge
 cap_of (Some Break) i entries = one_charge

@@ -8,7 +8,7 @@ use Rattle.bytecode_format.specs.declared.operation.Operation.{Operation}
 use Rattle.bytecode_format.specs.declared.operation.Operation.TheVariants.{Halt, Literal, Variable, Capture, Join, Set, Bool as BoolOp, Not, Jump, JumpIfTrue, JumpIfFalse, Header, Exists, String, Size, PartSize, PartBody, PartDigest, Keep, Discard, File, Store, Each, Next, Break}
 use Rattle.bytecode_format.specs.Operations.{operation_of}
 use Rattle.bytecode_format.specs.Code.{Code}
-use Rattle.bytecode_verifier.specs.Rows.{row_named, is_jump}
+use Rattle.bytecode_verifier.specs.Rows.{row_named, is_jump, keys_in, params_in}
 use Rattle.bytecode_verifier.specs.declared.shape.Entry.{Entry}
 use Rattle.bytecode_verifier.specs.declared.shape.Entry.TheVariants.{Truth, Text}
 
@@ -50,19 +50,25 @@ take_texts (suc n) [] = None
 take_texts (suc n) (Truth ∷ entries) = None
 take_texts (suc n) (Text bound ∷ entries) = option_map (with_text bound) (take_texts n entries)
 
--- two lists that are taken: the bounds of names or sources and of the keys above them, and the entries below
+-- lists that are taken: the bounds of names or sources, of the parameters above them, and of the keys above these, and the entries
+-- below
 pub record Lists : Type 0 where
   pub names : List ℕ
+  pub params : List ℕ
   pub keys : List ℕ
   pub rest : Entries
 
-abbrev pub with_keys : List ℕ → Texts → Lists
-with_keys keys names = record { names = names.bounds; keys = keys; rest = names.rest }
+abbrev pub with_params_and_keys : List ℕ → List ℕ → Texts → Lists
+with_params_and_keys params keys names = record { names = names.bounds; params = params; keys = keys; rest = names.rest }
 
--- so many names or sources, and so many keys above them
-abbrev pub take_lists : ℕ → ℕ → Entries → Option Lists
-take_lists names keys entries =
-    option_and_then (λ (above : Texts). option_map (with_keys above.bounds) (take_texts names above.rest)) (take_texts keys entries)
+-- so many names or sources, and so many parameters above them, below keys that were taken
+abbrev pub take_below : ℕ → ℕ → Texts → Option Lists
+take_below names params keys =
+    option_and_then (λ (between : Texts). option_map (with_params_and_keys between.bounds keys.bounds) (take_texts names between.rest)) (take_texts params keys.rest)
+
+-- so many names or sources, so many parameters above them, and so many keys above these
+abbrev pub take_lists : ℕ → ℕ → ℕ → Entries → Option Lists
+take_lists names params keys entries = option_and_then (take_below names params) (take_texts keys entries)
 
 -- a text of at most as many octets as the string has, where there is one
 abbrev pub with_string : Option (List ℕ) → Entries → Option Entries
@@ -73,7 +79,7 @@ abbrev pub with_joined : Texts → Option Entries
 with_joined parts = with_entry (Text (min (sum parts.bounds) max_string)) parts.rest
 
 -- the entries that an operation leaves of these, or None where an entry is missing or of the wrong kind, where there is no room,
--- where entries are left that must not be, or where it hasn't come
+-- or where entries are left that must not be
 abbrev pub entries_after : Code → Operation → Instruction → Entries → Option Entries
 entries_after code Halt i entries = if is_empty entries then Some [] else None
 entries_after code Literal i entries = with_string (slice_get code.strings i.c) entries
@@ -86,20 +92,20 @@ entries_after code Not i entries = if has_truth entries then Some entries else N
 entries_after code Jump i entries = if is_empty entries then Some [] else None
 entries_after code JumpIfTrue i entries = without_truth entries
 entries_after code JumpIfFalse i entries = without_truth entries
-entries_after code Header i entries = option_and_then (λ (lists : Lists). with_entry Truth lists.rest) (take_lists i.b i.c entries)
+entries_after code Header i entries = option_and_then (λ (lists : Lists). with_entry Truth lists.rest) (take_lists i.b (params_in i.c) (keys_in i.c) entries)
 entries_after code Exists i entries = option_and_then (λ (names : Texts). with_entry Truth names.rest) (take_texts i.b entries)
-entries_after code String i entries = option_and_then (λ (lists : Lists). with_entry Truth lists.rest) (take_lists i.b i.c entries)
+entries_after code String i entries = option_and_then (λ (lists : Lists). with_entry Truth lists.rest) (take_lists i.b 0 i.c entries)
 entries_after code Size i entries = with_entry Truth entries
-entries_after code PartSize i entries = None
-entries_after code PartBody i entries = None
-entries_after code PartDigest i entries = None
+entries_after code PartSize i entries = with_entry Truth entries
+entries_after code PartBody i entries = option_and_then (λ (keys : Texts). with_entry Truth keys.rest) (take_texts i.c entries)
+entries_after code PartDigest i entries = option_and_then (λ (keys : Texts). with_entry Truth keys.rest) (take_texts i.c entries)
 entries_after code Keep i entries = Some entries
 entries_after code Discard i entries = Some entries
 entries_after code File i entries = option_map (λ (folder : Texts). folder.rest) (take_texts 1 entries)
-entries_after code Store i entries = None
-entries_after code Each i entries = None
-entries_after code Next i entries = None
-entries_after code Break i entries = None
+entries_after code Store i entries = option_map (λ (folder : Texts). folder.rest) (take_texts 1 entries)
+entries_after code Each i entries = if is_empty entries then Some [] else None
+entries_after code Next i entries = if is_empty entries then Some [] else None
+entries_after code Break i entries = if is_empty entries then Some [] else None
 
 -- an instruction of these jumps to the place
 abbrev pub is_target : ℕ → List Instruction → ℕ → Bool

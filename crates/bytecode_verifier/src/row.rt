@@ -25,6 +25,12 @@ pub enum Range {
     /// How values are matched with keys: bits 0 and 1 say by which of three ways, bit 2 by which of
     /// two comparators.
     Match,
+    /// How a test of fields selects values: a match number, plus 8 times the scope, plus 32 times the
+    /// selector.
+    Selection,
+    /// How many keys, plus 65,536 times how many parameters, which are there exactly where the
+    /// instruction's a has the selector of parameters.
+    Counts,
     /// The numbers of modifiers.
     Modifiers,
     /// Every number.

@@ -4,6 +4,9 @@ pub mod FirstMatch
 pub mod Costs
 -- the tests of headers
 pub mod HeaderTests
+-- the tests of the current part
+pub mod PartTests
 -- what the code hands over and what it is handed
+pub mod Selection
 pub mod Texts
 pub mod Outcomes

@@ -1,5 +1,6 @@
 -- The parts that a test looks at, and the values that it selects in their headers (RFC 5228, section 5.7; RFC 5703, section 4).
-use Rattle.std.specs.Prelude.{ℕ, List, [], ◌∷◌, ◌++◌, take, drop, flat_map, filter, Option, None, Some, codes, if◌then◌else◌}
+use Rattle.std.specs.Prelude.{ℕ, zero, suc, List, [], ◌∷◌, ◌++◌, length, take, drop, flat_map, filter, slice_get, Option, None, Some, codes, if◌then◌else◌}
+use Rattle.std.specs.Option.{option_map_or}
 use Rattle.header_fields.specs.Fields.{Field}
 use Rattle.mime_params.specs.MediaValue.{disposition_of, media_type_of, parameters_of, value_named}
 use Rattle.mime_params.specs.declared.media.MediaType.{MediaType}
@@ -31,6 +32,18 @@ abbrev pub parts_in_scope : Scope → Option ℕ → Mail → List Part
 parts_in_scope Root current mail = take 1 mail.parts
 parts_in_scope Current current mail = take 1 (drop (current_or_root current) mail.parts)
 parts_in_scope CurrentAndBelow current mail = first_and_below (drop (current_or_root current) mail.parts)
+
+-- ---- the parts that a loop visits
+
+-- so many numbers, from one on
+abbrev pub numbers_from : ℕ → ℕ → List ℕ
+numbers_from first zero = []
+numbers_from first (suc n) = first ∷ numbers_from (suc first) n
+
+-- outside a loop all parts; in a loop those below its current part; in preorder
+abbrev pub visited : Option ℕ → Mail → List ℕ
+visited None mail = numbers_from 0 (length mail.parts)
+visited (Some place) mail = option_map_or (λ (part : Part). numbers_from (suc place) part.below) (slice_get mail.parts place) []
 
 -- ---- what a field's value is read as
 

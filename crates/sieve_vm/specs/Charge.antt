@@ -1,28 +1,36 @@
 -- What a step costs.
-use Rattle.std.specs.Prelude.{ℕ, ◌+◌, None, length, sum_by}
+use Rattle.std.specs.Prelude.{ℕ, ◌+◌, List, [], ◌∷◌, Option, Some, None, length, slice_get, sum_by}
 use Rattle.std.specs.Option.{option_map_or}
 use Rattle.bytecode_format.specs.declared.instruction.Instruction.{Instruction}
 use Rattle.bytecode_format.specs.declared.operation.Operation.{Operation}
 use Rattle.bytecode_format.specs.declared.operation.Operation.TheVariants.{Halt, Literal, Variable, Capture, Join, Set, Bool as BoolOp, Not, Jump, JumpIfTrue, JumpIfFalse, Header, Exists, String, Size, PartSize, PartBody, PartDigest, Keep, Discard, File, Store, Each, Next, Break}
 use Rattle.bytecode_format.specs.Code.{Code}
-use Rattle.mime_decode.specs.Mail.{Mail}
-use Rattle.mime_decode.specs.Scope.{Root, Value as WholeValue}
+use Rattle.bytecode_verifier.specs.Rows.{keys_in, params_in, scope_in, selector_in}
+use Rattle.mime_decode.specs.Mail.{Mail, Part}
 use Rattle.mail_matching.specs.Costs.{values_cost}
 use Rattle.mail_matching.specs.HeaderTests.{exists_cost, header_cost}
-use Rattle.sieve_vm.specs.State.{State}
+use Rattle.mail_matching.specs.PartTests.{body_cost, digest_cost}
+use Rattle.sieve_vm.specs.MatchNumbers.{scope_numbered, selector_numbered}
+use Rattle.sieve_vm.specs.State.{Frame, State, current_part}
 use Rattle.sieve_vm.specs.Stack.{OnTop, Lists, texts_on_top, lists_on_top, length_on_top}
 
--- looking for the fields of these names in the message's own header
-abbrev pub cost_of_names : Mail → OnTop → ℕ
-cost_of_names mail names = exists_cost Root None names.texts mail
+-- looking for the fields of these names in the scope that a says, as it is seen from the current part
+abbrev pub cost_of_names : ℕ → Option ℕ → Mail → OnTop → ℕ
+cost_of_names a current mail names = exists_cost (scope_numbered a) current names.texts mail
 
--- the same, and comparing each of their values with each key
-abbrev pub cost_of_matching : Mail → Lists → ℕ
-cost_of_matching mail lists = header_cost Root None WholeValue lists.names lists.keys mail
+-- the same, and comparing each value that is selected with each key
+abbrev pub cost_of_matching : ℕ → Option ℕ → Mail → Lists → ℕ
+cost_of_matching a current mail lists =
+    header_cost (scope_numbered (scope_in a)) current (selector_numbered (selector_in a) lists.params) lists.names lists.keys mail
 
 -- comparing each source with each key
 abbrev pub cost_of_comparing : Lists → ℕ
 cost_of_comparing lists = values_cost lists.names lists.keys
+
+-- what comparing costs that is with the current part; without one it costs nothing
+abbrev pub cost_with_part : (Part → List (List ℕ) → ℕ) → Mail → Option ℕ → OnTop → ℕ
+cost_with_part cost mail None keys = 0
+cost_with_part cost mail (Some current) keys = option_map_or (λ part. cost part keys.texts) (slice_get mail.parts current) 0
 
 -- how many octets texts have
 abbrev pub octets_on_top : OnTop → ℕ
@@ -41,17 +49,17 @@ charge_of code mail Not i state = 1
 charge_of code mail Jump i state = 1
 charge_of code mail JumpIfTrue i state = 1
 charge_of code mail JumpIfFalse i state = 1
-charge_of code mail Header i state = 1 + option_map_or (cost_of_matching mail) (lists_on_top i.b i.c state.stack) 0
-charge_of code mail Exists i state = 1 + option_map_or (cost_of_names mail) (texts_on_top i.b state.stack) 0
-charge_of code mail String i state = 1 + option_map_or cost_of_comparing (lists_on_top i.b i.c state.stack) 0
+charge_of code mail Header i state = 1 + option_map_or (cost_of_matching i.a (current_part state.frames) mail) (lists_on_top i.b (params_in i.c) (keys_in i.c) state.stack) 0
+charge_of code mail Exists i state = 1 + option_map_or (cost_of_names i.a (current_part state.frames) mail) (texts_on_top i.b state.stack) 0
+charge_of code mail String i state = 1 + option_map_or cost_of_comparing (lists_on_top i.b 0 i.c state.stack) 0
 charge_of code mail Size i state = 1
 charge_of code mail PartSize i state = 1
-charge_of code mail PartBody i state = 1
-charge_of code mail PartDigest i state = 1
+charge_of code mail PartBody i state = 1 + option_map_or (cost_with_part body_cost mail (current_part state.frames)) (texts_on_top i.c state.stack) 0
+charge_of code mail PartDigest i state = 1 + option_map_or (cost_with_part digest_cost mail (current_part state.frames)) (texts_on_top i.c state.stack) 0
 charge_of code mail Keep i state = 1
 charge_of code mail Discard i state = 1
 charge_of code mail File i state = 1 + length_on_top state.stack
-charge_of code mail Store i state = 1
+charge_of code mail Store i state = 1 + length_on_top state.stack
 charge_of code mail Each i state = 1
 charge_of code mail Next i state = 1
 charge_of code mail Break i state = 1

@@ -1,7 +1,8 @@
 -- The machine: what each instruction does, and where the run goes then.
 use Rattle.std.specs.Prelude.{ℕ, suc, ◌+◌, Bool, true, false, ◌&&◌, cond, not, ◌==◌, nat_lt, List, [], ◌∷◌, ◌++◌, Option, Some, None, length, take, slice_get, slice_index_or, slice_set, if◌then◌else◌}
 use Rattle.std.specs.List.{concat}
-use Rattle.octets.specs.Limits.{max_stack, max_string, max_value}
+use Rattle.std.specs.Option.{option_map_or}
+use Rattle.octets.specs.Limits.{max_loops, max_stack, max_string, max_value}
 use Rattle.bytecode_format.specs.declared.action.Action.TheVariants as action
 use Rattle.bytecode_format.specs.declared.instruction.Instruction.{Instruction}
 use Rattle.bytecode_format.specs.declared.operation.Operation.{Operation}
@@ -10,16 +11,18 @@ use Rattle.bytecode_format.specs.Operations.{operation_of}
 use Rattle.bytecode_format.specs.Code.{Code}
 use Rattle.bytecode_format.specs.declared.modifiers.Modifiers.{Modifiers}
 use Rattle.bytecode_format.specs.Modifiers.{modified, modifiers_numbered}
-use Rattle.bytecode_verifier.specs.Rows.{is_well_formed}
+use Rattle.bytecode_verifier.specs.Rows.{is_well_formed, keys_in, params_in, match_in, scope_in, selector_in}
 use Rattle.bytecode_verifier.specs.Rules.{row_in}
-use Rattle.bytecode_verifier.specs.Loops.{same_loops}
-use Rattle.mime_decode.specs.Mail.{Mail, size_of}
-use Rattle.mime_decode.specs.Scope.{Root, Value as WholeValue}
+use Rattle.bytecode_verifier.specs.Places.{holds_at}
+use Rattle.bytecode_verifier.specs.Loops.{opens, closes, same_loops}
+use Rattle.mime_decode.specs.Mail.{Mail, Part, size_of}
+use Rattle.mime_decode.specs.Scope.{visited}
 use Rattle.mail_matching.specs.FirstMatch.{first_match}
 use Rattle.mail_matching.specs.HeaderTests.{exists_in, header_match}
-use Rattle.sieve_vm.specs.State.{Value, truth, text, State, Turn, goes, ends, traps}
+use Rattle.mail_matching.specs.PartTests.{body_match, digest_match}
+use Rattle.sieve_vm.specs.State.{Value, truth, text, Frame, State, current_part, Turn, goes, ends, traps}
 use Rattle.sieve_vm.specs.Stack.{OnTop, Lists, texts_on_top, lists_on_top}
-use Rattle.sieve_vm.specs.MatchNumbers.{match_numbered}
+use Rattle.sieve_vm.specs.MatchNumbers.{match_numbered, scope_numbered, selector_numbered}
 use Rattle.sieve_vm.specs.Charge.{charge_of}
 
 -- what an operation does: the state that it leaves, still at its own place and without its charge, from which the run goes on
@@ -49,10 +52,10 @@ abbrev pub with_texts : (List (List ℕ) → State → Effect) → State → Opt
 with_texts go state None = fails
 with_texts go state (Some top) = go top.texts (record state { stack = top.below })
 
--- with names, and the keys above them, which are taken
-abbrev pub with_lists : (List (List ℕ) → List (List ℕ) → State → Effect) → State → Option Lists → Effect
+-- with lists on top of the stack, which are taken
+abbrev pub with_lists : (Lists → State → Effect) → State → Option Lists → Effect
 with_lists go state None = fails
-with_lists go state (Some top) = go top.names top.keys (record state { stack = top.below })
+with_lists go state (Some top) = go top (record state { stack = top.below })
 
 -- a jump is forward, and keeps the open loops
 abbrev pub is_sound_jump : Code → State → Instruction → Bool
@@ -62,13 +65,14 @@ is_sound_jump code state i = nat_lt state.place i.c && same_loops code state.pla
 abbrev pub branch : ℕ → Bool → Bool → State → Effect
 branch target wanted value state = if cond wanted value (not value) then jumps target state else on state
 
--- whether the message is over the number, where a is 0, or under it
+-- whether a size is over the number, where a is 0, or under it
 abbrev pub compares : Instruction → ℕ → ℕ → Bool
 compares i number size = if i.a == 0 then nat_lt number size else nat_lt size number
 
-abbrev pub with_number : Instruction → Mail → State → Option ℕ → Effect
-with_number i mail state None = fails
-with_number i mail state (Some number) = push (truth (compares i number (size_of mail))) state
+-- whether a size, which is in the message or in a part, is over or under the number
+abbrev pub with_number : Instruction → ℕ → State → Option ℕ → Effect
+with_number i size state None = fails
+with_number i size state (Some number) = push (truth (compares i number size)) state
 
 abbrev pub with_string : State → Option (List ℕ) → Effect
 with_string state None = fails
@@ -91,24 +95,79 @@ set_variable i value state = set_modified i.c (modifiers_numbered i.a) value sta
 abbrev pub file : List ℕ → State → Effect
 file folder state = on (record state { actions = state.actions ++ action.File folder ∷ []; implicit_keep = false })
 
--- whether the message's own header has a field of each name
-abbrev pub test_names : Mail → List (List ℕ) → State → Effect
-test_names mail names state = push (truth (exists_in Root None names mail)) state
+-- with the current part, its number first
+abbrev pub with_part : (ℕ → Part → State → Effect) → Mail → State → List Frame → Effect
+with_part go mail state [] = fails
+with_part go mail state (frame ∷ frames) = option_map_or (λ part. go frame.part part state) (slice_get mail.parts frame.part) fails
+
+-- the part is stored in the folder; the implicit keep stays
+abbrev pub store : ℕ → List ℕ → State → Effect
+store number folder state = on (record state { actions = state.actions ++ action.Store folder number ∷ [] })
+
+abbrev pub store_part : ℕ → Part → State → Effect
+store_part number part state = with_text (store number) state state.stack
+
+-- whether the parts in scope have a field of each name
+abbrev pub test_names : Mail → ℕ → List (List ℕ) → State → Effect
+test_names mail a names state = push (truth (exists_in (scope_numbered a) (current_part state.frames) names mail)) state
 
 -- whether a test has matched, with the captures after it; one that hasn't leaves them
 abbrev pub tested : State → Option (List (List ℕ)) → Effect
 tested state None = push (truth false) state
 tested state (Some captures) = push (truth true) (record state { captures = captures })
 
--- whether a value of the fields of these names, in the message's own header, matches a key
-abbrev pub test_values : Mail → ℕ → List (List ℕ) → List (List ℕ) → State → Effect
-test_values mail number names keys state = tested state (header_match (match_numbered number) Root None WholeValue names keys mail state.captures)
+-- whether a value that is selected matches a key
+abbrev pub test_values : Mail → ℕ → Lists → State → Effect
+test_values mail a lists state =
+    tested state
+    (header_match (match_numbered (match_in a)) (scope_numbered (scope_in a)) (current_part state.frames) (selector_numbered (selector_in a) lists.params) lists.names lists.keys mail state.captures)
 
 -- whether a source matches a key
-abbrev pub test_sources : ℕ → List (List ℕ) → List (List ℕ) → State → Effect
-test_sources number sources keys state = tested state (first_match (match_numbered number) sources keys state.captures)
+abbrev pub test_sources : ℕ → Lists → State → Effect
+test_sources number lists state = tested state (first_match (match_numbered number) lists.names lists.keys state.captures)
 
--- what each operation does; one that hasn't come fails
+-- whether the current part's content matches a key
+abbrev pub test_body : ℕ → Part → List (List ℕ) → State → Effect
+test_body number part keys state = tested state (body_match (match_numbered number) part keys state.captures)
+
+-- whether its digest equals a key
+abbrev pub test_digest : Part → List (List ℕ) → State → Effect
+test_digest part keys state = tested state (digest_match part keys state.captures)
+
+-- the instructions at two places are an Each and a Next that name each other
+abbrev pub are_partners : Code → ℕ → ℕ → Bool
+are_partners code each next =
+    holds_at code each (λ i. opens (operation_of i.op) && (i.c == next)) && holds_at code next (λ i. closes (operation_of i.op) && (i.c == each))
+
+-- a loop up to the Next at a place is open with the first of the parts; without parts the run goes on after it
+abbrev pub open_loop : ℕ → List ℕ → State → Effect
+open_loop next [] state = jumps (suc next) state
+open_loop next (part ∷ rest) state = on (record state { frames = record { each = state.place; next = next; part = part; rest = rest } ∷ state.frames })
+
+-- the loop of an Each whose Next stands at a place, where no more are open than may be
+abbrev pub each : Code → Mail → ℕ → State → Effect
+each code mail next state =
+    if are_partners code state.place next && nat_lt (length state.frames) max_loops then open_loop next (visited (current_part state.frames) mail) state else fails
+
+-- the loop goes on with its next part, or it is closed
+abbrev pub next_part : Frame → List Frame → List ℕ → State → Effect
+next_part frame frames [] state = on (record state { frames = frames })
+next_part frame frames (part ∷ rest) state = jumps (suc frame.each) (record state { frames = record frame { part = part; rest = rest } ∷ frames })
+
+-- the innermost open loop is that of an Each at a place and of this Next
+abbrev pub next : Code → ℕ → State → List Frame → Effect
+next code each state [] = fails
+next code each state (frame ∷ frames) =
+    if are_partners code each state.place && (frame.each == each) && (frame.next == state.place) then next_part frame frames frame.rest state else fails
+
+-- so many loops are closed, the innermost first, and the run goes on after the Next of the last
+abbrev pub close : ℕ → State → List Frame → Effect
+close zero state frames = fails
+close (suc n) state [] = fails
+close (suc zero) state (frame ∷ frames) = jumps (suc frame.next) (record state { frames = frames })
+close (suc (suc n)) state (frame ∷ frames) = close (suc n) state frames
+
+-- what each operation does
 abbrev pub effect : Code → Mail → Operation → Instruction → State → Effect
 effect code mail Halt i state = halts state
 effect code mail Literal i state = with_string state (slice_get code.strings i.c)
@@ -121,20 +180,20 @@ effect code mail Not i state = with_truth (λ b s. on (record s { stack = truth 
 effect code mail Jump i state = if is_sound_jump code state i then jumps i.c state else fails
 effect code mail JumpIfTrue i state = if is_sound_jump code state i then with_truth (branch i.c true) state state.stack else fails
 effect code mail JumpIfFalse i state = if is_sound_jump code state i then with_truth (branch i.c false) state state.stack else fails
-effect code mail Header i state = with_lists (test_values mail i.a) state (lists_on_top i.b i.c state.stack)
-effect code mail Exists i state = with_texts (test_names mail) state (texts_on_top i.b state.stack)
-effect code mail String i state = with_lists (test_sources i.a) state (lists_on_top i.b i.c state.stack)
-effect code mail Size i state = with_number i mail state (slice_get code.numbers i.c)
-effect code mail PartSize i state = fails
-effect code mail PartBody i state = fails
-effect code mail PartDigest i state = fails
+effect code mail Header i state = with_lists (test_values mail i.a) state (lists_on_top i.b (params_in i.c) (keys_in i.c) state.stack)
+effect code mail Exists i state = with_texts (test_names mail i.a) state (texts_on_top i.b state.stack)
+effect code mail String i state = with_lists (test_sources i.a) state (lists_on_top i.b 0 i.c state.stack)
+effect code mail Size i state = with_number i (size_of mail) state (slice_get code.numbers i.c)
+effect code mail PartSize i state = with_part (λ number part s. with_number i (length part.content) s (slice_get code.numbers i.c)) mail state state.frames
+effect code mail PartBody i state = with_part (λ number part s. with_texts (test_body i.a part) s (texts_on_top i.c s.stack)) mail state state.frames
+effect code mail PartDigest i state = with_part (λ number part s. with_texts (test_digest part) s (texts_on_top i.c s.stack)) mail state state.frames
 effect code mail Keep i state = on (record state { actions = state.actions ++ action.Keep ∷ []; implicit_keep = false })
 effect code mail Discard i state = on (record state { implicit_keep = false })
 effect code mail File i state = with_text file state state.stack
-effect code mail Store i state = fails
-effect code mail Each i state = fails
-effect code mail Next i state = fails
-effect code mail Break i state = fails
+effect code mail Store i state = with_part store_part mail state state.frames
+effect code mail Each i state = each code mail i.c state
+effect code mail Next i state = next code i.c state state.frames
+effect code mail Break i state = close i.a state state.frames
 
 -- the turn of an instruction at a place, from its charge and its effect
 abbrev pub turn : ℕ → Effect → Turn

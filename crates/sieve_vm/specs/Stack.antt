@@ -19,19 +19,24 @@ texts_on_top (suc n) [] = None
 texts_on_top (suc n) (truth b ∷ stack) = None
 texts_on_top (suc n) (text octets ∷ stack) = option_map (with_last octets) (texts_on_top n stack)
 
--- two lists of texts: names or sources, the keys that were pushed after them, and the entries below
+-- lists of texts: names or sources, the parameters that were pushed after them, the keys after these, and the entries below
 pub record Lists : Type 0 where
   pub names : List (List ℕ)
+  pub params : List (List ℕ)
   pub keys : List (List ℕ)
   pub below : List Value
 
-abbrev pub with_keys : List (List ℕ) → OnTop → Lists
-with_keys keys top = record { names = top.texts; keys = keys; below = top.below }
+abbrev pub with_params_and_keys : List (List ℕ) → List (List ℕ) → OnTop → Lists
+with_params_and_keys params keys top = record { names = top.texts; params = params; keys = keys; below = top.below }
 
--- so many names or sources, and so many keys above them
-abbrev pub lists_on_top : ℕ → ℕ → List Value → Option Lists
-lists_on_top names keys stack =
-    option_and_then (λ (top : OnTop). option_map (with_keys top.texts) (texts_on_top names top.below)) (texts_on_top keys stack)
+-- so many names or sources, and so many parameters above them, below keys that were taken
+abbrev pub lists_below : ℕ → ℕ → OnTop → Option Lists
+lists_below names params keys =
+    option_and_then (λ (between : OnTop). option_map (with_params_and_keys between.texts keys.texts) (texts_on_top names between.below)) (texts_on_top params keys.below)
+
+-- so many names or sources, so many parameters above them, and so many keys above these
+abbrev pub lists_on_top : ℕ → ℕ → ℕ → List Value → Option Lists
+lists_on_top names params keys stack = option_and_then (lists_below names params) (texts_on_top keys stack)
 
 -- how many octets the text on top has
 abbrev pub length_on_top : List Value → ℕ

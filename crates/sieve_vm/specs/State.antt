@@ -1,5 +1,5 @@
 -- The state of the machine.
-use Rattle.std.specs.Prelude.{ℕ, Bool, true, List, [], replicate}
+use Rattle.std.specs.Prelude.{ℕ, Bool, true, List, [], ◌∷◌, Option, None, Some, replicate}
 use Rattle.bytecode_format.specs.declared.action.Action.{Action}
 use Rattle.bytecode_format.specs.Code.{Code}
 use Rattle.mail_matching.specs.FirstMatch.{no_captures}
@@ -26,6 +26,11 @@ pub record State : Type 0 where
   pub actions : List Action
   pub implicit_keep : Bool
   pub charge : ℕ
+
+-- the current part, that of the innermost open loop
+abbrev pub current_part : List Frame → Option ℕ
+current_part [] = None
+current_part (frame ∷ frames) = Some frame.part
 
 -- what a step comes to: the next state, the end of the run, or a trap
 pub data Turn : Type 0 where

@@ -1,0 +1,27 @@
+-- The tests of the current part's content, `partbody`, and of its digest, `partdigest`.
+use Rattle.std.specs.Prelude.{ℕ, List, [], ◌∷◌, Option}
+use Rattle.glob_match.specs.declared.comparator.Comparator.TheVariants.{Octet}
+use Rattle.glob_match.specs.declared.match_type.Match.{Match}
+use Rattle.glob_match.specs.declared.match_type.MatchType.TheVariants.{Is}
+use Rattle.mime_decode.specs.Content.{digest_of}
+use Rattle.mime_decode.specs.Mail.{Part}
+use Rattle.mail_matching.specs.Costs.{values_cost}
+use Rattle.mail_matching.specs.FirstMatch.{first_match}
+
+-- equality, octet by octet
+abbrev pub exactly : Match
+exactly = record { kind = Is; comparator = Octet }
+
+-- `partbody`: the captures after the content is compared with the keys; None where it matches none
+abbrev pub body_match : Match → Part → List (List ℕ) → List (List ℕ) → Option (List (List ℕ))
+body_match how part keys captures = first_match how (part.content ∷ []) keys captures
+
+abbrev pub body_cost : Part → List (List ℕ) → ℕ
+body_cost part keys = values_cost (part.content ∷ []) keys
+
+-- `partdigest`: the same of the digest, which equals a key or not
+abbrev pub digest_match : Part → List (List ℕ) → List (List ℕ) → Option (List (List ℕ))
+digest_match part keys captures = first_match exactly (digest_of part.content ∷ []) keys captures
+
+abbrev pub digest_cost : Part → List (List ℕ) → ℕ
+digest_cost part keys = values_cost (digest_of part.content ∷ []) keys
