@@ -17,7 +17,7 @@ use Rattle.std.specs.Option.{option_and_then}
 use Rattle.bytecode_verifier.specs.Rows.{row_of, row_named, is_jump}
 use Rattle.bytecode_verifier.specs.Shape.{Entries, is_empty, is_target, shape_at}
 use Rattle.bytecode_verifier.proofs.Ends.{nowhere, past_stack}
-use Rattle.bytecode_verifier.proofs.Loopless.{needs_no_part, misses_no_loop, no_loops}
+use Rattle.sieve_compiler.proofs.Loopless.{needs_no_part, misses_no_loop, no_loops}
 use Rattle.sieve_check.specs.Bounded.{AreBoundedCommands}
 use Rattle.sieve_check.specs.Typed.{CommandForms}
 use Rattle.sieve_compiler.specs.Tables.{Tables, tables_of}
@@ -55,7 +55,7 @@ index_kept code tables (Some Header) i same h = refl
 index_kept code tables (Some Exists) i same h = refl
 index_kept code tables (Some String) i same h = refl
 index_kept code tables (Some Size) i same h = let lt = slice_get_within tables.numbers i.c h.0 h.1 in rw same.0 (lt-leb (length tables.numbers) i.c lt)
-index_kept code tables (Some PartSize) i same h = refl
+index_kept code tables (Some PartSize) i same h = let lt = slice_get_within tables.numbers i.c h.0 h.1 in rw same.0 (lt-leb (length tables.numbers) i.c lt)
 index_kept code tables (Some PartBody) i same h = refl
 index_kept code tables (Some PartDigest) i same h = refl
 index_kept code tables (Some Keep) i same h = refl
@@ -140,7 +140,7 @@ module _ (script : CommandForms) (bounded : AreBoundedCommands script) where
   formed place = nowhere code place _ (λ i e. ap not (sound place i e).form)
 
   pub loopless : loops code ≡ []
-  loopless = no_loops code formed
+  loopless = no_loops code (λ place i e. (sound place i e).loopless)
 
   ended : (place : ℕ) → breaks_end code place ≡ false
   ended place =
@@ -174,8 +174,8 @@ module _ (script : CommandForms) (bounded : AreBoundedCommands script) where
     index = λ place. nowhere code place _ (λ i e. index_kept code tables (operation_of i.op) i (refl, refl, refl) (sound place i e).index);
     form = formed;
     end = ended;
-    loop = λ place. nowhere code place _ (λ i e. misses_no_loop code place (operation_of i.op) i (sound place i e).form);
+    loop = λ place. nowhere code place _ (λ i e. misses_no_loop code place (operation_of i.op) i (sound place i e).loopless);
     jump = λ place. nowhere code place _ (aimed place);
-    no_part = λ place. nowhere code place _ (λ i e. rw (needs_no_part 1 (operation_of i.op)) refl);
+    no_part = λ place. nowhere code place _ (λ i e. rw (needs_no_part 1 (operation_of i.op) (sound place i e).loopless) refl);
     stack = stacked;
   }

@@ -1,6 +1,7 @@
 pub mod Standing
 pub mod CodeLengths
 pub mod Known
+pub mod Loopless
 pub mod Sound
 pub mod Accepted
 pub mod Values

@@ -50,7 +50,7 @@ use Rattle.sieve_compiler.specs.Coding.{plain, instruction, jump_if, push_bool, 
 use Rattle.sieve_compiler.proofs.Standing.{Stands, stands_first, stands_next, stands_left, stands_right}
 use Rattle.sieve_compiler.proofs.CodeLengths.{length_two, string_code_length, strings_code_length, test_code_length, command_code_length}
 use Rattle.sieve_compiler.proofs.Known.{Has, has_left, has_right, found, found_string, found_variable, tables_have}
-use Rattle.sieve_compiler.proofs.Sound.{match_fits, branch_parts_of}
+use Rattle.sieve_compiler.proofs.Sound.{match_fits, selection_fits, asks_no_params, match_again as whole_again, first_scope, first_selector, keys_alone, no_params, branch_parts_of}
 use Rattle.sieve_compiler.proofs.Accepted.{halt_at, sound, loopless}
 use Rattle.sieve_compiler.proofs.Values.{AreShort, capture_short, none_short, test_short, command_short, variable_set, all_empty, name_itself}
 
@@ -101,7 +101,7 @@ onto_number [] stack = omega arith
 onto_number (s ∷ ss) stack = omega (arith, onto_number ss (text s ∷ stack))
 
 -- names, and keys above them, are found again
-lists_again : (n k : ℕ) (names keys : List (List ℕ)) → length names ≡ n → length keys ≡ k → lists_on_top n k (onto keys (onto names [])) ≡ Some (record { names = names; keys = keys; below = [] })
+lists_again : (n k : ℕ) (names keys : List (List ℕ)) → length names ≡ n → length keys ≡ k → lists_on_top n 0 k (onto keys (onto names [])) ≡ Some (record { names = names; params = []; keys = keys; below = [] })
 lists_again n k names keys e f = rw (on_top k keys (onto names []) f, on_top n names [] e) refl
 
 -- ---- strings as they are expanded
@@ -337,7 +337,7 @@ module _ (script : CommandForms) (mail : Mail) (no_loop : loops (code_of script)
   abbrev fields_charge : Match → List Template → List Template → ℕ → Effects → ℕ → ℕ
   fields_charge how names keys p e c = charge_of code mail Header (match_fields how (length names) (length keys)) (with_stack (both e names keys) p e c)
 
-  both_again : (e : Effects) (names keys : List Template) → lists_on_top (length names) (length keys) (both e names keys) ≡ Some (record { names = all_expanded e names; keys = all_expanded e keys; below = [] })
+  both_again : (e : Effects) (names keys : List Template) → lists_on_top (length names) 0 (length keys) (both e names keys) ≡ Some (record { names = all_expanded e names; params = []; keys = all_expanded e keys; below = [] })
   both_again e names keys = lists_again (length names) (length keys) (all_expanded e names) (all_expanded e keys) (length-map names (expanded e)) (length-map keys (expanded e))
 
   fields_step : (p c : ℕ) (how : Match) (names keys : List Template) (e : Effects) → AreBoundedLists names keys → slice_get all p ≡ Some (match_fields how (length names) (length keys))
@@ -347,7 +347,21 @@ module _ (script : CommandForms) (mail : Mail) (no_loop : loops (code_of script)
       let i = match_fields how (length names) (length keys) in
       let o = header_match how Root None WholeValue (all_expanded e names) (all_expanded e keys) mail e.captures in
       step_at s i _ here
-      (rw (match_fits how.kind how.comparator, le-leb 1 (length names) b.some_first, le-leb (length names) 512 (omega (arith, b.few)), le-leb 1 (length keys) b.some_second, le-leb (length keys) 512 (omega (arith, b.few)), both_again e names keys, how_again how)
+      (rw (
+        selection_fits how.kind how.comparator,
+        le-leb 1 (length names) b.some_first,
+        le-leb (length names) 512 (omega (arith, b.few)),
+        keys_alone (length keys) (omega (arith, b.few)),
+        no_params (length keys) (omega (arith, b.few)),
+        asks_no_params how.kind how.comparator,
+        le-leb 1 (length keys) b.some_second,
+        le-leb (length keys) 512 (omega (arith, b.few)),
+        both_again e names keys,
+        whole_again how.kind how.comparator,
+        first_scope how.kind how.comparator,
+        first_selector how.kind how.comparator,
+        how_again how,
+      )
       (tested_turn o (both e names keys) p c (1 + header_cost Root None WholeValue (all_expanded e names) (all_expanded e keys) mail) e))
 
   abbrev texts_charge : Match → List Template → List Template → ℕ → Effects → ℕ → ℕ

@@ -2,7 +2,7 @@
 use Rattle.std.proofs.Common.{◌≡◌, ℕ, zero, suc, ◌+◌, ◌<◌, ◌≤◌, Bool, true, false, List, [], ◌∷◌, ◌++◌, Option, Some, None, unwrap_or, option_map, map, flat_map, slice_get, length, min, sum, All, refl, sym, ap, subst, ◌∙◌, arith}
 use Rattle.bytecode_format.specs.declared.instruction.Instruction.{Instruction}
 use Rattle.bytecode_format.specs.declared.operation.Operation.{Operation}
-use Rattle.bytecode_format.specs.declared.operation.Operation.TheVariants.{Halt, Literal, Variable as VariableOp, Capture as CaptureOp, Join, Set, String, Bool as BoolOp, Jump, Header, Exists, Size, Keep, Discard, File}
+use Rattle.bytecode_format.specs.declared.operation.Operation.TheVariants.{Halt, Literal, Variable as VariableOp, Capture as CaptureOp, Join, Set, String, Bool as BoolOp, Jump, Header, Exists, Size, PartSize, Keep, Discard, File}
 use Rattle.bytecode_format.specs.Operations.{operation_of}
 use Rattle.std.specs.Option.{option_and_then, option_map_or}
 use Rattle.std.proofs.lemmas.Bool.{lt-ltb, le-leb}
@@ -12,7 +12,8 @@ use Rattle.std.proofs.lemmas.List.Sums.{sum_by-cons}
 use Rattle.bytecode_format.specs.Code.{Code}
 use Rattle.bytecode_format.specs.declared.modifiers.Modifiers.{Modifiers}
 use Rattle.bytecode_format.proofs.ModifierLemmas.{number_again}
-use Rattle.bytecode_verifier.specs.Rows.{row_named, is_well_formed, is_match_number, is_jump}
+use Rattle.std.proofs.Math.Nat.{mod-eq_of_lt, div-eq_of_lt}
+use Rattle.bytecode_verifier.specs.Rows.{row_named, is_well_formed, is_match_number, is_selection, selects_params, match_in, scope_in, selector_in, keys_in, params_in, is_jump}
 use Rattle.bytecode_verifier.specs.Shape.{Entries, Texts, with_text, take_texts, entries_after}
 use Rattle.bytecode_verifier.specs.declared.shape.Entry.TheVariants.{Truth, Text}
 use Rattle.octets.specs.Limits.{max_string, max_segments, max_value, max_stack}
@@ -33,6 +34,7 @@ use Rattle.sieve_compiler.specs.Lengths.{string_length, strings_length, test_len
 use Rattle.sieve_compiler.specs.Strings.{segment_strings, string_strings}
 use Rattle.sieve_compiler.specs.Growing.{Uses, uses_with, joined, segment_uses, string_uses, strings_uses, test_uses, tests_uses, command_uses, commands_uses, branches_uses}
 use Rattle.sieve_compiler.specs.Coding.{plain, instruction, jump_if, push_bool, push_size, push_text, push_segment, join_texts, string_code, strings_code, set_variable, kind_number, comparator_number, match_fields, match_texts, find_fields, aim_of, test_code, tests_code, leave_code, command_code, commands_code, branches_code}
+use Rattle.sieve_compiler.proofs.Loopless.{is_loopless}
 use Rattle.sieve_compiler.proofs.Standing.{Stands, stands_first, stands_next, stands_left, stands_right}
 use Rattle.sieve_compiler.proofs.CodeLengths.{length_two, string_code_length, strings_code_length, test_code_length, leave_code_length, command_code_length, commands_code_length}
 use Rattle.sieve_compiler.proofs.Known.{Has, has_left, has_right, found, found_string, found_variable}
@@ -79,6 +81,7 @@ IsKnown tables (Some Literal) i = (s : List ℕ) × (slice_get tables.strings i.
 IsKnown tables (Some VariableOp) i = (s : List ℕ) × (slice_get tables.variables i.c ≡ Some s)
 IsKnown tables (Some Set) i = (s : List ℕ) × (slice_get tables.variables i.c ≡ Some s)
 IsKnown tables (Some Size) i = (n : ℕ) × (slice_get tables.numbers i.c ≡ Some n)
+IsKnown tables (Some PartSize) i = (n : ℕ) × (slice_get tables.numbers i.c ≡ Some n)
 IsKnown tables _ i = Unit {0}
 
 -- the operation takes these entries, and leaves those
@@ -88,6 +91,7 @@ TurnsInto tables o i before after = (code : Code) → code.strings ≡ tables.st
 -- the instruction keeps the rules at the place
 pub record IsSound (all : List Instruction) (tables : Tables) (last place : ℕ) (i : Instruction) : Type 0 where
   pub form : is_well_formed (row_named 1 i.op) i ≡ true
+  pub loopless : is_loopless (operation_of i.op) ≡ true
   pub index : IsKnown tables (operation_of i.op) i
   pub jump : is_jump (row_named 1 i.op) ≡ true → IsAimed all tables last place i.c
   pub stack : TurnsInto tables (operation_of i.op) i (standing tables all place) (leaves tables (operation_of i.op) i (standing tables all place))
@@ -148,6 +152,54 @@ match_fits Contains Octet = refl
 match_fits Matches Casemap = refl
 match_fits Matches Octet = refl
 
+-- the number of a match is that of a test of values in the message's own header
+pub selection_fits : (kind : MatchType) (comparator : Comparator) → is_selection (kind_number kind + comparator_number comparator) ≡ true
+selection_fits Is Casemap = refl
+selection_fits Is Octet = refl
+selection_fits Contains Casemap = refl
+selection_fits Contains Octet = refl
+selection_fits Matches Casemap = refl
+selection_fits Matches Octet = refl
+
+pub asks_no_params : (kind : MatchType) (comparator : Comparator) → selects_params (kind_number kind + comparator_number comparator) ≡ false
+asks_no_params Is Casemap = refl
+asks_no_params Is Octet = refl
+asks_no_params Contains Casemap = refl
+asks_no_params Contains Octet = refl
+asks_no_params Matches Casemap = refl
+asks_no_params Matches Octet = refl
+
+pub match_again : (kind : MatchType) (comparator : Comparator) → match_in (kind_number kind + comparator_number comparator) ≡ kind_number kind + comparator_number comparator
+match_again Is Casemap = refl
+match_again Is Octet = refl
+match_again Contains Casemap = refl
+match_again Contains Octet = refl
+match_again Matches Casemap = refl
+match_again Matches Octet = refl
+
+pub first_scope : (kind : MatchType) (comparator : Comparator) → scope_in (kind_number kind + comparator_number comparator) ≡ 0
+first_scope Is Casemap = refl
+first_scope Is Octet = refl
+first_scope Contains Casemap = refl
+first_scope Contains Octet = refl
+first_scope Matches Casemap = refl
+first_scope Matches Octet = refl
+
+pub first_selector : (kind : MatchType) (comparator : Comparator) → selector_in (kind_number kind + comparator_number comparator) ≡ 0
+first_selector Is Casemap = refl
+first_selector Is Octet = refl
+first_selector Contains Casemap = refl
+first_selector Contains Octet = refl
+first_selector Matches Casemap = refl
+first_selector Matches Octet = refl
+
+-- so few keys are all that c holds
+pub keys_alone : (keys : ℕ) → keys ≤ 512 → keys_in keys ≡ keys
+keys_alone keys few = mod-eq_of_lt (omega (arith, few))
+
+pub no_params : (keys : ℕ) → keys ≤ 512 → params_in keys ≡ 0
+no_params keys few = div-eq_of_lt (omega (arith, few))
+
 -- where the parts of a branch's code stand
 pub record BranchParts (all : List Instruction) (tables : Tables) (t : TestForm) (cs : CommandForms) (bs : BranchForms) (place end : ℕ) : Type 0 where
   pub test : Stands all place (test_code tables place t false (place + test_length t + commands_length cs + leave_length bs))
@@ -202,16 +254,16 @@ module _ (all : List Instruction) (tables : Tables) (last : ℕ) where
   following_size place Under n h = rw h refl
 
   bool_sound : (place : ℕ) (b : Bool) → standing tables all place ≡ [] → IsSound all tables last place (push_bool b)
-  bool_sound place true h = record { form = refl; index = tt; jump = λ e. absurd (cc); stack = λ code same. rw h refl }
-  bool_sound place false h = record { form = refl; index = tt; jump = λ e. absurd (cc); stack = λ code same. rw h refl }
+  bool_sound place true h = record { form = refl; loopless = refl; index = tt; jump = λ e. absurd (cc); stack = λ code same. rw h refl }
+  bool_sound place false h = record { form = refl; loopless = refl; index = tt; jump = λ e. absurd (cc); stack = λ code same. rw h refl }
 
   size_sound : (place : ℕ) (order : Order) (n : ℕ) → Has tables (uses_with (n ∷ []) [] []) → standing tables all place ≡ [] → IsSound all tables last place (push_size order (place_of_number tables n))
-  size_sound place Over n known h = record { form = refl; index = (n, found tables n known); jump = λ e. absurd (cc); stack = λ code same. rw h refl }
-  size_sound place Under n known h = record { form = refl; index = (n, found tables n known); jump = λ e. absurd (cc); stack = λ code same. rw h refl }
+  size_sound place Over n known h = record { form = refl; loopless = refl; index = (n, found tables n known); jump = λ e. absurd (cc); stack = λ code same. rw h refl }
+  size_sound place Under n known h = record { form = refl; loopless = refl; index = (n, found tables n known); jump = λ e. absurd (cc); stack = λ code same. rw h refl }
 
   jump_if_sound : (place : ℕ) (asked : Bool) (target : ℕ) → standing tables all place ≡ Truth ∷ [] → IsAimed all tables last place target → IsSound all tables last place (jump_if asked target)
-  jump_if_sound place true target h aimed = record { form = refl; index = tt; jump = λ e. aimed; stack = λ code same. rw h refl }
-  jump_if_sound place false target h aimed = record { form = refl; index = tt; jump = λ e. aimed; stack = λ code same. rw h refl }
+  jump_if_sound place true target h aimed = record { form = refl; loopless = refl; index = tt; jump = λ e. aimed; stack = λ code same. rw h refl }
+  jump_if_sound place false target h aimed = record { form = refl; loopless = refl; index = tt; jump = λ e. aimed; stack = λ code same. rw h refl }
 
   simple_sound : (place : ℕ) (asked : Bool) (target : ℕ) (i : Instruction) → IsSound all tables last place i → standing tables all (suc place) ≡ Truth ∷ [] → IsAimed all tables last (suc place) target → AreSound place (i ∷ jump_if asked target ∷ [])
   simple_sound place asked target i h pushed aimed = (h, (jump_if_sound (suc place) asked target pushed aimed, tt))
@@ -221,6 +273,7 @@ module _ (all : List Instruction) (tables : Tables) (last : ℕ) where
   text_sound : (place : ℕ) (s : List ℕ) → slice_get tables.strings (place_of_string tables s) ≡ Some s → length (standing tables all place) < max_stack → IsSound all tables last place (push_text tables s)
   text_sound place s there room = record {
     form = refl;
+    loopless = refl;
     index = (s, there);
     jump = λ e. absurd (cc);
     stack = λ code same. rw (same, there, lt-ltb (length (standing tables all place)) max_stack room) refl;
@@ -233,12 +286,14 @@ module _ (all : List Instruction) (tables : Tables) (last : ℕ) where
   segment_sound place (Stretch octets) known b room = text_sound place octets (found_string tables octets [] [] known) room
   segment_sound place (Variable name) known b room = record {
     form = refl;
+    loopless = refl;
     index = (name, found_variable tables name [] [] known);
     jump = λ e. absurd (cc);
     stack = λ code same. rw (lt-ltb (length (standing tables all place)) max_stack room) refl;
   }
   segment_sound place (Capture n) known b room = record {
     form = rw (lt-ltb n 10 (omega (arith, b))) refl;
+    loopless = refl;
     index = tt;
     jump = λ e. absurd (cc);
     stack = λ code same. rw (lt-ltb (length (standing tables all place)) max_stack room) refl;
@@ -288,6 +343,7 @@ module _ (all : List Instruction) (tables : Tables) (last : ℕ) where
       → IsSound all tables last place (join_texts (length segments))
   join_sound place segments entries some few room start = record {
     form = rw (le-leb 2 (length segments) some, le-leb (length segments) max_segments few) refl;
+    loopless = refl;
     index = tt;
     jump = λ e. absurd (cc);
     stack = λ code same. rw (start, taken_back segment_bound segments entries, lt-ltb (length entries) max_stack room) refl;
@@ -365,16 +421,20 @@ module _ (all : List Instruction) (tables : Tables) (last : ℕ) where
   fields_sound place how names keys b h = record {
     form =
         rw (
-          match_fits how.kind how.comparator,
+          selection_fits how.kind how.comparator,
           le-leb 1 (length names) b.some_first,
           le-leb (length names) 512 (omega (arith, b.few)),
+          keys_alone (length keys) (omega (arith, b.few)),
+          no_params (length keys) (omega (arith, b.few)),
+          asks_no_params how.kind how.comparator,
           le-leb 1 (length keys) b.some_second,
           le-leb (length keys) 512 (omega (arith, b.few)),
         )
         refl;
+    loopless = refl;
     index = tt;
     jump = λ e. absurd (cc);
-    stack = λ code same. rw (h, taken_back bound_of keys (pushed (map bound_of names) []), taken_back bound_of names []) refl;
+    stack = λ code same. rw (h, keys_alone (length keys) (omega (arith, b.few)), no_params (length keys) (omega (arith, b.few)), taken_back bound_of keys (pushed (map bound_of names) []), taken_back bound_of names []) refl;
   }
 
   texts_sound : (place : ℕ) (how : Match) (sources keys : List Template) → AreBoundedLists sources keys → standing tables all place ≡ two_pushed sources keys → IsSound all tables last place (match_texts how (length sources) (length keys))
@@ -388,6 +448,7 @@ module _ (all : List Instruction) (tables : Tables) (last : ℕ) where
           le-leb (length keys) 512 (omega (arith, b.few)),
         )
         refl;
+    loopless = refl;
     index = tt;
     jump = λ e. absurd (cc);
     stack = λ code same. rw (h, taken_back bound_of keys (pushed (map bound_of sources) []), taken_back bound_of sources []) refl;
@@ -396,6 +457,7 @@ module _ (all : List Instruction) (tables : Tables) (last : ℕ) where
   names_sound : (place : ℕ) (names : List Template) → IsBoundedList names → standing tables all place ≡ pushed (map bound_of names) [] → IsSound all tables last place (find_fields (length names))
   names_sound place names b h = record {
     form = rw (le-leb 1 (length names) b.some, le-leb (length names) 512 (omega (arith, b.few))) refl;
+    loopless = refl;
     index = tt;
     jump = λ e. absurd (cc);
     stack = λ code same. rw (h, taken_back bound_of names []) refl;
@@ -595,20 +657,21 @@ module _ (all : List Instruction) (tables : Tables) (last : ℕ) where
         at_same _ _ same (branches_end bs (place + test_length t + commands_length cs + leave_length bs) end p.rest left)
 
   keep_sound : (place : ℕ) → standing tables all place ≡ [] → IsSound all tables last place (plain Keep)
-  keep_sound place start = record { form = refl; index = tt; jump = λ e. absurd (cc); stack = λ code same. rw start refl }
+  keep_sound place start = record { form = refl; loopless = refl; index = tt; jump = λ e. absurd (cc); stack = λ code same. rw start refl }
 
   discard_sound : (place : ℕ) → standing tables all place ≡ [] → IsSound all tables last place (plain Discard)
-  discard_sound place start = record { form = refl; index = tt; jump = λ e. absurd (cc); stack = λ code same. rw start refl }
+  discard_sound place start = record { form = refl; loopless = refl; index = tt; jump = λ e. absurd (cc); stack = λ code same. rw start refl }
 
   pub halt_sound : (place : ℕ) → standing tables all place ≡ [] → IsSound all tables last place (plain Halt)
-  halt_sound place start = record { form = refl; index = tt; jump = λ e. absurd (cc); stack = λ code same. rw start refl }
+  halt_sound place start = record { form = refl; loopless = refl; index = tt; jump = λ e. absurd (cc); stack = λ code same. rw start refl }
 
   file_sound : (place bound : ℕ) → standing tables all place ≡ Text bound ∷ [] → IsSound all tables last place (plain File)
-  file_sound place bound start = record { form = refl; index = tt; jump = λ e. absurd (cc); stack = λ code same. rw start refl }
+  file_sound place bound start = record { form = refl; loopless = refl; index = tt; jump = λ e. absurd (cc); stack = λ code same. rw start refl }
 
   set_sound : (place bound : ℕ) (modifiers : Modifiers) (name : List ℕ) → Has tables (uses_with [] [] (name ∷ [])) → standing tables all place ≡ Text bound ∷ [] → IsSound all tables last place (set_variable tables modifiers name)
   set_sound place bound modifiers name known start = record {
     form = rw (number_again modifiers) refl;
+    loopless = refl;
     index = (name, found_variable tables name [] [] known);
     jump = λ e. absurd (cc);
     stack = λ code same. rw start refl;
@@ -627,7 +690,7 @@ module _ (all : List Instruction) (tables : Tables) (last : ℕ) where
   has_setting name value known = subst (λ ss. Has tables (uses_with [] ss (string_variables value ++ name ∷ []))) (sym (append-nil (string_strings value))) known
 
   jump_sound : (place end : ℕ) → standing tables all place ≡ [] → IsAimed all tables last place end → IsSound all tables last place (instruction Jump 0 end)
-  jump_sound place end start aimed = record { form = refl; index = tt; jump = λ e. aimed; stack = λ code same. rw start refl }
+  jump_sound place end start aimed = record { form = refl; loopless = refl; index = tt; jump = λ e. aimed; stack = λ code same. rw start refl }
 
   leave_sound : (bs : BranchForms) (place end : ℕ) → standing tables all place ≡ [] → place + leave_length bs ≤ end → end ≤ last → standing tables all end ≡ [] → AreSound place (leave_code bs end)
   leave_sound no_branch place end start le within between = tt

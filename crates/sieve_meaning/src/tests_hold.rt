@@ -4,10 +4,17 @@ ghost use Rattle.sieve_meaning.specs.Meaning.{is_size};
 
 use crate::evaluator::Evaluator;
 use glob_match::Match;
-use mail_matching::{Answer, Outcome, exists, header, string};
+use mail_matching::{Answer, HeaderTest, Outcome, Reach, Scope, Selector, exists, header, string};
 use mime_decode::Message;
+use octets::Octets;
 use sieve_check::{Order, Segment, Test};
 use std::alloc::{AllocError, Global};
+
+/// The message itself, outside all loops.
+const MESSAGE: Reach = Reach {
+    scope: Scope::Root,
+    current: None,
+};
 
 impl<'s, 'm> Evaluator<'s, 'm> {
     ghost use Rattle.std.specs.Prelude.{IfOk, None, map};
@@ -53,7 +60,10 @@ impl<'s, 'm> Evaluator<'s, 'm> {
                 names,
                 keys,
             } => self.matches(alloc, *matching, names, keys, message),
-            Test::Exists(names) => Ok(exists(message, &self.all_expanded(alloc, names)?).0),
+            Test::Exists(names) => {
+                let names = self.all_expanded(alloc, names)?;
+                Ok(exists(message, MESSAGE, &names).0)
+            }
             Test::Size(order, number) => Ok(is_size(*order, *number, message.size() as u64)),
             Test::String {
                 matching,
@@ -115,7 +125,13 @@ impl<'s, 'm> Evaluator<'s, 'm> {
     {
         let names = self.all_expanded(alloc, names)?;
         let keys = self.all_expanded(alloc, keys)?;
-        let Answer { outcome, .. } = header(alloc, message, &names, &keys, how)?;
+        let test = HeaderTest {
+            reach: MESSAGE,
+            selector: Selector::Value,
+            how,
+        };
+        let params = Vec::<Octets>::new(alloc);
+        let Answer { outcome, .. } = header(alloc, message, test, &names, &params, &keys)?;
         Ok(self.settle(outcome))
     }
 
