@@ -1,7 +1,9 @@
 // Runs of the machine, in millions of instructions a second.
+use crate::loops::run_loops;
 use bytecode_format::{Instruction, Operation, Program};
 use bytecode_verifier::{Verified, verify};
 use mime_decode::Message;
+use octets::Octets;
 use sieve_vm::run as run_program;
 use std::alloc::Global;
 use std::time::Instant;
@@ -22,7 +24,7 @@ pub(crate) fn run(rt: &HostRuntime) -> anyhow::Result<()> {
     let micros = start.elapsed(rt)?.as_micros().max(1);
     let rate = charged / micros;
     println!(rt; "run: {charged} instructions, {rate} million a second")?;
-    Ok(())
+    run_loops(rt)
 }
 
 // SIZE, NOT and JT to the next test, over and over, then HALT.
@@ -35,14 +37,25 @@ fn sizes(alloc: Global) -> anyhow::Result<Verified> {
     }
     instructions.push(at(Operation::Halt, 0, 0))?;
     let numbers = [1024u64].to_vec(alloc)?;
-    let program = Program::build(1, 0, numbers, Vec::new(alloc), instructions)?;
+    accepted(alloc, numbers, Vec::new(alloc), instructions)
+}
+
+/// The accepted program of these instructions, numbers and strings.
+pub(crate) fn accepted(
+    alloc: Global,
+    numbers: Vec<u64>,
+    strings: Vec<Octets>,
+    instructions: Vec<Instruction>,
+) -> anyhow::Result<Verified> {
+    let program = Program::build(1, 0, numbers, strings, instructions)?;
     match verify(alloc, program) {
         Ok(verified) => Ok(verified),
         Err((_program, refusal)) => Err(refusal.into()),
     }
 }
 
-fn at(operation: Operation, a: u8, c: u32) -> Instruction {
+/// An instruction with its fields a and c.
+pub(crate) fn at(operation: Operation, a: u8, c: u32) -> Instruction {
     Instruction {
         op: operation.octet(),
         a,

@@ -7,12 +7,14 @@ mod eval;
 mod filters;
 mod headers;
 mod lines;
+mod loops;
 mod machine;
 mod matching;
 mod parts;
 mod quoted;
 mod scripts;
 mod store;
+mod verifying;
 
 use std::env;
 
@@ -35,6 +37,7 @@ fn main(rt: HostRuntime) -> anyhow::Result<()> {
             Some(path) => store::file(&rt, path.as_str()),
             None => store::run(&rt),
         },
+        Some(job) if job.as_str() == "verify" => verifying::run(&rt),
         _ => {
             println!(rt; "codecs")?;
             println!(rt; "compile")?;
@@ -48,6 +51,7 @@ fn main(rt: HostRuntime) -> anyhow::Result<()> {
             println!(rt; "run")?;
             println!(rt; "scripts")?;
             println!(rt; "store [PATH]")?;
+            println!(rt; "verify")?;
             Ok(())
         }
     }
