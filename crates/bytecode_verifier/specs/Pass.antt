@@ -33,12 +33,12 @@ Takes number None now None = Unit {0}
 Takes number (Some total) now (Some texts) = (total ≡ one_more_each texts.bounds) × (length texts.bounds ≡ number) × (now ≡ texts.rest)
 Takes number _ now _ = ⊥
 
--- the same of two lists, of which the first has so many
-abbrev pub TakesBoth : ℕ → Option (ℕ × ℕ) → Entries → Option Lists → Type 0
-TakesBoth number None now None = Unit {0}
-TakesBoth number (Some totals) now (Some lists) =
-    (totals.0 ≡ one_more_each lists.names) × (totals.1 ≡ one_more_each lists.keys) × (length lists.names ≡ number) × (now ≡ lists.rest)
-TakesBoth number _ now _ = ⊥
+-- the same of names and of keys, with as many names and parameters as are wanted
+abbrev pub TakesLists : ℕ → ℕ → Option (ℕ × ℕ) → Entries → Option Lists → Type 0
+TakesLists names params None now None = Unit {0}
+TakesLists names params (Some totals) now (Some lists) =
+    (totals.0 ≡ one_more_each lists.names) × (totals.1 ≡ one_more_each lists.keys) × (length lists.names ≡ names) × (length lists.params ≡ params) × (now ≡ lists.rest)
+TakesLists names params _ now _ = ⊥
 
 -- the shape goes on to these entries with this cap, or it fails
 abbrev pub Passes : Option Cap → Entries → Cap → Option Entries → Type 0

@@ -19,7 +19,7 @@ pub fn is_well_formed(row: Option<Row>, instruction: &Instruction) -> bool
 {
     let Some(row) = row else { return false };
     let Instruction { a, b, c, .. } = *instruction;
-    row.a.takes(a as u32) && row.b.takes(b as u32) && row.c.takes(c)
+    row.a.takes(a, a as u32) && row.b.takes(a, b as u32) && row.c.takes(a, c)
 }
 
 /// Whether the instruction's index isn't below the count of what it is an index of.
