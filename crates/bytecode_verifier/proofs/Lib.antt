@@ -10,3 +10,6 @@ pub mod Accepted
 pub mod Consequences
 pub mod Examples
 pub mod Budgets
+pub mod Closing
+pub mod Nests
+pub mod Open

@@ -8,7 +8,9 @@
 mod cap;
 mod error;
 pub mod laws;
+mod nest;
 mod pass;
+mod places;
 mod row;
 mod rules;
 mod shape;
