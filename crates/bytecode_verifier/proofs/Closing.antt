@@ -72,7 +72,7 @@ least_below_is test from to (Some q) below least =
     ])
 
 -- two tests of equality that agree
-same_test : (a b c d : ℕ) → (a ≡ b → c ≡ d) → (c ≡ d → a ≡ b) → (a == b) ≡ (c == d)
+pub same_test : (a b c d : ℕ) → (a ≡ b → c ≡ d) → (c ≡ d → a ≡ b) → (a == b) ≡ (c == d)
 same_test a b c d f g = elim (cases_eq a b) [
     | inl same ↦ eq-eqb a b same ∙ sym (eq-eqb c d (f same))
     | inr differ ↦ ne_eqb a b differ ∙ sym (ne_eqb c d (λ e. differ (g e)))

@@ -13,3 +13,5 @@ pub mod Budgets
 pub mod Closing
 pub mod Nests
 pub mod Open
+pub mod Around
+pub mod LoopRules

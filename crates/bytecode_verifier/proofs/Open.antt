@@ -200,7 +200,7 @@ waits xs (suc place) = (goes xs place (waits xs place)).waits
 pub step_at : (xs : List Instruction) (place : ℕ) → Step xs place
 step_at xs place = (goes xs place (waits xs place)).step
 
-lt-not-le : (a b : ℕ) → a < b → nat_le b a ≡ false
+pub lt-not-le : (a b : ℕ) → a < b → nat_le b a ≡ false
 lt-not-le a b lt = go (nat_le b a) refl
   where
     go : (t : Bool) → nat_le b a ≡ t → t ≡ false
@@ -253,13 +253,14 @@ inside_is xs (suc place) = go (sym (filter_twice place (opened_below xs place)) 
         ap (λ o. filter (ends_from (suc place)) (cons_option o (opened_below xs place))) opened ∙ before ∙ ap (filter (ends_from (suc place))) is
         ∙ ap (λ b. cond b (loop ∷ filter (ends_from (suc place)) (inside xs (suc place))) (filter (ends_from (suc place)) (inside xs (suc place)))) closed
         ∙ all_end (suc place) (inside xs (suc place)) bound
-    go before (stayed opened same bound) = rw opened (before ∙ all_end (suc place) (inside xs place) bound ∙ sym same)
+    go before (stayed opened same bound) =
+        ap (λ o. filter (ends_from (suc place)) (cons_option o (opened_below xs place))) opened ∙ before ∙ all_end (suc place) (inside xs place) bound ∙ sym same
 
 -- the loops that are opened from a place on, in order
 abbrev pub opened_from : List Instruction → ℕ → List Instruction → List Loop
 opened_from xs place ys = filter_map (λ at. loop_from xs at.0 at.1) (enumerate_from place ys)
 
-reverse_more : (l : Loop) (ls : List Loop) → reverse (l ∷ ls) ≡ reverse ls ++ l ∷ []
+pub reverse_more : (l : Loop) (ls : List Loop) → reverse (l ∷ ls) ≡ reverse ls ++ l ∷ []
 reverse_more l ls = reverse-append (l ∷ []) ls
 
 opened_all : (xs : List Instruction) (place : ℕ) → place ≤ length xs → opened_from xs 0 xs ≡ reverse (opened_below xs place) ++ opened_from xs place (drop place xs)
@@ -329,7 +330,7 @@ none_past xs place le =
 
 -- after the last place all that were opened are closed
 opened_end : (xs : List Instruction) (place : ℕ) → length xs ≤ place → opened_below xs place ≡ opened_below xs (length xs)
-opened_end xs zero le = ap (opened_below xs) (omega arith)
+opened_end xs zero le = let none : zero ≡ length xs = omega arith in ap (opened_below xs) none
 opened_end xs (suc place) le =
     elim (cases_eq (suc place) (length xs)) [
       | inl same ↦ ap (opened_below xs) same

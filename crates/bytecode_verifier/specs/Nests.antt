@@ -1,5 +1,5 @@
 -- What the verifier knows of the loops at each place, with a list of open brackets.
-use Rattle.std.specs.Prelude.{◌≡◌, ℕ, zero, suc, ◌<◌, List, [], ◌∷◌, Option, Some, None, if◌then◌else◌, length, drop, ◌==◌, slice_get}
+use Rattle.std.specs.Prelude.{◌≡◌, ℕ, zero, suc, ◌<◌, Bool, not, ◌&&◌, List, [], ◌∷◌, Option, Some, None, if◌then◌else◌, length, drop, ◌==◌, slice_get}
 use Rattle.std.specs.Option.{option_map_or}
 use Rattle.bytecode_format.specs.declared.instruction.Instruction.{Instruction}
 use Rattle.bytecode_format.specs.declared.operation.Operation.{Operation}
@@ -56,6 +56,10 @@ open_at instructions (suc place) = open_over place (next_at instructions place) 
 abbrev pub nest_at : List Instruction → ℕ → Nest
 nest_at instructions place =
     record { next = next_at instructions place; inner = first_of (open_at instructions place); depth = length (open_at instructions place) }
+
+-- the loop that is opened, if one is, ends at the place
+abbrev pub leads : ℕ → ℕ → Bool
+leads next place = not (next == 0) && (next == place)
 
 -- for each place what is known of the loops there
 pub record AreNests (instructions : List Instruction) (nests : List Nest) : Type 0 where

@@ -8,6 +8,7 @@
 mod cap;
 mod error;
 pub mod laws;
+mod loop_rules;
 mod nest;
 mod pass;
 mod places;

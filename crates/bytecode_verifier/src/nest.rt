@@ -1,7 +1,7 @@
 // What is known of the loops at each place.
 ghost use Rattle.std.specs.Prelude.{◌≡◌, ◌≤◌, IfOk, OnOk, length};
 ghost use Rattle.octets.specs.Limits.{max_instructions};
-ghost use Rattle.bytecode_verifier.specs.Nests.{AreNests, nexts_from, next_over, waiting_over, open_over};
+ghost use Rattle.bytecode_verifier.specs.Nests.{AreNests, leads, nexts_from, next_over, waiting_over, open_over};
 
 use crate::places::Places;
 use bytecode_format::{Instruction, Operation};
@@ -16,6 +16,15 @@ pub struct Nest {
     pub inner: u32,
     /// How many loops are open here.
     pub depth: u32,
+}
+
+impl Nest {
+    /// Whether a loop is opened here that ends at the place.
+    pub fn leads(self, place: usize) -> bool
+        ensures { result ≡ leads self.next place }
+    {
+        self.next != 0 && self.next as usize == place
+    }
 }
 
 /// For each place of an instruction what is known of the loops there.
