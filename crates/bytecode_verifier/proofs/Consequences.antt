@@ -14,10 +14,9 @@ use Rattle.std.specs.Option.{option_and_then}
 use Rattle.bytecode_format.specs.declared.operation.Operation.{Operation}
 use Rattle.bytecode_verifier.specs.Rows.{row_of, is_well_formed, is_jump}
 use Rattle.bytecode_verifier.specs.Shape.{Entries, is_empty, is_target, entries_after, shape_after, shape_at}
-use Rattle.bytecode_verifier.specs.Rules.{row_in, misses_index, is_halt}
+use Rattle.bytecode_verifier.specs.Rules.{row_in, misses_index, is_halt, breaks_form}
 use Rattle.bytecode_verifier.specs.Acceptance.{IsAccepted}
 use Rattle.bytecode_verifier.proofs.Tests.{same_place}
-use Rattle.bytecode_verifier.proofs.Loopless.{form_at}
 
 or_parts : (a b : Bool) → (a || b) ≡ false → (a ≡ false) × (b ≡ false)
 or_parts false b h = (refl, h)
@@ -50,6 +49,10 @@ some_modifiers (Some modifiers) h = (modifiers, refl)
 first_of_three : (a b c : Bool) → (a && b && c) ≡ true → a ≡ true
 first_of_three true b c h = refl
 first_of_three false b c h = absurd (cc)
+
+-- the form of the instruction at a place, where the rule isn't broken there
+pub form_at : (code : Code) (place : ℕ) (i : Instruction) → breaks_form code place ≡ false → slice_get code.instructions place ≡ Some i → is_well_formed (row_in code i) i ≡ true
+form_at code place i h e = not_false _ (rw e at h)
 
 -- the entries that an operation leaves, if there is one
 abbrev pub left_by : Code → Option Operation → Instruction → Entries → Option Entries

@@ -1,6 +1,5 @@
 pub mod Tests
 pub mod Least
-pub mod Loopless
 pub mod Steps
 pub mod Taking
 pub mod Short
