@@ -30,7 +30,7 @@ head_or : Loop → List Loop → Loop
 head_or d [] = d
 head_or d (l ∷ ls) = l
 
-same_loop : (l k : Loop) (ls ks : List Loop) → l ∷ ls ≡ k ∷ ks → l ≡ k
+pub same_loop : (l k : Loop) (ls ks : List Loop) → l ∷ ls ≡ k ∷ ks → l ≡ k
 unfolding head_or
 same_loop l k ls ks e = ap (head_or l) e
 
@@ -184,7 +184,7 @@ same_loops_is code p q = go (same_loops code p q) refl
         absurd cc))
 
 -- how many loops are open
-length_reverse : (ls : List Loop) → length (reverse ls) ≡ length ls
+pub length_reverse : (ls : List Loop) → length (reverse ls) ≡ length ls
 length_reverse [] = refl
 length_reverse (l ∷ ls) = ap length (reverse_more l ls) ∙ length-append (reverse ls) (l ∷ []) ∙ omega (arith, length_reverse ls)
 

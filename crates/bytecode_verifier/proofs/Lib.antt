@@ -14,3 +14,4 @@ pub mod Nests
 pub mod Open
 pub mod Around
 pub mod LoopRules
+pub mod Nesting

@@ -24,7 +24,7 @@ from_less : (low high : ℕ) (ns : List ℕ) → low ≤ high → From high ns �
 from_less low high [] le h = tt
 from_less low high (n ∷ ns) le h = (omega (arith, h.0), from_less low high ns le h.1)
 
-from_rest : (bound : ℕ) (ns : List ℕ) → From bound ns → From bound (without_first ns)
+pub from_rest : (bound : ℕ) (ns : List ℕ) → From bound ns → From bound (without_first ns)
 from_rest bound [] h = tt
 from_rest bound (n ∷ ns) h = h.1
 
