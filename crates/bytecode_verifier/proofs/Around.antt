@@ -1,8 +1,8 @@
 -- What the open loops are at the brackets of one of them, and between.
-use Rattle.std.proofs.Common.{◌≡◌, ℕ, zero, suc, ◌+◌, ◌<◌, ◌≤◌, ◌⊎◌, Bool, true, false, cond, not, ◌&&◌, ◌||◌, ◌==◌, nat_lt, nat_le, List, [], ◌∷◌, ◌++◌, Option, Some, None, length, map, reverse, filter, slice_get, refl, sym, ap, ap₂, subst, ◌∙◌, inl, inr, arith, le-leb, leb-false, leb-true, length-append}
-use Rattle.std.proofs.lemmas.Bool.{cases_lt, cases_eq, lt-ltb, le-ltb, eq-eqb, ne_eqb, eqb-true}
+use Rattle.std.proofs.Common.{◌≡◌, ℕ, zero, suc, ◌<◌, ◌≤◌, Bool, true, false, cond, not, ◌&&◌, ◌||◌, ◌==◌, nat_lt, List, [], ◌∷◌, ◌++◌, Some, length, reverse, filter, refl, sym, ap, subst, ◌∙◌, inl, inr, arith, length-append}
+use Rattle.std.proofs.lemmas.Bool.{cases_lt, cases_eq, lt-ltb, le-ltb, eq-eqb, ne_eqb}
 use Rattle.std.proofs.lemmas.Option.{slice_get_past}
-use Rattle.std.proofs.lemmas.List.{reverse-append, reverse-reverse}
+use Rattle.std.proofs.lemmas.List.{reverse-reverse}
 use Rattle.std.proofs.lemmas.List.Folds.{list_any-append}
 use Rattle.std.specs.List.{cons_option, list_any, list_all}
 use Rattle.bytecode_format.specs.declared.instruction.Instruction.{Instruction}
@@ -10,7 +10,6 @@ use Rattle.bytecode_format.specs.Code.{Code}
 use Rattle.bytecode_verifier.specs.Loops.{Loop, loops, is_open, open_loops, same_loops}
 use Rattle.bytecode_verifier.specs.Rules.{has_loop}
 use Rattle.bytecode_verifier.specs.Nests.{first_of, next_at, open_at, leads}
-use Rattle.bytecode_verifier.proofs.Closing.{same_test}
 use Rattle.bytecode_verifier.proofs.Open.{From, loop_at, loop_to, loop_at_next, inside, nexts, open_inside, Step, pushed, popped, stayed, step_at, opened_below, loops_are, open_loops_are, reverse_more}
 
 -- a loop that is open at a place, inside of the outer ones
@@ -236,9 +235,9 @@ any_below xs each next (suc place) =
       where
         later : nat_lt each (suc place) ≡ nat_lt each place
         later = elim (cases_lt each place) [
-            | inl lt ↦ lt-ltb each (suc place) (omega arith) ∙ sym (lt-ltb each place lt)
-            | inr le ↦ le-ltb each (suc place) (let no : place ≡ each → ⊥ = differ in omega arith) ∙ sym (le-ltb each place le)
-          ]
+          | inl lt ↦ lt-ltb each (suc place) (omega arith) ∙ sym (lt-ltb each place lt)
+          | inr le ↦ le-ltb each (suc place) (let no : place ≡ each → ⊥ = differ in omega arith) ∙ sym (le-ltb each place le)
+        ]
 
         over : (n : ℕ) → list_any (is_loop each next) (cons_option (loop_to place n) (opened_below xs place)) ≡ (nat_lt each (suc place) && leads (next_at xs each) next)
         over zero = below later ih

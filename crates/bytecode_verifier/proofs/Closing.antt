@@ -1,17 +1,15 @@
 -- The Next of an Each: the nearest one after it whose Each doesn't stand after it too.
-use Rattle.std.proofs.Common.{◌≡◌, ℕ, zero, suc, ◌+◌, ◌-◌, ◌<◌, ◌≤◌, ◌⊎◌, Bool, true, false, cond, ◌&&◌, ◌==◌, nat_lt, List, [], ◌∷◌, Option, Some, None, length, take, drop, get_or, count_by, slice_get, slice_range, refl, sym, ap, ap₂, ◌∙◌, inl, inr, arith, length-drop, drop-cons}
+use Rattle.std.proofs.Common.{◌≡◌, ℕ, zero, suc, ◌+◌, ◌-◌, ◌<◌, ◌≤◌, Bool, true, false, cond, ◌&&◌, ◌==◌, nat_lt, List, [], ◌∷◌, Option, Some, None, length, take, drop, count_by, slice_get, slice_range, refl, sym, ap, ap₂, ◌∙◌, inl, inr, arith, length-drop, drop-cons}
 use Rattle.std.proofs.lemmas.Bool.{cases_lt, cases_eq, lt-ltb, le-ltb, eq-eqb, ne_eqb}
 use Rattle.std.proofs.lemmas.Option.{slice_get_within, get_or_from_slice_get}
 use Rattle.std.proofs.lemmas.List.Sums.{sum_by-cons}
-use Rattle.std.specs.Bool.{then_some}
-use Rattle.std.specs.Option.{option_or}
 use Rattle.bytecode_format.specs.declared.instruction.Instruction.{Instruction}
 use Rattle.bytecode_format.specs.declared.operation.Operation.{Operation}
 use Rattle.bytecode_format.specs.declared.operation.Operation.TheVariants.{Each, Next}
 use Rattle.bytecode_format.specs.Operations.{operation_of}
 use Rattle.bytecode_verifier.specs.Places.{least_below}
 use Rattle.bytecode_verifier.specs.Loops.{opens, closes, is_balanced, next_of}
-use Rattle.bytecode_verifier.specs.Nests.{first_of, without_first, waiting_over, waiting_from, next_over}
+use Rattle.bytecode_verifier.specs.Nests.{without_first, waiting_over, waiting_from, next_over}
 use Rattle.bytecode_verifier.proofs.Least.{least_of_none}
 
 -- what an operation is among brackets
@@ -38,14 +36,18 @@ Least test from to (Some q) = (from ≤ q) × (q < to) × (test q ≡ true) × (
 
 least_earlier : (test : ℕ → Bool) (from to : ℕ) (o : Option ℕ) → test from ≡ false → Least test (suc from) to o → Least test from to o
 least_earlier test from to None none least = λ j le lt. elim (cases_eq j from) [
+  | inl same ↦ rw same none
+  | inr ne ↦ least j (omega arith) lt
+]
+least_earlier test from to (Some q) none least = (
+  omega (arith, least.0),
+  least.1,
+  least.2,
+  λ j le lt. elim (cases_eq j from) [
     | inl same ↦ rw same none
-    | inr ne ↦ least j (omega arith) lt
-  ]
-least_earlier test from to (Some q) none least =
-    (omega (arith, least.0), least.1, least.2, λ j le lt. elim (cases_eq j from) [
-      | inl same ↦ rw same none
-      | inr ne ↦ least.3 j (omega arith) lt
-    ])
+    | inr ne ↦ least.3 j (omega arith) lt
+  ],
+)
 
 least_here : (test : ℕ → Bool) (from to : ℕ) → from < to → test from ≡ true → Least test from to (Some from)
 least_here test from to lt passes = (omega arith, lt, passes, λ j le less. absurd (omega arith))
@@ -74,9 +76,9 @@ least_below_is test from to (Some q) below least =
 -- two tests of equality that agree
 pub same_test : (a b c d : ℕ) → (a ≡ b → c ≡ d) → (c ≡ d → a ≡ b) → (a == b) ≡ (c == d)
 same_test a b c d f g = elim (cases_eq a b) [
-    | inl same ↦ eq-eqb a b same ∙ sym (eq-eqb c d (f same))
-    | inr differ ↦ ne_eqb a b differ ∙ sym (ne_eqb c d (λ e. differ (g e)))
-  ]
+  | inl same ↦ eq-eqb a b same ∙ sym (eq-eqb c d (f same))
+  | inr differ ↦ ne_eqb a b differ ∙ sym (ne_eqb c d (λ e. differ (g e)))
+]
 
 abbrev ups : Option Operation → ℕ
 ups o = cond (opens o) 1 0

@@ -1,9 +1,9 @@
 -- What holds at the end of the program.
-use Rattle.std.proofs.Common.{◌≡◌, ℕ, suc, ◌-◌, ◌<◌, ◌≤◌, Bool, false, not, ◌&&◌, List, [], Option, Some, None, is_some, is_none, length, slice_get, refl, sym, ap, ◌∙◌, inl, inr, ◌≢◌, get_or, take, length-take-le, arith}
+use Rattle.std.proofs.Common.{◌≡◌, ℕ, suc, ◌-◌, ◌<◌, ◌≤◌, Bool, false, not, ◌&&◌, List, Option, Some, None, is_some, is_none, length, slice_get, refl, sym, ap, ◌∙◌, inl, inr, ◌≢◌, get_or, take, length-take-le, arith}
 use Rattle.std.proofs.lemmas.Bool.{cases_lt, ne_eqb}
 use Rattle.std.proofs.lemmas.Option.{slice_get_past, slice_get-get_or}
 use Rattle.std.specs.Bool.{then_some}
-use Rattle.std.specs.Option.{option_or, option_map, option_map_or, option_and_then}
+use Rattle.std.specs.Option.{option_or, option_map, option_and_then}
 use Rattle.bytecode_format.specs.declared.instruction.Instruction.{Instruction}
 use Rattle.bytecode_format.specs.declared.operation.Operation.{Operation}
 use Rattle.bytecode_format.specs.Operations.{operation_of}

@@ -1,13 +1,11 @@
 -- The rules on loops, by the table of what is known of the loops at each place.
-use Rattle.std.proofs.Common.{◌≡◌, ℕ, suc, ◌<◌, ◌≤◌, Bool, true, false, not, ◌&&◌, ◌||◌, ◌==◌, nat_le, List, Option, Some, None, length, get_or, slice_get, refl, sym, ap, ap₂, ◌∙◌, inl, inr, arith, le-leb}
-use Rattle.std.proofs.lemmas.Bool.{cases_lt, cases_eq, eq-eqb, ne_eqb}
-use Rattle.std.proofs.lemmas.Option.{slice_get_within, slice_get_past, get_or_from_slice_get, slice_get-get_or}
-use Rattle.bytecode_format.specs.declared.instruction.Instruction.{Instruction}
+use Rattle.std.proofs.Common.{◌≡◌, ℕ, ◌<◌, ◌≤◌, false, not, ◌||◌, ◌==◌, nat_le, List, None, length, get_or, slice_get, refl, sym, ap, ◌∙◌, arith}
+use Rattle.std.proofs.lemmas.Option.{slice_get_past, get_or_from_slice_get}
 use Rattle.bytecode_format.specs.Code.{Code}
 use Rattle.bytecode_verifier.specs.declared.nest.Nest.{Nest}
 use Rattle.bytecode_verifier.specs.Loops.{open_loops, same_loops}
 use Rattle.bytecode_verifier.specs.Rules.{has_loop}
-use Rattle.bytecode_verifier.specs.Nests.{AreNests, nest_at, next_at, open_at, first_of, leads}
+use Rattle.bytecode_verifier.specs.Nests.{AreNests, nest_at, open_at, first_of, leads}
 use Rattle.bytecode_verifier.proofs.Closing.{same_test}
 use Rattle.bytecode_verifier.proofs.Open.{lt-not-le}
 use Rattle.bytecode_verifier.proofs.Around.{same_loops_is, depth_is, has_loop_is}

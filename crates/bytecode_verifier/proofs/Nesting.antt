@@ -1,16 +1,15 @@
 -- The open loops of an accepted program, from place to place: what the proofs of runs need.
-use Rattle.std.proofs.Common.{◌≡◌, ℕ, zero, suc, ◌+◌, ◌<◌, ◌≤◌, Bool, true, false, not, ◌&&◌, ◌||◌, ◌==◌, nat_le, List, [], ◌∷◌, ◌++◌, Option, Some, None, length, reverse, drop, slice_get, refl, sym, ap, subst, ◌∙◌, inl, inr, arith, leb-false, append_assoc, length-append, drop_of_length-le}
+use Rattle.std.proofs.Common.{◌≡◌, ℕ, zero, suc, ◌+◌, ◌<◌, ◌≤◌, Bool, true, false, not, ◌&&◌, ◌||◌, ◌==◌, nat_le, List, [], ◌∷◌, ◌++◌, Option, Some, None, length, reverse, drop, slice_get, refl, sym, ap, ◌∙◌, arith, leb-false, append_assoc, drop_of_length-le}
 use Rattle.std.proofs.lemmas.Bool.{eq-eqb, eqb-true}
 use Rattle.std.proofs.lemmas.List.{reverse-append, reverse-reverse}
 use Rattle.octets.specs.Limits.{max_loops}
 use Rattle.bytecode_format.specs.declared.instruction.Instruction.{Instruction}
-use Rattle.bytecode_format.specs.declared.operation.Operation.{Operation}
 use Rattle.bytecode_format.specs.declared.operation.Operation.TheVariants.{Each, Next}
 use Rattle.bytecode_format.specs.Operations.{operation_of}
 use Rattle.bytecode_format.specs.Code.{Code}
 use Rattle.bytecode_verifier.specs.Places.{holds_at}
 use Rattle.bytecode_verifier.specs.Loops.{Loop, opens, closes, open_loops, same_loops}
-use Rattle.bytecode_verifier.specs.Rules.{has_loop, misses_loop, is_halt}
+use Rattle.bytecode_verifier.specs.Rules.{has_loop, is_halt}
 use Rattle.bytecode_verifier.specs.Acceptance.{IsAccepted}
 use Rattle.bytecode_verifier.specs.Nests.{first_of, waiting_from, next_at, leads}
 use Rattle.bytecode_verifier.proofs.Closing.{Kind, is_each, is_next, is_neither, kind, drop_here}
@@ -184,10 +183,11 @@ module _ (code : Code) (is : IsAccepted code) where
     ends_here = at_its_next code.instructions place (reverse inner) loop (reverse outer) (to_inside place outer inner loop e)
 
     around_here : (open_loops code loop.each ≡ outer) × (open_loops code (suc loop.next) ≡ outer) × (open_loops code (suc loop.each) ≡ outer ++ loop ∷ [])
-    around_here =
-        (from_inside loop.each (reverse outer) stands_here.before ∙ reverse-reverse outer,
-          from_inside (suc loop.next) (reverse outer) ends_here.1 ∙ reverse-reverse outer,
-          from_inside (suc loop.each) (loop ∷ reverse outer) stands_here.first ∙ reverse_more loop (reverse outer) ∙ ap (λ ls. ls ++ loop ∷ []) (reverse-reverse outer))
+    around_here = (
+      from_inside loop.each (reverse outer) stands_here.before ∙ reverse-reverse outer,
+      from_inside (suc loop.next) (reverse outer) ends_here.1 ∙ reverse-reverse outer,
+      from_inside (suc loop.each) (loop ∷ reverse outer) stands_here.first ∙ reverse_more loop (reverse outer) ∙ ap (λ ls. ls ++ loop ∷ []) (reverse-reverse outer),
+    )
 
     its_next : (i : Instruction) × (slice_get code.instructions loop.next ≡ Some i) × (operation_of i.op ≡ Some Next)
     its_next = closes_at code.instructions loop.next loop (reverse outer) ends_here.0 refl
@@ -209,9 +209,10 @@ module _ (code : Code) (is : IsAccepted code) where
 
     body_here : (other : ℕ) → loop.each < other → other ≤ loop.next → (deeper : List Loop) × (open_loops code other ≡ outer ++ loop ∷ deeper)
     body_here other after until =
-        let there = body_open code.instructions loop (reverse outer) stands_here.first other after until in
-        (reverse there.0,
-          from_inside other (there.0 ++ loop ∷ reverse outer) there.1 ∙ turned there.0 (reverse outer) loop ∙ ap (λ ls. ls ++ loop ∷ reverse there.0) (reverse-reverse outer))
+        let there = body_open code.instructions loop (reverse outer) stands_here.first other after until in (
+          reverse there.0,
+          from_inside other (there.0 ++ loop ∷ reverse outer) there.1 ∙ turned there.0 (reverse outer) loop ∙ ap (λ ls. ls ++ loop ∷ reverse there.0) (reverse-reverse outer),
+        )
 
 pub nesting : (code : Code) → IsAccepted code → Nesting code
 nesting code is = record {

@@ -1,12 +1,11 @@
 -- The table of what is known of the loops at each place.
-use Rattle.std.proofs.Common.{◌≡◌, ℕ, zero, suc, ◌+◌, ◌<◌, ◌≤◌, Bool, true, false, cond, ◌==◌, List, [], ◌∷◌, ◌++◌, Option, Some, None, length, drop, get_or, slice_get, refl, sym, ap, ap₂, ◌∙◌, inl, inr, arith, add-one, length-append}
-use Rattle.std.proofs.lemmas.Bool.{cases_lt, cases_eq}
-use Rattle.std.proofs.lemmas.Option.{slice_get_within, slice_get-get_or}
+use Rattle.std.proofs.Common.{◌≡◌, ℕ, zero, suc, ◌+◌, ◌<◌, ◌≤◌, Bool, true, false, cond, ◌==◌, List, [], ◌∷◌, ◌++◌, Option, Some, None, length, drop, slice_get, refl, ap, ap₂, ◌∙◌, inl, inr, arith, add-one, length-append}
+use Rattle.std.proofs.lemmas.Bool.{cases_eq}
 use Rattle.bytecode_format.specs.declared.instruction.Instruction.{Instruction}
-use Rattle.bytecode_format.specs.Operations.{operation_of}
 use Rattle.bytecode_verifier.specs.declared.nest.Nest.{Nest}
-use Rattle.bytecode_verifier.specs.Nests.{first_of, without_first, next_over, nexts_from, next_at, open_over, open_at, nest_at, AreNests}
+use Rattle.bytecode_verifier.specs.Nests.{first_of, without_first, nexts_from, next_at, open_over, open_at, nest_at, AreNests}
 use Rattle.bytecode_verifier.proofs.Closing.{drop_here}
+use Rattle.bytecode_verifier.proofs.Open.{past_from}
 
 -- what is known of the places below one
 abbrev pub nests_below : List Instruction → ℕ → List Nest
@@ -23,15 +22,12 @@ open_over_few place zero (n ∷ before) few = go (n == place)
     go false = omega (arith, few)
 open_over_few place (suc next) before few = omega (arith, few)
 
-blank : Instruction
-blank = record { op = 0; a = 0; b = 0; c = 0 }
-
 -- the place of one loop is taken from those of all
 pub nexts_here : (xs : List Instruction) (place : ℕ) → place < length xs → nexts_from place (drop place xs) ≡ next_at xs place ∷ nexts_from (place + 1) (drop (place + 1) xs)
 nexts_here xs place lt = go (slice_get xs place) refl
   where
     go : (o : Option Instruction) → slice_get xs place ≡ o → nexts_from place (drop place xs) ≡ next_at xs place ∷ nexts_from (place + 1) (drop (place + 1) xs)
-    go None e = absurd (let some : None ≡ Some (get_or xs place blank) = sym e ∙ slice_get-get_or xs place blank lt in cc)
+    go None e = absurd (let past = past_from xs place e in omega arith)
     go (Some i) e = rw (drop_here xs place i e, e, add-one) refl
 
 length-nests : (xs : List Instruction) (place : ℕ) → length (nests_below xs place) ≡ place

@@ -1,17 +1,15 @@
 -- The loops that are open at a place, from place to place.
-use Rattle.std.proofs.Common.{◌≡◌, ℕ, zero, suc, ◌+◌, ◌<◌, ◌≤◌, ◌⊎◌, Bool, true, false, cond, ◌&&◌, ◌==◌, nat_lt, nat_le, List, [], ◌∷◌, ◌++◌, Option, Some, None, if◌then◌else◌, length, map, reverse, filter, filter_map, drop, get_or, slice_get, refl, sym, ap, ap₂, subst, ◌∙◌, inl, inr, arith, le-leb, leb-false, leb-true, append_assoc, append-nil, add-one, ◌-◌, drop_of_length-le}
+use Rattle.std.proofs.Common.{◌≡◌, ℕ, zero, suc, ◌+◌, ◌<◌, ◌≤◌, Bool, true, false, cond, ◌==◌, nat_le, List, [], ◌∷◌, ◌++◌, Option, Some, None, if◌then◌else◌, length, map, reverse, filter, filter_map, drop, get_or, slice_get, refl, sym, ap, subst, ◌∙◌, inl, inr, arith, le-leb, leb-false, leb-true, append_assoc, append-nil, add-one, drop_of_length-le}
 use Rattle.std.proofs.lemmas.Bool.{cases_lt, cases_eq, lt-ltb, le-ltb, eq-eqb, ne_eqb}
-use Rattle.std.proofs.lemmas.Option.{slice_get_within, slice_get_past, slice_get-get_or}
-use Rattle.std.proofs.lemmas.List.Elements.{filter-append, filter_map-append}
+use Rattle.std.proofs.lemmas.Option.{slice_get_past, slice_get-get_or}
+use Rattle.std.proofs.lemmas.List.Elements.{filter-append}
 use Rattle.std.proofs.lemmas.List.{reverse-append}
 use Rattle.std.specs.List.{cons_option, enumerate_from}
 use Rattle.std.specs.Option.{option_and_then, option_map}
 use Rattle.bytecode_format.specs.declared.instruction.Instruction.{Instruction}
-use Rattle.bytecode_format.specs.declared.operation.Operation.{Operation}
-use Rattle.bytecode_format.specs.declared.operation.Operation.TheVariants.{Each, Next}
 use Rattle.bytecode_format.specs.Operations.{operation_of}
 use Rattle.bytecode_format.specs.Code.{Code}
-use Rattle.bytecode_verifier.specs.Loops.{Loop, opens, closes, loop_from, loops, next_of, is_open, open_loops}
+use Rattle.bytecode_verifier.specs.Loops.{Loop, opens, loop_from, loops, next_of, is_open, open_loops}
 use Rattle.bytecode_verifier.specs.Nests.{first_of, without_first, waiting_over, waiting_from, next_over, next_at, open_over, open_at}
 use Rattle.bytecode_verifier.proofs.Closing.{Kind, is_each, is_next, is_neither, kind, nth, drop_here, next_of_each}
 
@@ -322,11 +320,6 @@ filter_reverse p (l ∷ ls) = ap (filter p) (reverse_more l ls) ∙ filter-appen
     go : (b : Bool) → p l ≡ b → reverse (filter p ls) ++ filter p (l ∷ []) ≡ reverse (filter p (l ∷ ls))
     go true e = rw e (sym (reverse_more l (filter p ls)))
     go false e = rw e (append-nil (reverse (filter p ls)))
-
-none_past : (xs : List Instruction) (place : ℕ) → length xs ≤ place → inside xs place ≡ []
-none_past xs place le =
-    let w = waits xs place in
-    none_inside (inside xs place) w.0 (sym (ap (waiting_from place) (drop_of_length-le xs le)) ∙ w.1)
 
 -- after the last place all that were opened are closed
 opened_end : (xs : List Instruction) (place : ℕ) → length xs ≤ place → opened_below xs place ≡ opened_below xs (length xs)

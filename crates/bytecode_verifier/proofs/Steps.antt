@@ -117,15 +117,15 @@ index_set (x ∷ xs) (suc j) k v = go k (index_set xs j)
         → (slice_index (x ∷ slice_set xs j v) k ≡ slice_index (x ∷ xs) k) ⊎ ((suc j ≡ k) × (slice_index (x ∷ slice_set xs j v) k ≡ v))
     go zero ih = inl refl
     go (suc k) ih = elim (ih k v) [
-        | inl same ↦ inl same
-        | inr new ↦ inr (ap suc new.0, new.1)
-      ]
+      | inl same ↦ inl same
+      | inr new ↦ inr (ap suc new.0, new.1)
+    ]
 
 sum_grows : (sums : List ℕ) (j k a low high : ℕ) → slice_index sums k ≤ low → slice_index sums j + a ≤ high → low ≤ high → slice_index (slice_set sums j (slice_index sums j + a)) k ≤ high
 sum_grows sums j k a low high before more le = elim (index_set sums j k (slice_index sums j + a)) [
-    | inl same ↦ omega (arith, same, before, le)
-    | inr new ↦ omega (arith, new.1, more)
-  ]
+  | inl same ↦ omega (arith, same, before, le)
+  | inr new ↦ omega (arith, new.1, more)
+]
 
 -- a number that is added to each of them is small enough
 pub fixed_grows : (sums new : Sums) (depth place k : ℕ) (cap : Cap) → new ≡ with_charge depth cap sums → ((j : ℕ) → slice_index sums.fixed j ≤ place * max_cap) → cap.fixed ≤ max_cap → slice_index new.fixed k ≤ (place + 1) * max_cap

@@ -91,6 +91,14 @@ const JUMP: Row = Row {
     ..PLAIN
 };
 
+/// A size compared with a number.
+const SIZE: Row = Row {
+    a: Range::Below(2),
+    c: Range::Any,
+    index: Some(Table::Numbers),
+    ..PLAIN
+};
+
 /// An operation on the current part that names no field.
 const PART: Row = Row {
     needs_part: true,
@@ -136,12 +144,7 @@ pub fn row_of(_version: u8, operation: Operation) -> Option<Row>
             ..PLAIN
         }),
         Operation::Jump | Operation::JumpIfTrue | Operation::JumpIfFalse => Some(JUMP),
-        Operation::Size => Some(Row {
-            a: Range::Below(2),
-            c: Range::Any,
-            index: Some(Table::Numbers),
-            ..PLAIN
-        }),
+        Operation::Size => Some(SIZE),
         Operation::Header => Some(Row {
             a: Range::Selection,
             b: LIST,
@@ -160,10 +163,8 @@ pub fn row_of(_version: u8, operation: Operation) -> Option<Row>
             ..PLAIN
         }),
         Operation::PartSize => Some(Row {
-            a: Range::Below(2),
-            c: Range::Any,
-            index: Some(Table::Numbers),
-            ..PART
+            needs_part: true,
+            ..SIZE
         }),
         Operation::PartBody => Some(Row {
             a: Range::Match,

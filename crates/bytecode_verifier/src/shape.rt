@@ -109,7 +109,9 @@ impl Shape {
             Some(Operation::PartBody) => return self.take_body_keys(c),
             Some(Operation::PartDigest) => return self.take_digest_keys(c),
             Some(Operation::Join) => return self.join(b),
-            Some(Operation::Set | Operation::File | Operation::Store) => return Ok(self.take_text()),
+            Some(Operation::Set | Operation::File | Operation::Store) => return Ok(
+                self.take_text(),
+            ),
             Some(
                 Operation::Halt
                 | Operation::Jump
@@ -119,7 +121,9 @@ impl Shape {
             ) => self.is_empty(),
             Some(Operation::Literal) => self.push_string(program, c)?,
             Some(Operation::Variable | Operation::Capture) => self.push(Entry::Text(MAX_VALUE))?,
-            Some(Operation::Bool | Operation::Size | Operation::PartSize) => self.push(Entry::Truth)?,
+            Some(Operation::Bool | Operation::Size | Operation::PartSize) => self.push(
+                Entry::Truth,
+            )?,
             Some(Operation::Not) => self.has_truth(),
             Some(Operation::JumpIfTrue | Operation::JumpIfFalse) => self.take_truth(),
             Some(Operation::Keep | Operation::Discard) => true,
@@ -214,12 +218,7 @@ impl Shape {
 
     // Takes the names of fields, the parameters above them and the keys above these, and pushes
     // whether one matches.
-    fn take_fields(
-        &mut self,
-        names: u16,
-        params: u32,
-        keys: u32,
-    ) -> Result<Option<Cap>, AllocError>
+    fn take_fields(&mut self, names: u16, params: u32, keys: u32) -> Result<Option<Cap>, AllocError>
         requires { IsSmall self.old }
         ensures { IfOk result (λ cap. Passes cap self.new (option_map_or cap_of_matching (take_lists names params keys self.old) one_charge) (option_and_then (λ (lists : Lists). with_entry Entry.Truth lists.rest) (take_lists names params keys self.old))) }
     {

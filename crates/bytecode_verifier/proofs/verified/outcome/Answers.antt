@@ -1,5 +1,4 @@
-use Rattle.std.proofs.Common.{None, refl, sym, ap, ◌∙◌}
-use Rattle.std.specs.Option.{option_or, option_map}
+use Rattle.std.proofs.Common.{refl, sym, ◌∙◌}
 use Rattle.bytecode_verifier.proofs.Ends.{refusal_found}
 use Rattle.bytecode_verifier.proofs.Accepted.{accepted_from_none}
 use Rattle.bytecode_verifier.proofs.verified.outcome.Goals as goal
