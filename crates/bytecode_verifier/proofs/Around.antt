@@ -10,6 +10,7 @@ use Rattle.bytecode_format.specs.Code.{Code}
 use Rattle.bytecode_verifier.specs.Loops.{Loop, loops, is_open, open_loops, same_loops}
 use Rattle.bytecode_verifier.specs.Rules.{has_loop}
 use Rattle.bytecode_verifier.specs.Nests.{first_of, next_at, open_at, leads}
+use Rattle.bytecode_verifier.proofs.Tests.{or_false, or_true}
 use Rattle.bytecode_verifier.proofs.Open.{From, loop_at, loop_to, loop_at_next, inside, nexts, open_inside, Step, pushed, popped, stayed, step_at, opened_below, loops_are, open_loops_are, reverse_more}
 
 -- a loop that is open at a place, inside of the outer ones
@@ -248,16 +249,8 @@ any_reverse p [] = refl
 any_reverse p (l ∷ ls) = ap (list_any p) (reverse_more l ls) ∙ list_any-append p (reverse ls) (l ∷ []) ∙ go (p l) refl (any_reverse p ls)
   where
     go : (b : Bool) → p l ≡ b → list_any p (reverse ls) ≡ list_any p ls → (list_any p (reverse ls) || list_any p (l ∷ [])) ≡ list_any p (l ∷ ls)
-    go true e ih = rw e (all (list_any p (reverse ls)))
-      where
-        all : (b : Bool) → (b || true) ≡ true
-        all true = refl
-        all false = refl
-    go false e ih = rw (e, ih) (same (list_any p ls))
-      where
-        same : (b : Bool) → (b || false) ≡ b
-        same true = refl
-        same false = refl
+    go true e ih = rw e (or_true (list_any p (reverse ls)))
+    go false e ih = rw (e, ih) (or_false (list_any p ls))
 
 pub has_loop_is : (code : Code) (each next : ℕ) → has_loop code each next ≡ leads (next_at code.instructions each) next
 has_loop_is code each next =

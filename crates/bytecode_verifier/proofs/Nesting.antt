@@ -1,5 +1,5 @@
 -- The open loops of an accepted program, from place to place: what the proofs of runs need.
-use Rattle.std.proofs.Common.{◌≡◌, ℕ, zero, suc, ◌+◌, ◌<◌, ◌≤◌, Bool, true, false, not, ◌&&◌, ◌||◌, ◌==◌, nat_le, List, [], ◌∷◌, ◌++◌, Option, Some, None, length, reverse, drop, slice_get, refl, sym, ap, ◌∙◌, arith, leb-false, append_assoc, drop_of_length-le}
+use Rattle.std.proofs.Common.{◌≡◌, ℕ, zero, suc, ◌+◌, ◌<◌, ◌≤◌, Bool, true, false, not, ◌&&◌, ◌==◌, nat_le, List, [], ◌∷◌, ◌++◌, Option, Some, None, length, reverse, drop, slice_get, refl, sym, ap, ◌∙◌, arith, leb-false, append_assoc, drop_of_length-le}
 use Rattle.std.proofs.lemmas.Bool.{eq-eqb, eqb-true}
 use Rattle.std.proofs.lemmas.List.{reverse-append, reverse-reverse}
 use Rattle.octets.specs.Limits.{max_loops}
@@ -15,7 +15,7 @@ use Rattle.bytecode_verifier.specs.Nests.{first_of, waiting_from, next_at, leads
 use Rattle.bytecode_verifier.proofs.Closing.{Kind, is_each, is_next, is_neither, kind, drop_here}
 use Rattle.bytecode_verifier.proofs.Open.{From, waiting_later, from_rest, loop_at, loop_to, loop_at_next, inside, nexts, waits, Step, pushed, popped, stayed, step_at, past_from, reverse_more, open_loops_are}
 use Rattle.bytecode_verifier.proofs.Around.{Stands, stands, same_loop, open_equal, has_loop_is, body_open, at_its_next, length_reverse}
-use Rattle.bytecode_verifier.proofs.Consequences.{not_last}
+use Rattle.bytecode_verifier.proofs.Consequences.{or_parts, not_false, not_last}
 
 -- How the open loops of a program whose brackets are right go on from place to place; outermost first.
 pub record Nesting (code : Code) : Type 0 where
@@ -90,14 +90,6 @@ closes_at xs place loop outer e next = go (slice_get xs place) refl
 same_instruction : (i j : Instruction) → Some i ≡ Some j → i ≡ j
 same_instruction i j e = cc
 
-or_false_parts : (a b : Bool) → (a || b) ≡ false → (a ≡ false) × (b ≡ false)
-or_false_parts false b h = (refl, h)
-or_false_parts true b h = absurd cc
-
-from_not : (b : Bool) → not b ≡ false → b ≡ true
-from_not true h = refl
-from_not false h = absurd cc
-
 -- a loop that is opened leads to its Next
 led : (found next : ℕ) → leads found next ≡ true → (place : ℕ) → loop_to place found ≡ Some (let l : Loop = record { each = place; next = next } in l)
 led zero next h place = absurd (let wrong : false ≡ true = h in cc)
@@ -128,11 +120,11 @@ module _ (code : Code) (is : IsAccepted code) where
   module _ (place : ℕ) (i : Instruction) (here : slice_get code.instructions place ≡ Some i) where
     each_parts : operation_of i.op ≡ Some Each → (has_loop code place i.c ≡ true) × (nat_le max_loops (length (open_loops code place)) ≡ false)
     each_parts each =
-        let parts = or_false_parts (not (has_loop code place i.c)) (nat_le max_loops (length (open_loops code place))) (rw (here, each) at (is.loop place)) in
-        (from_not _ parts.0, parts.1)
+        let parts = or_parts (not (has_loop code place i.c)) (nat_le max_loops (length (open_loops code place))) (rw (here, each) at (is.loop place)) in
+        (not_false _ parts.0, parts.1)
 
     next_part : operation_of i.op ≡ Some Next → has_loop code i.c place ≡ true
-    next_part next = from_not _ (rw (here, next) at (is.loop place))
+    next_part next = not_false _ (rw (here, next) at (is.loop place))
 
     each_opens : operation_of i.op ≡ Some Each → loop_at code.instructions place ≡ Some (let l : Loop = record { each = place; next = i.c } in l)
     each_opens each = loop_at_next code.instructions place ∙ led (next_at code.instructions place) i.c (sym (has_loop_is code place i.c) ∙ (each_parts each).0) place

@@ -37,7 +37,7 @@ pub fn nests_of(alloc: Global, instructions: &[Instruction]) -> Result<Vec<Nest>
 {
     let mut nexts = nexts_of(alloc, instructions)?;
     let mut inside = Places::new(alloc);
-    let mut nests = Vec::new(alloc);
+    let mut nests = Vec::with_capacity(alloc, instructions.len())?;
     for place in 0..instructions.len() {
         let next = nexts.pop();
         nests.push(Nest {

@@ -20,7 +20,7 @@ const SCOPES: u32 = 3;
 const SELECTORS: u32 = 5;
 
 /// The selector of parameters.
-const PARAMS: u8 = 4;
+const PARAMS: u32 = 4;
 
 /// What a parameter counts in the number of keys and parameters.
 const PARAMS_UNIT: u32 = 65_536;
@@ -213,7 +213,28 @@ fn is_match_number(value: u32) -> bool
 fn is_selection(value: u32) -> bool
     ensures { result ≡ Rows.is_selection value }
 {
-    is_match_number(value % 8) && value / 8 % 4 < SCOPES && value / 32 < SELECTORS
+    is_match_number(match_in(value)) && scope_in(value) < SCOPES && selector_in(value) < SELECTORS
+}
+
+// How values are matched, of what a says of a test of fields.
+fn match_in(a: u32) -> u32
+    ensures { result ≡ Rows.match_in a }
+{
+    a % 8
+}
+
+// In which scope.
+fn scope_in(a: u32) -> u32
+    ensures { result ≡ Rows.scope_in a }
+{
+    a / 8 % 4
+}
+
+// By which selector.
+fn selector_in(a: u32) -> u32
+    ensures { result ≡ Rows.selector_in a }
+{
+    a / 32
 }
 
 // Whether there are keys, and parameters exactly where `a` has their selector.
@@ -221,7 +242,7 @@ fn are_counts(a: u8, value: u32) -> bool
     ensures { result ≡ Rows.are_counts a value }
 {
     let params = params_in(value);
-    let fine = if a / 32 == PARAMS {
+    let fine = if selector_in(u32::from(a)) == PARAMS {
         is_list(params)
     } else {
         params == 0

@@ -59,7 +59,7 @@ impl Verified {
 /// The rules come in the order of [`Refusal`], each with the least place where it is broken; places
 /// count instructions from 0.
 /// [`Refusal::Memory`] comes only where memory was refused. The time is linear in the number of
-/// instructions, wherever the jumps lead.
+/// instructions, wherever the jumps lead and however the loops lie.
 pub fn verify(alloc: Global, program: Program) -> Result<Verified, (Program, Refusal)>
     ensures value { IfOk result (λ verified. verified ≡ program) }
     ensures accepted { IfOk result (λ _. IsAccepted program) }
