@@ -341,7 +341,7 @@ plain_parts false true c e = absurd cc
 plain_parts false false true e = absurd cc
 
 module _ (code : Code) (mail : Mail) (is : IsAccepted code) (known : IsMail mail) where
-  abbrev nested : Nesting code
+  abbrev pub nested : Nesting code
   nested = nesting code is
 
   module _ (s : State) (i : Instruction) (here : slice_get code.instructions s.place ≡ Some i) (from : IsReached code mail s) where
@@ -599,7 +599,7 @@ module _ (code : Code) (mail : Mail) (is : IsAccepted code) (known : IsMail mail
 
     -- ---- the operations on the current part
 
-    has_part : (o : Operation) → operation_of i.op ≡ Some o → needs_part (row_of code.version o) ≡ true → HasPart mail s
+    pub has_part : (o : Operation) → operation_of i.op ≡ Some o → needs_part (row_of code.version o) ≡ true → HasPart mail s
     has_part o e needs = go s.frames refl from.opened
       where
         some : (length (open_loops code s.place) == 0) ≡ false
