@@ -1,5 +1,12 @@
 -- What the runs of an accepted program come to.
-use Rattle.std.proofs.Common.{◌≡◌, ◌≢◌, ℕ, zero, suc, ◌+◌, ◌<◌, ◌≤◌, All, refl, sym, subst, ◌∙◌, arith}
+use Rattle.std.proofs.Common.{◌≡◌, ◌≢◌, ℕ, zero, suc, ◌+◌, ◌<◌, ◌≤◌, Bool, true, false, not, ◌&&◌, cond, List, [], ◌∷◌, ◌++◌, filter, All, refl, sym, subst, ◌∙◌, arith}
+use Rattle.std.proofs.lemmas.List.Elements.{All-cons, All-filter, All-push}
+use Rattle.octets.specs.Once.{each_once}
+use Rattle.bytecode_format.specs.Action.{is_same}
+use Rattle.bytecode_format.specs.Actions.{first_occurrences, is_listed}
+use Rattle.bytecode_format.specs.declared.action.Action.{Action}
+use Rattle.bytecode_format.specs.declared.action.Action.TheVariants.{Keep}
+use Rattle.sieve_vm.specs.Ending.{IsOutcome}
 use Rattle.bytecode_format.specs.Code.{Code}
 use Rattle.bytecode_verifier.specs.Acceptance.{IsAccepted}
 use Rattle.mime_decode.specs.Mail.{Mail, IsMail}
@@ -12,6 +19,12 @@ use Rattle.sieve_vm.proofs.Stub.{nesting}
 use Rattle.sieve_vm.proofs.Opened.{open-length, inside}
 use Rattle.sieve_vm.proofs.Reached.{IsReached, IsSound, Costs, EndsWell, step_is_sound, start_is_reached, runs_are_reached}
 use Rattle.sieve_vm.proofs.Falls.{potential-here, potential-start}
+
+-- what holds of all elements holds of those that are left where each stays once
+All-once : {A : Type 0} (same : A → A → Bool) (P : A → Type 0) (xs : List A) → All P xs → All P (each_once same xs)
+All-once same P [] all = all
+All-once same P (x ∷ xs) all =
+    All-cons P x (filter (λ y. not (same x y)) (each_once same xs)) (all 0 x (omega arith)) (All-filter (λ y. not (same x y)) P (each_once same xs) (All-once same P xs (λ k d lt. all (suc k) d (omega (arith, lt)))))
 
 -- a run with one more step
 pub Run-push : (code : Code) (mail : Mail) (n : ℕ) (from to next : State) → Run code mail n from to → step code mail to ≡ goes next → Run code mail (suc n) from next
@@ -95,8 +108,19 @@ module _ (code : Code) (mail : Mail) (is : IsAccepted code) (known : IsMail mail
   pub stored : (n : ℕ) (s : State) → Run code mail n (start code) s → All (NamesPart mail) s.actions
   stored n s run = (reached n s run).stores
 
-  pub stored_at_end : (end : State) → RunEnds code mail end → All (NamesPart mail) end.actions
+  stored_at_end : (end : State) → RunEnds code mail end → All (NamesPart mail) end.actions
   stored_at_end end over = (sound over.last (ends end) (reached over.steps over.last over.run) over.halts).1
+
+  -- and so do its final actions
+  pub outcome_stores : (actions : List Action) (charged : ℕ) → IsOutcome code mail actions charged → All (NamesPart mail) actions
+  outcome_stores actions charged outcome =
+      let end = outcome.end in
+      let first : All (NamesPart mail) (first_occurrences end.actions) = All-once is_same (NamesPart mail) end.actions (stored_at_end end outcome.over) in
+      subst (All (NamesPart mail)) (sym outcome.actions_are) (kept (end.implicit_keep && not (is_listed Keep (first_occurrences end.actions))) first)
+    where
+      kept : (b : Bool) → All (NamesPart mail) (first_occurrences outcome.end.actions) → All (NamesPart mail) (cond b (first_occurrences outcome.end.actions ++ Keep ∷ []) (first_occurrences outcome.end.actions))
+      kept true all = All-push (NamesPart mail) (first_occurrences outcome.end.actions) Keep all tt
+      kept false all = all
 
 -- a state has one step, so a run has one end
 pub one_end_from : (code : Code) (mail : Mail) (n m : ℕ) (from s t e f : State) → Run code mail n from s → step code mail s ≡ ends e → Run code mail m from t → step code mail t ≡ ends f → e ≡ f

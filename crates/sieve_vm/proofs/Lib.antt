@@ -11,3 +11,4 @@ pub mod Holding
 pub mod Visiting
 pub mod Tests
 pub mod Examples
+pub mod LoopExamples
