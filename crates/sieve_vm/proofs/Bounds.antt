@@ -15,7 +15,7 @@ use Rattle.sieve_vm.specs.Machine.{step}
 use Rattle.sieve_vm.specs.Runs.{Run, RunEnds}
 use Rattle.sieve_vm.specs.Potential.{potential, limit_of}
 use Rattle.sieve_vm.specs.Stores.{NamesPart}
-use Rattle.sieve_vm.proofs.Stub.{nesting}
+use Rattle.bytecode_verifier.proofs.Nesting.{nesting}
 use Rattle.sieve_vm.proofs.Opened.{open-length, inside}
 use Rattle.sieve_vm.proofs.Reached.{IsReached, IsSound, Costs, EndsWell, step_is_sound, start_is_reached, runs_are_reached}
 use Rattle.sieve_vm.proofs.Falls.{potential-here, potential-start}

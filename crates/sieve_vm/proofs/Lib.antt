@@ -1,4 +1,3 @@
-pub mod Stub
 pub mod Taking
 pub mod Pushed
 pub mod Charges

@@ -21,7 +21,7 @@ use Rattle.bytecode_verifier.specs.Loops.{Loop, opens, closes, open_loops}
 use Rattle.bytecode_verifier.specs.Rules.{row_in, misses_index, misses_loop, is_halt}
 use Rattle.bytecode_verifier.specs.Acceptance.{IsAccepted}
 use Rattle.bytecode_verifier.proofs.Tests.{same_place}
-use Rattle.bytecode_verifier.proofs.Consequences.{left_by, well_formed, number_known, string_known, variable_known, set_known, modifiers_known, not_last, jump_forward, jump_within, jump_same_loops, jump_target, shape_known, shape_next, target_empty}
+use Rattle.bytecode_verifier.proofs.Consequences.{left_by, well_formed, number_known, part_number_known, break_known, string_known, variable_known, set_known, modifiers_known, not_last, jump_forward, jump_within, jump_same_loops, jump_target, shape_known, shape_next, target_empty}
 use Rattle.bytecode_verifier.proofs.Nesting.{Nesting}
 use Rattle.bytecode_format.specs.declared.action.Action.TheVariants as action
 use Rattle.mime_decode.specs.Content.{digest_of}
@@ -46,7 +46,7 @@ use Rattle.bytecode_format.specs.Modifiers.{modified, modifiers_numbered}
 use Rattle.sieve_vm.specs.MatchNumbers.{match_numbered, scope_numbered, selector_numbered}
 use Rattle.mail_matching.specs.PartTests.{exactly}
 use Rattle.mail_matching.specs.HeaderTests.{exists_in}
-use Rattle.sieve_vm.proofs.Stub.{nesting}
+use Rattle.bytecode_verifier.proofs.Nesting.{nesting}
 use Rattle.sieve_vm.proofs.Charges.{charge_fits}
 use Rattle.sieve_vm.proofs.Falls.{depth_at, cap_there, end_of, potential-forward, potential-enter, potential-again, potential-leave, potential-break}
 use Rattle.sieve_vm.proofs.Opened.{loop_of, IsPart, AreOpen, open-length, last_of_both, is_among, some_left, close-is, AreVisited, are_visited, inside}
@@ -129,8 +129,7 @@ Leads code mail from fails = ⊥
 sound_turn : (code : Code) (mail : Mail) (from : State) (cost : ℕ) (e : Effect) → Leads code mail from e → 1 ≤ cost → cost ≤ cap_there code mail from.place → IsSound code mail from (turn cost e)
 sound_turn code mail from cost (on to) leads some most =
     let charge = leads.1.charge_is in
-    let next : suc to.place ≡ suc from.place = ap suc leads.0 in
-    (
+    let next : suc to.place ≡ suc from.place = ap suc leads.0 in (
       subst (λ p. IsReached code mail (record to { place = p; charge = to.charge + cost })) (sym next) (leads.1.reached (to.charge + cost)),
       record { dearer = omega arith; within = omega arith },
       subst (λ p. Falls code mail from p to.frames) (sym next) leads.1.falls,
@@ -214,10 +213,6 @@ pub record HasPart (mail : Mail) (state : State) : Type 0 where
 second_false : (a b : Bool) → a ≡ true → (a && b) ≡ false → b ≡ false
 second_false true b t h = h
 second_false false b t h = absurd cc
-
-first_of_three : (a b c : Bool) → (a && b && c) ≡ true → a ≡ true
-first_of_three true b c h = refl
-first_of_three false b c h = absurd cc
 
 first_of_two : (a b : Bool) → (a && b) ≡ true → a ≡ true
 first_of_two true b h = refl
@@ -316,20 +311,6 @@ module _ (code : Code) (is : IsAccepted code) where
       let at = held_at code place (λ i. closes (operation_of i.op) && test i) h in
       shape_after place at.0 Next at.1 (closes_next (operation_of at.0.op) (first_of_two _ _ at.2)) (λ es. refl)
 
-  -- a Break is of loops that are open
-  pub break_known : (place : ℕ) (i : Instruction) → slice_get code.instructions place ≡ Some i → operation_of i.op ≡ Some Break → (1 ≤ i.a) × (i.a ≤ length (open_loops code place))
-  break_known place i here e =
-      let formed : is_well_formed (row_of code.version Break) i ≡ true = ap (λ o. is_well_formed (option_and_then (row_of code.version) o) i) (sym e) ∙ well_formed code is place i here in
-      let broken : misses_loop code place (operation_of i.op) i ≡ false = rw here at (is.loop place) in
-      let few : nat_lt (length (open_loops code place)) i.a ≡ false = ap (λ o. misses_loop code place o i) (sym e) ∙ broken in
-      (leb-true 1 i.a (first_of_two _ _ (first_of_three _ _ _ formed)), ltb-false (length (open_loops code place)) i.a few)
-
-  -- the index is below the count of numbers
-  pub part_number_known : (place : ℕ) (i : Instruction) → slice_get code.instructions place ≡ Some i → operation_of i.op ≡ Some PartSize → i.c < length code.numbers
-  part_number_known place i here e =
-      let broken : misses_index code (row_in code i) i ≡ false = rw here at (is.index place) in
-      leb-false (length code.numbers) i.c (ap (λ o. misses_index code (option_and_then (row_of code.version) o) i) (sym e) ∙ broken)
-
 -- an operation that goes on in the same loops
 abbrev is_plain : Option Operation → Bool
 is_plain o = not (is_halt o) && not (opens o) && not (closes o)
@@ -369,8 +350,7 @@ module _ (code : Code) (mail : Mail) (is : IsAccepted code) (known : IsMail mail
     leads_on to after plain shape describes place charge frames texts stores =
         let n = shape_next code is s.place i entries here at in
         let same : n.0 ≡ after = (let e : Some n.0 ≡ Some after = sym n.1 ∙ shape in cc) in
-        let p : (is_halt (operation_of i.op) ≡ false) × (opens (operation_of i.op) ≡ false) × (closes (operation_of i.op) ≡ false) = plain_parts _ _ _ plain in
-        (
+        let p : (is_halt (operation_of i.op) ≡ false) × (opens (operation_of i.op) ≡ false) × (closes (operation_of i.op) ≡ false) = plain_parts _ _ _ plain in (
           place,
           record {
             charge_is = charge;

@@ -20,9 +20,10 @@ use Rattle.bytecode_verifier.specs.Rows.{row_of, is_well_formed, is_jump, needs_
 use Rattle.bytecode_verifier.specs.Rules.{row_in}
 use Rattle.bytecode_verifier.specs.Shape.{Entries, Texts, take_texts, with_entry, without_truth}
 use Rattle.bytecode_verifier.specs.Acceptance.{IsAccepted}
-use Rattle.bytecode_verifier.proofs.Consequences.{left_by, well_formed, number_known, string_known, variable_known, set_known, modifiers_known}
+use Rattle.bytecode_verifier.proofs.Consequences.{left_by, well_formed, break_known, part_number_known, number_known, string_known, variable_known, set_known, modifiers_known}
 use Rattle.bytecode_format.specs.Spelling.{IsProgram}
-use Rattle.sieve_vm.proofs.Stub.{budget_small, shape_small}
+use Rattle.bytecode_verifier.proofs.Budgets.{budget_small}
+use Rattle.bytecode_verifier.proofs.Short.{shape_small}
 use Rattle.mime_decode.specs.Scope.{visited}
 use Rattle.mail_matching.specs.HeaderTests.{exists_in}
 use Rattle.mail_matching.specs.PartTests.{exactly, body_cost, body_match, digest_cost, digest_match}
@@ -47,7 +48,7 @@ use Rattle.bytecode_format.specs.Modifiers.{modified, modifiers_numbered}
 use Rattle.sieve_vm.specs.Ending.{IsOutcome}
 use Rattle.sieve_vm.proofs.Taking.{Describes, AreShortTexts, short_texts, names_there, parts_there, lists_there, folder_there}
 use Rattle.sieve_vm.proofs.Pushed.{texts_are, lists_are}
-use Rattle.sieve_vm.proofs.Reached.{IsReached, IsSound, Costs, Leads, leads, step_is_sound, TopTruth, top_truth, has_truth-some, without_truth-some, length-described, after_of, sound_jump, nested, HasPart, has_part, break_known, part_number_known}
+use Rattle.sieve_vm.proofs.Reached.{IsReached, IsSound, Costs, Leads, leads, step_is_sound, TopTruth, top_truth, has_truth-some, without_truth-some, length-described, after_of, sound_jump, nested, HasPart, has_part}
 use Rattle.sieve_vm.proofs.Opened.{loop_of, AreOpen, open-length, open-current, is_among, some_left, close-is}
 use Rattle.sieve_vm.specs.Potential.{limit_of}
 use Rattle.sieve_vm.proofs.Bounds.{reached, spent, ends_within, Run-push}

@@ -15,7 +15,12 @@ pub fn known<T: Copy>(list: &[Option<T>], part: usize) -> Option<T>
 }
 
 /// Keeps what was found of one of so many parts.
-pub fn keep<T: Copy + Drop>(list: &mut Vec<Option<T>>, parts: usize, part: usize, found: T) -> Result<(), AllocError>
+pub fn keep<T: Copy + Drop>(
+    list: &mut Vec<Option<T>>,
+    parts: usize,
+    part: usize,
+    found: T,
+) -> Result<(), AllocError>
     requires { part < parts }
     ensures kept { OnOk result ((other : ℕ) → slice_index_or list.new.items other None ≡ (if other == part then Some found else slice_index_or list.old.items other None)) }
     ensures refused { OnErr result ((other : ℕ) → slice_index_or list.new.items other None ≡ slice_index_or list.old.items other None) }

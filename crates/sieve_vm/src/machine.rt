@@ -273,7 +273,11 @@ impl<'p, 's, 'm> Machine<'p, 's, 'm> {
     }
 
     // Takes names, and pushes whether the parts in scope have a field of each.
-    fn exists(&mut self, message: &Message<'m>, instruction: &Instruction) -> Result<Done, AllocError>
+    fn exists(
+        &mut self,
+        message: &Message<'m>,
+        instruction: &Instruction,
+    ) -> Result<Done, AllocError>
         requires current { IfSome (current_part self.old.loops.frames) (λ part. part < length message.now.parts) }
         requires top { (mail : Mail) × ((s : State) × ((top : OnTop) × (StandsFor mail s self.old × (texts_on_top instruction.now.b s.stack ≡ Some top) × AreTexts top.texts))) }
         ensures { IfOk result (λ done. (s : State) (top : OnTop) → StandsFor message.now s self.old → texts_on_top instruction.now.b s.stack ≡ Some top
@@ -315,7 +319,14 @@ impl<'p, 's, 'm> Machine<'p, 's, 'm> {
         let counts = header_counts(instruction);
         let test = header_test(instruction.a, self.loops.current());
         let lists = self.work.lists(counts);
-        let answer = header(alloc, message, test, &lists.names, &lists.params, &lists.keys)?;
+        let answer = header(
+            alloc,
+            message,
+            test,
+            &lists.names,
+            &lists.params,
+            &lists.keys,
+        )?;
         self.work.drop_lists(counts);
         self.settle(alloc, answer)
     }
@@ -332,13 +343,23 @@ impl<'p, 's, 'm> Machine<'p, 's, 'm> {
     {
         let counts = string_counts(instruction);
         let lists = self.work.lists(counts);
-        let answer = string(alloc, &lists.names, &lists.keys, match_numbered(instruction.a))?;
+        let answer = string(
+            alloc,
+            &lists.names,
+            &lists.keys,
+            match_numbered(instruction.a),
+        )?;
         self.work.drop_lists(counts);
         self.settle(alloc, answer)
     }
 
     // Pushes whether the current part's content is over or under the number.
-    fn part_size(&mut self, alloc: Global, instruction: &Instruction, number: u64) -> Result<Done, AllocError>
+    fn part_size(
+        &mut self,
+        alloc: Global,
+        instruction: &Instruction,
+        number: u64,
+    ) -> Result<Done, AllocError>
         requires { IsSome (part_in self.old.loops) }
         ensures { IfOk result (λ done. (mail : Mail) (s : State) (part : Part) → StandsFor mail s self.old → part_in self.old.loops ≡ Some part
             → (done ≡ once Flow.On) × StandsFor mail (record s { stack = truth (compares instruction.now number (length part.content)) ∷ s.stack }) self.new) }

@@ -1,5 +1,5 @@
 use Rattle.sieve_vm.proofs.Bounds.{falls_along, falls_at_end}
-use Rattle.sieve_vm.proofs.Stub.{nesting}
+use Rattle.bytecode_verifier.proofs.Nesting.{nesting}
 use Rattle.sieve_vm.proofs.Falls.{potential-start}
 use Rattle.sieve_vm.proofs.laws.potential_falls_by_each_charge.Goals as goal
 

@@ -12,8 +12,7 @@ returns c = λ frame frames e.
     let frames_are = ap (λ (v : Visits). v.frames) c.self.view_is in
     let there : c.args.number ≤ length items = omega (arith, c.requires.there, ap length frames_are, length-map (reverse items) frame_of, length-reverse items) in
     let is = closes items c.args.number frame frames c.requires.some there (ap (drop (c.args.number - 1)) frames_are ∙ e) in
-    let place : c.len.result - c.args.number ≡ length items - c.args.number = ap (λ n. n - c.args.number) c.len.ensures.value in
-    (
+    let place : c.len.result - c.args.number ≡ length items - c.args.number = ap (λ n. n - c.args.number) c.len.ensures.value in (
       ap (λ (xs : List code.Frame). (get_or xs (c.len.result - c.args.number) c.index-deref-left.result).next) c.deref.ensures.0 ∙ ap (λ n. (get_or items n c.index-deref-left.result).next) place ∙ ap (λ (f : Frame). f.next) (is.last c.index-deref-left.result),
-      λ i. let v : Visits = record { mail = (c.self.view_is i).mail; frames = (ap frames_of c.truncate.ensures.items ∙ ap (λ n. frames_of (take n items)) place ∙ is.left) i } in v
+      λ i. let v : Visits = record { mail = (c.self.view_is i).mail; frames = (ap frames_of c.truncate.ensures.items ∙ ap (λ n. frames_of (take n items)) place ∙ is.left) i } in v,
     )

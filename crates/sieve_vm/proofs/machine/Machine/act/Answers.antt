@@ -174,4 +174,3 @@ close-requires-clause-some c = break_some c.args.program.now c.args.message.now 
 
 pub close-requires-clause-there : goal.close-requires-clause-there
 close-requires-clause-there c = break_there c.args.program.now c.args.message.now c.requires.accepted c.requires.mail c.args.self.now c.requires.running.0 c.requires.running.1 c.args.instruction.now c.requires.here c.requires.program (c.requires.named ∙ ap (λ o. Some o) c.in-Break.is)
-

@@ -11,8 +11,7 @@ returns c =
     IfOk-weaker c.push.result _ _
     (λ done h mail s part stands e.
     let i = c.args.instruction.now in
-    let told : c.compares.result ≡ compares i c.args.number (length part.content) = c.compares.ensures ∙ ap (compares i c.args.number) (c.in_ok-length.ensures.length part e) in
-    (
+    let told : c.compares.result ≡ compares i c.args.number (length part.content) = c.compares.ensures ∙ ap (compares i c.args.number) (c.in_ok-length.ensures.length part e) in (
       h.0,
       subst (λ (b : Bool). StandsFor mail (record s { stack = truth b ∷ s.stack }) c.push.new.self) told (h.1 mail s (same_loops mail s c.args.self.now stands c.length.new.self c.in_ok-length.ensures.same)),
     ))

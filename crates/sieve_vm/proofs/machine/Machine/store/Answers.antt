@@ -12,8 +12,7 @@ returns c = λ mail s t rest part stands top at.
     let took = c.in_ok-folder.ensures t rest (stack_is mail s m stands ∙ top) in
     let left = holds_now mail s m stands c.take_text.new.self (λ (h : Held). record h { stack = rest }) took.1 in
     let is : Some c.unwrap-part.result ≡ Some part = sym c.unwrap-part.ensures ∙ c.current.ensures ∙ ap current_part stands.frames ∙ at in
-    let same : c.unwrap-part.result ≡ part = cc in
-    (
+    let same : c.unwrap-part.result ≡ part = cc in (
       ap charged_at (c.len-cost.ensures ∙ ap length took.0),
       subst (λ folder. StandsFor mail (record s { stack = rest; actions = s.actions ++ action.Store folder part ∷ [] }) c.list.new.self) took.0
           (subst (λ number. StandsFor mail (record s { stack = rest; actions = s.actions ++ action.Store c.in_ok-folder.folder number ∷ [] }) c.list.new.self) same (c.in_ok-list.ensures mail (record s { stack = rest }) left)),
