@@ -2,7 +2,7 @@ use Rattle.std.proofs.Common.{◌∙◌, ap, arith, take, length}
 use Rattle.std.specs.List.{concat}
 use Rattle.std.proofs.lemmas.List.{length-take}
 use Rattle.sieve_vm.proofs.Holding.{joined_more}
-use Rattle.sieve_vm.proofs.workspace.joined.Goals as goal
+use Rattle.sieve_vm.proofs.joining.joined.Goals as goal
 
 pub put-requires : goal.put-requires
 put-requires g c =

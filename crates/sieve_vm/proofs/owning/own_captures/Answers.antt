@@ -2,7 +2,7 @@ use Rattle.std.proofs.Common.{refl, sym, ap, ◌∙◌, arith}
 use Rattle.mail_matching.specs.FirstMatch.{captures_of}
 use Rattle.sieve_vm.specs.Standing.{value_of}
 use Rattle.sieve_vm.proofs.Holding.{halfway_more, halfway_done}
-use Rattle.sieve_vm.proofs.workspace.own_captures.Goals as goal
+use Rattle.sieve_vm.proofs.owning.own_captures.Goals as goal
 
 pub loop-place-preserved : goal.loop-place-preserved
 loop-place-preserved c = λ variables next.

@@ -1,7 +1,7 @@
 use Rattle.std.proofs.Common.{slice_set, refl, sym, ap, ◌∙◌, arith}
 use Rattle.sieve_vm.specs.Standing.{value_of}
 use Rattle.sieve_vm.proofs.Holding.{halfway_more, halfway_done}
-use Rattle.sieve_vm.proofs.workspace.own_variable.Goals as goal
+use Rattle.sieve_vm.proofs.owning.own_variable.Goals as goal
 
 pub loop-place-preserved : goal.loop-place-preserved
 loop-place-preserved c = λ variables captures next held.

@@ -1,6 +1,6 @@
 use Rattle.std.proofs.Common.{◌≡◌, ◌-◌, ◌++◌, min, length, take, ap, ◌∙◌, arith}
 use Rattle.sieve_vm.proofs.Holding.{put_at}
-use Rattle.sieve_vm.proofs.workspace.put.Goals as goal
+use Rattle.sieve_vm.proofs.joining.put.Goals as goal
 
 pub returns : goal.returns
 returns c =
