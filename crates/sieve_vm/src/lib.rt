@@ -15,6 +15,7 @@ mod machine;
 mod numbers;
 mod outcome;
 mod owning;
+mod testing;
 mod workspace;
 
 pub use outcome::{Outcome, run};
