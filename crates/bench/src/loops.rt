@@ -24,18 +24,25 @@ pub(crate) fn run_loops(rt: &HostRuntime) -> anyhow::Result<()> {
     let message = Message::read(rt.alloc(), &nested)?;
     let verified = three_loops(rt.alloc())?;
     let (micros, charged) = measured(rt, &verified, &message)?;
-    let rate = charged / micros;
+    let rate = charged.checked_div(micros).unwrap_or(0);
     println!(rt; "three loops: {charged} instructions, {rate} million a second")?;
     let large = large(rt.alloc())?;
     let message = Message::read(rt.alloc(), &large)?;
     let one = measured(rt, &body_tests(rt.alloc(), 1)?, &message)?.0;
     let ten = measured(rt, &body_tests(rt.alloc(), 10)?, &message)?.0;
-    println!(rt; "tests of {} octets: one {one} us, ten {ten} us, {ROUNDS} times", large.len())?;
+    println!(rt;
+        "tests of {} octets: one {one} us, ten {ten} us, {ROUNDS} times",
+        large.len()
+    )?;
     Ok(())
 }
 
 // How long the runs of a program take, and what they charge.
-fn measured(rt: &HostRuntime, verified: &Verified, message: &Message) -> anyhow::Result<(u128, u128)> {
+fn measured(
+    rt: &HostRuntime,
+    verified: &Verified,
+    message: &Message,
+) -> anyhow::Result<(u128, u128)> {
     let mut charged: u128 = 0;
     let start = Instant::now(rt)?;
     for _ in 0..ROUNDS {
@@ -72,12 +79,19 @@ fn three_loops(alloc: Global) -> anyhow::Result<Verified> {
         at(Operation::Next, 0, 0),
         at(Operation::Halt, 0, 0),
     ];
-    accepted(alloc, Vec::new(alloc), Vec::new(alloc), instructions.as_slice().to_vec(alloc)?)
+    accepted(
+        alloc,
+        Vec::new(alloc),
+        Vec::new(alloc),
+        instructions.as_slice().to_vec(alloc)?,
+    )
 }
 
 // A text in base64.
 fn large(alloc: Global) -> anyhow::Result<Vec<u8>> {
-    let mut octets = b"Content-Transfer-Encoding: base64\n\n".as_slice().to_vec(alloc)?;
+    let mut octets = b"Content-Transfer-Encoding: base64\n\n"
+        .as_slice()
+        .to_vec(alloc)?;
     for _ in 0..LINES {
         octets.extend_from_slice(
             b"YWJjZGVmYWJjZGVmYWJjZGVmYWJjZGVmYWJjZGVmYWJjZGVmYWJjZGVmYWJjZGVmYWJjZGVmYWJj\n",
@@ -98,7 +112,11 @@ fn body_tests(alloc: Global, tests: u32) -> anyhow::Result<Verified> {
             b: 0,
             c: 1,
         })?;
-        instructions.push(at(Operation::JumpIfTrue, 0, test.wrapping_mul(3).wrapping_add(4)))?;
+        instructions.push(at(
+            Operation::JumpIfTrue,
+            0,
+            test.wrapping_mul(3).wrapping_add(4),
+        ))?;
     }
     instructions.push(at(Operation::Next, 0, 0))?;
     instructions.push(at(Operation::Halt, 0, 0))?;

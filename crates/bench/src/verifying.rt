@@ -24,7 +24,7 @@ pub(crate) fn run(rt: &HostRuntime) -> anyhow::Result<()> {
     ];
     for (name, instructions) in &others {
         let micros = measured(rt, instructions)?;
-        let times = micros * 100 / keeps;
+        let times = micros.saturating_mul(100).checked_div(keeps).unwrap_or(0);
         println!(rt; "verify: {name}: {micros} us, {times} hundredths")?;
     }
     Ok(())
