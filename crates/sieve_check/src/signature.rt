@@ -53,6 +53,10 @@ pub struct Signature {
     pub matching: bool,
     /// Takes the modifiers of a value, at most one of each precedence.
     pub modifying: bool,
+    /// Takes `:mime`, and with it `:anychild`.
+    pub scoped: bool,
+    /// Takes, with `:mime`, at most one of `:type`, `:subtype`, `:contenttype` and `:param`.
+    pub selecting: bool,
     pub positional: Positional,
     pub tests: Tests,
 }
@@ -64,12 +68,17 @@ pub struct Tags {
     pub kind: Option<MatchType>,
     pub comparator: Option<Comparator>,
     pub modifiers: Modifiers,
+    pub mime: bool,
+    pub any_child: bool,
+    pub piece: Option<Piece>,
 }
 
 /// Arguments that were read by a signature.
 #[derive(Clone, Copy, Debug)]
 pub struct Reading<'a> {
     pub tags: Tags,
+    /// That of `:param`, if it stands there.
+    pub params: &'a [Argument],
     /// Those behind the tags.
     pub positional: &'a [Argument],
 }
