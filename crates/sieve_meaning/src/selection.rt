@@ -2,11 +2,11 @@
 ghost use Rattle.std.specs.Prelude.{◌≡◌, None};
 ghost use Rattle.mail_matching.specs.Selection as code;
 ghost use Rattle.sieve_check.specs.Typed.{params_of};
-ghost use Rattle.sieve_check.specs.TypedView.{selected_form, templates_of};
+ghost use Rattle.sieve_check.specs.TypedView.{selected_form};
 ghost use Rattle.sieve_meaning.specs.Meaning.{Effects, all_expanded, scope_of, selector_of};
 
 use mail_matching::{Reach, Scope as Place, Selector};
-use sieve_check::{Scope, Segment, Selection};
+use sieve_check::{Scope, Selection};
 
 /// Where a test looks, outside all loops.
 pub fn reach_of(scope: Scope) -> Reach
@@ -34,15 +34,5 @@ pub fn selector_of(selection: &Selection) -> Selector
         Selection::Sub => Selector::Sub,
         Selection::ContentType => Selector::ContentType,
         Selection::Params(_) => Selector::Param,
-    }
-}
-
-/// The names of the parameters that a test takes.
-pub fn params_of(selection: &Selection) -> &[Vec<Segment>]
-    ensures { templates_of result.now ≡ params_of (selected_form selection.now) }
-{
-    match selection {
-        Selection::Params(names) => names,
-        _ => &[],
     }
 }

@@ -3,7 +3,7 @@ ghost use Rattle.std.specs.Prelude.{◌≡◌};
 ghost use Rattle.sieve_meaning.specs.Meaning.{is_size};
 
 use crate::evaluator::Evaluator;
-use crate::selection::{params_of, reach_of, selector_of};
+use crate::selection::{reach_of, selector_of};
 use glob_match::Match;
 use mail_matching::{Answer, HeaderTest, Outcome, exists, header, string};
 use mime_decode::Message;
@@ -62,7 +62,7 @@ impl<'s, 'm> Evaluator<'s, 'm> {
                     selector: selector_of(selection),
                     how: *matching,
                 };
-                self.matches(alloc, test, names, params_of(selection), keys, message)
+                self.matches(alloc, test, names, selection.params(), keys, message)
             }
             Test::Exists(scope, names) => {
                 let names = self.all_expanded(alloc, names)?;

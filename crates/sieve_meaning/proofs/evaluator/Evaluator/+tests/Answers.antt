@@ -40,5 +40,5 @@ is_true-returns-in-Header t c = λ e stands.
     let names_are = ap (λ ss. header how scope selected (templates_of ss) (templates_of c.in-Header.keys.items)) (sym c.deref-in-Header.ensures.value) in
     let keys_are = ap (λ ss. header how scope selected names (templates_of ss)) (sym c.deref-in-Header-2.ensures.value) in
     let same =
-    header_again mail e how scope selected names keys (templates_of c.params_of.result.now) (place_of c.reach_of.result.scope) (λ given. code_selector_of c.selector_of.result given) c.reach_of.ensures.scope c.params_of.ensures (c.selector_of.ensures e) in
+    header_again mail e how scope selected names keys (templates_of c.params.result.now) (place_of c.reach_of.result.scope) (λ given. code_selector_of c.selector_of.result given) c.reach_of.ensures.scope c.params.ensures (c.selector_of.ensures e) in
     subst (λ v. IfOk c.matches.result (λ value. Gives v value c.matches.new.self)) (same ∙ sym (ap (λ f. test_does mail None f e) (form ∙ names_are ∙ keys_are))) (c.matches.ensures e stands)
