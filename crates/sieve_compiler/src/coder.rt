@@ -173,7 +173,10 @@ impl<'t, 's> Coder<'t, 's> {
                 self.put_strings(selection.params())?;
                 self.put_strings(keys)?;
                 let (names, keys) = (names.len() as u16, keys.len() as u32);
-                self.put_simple(match_fields(*matching, *scope, selection, names, keys), exit)
+                self.put_simple(
+                    match_fields(*matching, *scope, selection, names, keys),
+                    exit,
+                )
             }
             Test::Exists(scope, names) => {
                 self.put_strings(names)?;

@@ -1,11 +1,14 @@
 // The instructions of which code is made.
-ghost use Rattle.std.specs.Prelude.{◌≡◌};
-ghost use Rattle.sieve_compiler.specs.Coding.{comparator_number, find_fields, instruction, jump_if, kind_number, match_fields, join_texts, match_texts, match_number, push_bool, push_size};
+ghost use Rattle.std.specs.Prelude.{◌≡◌, ◌≤◌, length};
+ghost use Rattle.octets.specs.Limits.{max_test_strings};
+ghost use Rattle.sieve_check.specs.Typed.{params_of};
+ghost use Rattle.sieve_check.specs.TypedView.{selected_form};
+ghost use Rattle.sieve_compiler.specs.Coding.{comparator_number, find_fields, instruction, jump_if, kind_number, match_fields, join_texts, match_texts, match_number, push_bool, push_size, scope_number, selector_number};
 
 use crate::exits::Exit;
 use bytecode_format::{Instruction, Operation};
 use glob_match::{Comparator, Match, MatchType};
-use sieve_check::Order;
+use sieve_check::{Order, Scope, Selection};
 
 /// An instruction with its fields a and c.
 pub fn instruction(operation: Operation, a: u8, c: u32) -> Instruction
