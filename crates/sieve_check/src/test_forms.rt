@@ -1,18 +1,19 @@
 // The typed form of tests. Nothing is answered where one isn't written as it has to be.
 ghost use Rattle.std.specs.Prelude.{◌≡◌, IfOk, map, option_map, Some, None, if◌then◌else◌};
 ghost use Rattle.sieve_parser.specs.View.{argument_tree, invocation_tree, more_tests_of};
-ghost use Rattle.sieve_check.specs.FormOf.{none, one, bracketed, match_of, more_forms_of, number_in, of_list, of_lists, size_of, test_form_of};
+ghost use Rattle.sieve_check.specs.FormOf.{none, one, bracketed, header_of, match_of, more_forms_of, number_in, of_list, of_lists, params_in, scope_of, selected_by, size_of, test_form_of};
 ghost use Rattle.sieve_check.specs.Forming.{head_test, joined_by};
+ghost use Rattle.sieve_check.specs.Reading.{read_of};
 ghost use Rattle.sieve_check.specs.Refusing.{context_of};
 ghost use Rattle.sieve_check.specs.Surroundings.{Context};
-ghost use Rattle.sieve_check.specs.Typed.{TestForm, TestForms, exists, header, negation, string};
-ghost use Rattle.sieve_check.specs.TypedView.{test_form, tests_of};
+ghost use Rattle.sieve_check.specs.Typed.{TestForm, TestForms, exists, negation, string};
+ghost use Rattle.sieve_check.specs.TypedView.{selected_form, templates_of, test_form, tests_of};
 
-use crate::names::{TestName, test_named};
-use crate::signature::{Tags, test_signature};
+use crate::names::{Piece, TestName, test_named};
+use crate::signature::{Reading, Tags, test_signature};
 use crate::strings::{list_in, lists_in};
 use crate::surroundings::Surroundings;
-use crate::typed::Test;
+use crate::typed::{Scope, Segment, Selection, Test};
 use glob_match::{Comparator, Match, MatchType};
 use sieve_parser::{Argument, Head, Invocation};
 use std::alloc::{AllocError, Global};
@@ -37,21 +38,67 @@ fn match_of(tags: Tags) -> Match
     }
 }
 
-// The test of a header's names and keys, which the arguments are.
+// Which parts' headers a test looks at.
+fn scope_of(tags: Tags) -> Scope
+    ensures { result ≡ scope_of tags }
+{
+    if !tags.mime {
+        Scope::Message
+    } else if tags.any_child {
+        Scope::PartAndBelow
+    } else {
+        Scope::Part
+    }
+}
+
+// What a test takes of a field, with the names of the parameters.
+fn selected_by(piece: Option<Piece>, names: Vec<Vec<Segment>>) -> Selection
+    ensures { selected_form result ≡ selected_by piece (templates_of names.items) }
+{
+    match piece {
+        None => Selection::Value,
+        Some(Piece::Main) => Selection::Main,
+        Some(Piece::Sub) => Selection::Sub,
+        Some(Piece::ContentType) => Selection::ContentType,
+        Some(Piece::Params) => Selection::Params(names),
+    }
+}
+
+// The names of the parameters, which the argument is, if there is one.
+fn params_in(
+    alloc: Global,
+    surroundings: Surroundings,
+    arguments: &[Argument],
+) -> Result<Option<Vec<Vec<Segment>>>, AllocError>
+    ensures { IfOk result (λ names. option_map (λ all. templates_of all.items) names ≡ params_in (context_of surroundings) (map argument_tree arguments.now)) }
+{
+    match arguments {
+        [] => Ok(Some(Vec::new(alloc))),
+        [list, ..] => list_in(alloc, surroundings, list),
+    }
+}
+
+// The test of a header's names and keys.
 fn header(
     alloc: Global,
     surroundings: Surroundings,
-    tags: Tags,
-    arguments: &[Argument],
+    reading: Reading<'_>,
 ) -> Result<Option<Test>, AllocError>
-    ensures { IfOk result (λ t. option_map test_form t ≡ of_lists (context_of surroundings) (header (match_of tags)) (map argument_tree arguments.now)) }
+    ensures { IfOk result (λ t. option_map test_form t ≡ header_of (context_of surroundings) (read_of reading.entry)) }
 {
-    let Some((names, keys)) = lists_in(alloc, surroundings, arguments)? else {
+    let Some(params) = params_in(alloc, surroundings, reading.params)? else {
         return Ok(None);
     };
-    let matching = match_of(tags);
+    let selection = selected_by(reading.tags.piece, params);
+    let Some((names, keys)) = lists_in(alloc, surroundings, reading.positional)? else {
+        return Ok(None);
+    };
+    let matching = match_of(reading.tags);
+    let scope = scope_of(reading.tags);
     Ok(Some(Test::Header {
         matching,
+        scope,
+        selection,
         names,
         keys,
     }))
@@ -81,15 +128,16 @@ fn string(
 fn exists(
     alloc: Global,
     surroundings: Surroundings,
+    scope: Scope,
     arguments: &[Argument],
 ) -> Result<Option<Test>, AllocError>
-    ensures { IfOk result (λ t. option_map test_form t ≡ of_list (context_of surroundings) exists (map argument_tree arguments.now)) }
+    ensures { IfOk result (λ t. option_map test_form t ≡ of_list (context_of surroundings) (exists scope) (map argument_tree arguments.now)) }
 {
     let [names] = arguments else {
         return Ok(None);
     };
     match list_in(alloc, surroundings, names)? {
-        Some(names) => Ok(Some(Test::Exists(names))),
+        Some(names) => Ok(Some(Test::Exists(scope, names))),
         None => Ok(None),
     }
 }
@@ -118,8 +166,11 @@ fn plain_test(
     };
     match name {
         TestName::Constant(value) => Ok(Some(Test::Constant(value))),
-        TestName::Header => header(alloc, surroundings, reading.tags, reading.positional),
-        TestName::Exists => exists(alloc, surroundings, reading.positional),
+        TestName::Header => header(alloc, surroundings, reading),
+        TestName::Exists => {
+            let scope = scope_of(reading.tags);
+            exists(alloc, surroundings, scope, reading.positional)
+        }
         TestName::Size => Ok(size(reading.tags, reading.positional)),
         TestName::String => string(alloc, surroundings, reading.tags, reading.positional),
         TestName::Not | TestName::AllOf | TestName::AnyOf => Ok(None),
