@@ -40,7 +40,7 @@ impl<'t> Mentions<'t> {
 
     // Those of a `set`, by its arguments: the first is the name, which is taken as it is written.
     fn of_set(reading: Reading<'t>) -> Mentions<'t>
-        requires { is_positional TwoTexts (map argument_tree reading.entry.positional.now) ≡ true }
+        requires { is_positional TwoTexts (map argument_tree reading.positional.now) ≡ true }
         ensures { mentions_in result ≡ mentions_of CommandName.Set (strings_of (lists_read (read_of reading.entry))) }
     {
         match first_text(reading.positional) {

@@ -1,8 +1,6 @@
 // What commands and tests take, and how their arguments are read (RFC 5228, section 2.6; RFC 5229, section 4).
 ghost use Rattle.std.specs.Prelude.{◌≡◌, map, Some};
 ghost use Rattle.sieve_parser.specs.View.{argument_tree};
-ghost use Rattle.sieve_check.specs.declared.names.Piece.TheVariants.{Params};
-ghost use Rattle.sieve_check.specs.declared.names.Tag.TheVariants.{Comparator, Select};
 ghost use Rattle.sieve_check.specs.Signatures.{awaited, bare, command_signature, ending_of, is_list, test_signature};
 ghost use Rattle.sieve_check.specs.Reading.{FirstList, FirstTag, FirstText, Settles};
 
@@ -285,7 +283,7 @@ fn first_list(arguments: &[Argument]) -> Option<(&[Argument], &[Argument])>
 
 // What was read, with the comparator of this name.
 fn with_comparator(reading: Reading<'_>) -> Option<Reading<'_>>
-    ensures { Settles reading.entry (Some Comparator) result }
+    ensures { Settles reading.entry (Some Tag.Comparator) result }
 {
     let (name, rest) = first_text(reading.positional)?;
     let comparator = comparator_named(name.as_slice())?;
@@ -302,7 +300,7 @@ fn with_comparator(reading: Reading<'_>) -> Option<Reading<'_>>
 
 // What was read, with the names of parameters.
 fn with_params(reading: Reading<'_>) -> Option<Reading<'_>>
-    ensures { Settles reading.entry (Some (Select Params)) result }
+    ensures { Settles reading.entry (Some (Tag.Select Piece.Params)) result }
 {
     let (params, rest) = first_list(reading.positional)?;
     Some(Reading {

@@ -2,7 +2,7 @@
 ghost use Rattle.std.specs.Prelude.{◌≡◌, IfOk, map, option_map, Some, None, if◌then◌else◌};
 ghost use Rattle.sieve_parser.specs.View.{argument_tree, invocation_tree, more_tests_of};
 ghost use Rattle.sieve_check.specs.FormOf.{none, one, bracketed, header_of, match_of, more_forms_of, number_in, of_list, of_lists, params_in, scope_of, selected_by, size_of, test_form_of};
-ghost use Rattle.sieve_check.specs.Forming.{head_test, joined_by};
+ghost use Rattle.sieve_check.specs.Forming.{head_test, joined_by, test_with_list, test_with_one};
 ghost use Rattle.sieve_check.specs.Reading.{read_of};
 ghost use Rattle.sieve_check.specs.Refusing.{context_of};
 ghost use Rattle.sieve_check.specs.Surroundings.{Context};
@@ -214,10 +214,17 @@ fn combining(head: &Head) -> Option<Junction>
     }
 }
 
-// The test that turns around the one behind it.
-fn negated(alloc: Global, head: &Head, inner: Test) -> Result<Option<Test>, AllocError>
-    ensures { IfOk result (λ t. (s : Context) → option_map test_form t ≡ head_test s head.now (one (test_form inner))) }
+// The test that turns around the one behind it, if that has a form.
+fn negated(
+    alloc: Global,
+    head: &Head,
+    inner: Option<Test>,
+) -> Result<Option<Test>, AllocError>
+    ensures { IfOk result (λ t. (s : Context) → option_map test_form t ≡ test_with_one s head.now (option_map test_form inner)) }
 {
+    let Some(inner) = inner else {
+        return Ok(None);
+    };
     if negates(head) {
         Ok(Some(Test::Not(Box::new(alloc, inner)?)))
     } else {
@@ -225,15 +232,22 @@ fn negated(alloc: Global, head: &Head, inner: Test) -> Result<Option<Test>, Allo
     }
 }
 
-// The test of the tests in round brackets behind it.
+// The test of the tests in round brackets behind it, if they have forms.
 fn combined(
     alloc: Global,
     head: &Head,
-    first: Test,
-    others: Vec<Test>,
+    first: Option<Test>,
+    others: Option<Vec<Test>>,
 ) -> Result<Option<Test>, AllocError>
-    ensures { IfOk result (λ t. (s : Context) → option_map test_form t ≡ head_test s head.now (bracketed (test_form first) (tests_of (map test_form others.items)))) }
+    ensures { IfOk result (λ t. (s : Context) → option_map test_form t ≡
+        test_with_list s head.now (option_map test_form first) (option_map (λ ts. tests_of (map test_form ts.items)) others)) }
 {
+    let Some(first) = first else {
+        return Ok(None);
+    };
+    let Some(others) = others else {
+        return Ok(None);
+    };
     let first = Box::new(alloc, first)?;
     match combining(head) {
         Some(Junction::All) => Ok(Some(Test::AllOf(first, others))),
@@ -253,18 +267,14 @@ pub fn test(
 {
     match invocation {
         Invocation::Plain(head) => plain_test(alloc, surroundings, head),
-        Invocation::WithTest(head, inner) => match test(alloc, surroundings, inner)? {
-            Some(inner) => negated(alloc, head, inner),
-            None => Ok(None),
-        },
+        Invocation::WithTest(head, inner) => {
+            let inner = test(alloc, surroundings, inner)?;
+            negated(alloc, head, inner)
+        }
         Invocation::WithTests(head, first, others) => {
-            let Some(first) = test(alloc, surroundings, first)? else {
-                return Ok(None);
-            };
-            match tests(alloc, surroundings, others)? {
-                Some(others) => combined(alloc, head, first, others),
-                None => Ok(None),
-            }
+            let first = test(alloc, surroundings, first)?;
+            let others = tests(alloc, surroundings, others)?;
+            combined(alloc, head, first, others)
         }
     }
 }
