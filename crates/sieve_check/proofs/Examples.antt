@@ -1,20 +1,15 @@
 -- Rows that were worked out by hand.
 use Rattle.std.proofs.Common.{◌≡◌, ℕ, zero, suc, ◌+◌, List, [], ◌∷◌, ◌++◌, Some, None, true, refl}
 use Rattle.std.specs.Prelude.{codes}
-use Rattle.glob_match.specs.declared.comparator.Comparator.TheVariants.{Octet, Casemap}
-use Rattle.glob_match.specs.declared.match_type.MatchType.TheVariants.{Is, Contains}
 use Rattle.sieve_parser.specs.Tree.{ArgumentTree, text, text_list, amount, label, InvocationTree, invocation, no_test, one_test, test_list, last, next, CommandsTree, simple, block, no_command, command}
 use Rattle.sieve_check.specs.declared.error.CheckError.TheVariants.{UnknownCommand, MissingCapability, UnknownCapability, BadArguments, Limit}
 use Rattle.sieve_check.specs.declared.error.Fault.TheVariants as fault
 use Rattle.sieve_check.specs.declared.names.Capability.TheVariants.{Mime, FileInto}
 use Rattle.sieve_check.specs.declared.names.TestName.TheVariants.{Header, Exists, Size}
 use Rattle.sieve_check.specs.declared.typed.Order.TheVariants.{Over}
-use Rattle.sieve_check.specs.FormOf.{IsFormOf, form_of, test_form_of}
 use Rattle.sieve_check.specs.Rules.{Visit, first_fault, fault_of, after_invocation}
 use Rattle.sieve_check.specs.Signatures.{Read, no_tag, reading, test_signature}
 use Rattle.sieve_check.specs.Surroundings.{at_start, lacks}
-use Rattle.sieve_check.specs.Typed.{constant, header, exists, size, keep, file_into, stop, choice, otherwise, branch}
-use Rattle.sieve_check.specs.Typed as typed
 
 abbrev keep_at : ℕ → CommandsTree → CommandsTree
 keep_at n others = command (simple (invocation n (codes "keep") [] no_test)) others

@@ -1,6 +1,5 @@
 -- A script of which nothing is wrong has a typed form, which is within the limits.
-use Rattle.std.proofs.Common.{◌≡◌, ℕ, ◌≤◌, Bool, true, false, ◌&&◌, ◌||◌, not, List, [], ◌∷◌, ◌++◌, length, map, drop, take, bytes_eq, Option, Some, None, option_map, refl, sym, ap, subst, ◌∙◌}
-use Rattle.std.specs.Prelude.{flat_map}
+use Rattle.std.proofs.Common.{◌≡◌, ℕ, ◌≤◌, Bool, true, false, ◌&&◌, ◌||◌, not, List, [], ◌∷◌, ◌++◌, length, drop, bytes_eq, Option, Some, None, option_map, refl, sym, ap, subst, ◌∙◌}
 use Rattle.std.specs.List.{list_any}
 use Rattle.std.proofs.lemmas.Grind.{flat_map-append}
 use Rattle.std.proofs.lemmas.List.{append-nil, append_assoc}
@@ -10,9 +9,8 @@ use Rattle.octets.specs.Limits.{max_variables}
 use Rattle.octets.specs.Once.{each_once}
 use Rattle.sieve_references.specs.References.{names_in}
 use Rattle.sieve_parser.specs.Scripts.{IsTree}
-use Rattle.sieve_parser.specs.Tree.{ArgumentTree, text, InvocationTree, invocation, TestsTree, CommandTree, simple, block, CommandsTree, no_command as no_tree, command as tree}
+use Rattle.sieve_parser.specs.Tree.{ArgumentTree, InvocationTree, invocation, TestsTree, CommandTree, simple, block, CommandsTree, no_command as no_tree, command as tree}
 use Rattle.sieve_check.specs.declared.error.Fault.TheVariants.{MissingCapability, UnknownCapability, BadArguments, Limit}
-use Rattle.sieve_check.specs.declared.names.Capability.TheVariants.{Variables}
 use Rattle.sieve_check.specs.declared.names.CommandName.{CommandName}
 use Rattle.sieve_check.specs.declared.names.CommandName.TheVariants.{Require, If, Elsif, Else, Stop, Keep, Discard, FileInto, Set}
 use Rattle.sieve_check.specs.declared.signature.Tests.{Tests}
@@ -21,7 +19,7 @@ use Rattle.sieve_check.specs.declared.signature.Ending.TheVariants.{Semicolon, B
 use Rattle.sieve_check.specs.Bounded.{IsBoundedCommand, AreBoundedCommands, AreBoundedBranches, IsBounded}
 use Rattle.sieve_check.specs.FormOf.{InnerForms, none, one, bracketed, template_of, text_in, setting_in, inner_forms_of, PartForm, action, simple_of, block_of, simple_part, block_part, Forms, closed, closed_by, after_none, put, part_of, forms_of, IsFormOf}
 use Rattle.sieve_check.specs.Names.{command_named}
-use Rattle.sieve_check.specs.Rules.{Visit, fault_of, known_command_fault, command_needs, may_stand, has_unknown_capability, has_long_string, has_wrong_mention, has_large_mention, Mentions, mentions_of, strings_read, lists_read, where_required, command_mentions, names_by, names_mentioned, same_tests, same_ending, is_well_formed, kind_of, strings_of, tests_visits, head_visits, command_visits, commands_visits, after_invocation, invocation_of, loops_opened}
+use Rattle.sieve_check.specs.Rules.{Visit, fault_of, known_command_fault, command_needs, may_stand, has_unknown_capability, has_long_string, has_wrong_mention, has_large_mention, mentions_of, strings_read, lists_read, where_required, command_mentions, names_by, names_mentioned, same_tests, same_ending, is_well_formed, kind_of, strings_of, tests_visits, head_visits, command_visits, commands_visits, after_invocation, invocation_of, loops_opened}
 use Rattle.sieve_check.specs.Signatures.{◌>>=◌, Read, is_positional, reading, command_signature, ending_of}
 use Rattle.sieve_check.specs.Surroundings.{Context, lacks, at_start, in_block, following}
 use Rattle.sieve_check.specs.Typed.{CommandForm, keep, discard, file_into, set, stop, choice, CommandForms, no_command, command, no_branch, otherwise, branch}
@@ -30,7 +28,7 @@ use Rattle.sieve_check.proofs.Extent.{form_fits}
 use Rattle.sieve_check.proofs.Faultless.{AreFaultless, faultless_both, names_brought, none_refused, few_in_script}
 use Rattle.sieve_check.proofs.Lists.{expands, is_large, read_short, texted, both_texted}
 use Rattle.sieve_check.proofs.Options.{all_taken, if_none, not_false, not_both, both_true, either_false}
-use Rattle.sieve_check.proofs.Templates.{IsSound, names_at, mentioned_at, expanding, expanding_names, nothing_mentioned, template_names, template_bounded}
+use Rattle.sieve_check.proofs.Templates.{names_at, mentioned_at, expanding, expanding_names, nothing_mentioned, template_names, template_bounded}
 use Rattle.sieve_check.proofs.TestExistence.{known, WellFormed, well_formed, complete_parts, none_large, inner_kind, IsBoundedInner, inner_variables, unnamed, Inner, inner_exists}
 
 -- ---- what follows from there being no fault

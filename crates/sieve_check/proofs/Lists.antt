@@ -18,7 +18,7 @@ use Rattle.sieve_check.specs.declared.rules.StringFault.TheVariants.{Long}
 use Rattle.sieve_check.specs.declared.signature.Positional.TheVariants as positional
 use Rattle.sieve_check.specs.declared.signature.Signature.{Signature}
 use Rattle.sieve_check.specs.Bounded.{IsBoundedString, IsBoundedList, AreBoundedLists, HasParams, IsBoundedHeader}
-use Rattle.sieve_check.specs.FormOf.{text_in, list_in, template_of, of_list, of_lists, selected_by, params_in}
+use Rattle.sieve_check.specs.FormOf.{list_in, template_of, of_list, of_lists, selected_by, params_in}
 use Rattle.sieve_check.specs.Rules.{is_long, string_has, strings_in, strings_of, has_long_string, lists_read}
 use Rattle.sieve_check.specs.Signatures.{◌>>=◌, Read, Given, with_argument, is_list, is_positional, reading}
 use Rattle.sieve_check.specs.Surroundings.{Context, has_capability}

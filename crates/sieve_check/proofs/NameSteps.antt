@@ -1,9 +1,7 @@
 -- The names of variables, as they are met.
-use Rattle.std.proofs.Common.{◌≡◌, ℕ, ◌+◌, ◌<◌, ◌≤◌, Bool, true, false, ◌||◌, bytes_eq, List, [], ◌∷◌, ◌++◌, length, map, flat_map, drop, get_or, refl, sym, ap, subst, ◌∙◌, arith, length-append, add-one, inl, inr}
+use Rattle.std.proofs.Common.{◌≡◌, ℕ, ◌+◌, ◌<◌, ◌≤◌, true, false, ◌||◌, bytes_eq, List, [], ◌∷◌, ◌++◌, length, map, flat_map, drop, get_or, refl, sym, ap, subst, ◌∙◌, arith, length-append, add-one, inl, inr}
 use Rattle.std.proofs.Math.Seq.{drop-cons}
-use Rattle.std.specs.Bool.{IsTrue, ◌==◌}
-use Rattle.std.specs.Prelude.{Result, Ok, Err, MatchResult}
-use Rattle.std.specs.List.{list_any}
+use Rattle.std.specs.Prelude.{Result, Ok, Err}
 use Rattle.std.specs.Borrow.{Bor}
 use Rattle.std.specs.Global.{Vec}
 use Rattle.std.proofs.lemmas.Grind.{flat_map-append}
@@ -18,7 +16,6 @@ use Rattle.sieve_parser.specs.View.{argument_tree}
 use Rattle.sieve_parser.specs.declared.tree.Argument.{Argument}
 use Rattle.sieve_parser.specs.declared.tree.Argument.TheVariants.{TextList}
 use Rattle.sieve_check.specs.declared.error.Fault.{Fault}
-use Rattle.sieve_check.specs.declared.error.Fault.TheVariants.{Limit}
 use Rattle.sieve_check.specs.declared.signature.Lists.{Lists}
 use Rattle.sieve_check.specs.Reading.{all_lists}
 use Rattle.sieve_check.specs.Refusing.{Adds, shown}

@@ -1,5 +1,5 @@
 -- What holds while tags are read.
-use Rattle.std.proofs.Common.{◌≡◌, ◌∙◌, ◌⊎◌, ℕ, Bool, true, false, ◌&&◌, not, List, [], ◌∷◌, ◌++◌, take, drop, Option, Some, None, option_map, refl, sym, ap, subst, inl, inr}
+use Rattle.std.proofs.Common.{◌≡◌, ◌∙◌, ◌⊎◌, ℕ, true, false, not, List, [], ◌∷◌, ◌++◌, take, drop, Option, Some, None, refl, sym, ap, subst, inl, inr}
 use Rattle.std.specs.Prelude.{is_some}
 use Rattle.std.proofs.lemmas.Option.{same_Some}
 use Rattle.sieve_parser.specs.Tree.{ArgumentTree, text, text_list, amount, label}
@@ -11,7 +11,7 @@ use Rattle.sieve_check.specs.declared.signature.Signature.{Signature}
 use Rattle.sieve_check.specs.declared.signature.Tags.{Tags}
 use Rattle.sieve_check.specs.Names.{comparator_named, tag_named}
 use Rattle.sieve_check.specs.Rules.{lists_read}
-use Rattle.sieve_check.specs.Signatures.{◌>>=◌, Read, Given, nothing_given, takes_tag, with_tag, tags_with, add_tag, awaited, is_list, with_argument, tags_read, is_complete, reading}
+use Rattle.sieve_check.specs.Signatures.{Read, Given, nothing_given, takes_tag, with_tag, tags_with, add_tag, awaited, is_list, with_argument, tags_read, is_complete, reading}
 use Rattle.sieve_check.proofs.Options.{step_some, map_some, if_some, both_true, not_both}
 
 -- ---- one tag, and its argument
@@ -136,17 +136,17 @@ argument_selecting : (signature : Signature) (tag : Tag) (a : ArgumentTree) (giv
 argument_selecting signature tag a given more args h is =
     elim (argument_taken tag a given more h) [
       | inl c ↦
-        let params : HasArgument given.tags.piece given.params = subst (λ t. Awaits (Some t) given) c.0 is.params in
-        record {
-          params = subst (λ piece. HasArgument piece more.params) (sym c.2) (subst (HasArgument given.tags.piece) (sym c.1) params);
-          unselected = λ plain. c.2 ∙ is.unselected plain;
-        }
+          let params : HasArgument given.tags.piece given.params = subst (λ t. Awaits (Some t) given) c.0 is.params in
+          record {
+            params = subst (λ piece. HasArgument piece more.params) (sym c.2) (subst (HasArgument given.tags.piece) (sym c.1) params);
+            unselected = λ plain. c.2 ∙ is.unselected plain;
+          }
       | inr c ↦
-        let piece : given.tags.piece ≡ Some Params = subst (λ t. Awaits (Some t) given) c.0 is.params in
-        subst (λ (g : Given). IsSelecting signature None g args) c.2 (record {
-          params = subst (λ piece. HasArgument piece (a ∷ [])) (sym piece) (a, refl, c.1);
-          unselected = is.unselected;
-        })
+          let piece : given.tags.piece ≡ Some Params = subst (λ t. Awaits (Some t) given) c.0 is.params in
+          subst (λ (g : Given). IsSelecting signature None g args) c.2 (record {
+            params = subst (λ piece. HasArgument piece (a ∷ [])) (sym piece) (a, refl, c.1);
+            unselected = is.unselected;
+          })
     ]
 
 pub selecting_read : (signature : Signature) (args : List ArgumentTree) (read : Read) → reading signature args ≡ Some read → IsSelecting signature None (given_in read) read.positional

@@ -12,7 +12,9 @@ use crate::names::{
     Capability, CommandName, Tag, TestName, capability_named, command_named, tag_named, test_named,
 };
 use crate::references::{has_large_references, has_wrong_reference};
-use crate::signature::{Ending, Lists, Signature, Tests, command_signature, ending_of, test_signature};
+use crate::signature::{
+    Ending, Lists, Signature, Tests, command_signature, ending_of, test_signature,
+};
 use crate::surroundings::Surroundings;
 use crate::variable_names::VariableNames;
 use octets::Octets;
@@ -149,7 +151,9 @@ impl StringFault {
     pub fn is_in_lists(self, lists: Lists<'_>) -> bool
         ensures { result ≡ list_any (string_has self) (strings_of (all_lists lists.entry)) }
     {
-        self.is_in_some(lists.first) || self.is_in_some(lists.params) || self.is_in_some(lists.others)
+        self.is_in_some(lists.first)
+            || self.is_in_some(lists.params)
+            || self.is_in_some(lists.others)
     }
 }
 

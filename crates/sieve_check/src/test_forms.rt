@@ -215,11 +215,7 @@ fn combining(head: &Head) -> Option<Junction>
 }
 
 // The test that turns around the one behind it, if that has a form.
-fn negated(
-    alloc: Global,
-    head: &Head,
-    inner: Option<Test>,
-) -> Result<Option<Test>, AllocError>
+fn negated(alloc: Global, head: &Head, inner: Option<Test>) -> Result<Option<Test>, AllocError>
     ensures { IfOk result (λ t. (s : Context) → option_map test_form t ≡ test_with_one s head.now (option_map test_form inner)) }
 {
     let Some(inner) = inner else {
