@@ -1,5 +1,5 @@
 -- What a script's limits say of its typed form.
-use Rattle.std.specs.Prelude.{ℕ, ◌+◌, ◌<◌, ◌≤◌, List, length, All, bytes_eq}
+use Rattle.std.specs.Prelude.{◌+◌, ◌<◌, ◌≤◌, List, length, All, bytes_eq}
 use Rattle.octets.specs.Limits.{max_script, max_segments, max_string, max_test_strings, max_variables}
 use Rattle.octets.specs.Once.{each_once}
 use Rattle.sieve_references.specs.References.{last_capture}

@@ -123,10 +123,14 @@ has_unknown_capability _ args = false
 abbrev pub has_long_string : List ArgumentTree → Bool
 has_long_string args = list_any (string_has Long) (strings_of args)
 
--- the strings of the lists, where the arguments could be read: those behind the tags, and those of `:param`
+-- what was read behind the tags, with the list of `:param`, if it stands there, after the first: in the order of the typed form
+abbrev pub lists_read : Read → List ArgumentTree
+lists_read read = take 1 read.positional ++ read.params ++ drop 1 read.positional
+
+-- the strings of the lists, where the arguments could be read
 abbrev pub strings_read : Option Read → List (List ℕ)
 strings_read None = []
-strings_read (Some read) = strings_of read.positional ++ strings_of read.params
+strings_read (Some read) = strings_of (lists_read read)
 
 -- arguments that were read have more strings in their lists than one test may have
 abbrev pub has_many_strings : Option Read → Bool

@@ -106,8 +106,11 @@ with_tag Mime tags = record tags { mime = true }
 with_tag AnyChild tags = record tags { any_child = true }
 with_tag (Select piece) tags = record tags { piece = Some piece }
 
+abbrev pub tags_with : Signature → Tag → Tags → Option Tags
+tags_with signature tag tags = if takes_tag signature tag tags then Some (with_tag tag tags) else None
+
 abbrev pub add_tag : Signature → Tag → Given → Option Given
-add_tag signature tag given = if takes_tag signature tag given.tags then Some (record given { tags = with_tag tag given.tags }) else None
+add_tag signature tag given = option_map (λ tags. record given { tags = tags }) (tags_with signature tag given.tags)
 
 -- the tag, if it takes an argument
 abbrev pub awaited : Tag → Option Tag

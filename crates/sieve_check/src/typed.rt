@@ -49,6 +49,22 @@ pub enum Selection {
     Params(Vec<Vec<Segment>>),
 }
 
+impl Selection {
+    ghost use Rattle.std.specs.Prelude.{◌≡◌};
+    ghost use Rattle.sieve_check.specs.Typed.{params_of};
+    ghost use Rattle.sieve_check.specs.TypedView.{selected_form, templates_of};
+
+    /// The names of the parameters that it takes; none, where it takes something else.
+    pub fn params(&self) -> &[Vec<Segment>]
+        ensures { templates_of result.now ≡ params_of (selected_form self.now) }
+    {
+        match self {
+            Selection::Params(names) => names,
+            Selection::Value | Selection::Main | Selection::Sub | Selection::ContentType => &[],
+        }
+    }
+}
+
 /// A test. A string is its segments, one after the other.
 #[derive(Debug, Drop)]
 pub enum Test {
