@@ -1,5 +1,5 @@
 -- The budget of an accepted program: what its sums are at most.
-use Rattle.std.proofs.Common.{◌≡◌, ℕ, zero, suc, ◌+◌, ◌*◌, ◌^◌, ◌<◌, ◌≤◌, Bool, true, false, cond, ◌==◌, [], ◌∷◌, Option, Some, None, All, length, slice_get, sum, refl, inl, inr, lit≤, arith}
+use Rattle.std.proofs.Common.{◌≡◌, ℕ, zero, suc, ◌+◌, ◌*◌, ◌^◌, ◌<◌, ◌≤◌, Bool, true, false, cond, ◌==◌, [], ◌∷◌, Option, Some, None, All, length, max, slice_get, sum, refl, inl, inr, lit≤, arith}
 use Rattle.std.proofs.lemmas.Bool.{cases_lt}
 use Rattle.std.proofs.Math.Nat.{mul-le-mul}
 use Rattle.std.proofs.lemmas.List.Sums.{sum_by-le-sum_by}
@@ -8,7 +8,7 @@ use Rattle.std.proofs.lemmas.List.Elements.{All-cons, All-nil}
 use Rattle.octets.specs.Limits.{max_message, max_parts}
 use Rattle.bytecode_format.specs.declared.instruction.Instruction.{Instruction}
 use Rattle.bytecode_format.specs.declared.operation.Operation.{Operation}
-use Rattle.bytecode_format.specs.declared.operation.Operation.TheVariants.{Join, Set, Header, Exists, String, File}
+use Rattle.bytecode_format.specs.declared.operation.Operation.TheVariants.{Join, Set, Header, Exists, String, PartBody, PartDigest, File, Store}
 use Rattle.bytecode_format.specs.Operations.{operation_of}
 use Rattle.bytecode_format.specs.Code.{Code}
 use Rattle.bytecode_format.specs.Spelling.{IsProgram}
@@ -16,9 +16,10 @@ use Rattle.bytecode_cost.specs.Sums.{IsBudget, budget_at}
 use Rattle.bytecode_cost.proofs.Powers.{budget_bound}
 use Rattle.bytecode_verifier.specs.Places.{sum_below}
 use Rattle.bytecode_verifier.specs.Loops.{open_loops}
+use Rattle.bytecode_verifier.specs.Rows.{keys_in, params_in}
 use Rattle.bytecode_verifier.specs.Shape.{Entries, Texts, Lists, take_texts, take_lists, shape_at}
 use Rattle.bytecode_verifier.specs.declared.cap.Cap.{Cap}
-use Rattle.bytecode_verifier.specs.Budget.{one_more_each, cap_of_octets, cap_of_names, cap_of_matching, cap_of_comparing, one_charge, cap_of, cap_found, cap_at, sum_inside, sums_inside, budget_of}
+use Rattle.bytecode_verifier.specs.Budget.{one_more_each, cap_of_octets, cap_of_names, cap_of_matching, cap_of_comparing, cap_of_body, cap_of_digest, one_charge, cap_of, cap_found, cap_at, sum_inside, sums_inside, budget_of}
 use Rattle.bytecode_verifier.specs.Pass.{IsSmall, max_cap}
 use Rattle.bytecode_verifier.proofs.Taking.{taken, taken_lists}
 use Rattle.bytecode_verifier.proofs.Short.{shape_small}
@@ -30,12 +31,14 @@ Fits cap = (cap.fixed ≤ max_cap) × (cap.scaled ≤ max_cap)
 one_fits : Fits one_charge
 one_fits = (lit≤ tt, lit≤ tt)
 
--- what a header test's names and keys come to
-matching_fits : (names keys a b n k : ℕ) → names + keys ≤ 1024 → a ≤ names * 16385 → b ≤ keys * 16385 → n ≡ names → a + n * b ≤ max_cap
-matching_fits names keys a b n k few ha hb same =
+-- what a header test's names, parameters and keys come to
+matching_fits : (names params keys a b n p : ℕ) → keys + params + names ≤ 1024 → a ≤ names * 16385 → b ≤ keys * 16385 → n ≡ names → p ≡ params → a + n * max p 1 * b ≤ max_cap
+matching_fits names params keys a b n p few ha hb same_names same_params =
     let few_names : n ≤ 1024 = omega arith in
+    let few_params : max p 1 ≤ 1024 = omega arith in
     let few_keys : b ≤ 16778240 = omega arith in
-    let most : n * b ≤ 1024 * 16778240 = mul-le-mul few_names few_keys in
+    let pairs : n * max p 1 ≤ 1024 * 1024 = mul-le-mul few_names few_params in
+    let most : n * max p 1 * b ≤ 1024 * 1024 * 16778240 = mul-le-mul pairs few_keys in
     omega arith
 
 product : (a b x y : ℕ) → a ≤ x → b ≤ y → a * b ≤ x * y
@@ -72,28 +75,34 @@ octets_fit number entries small (Some texts) h =
     let less : sum texts.bounds ≤ one_more_each texts.bounds = sum_by-le-sum_by (λ b. b) (λ b. b + 1) texts.bounds (λ b. omega arith) in
     (omega (arith, t.total, t.left, small.few, less), lit≤ tt)
 
-pub cap_fits : (o : Option Operation) (i : Instruction) (entries : Entries) → IsSmall entries → Fits (cap_of o i entries)
-cap_fits (Some Header) i entries small = go (take_lists i.b i.c entries) refl
+texts_fit : (number : ℕ) (entries : Entries) → IsSmall entries → (cap : Texts → Cap) → ((texts : Texts) → one_more_each texts.bounds ≤ 16778240 → Fits (cap texts)) → Fits (option_map_or cap (take_texts number entries) one_charge)
+texts_fit number entries small cap fits = go (take_texts number entries) refl
   where
-    go : (o : Option Lists) → take_lists i.b i.c entries ≡ o → Fits (option_map_or cap_of_matching o one_charge)
+    go : (o : Option Texts) → take_texts number entries ≡ o → Fits (option_map_or cap o one_charge)
+    go None h = one_fits
+    go (Some texts) h = let t = taken number entries texts small.short h in fits texts (omega (arith, t.total, t.left, small.few))
+
+pub cap_fits : (o : Option Operation) (i : Instruction) (entries : Entries) → IsSmall entries → Fits (cap_of o i entries)
+cap_fits (Some Header) i entries small = go (take_lists i.b (params_in i.c) (keys_in i.c) entries) refl
+  where
+    go : (o : Option Lists) → take_lists i.b (params_in i.c) (keys_in i.c) entries ≡ o → Fits (option_map_or cap_of_matching o one_charge)
     go None h = one_fits
     go (Some lists) h =
-        let t = taken_lists i.b i.c entries lists small.short h in
-        (lit≤ tt, matching_fits i.b i.c (one_more_each lists.names) (one_more_each lists.keys) (length lists.names) 0 (omega (arith, t.left, small.few)) t.names_total t.keys_total t.names_are)
-cap_fits (Some Exists) i entries small = go (take_texts i.b entries) refl
-  where
-    go : (o : Option Texts) → take_texts i.b entries ≡ o → Fits (option_map_or cap_of_names o one_charge)
-    go None h = one_fits
-    go (Some names) h = let t = taken i.b entries names small.short h in (lit≤ tt, omega (arith, t.total, t.left, small.few))
+        let t = taken_lists i.b (params_in i.c) (keys_in i.c) entries lists small.short h in
+        (lit≤ tt, matching_fits i.b (params_in i.c) (keys_in i.c) (one_more_each lists.names) (one_more_each lists.keys) (length lists.names) (length lists.params) (omega (arith, t.left, small.few)) t.names_total t.keys_total t.names_are t.params_are)
+cap_fits (Some Exists) i entries small = texts_fit i.b entries small cap_of_names (λ names total. (lit≤ tt, omega (arith, total)))
+cap_fits (Some PartBody) i entries small = texts_fit i.c entries small cap_of_body (λ keys total. (lit≤ tt, omega (arith, total)))
+cap_fits (Some PartDigest) i entries small = texts_fit i.c entries small cap_of_digest (λ keys total. (omega (arith, total), lit≤ tt))
 cap_fits (Some File) i entries small = octets_fit 1 entries small (take_texts 1 entries) refl
+cap_fits (Some Store) i entries small = octets_fit 1 entries small (take_texts 1 entries) refl
 cap_fits (Some Join) i entries small = octets_fit i.b entries small (take_texts i.b entries) refl
 cap_fits (Some Set) i entries small = octets_fit 1 entries small (take_texts 1 entries) refl
-cap_fits (Some String) i entries small = go (take_lists i.b i.c entries) refl
+cap_fits (Some String) i entries small = go (take_lists i.b 0 i.c entries) refl
   where
-    go : (o : Option Lists) → take_lists i.b i.c entries ≡ o → Fits (option_map_or cap_of_comparing o one_charge)
+    go : (o : Option Lists) → take_lists i.b 0 i.c entries ≡ o → Fits (option_map_or cap_of_comparing o one_charge)
     go None h = one_fits
     go (Some lists) h =
-        let t = taken_lists i.b i.c entries lists small.short h in
+        let t = taken_lists i.b 0 i.c entries lists small.short h in
         (comparing_fits i.b i.c (one_more_each lists.names) (one_more_each lists.keys) (omega (arith, t.left, small.few)) t.names_total t.keys_total, lit≤ tt)
 cap_fits _ i entries small = one_fits
 

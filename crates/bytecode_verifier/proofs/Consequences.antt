@@ -1,29 +1,29 @@
 -- What acceptance says of the instruction at a place, for what is proved of runs.
-use Rattle.std.proofs.Common.{◌≡◌, ℕ, zero, suc, ◌+◌, ◌-◌, ◌<◌, Bool, true, false, not, ◌&&◌, ◌||◌, ◌==◌, nat_le, [], ◌∷◌, Option, Some, None, is_some, is_none, if◌then◌else◌, length, slice_get, refl, sym, ap, ◌∙◌, inl, inr, arith, leb-false}
-use Rattle.std.proofs.lemmas.Bool.{cases_lt}
+use Rattle.std.proofs.Common.{◌≡◌, ℕ, zero, suc, ◌+◌, ◌-◌, ◌<◌, ◌≤◌, ◌≢◌, nat_lt, Bool, true, false, not, ◌&&◌, ◌||◌, ◌==◌, nat_le, [], ◌∷◌, Option, Some, None, is_some, is_none, if◌then◌else◌, length, slice_get, refl, sym, ap, ◌∙◌, inl, inr, arith, leb-false, leb-true}
+use Rattle.std.proofs.lemmas.Bool.{cases_lt, eqb-true, eqb-false, ltb-true, ltb-false}
 use Rattle.std.proofs.lemmas.Option.{slice_get_within}
 use Rattle.std.proofs.lemmas.Map.Keys.{any_passes_from_place}
+use Rattle.octets.specs.Limits.{max_test_strings, max_loops}
 use Rattle.bytecode_format.specs.declared.instruction.Instruction.{Instruction}
-use Rattle.bytecode_format.specs.declared.operation.Operation.TheVariants.{Literal, Variable, Set, Size}
+use Rattle.bytecode_format.specs.declared.operation.Operation.TheVariants.{Literal, Variable, Set, Size, Header, Exists, PartSize, PartBody, PartDigest, Break}
 use Rattle.bytecode_format.specs.Operations.{operation_of}
 use Rattle.bytecode_format.specs.Code.{Code}
 use Rattle.bytecode_format.specs.declared.modifiers.Modifiers.{Modifiers}
 use Rattle.bytecode_format.specs.Modifiers.{modifiers_numbered}
-use Rattle.bytecode_verifier.specs.Loops.{same_loops}
+use Rattle.bytecode_verifier.specs.Loops.{open_loops, same_loops}
 use Rattle.std.specs.Option.{option_and_then}
 use Rattle.bytecode_format.specs.declared.operation.Operation.{Operation}
-use Rattle.bytecode_verifier.specs.Rows.{row_of, is_well_formed, is_jump}
+use Rattle.bytecode_verifier.specs.Rows.{row_of, scopes, selectors, is_match_number, match_in, scope_in, selector_in, keys_in, params_in, is_selection, selects_params, is_list, are_counts, is_well_formed, is_jump, needs_part}
 use Rattle.bytecode_verifier.specs.Shape.{Entries, is_empty, is_target, entries_after, shape_after, shape_at}
-use Rattle.bytecode_verifier.specs.Rules.{row_in, misses_index, is_halt}
+use Rattle.bytecode_verifier.specs.Rules.{row_in, misses_index, is_halt, breaks_form}
 use Rattle.bytecode_verifier.specs.Acceptance.{IsAccepted}
 use Rattle.bytecode_verifier.proofs.Tests.{same_place}
-use Rattle.bytecode_verifier.proofs.Loopless.{form_at}
 
-or_parts : (a b : Bool) → (a || b) ≡ false → (a ≡ false) × (b ≡ false)
+pub or_parts : (a b : Bool) → (a || b) ≡ false → (a ≡ false) × (b ≡ false)
 or_parts false b h = (refl, h)
 or_parts true b h = absurd (cc)
 
-not_false : (b : Bool) → not b ≡ false → b ≡ true
+pub not_false : (b : Bool) → not b ≡ false → b ≡ true
 not_false true h = refl
 not_false false h = absurd (cc)
 
@@ -50,6 +50,38 @@ some_modifiers (Some modifiers) h = (modifiers, refl)
 first_of_three : (a b c : Bool) → (a && b && c) ≡ true → a ≡ true
 first_of_three true b c h = refl
 first_of_three false b c h = absurd (cc)
+
+both : (a b : Bool) → (a && b) ≡ true → (a ≡ true) × (b ≡ true)
+both true b h = (refl, h)
+both false b h = absurd cc
+
+all_three : (a b c : Bool) → (a && b && c) ≡ true → (a ≡ true) × (b ≡ true) × (c ≡ true)
+all_three true true c h = (refl, refl, h)
+all_three true false c h = absurd cc
+all_three false b c h = absurd cc
+
+list_size : (n : ℕ) → is_list n ≡ true → (1 ≤ n) × (n ≤ max_test_strings)
+list_size n h = let parts = both (nat_le 1 n) (nat_le n max_test_strings) h in (leb-true 1 n parts.0, leb-true n max_test_strings parts.1)
+
+counts_of : (selected : Bool) (keys params : Bool) (none : Bool) → (keys && (if selected then params else none)) ≡ true → (keys ≡ true) × (selected ≡ true → params ≡ true) × (selected ≡ false → none ≡ true)
+counts_of true true params none h = (refl, λ s. h, λ s. absurd cc)
+counts_of true false params none h = absurd cc
+counts_of false true params none h = (refl, λ s. absurd cc, λ s. h)
+counts_of false false params none h = absurd cc
+
+-- what the fields of a test of fields say
+pub record IsFieldTest (i : Instruction) : Type 0 where
+  pub matching : is_match_number (match_in i.a) ≡ true
+  pub scope : scope_in i.a < scopes
+  pub selector : selector_in i.a < selectors
+  pub names : (1 ≤ i.b) × (i.b ≤ max_test_strings)
+  pub keys : (1 ≤ keys_in i.c) × (keys_in i.c ≤ max_test_strings)
+  pub params : selects_params i.a ≡ true → (1 ≤ params_in i.c) × (params_in i.c ≤ max_test_strings)
+  pub no_params : selects_params i.a ≡ false → params_in i.c ≡ 0
+
+-- the form of the instruction at a place, where the rule isn't broken there
+pub form_at : (code : Code) (place : ℕ) (i : Instruction) → breaks_form code place ≡ false → slice_get code.instructions place ≡ Some i → is_well_formed (row_in code i) i ≡ true
+form_at code place i h e = not_false _ (rw e at h)
 
 -- the entries that an operation leaves, if there is one
 abbrev pub left_by : Code → Option Operation → Instruction → Entries → Option Entries
@@ -83,6 +115,65 @@ module _ (code : Code) (is : IsAccepted code) where
     set_known set =
         let broken : misses_index code (row_in code i) i ≡ false = rw here at (is.index place) in
         leb-false code.variables i.c (ap (λ o. misses_index code (option_and_then (row_of code.version) o) i) (sym set) ∙ broken)
+
+    pub part_number_known : operation_of i.op ≡ Some PartSize → i.c < length code.numbers
+    part_number_known size =
+        let broken : misses_index code (row_in code i) i ≡ false = rw here at (is.index place) in
+        leb-false (length code.numbers) i.c (ap (λ o. misses_index code (option_and_then (row_of code.version) o) i) (sym size) ∙ broken)
+
+    formed_as : (operation : Operation) → operation_of i.op ≡ Some operation → is_well_formed (row_of code.version operation) i ≡ true
+    formed_as operation named = ap (λ o. is_well_formed (option_and_then (row_of code.version) o) i) (sym named) ∙ well_formed
+
+    -- the fields of a test of fields are in their ranges
+    pub header_known : operation_of i.op ≡ Some Header → IsFieldTest i
+    header_known header =
+        let parts = all_three (is_selection i.a) (is_list i.b) (are_counts i.a i.c) (formed_as Header header) in
+        let selection = all_three (is_match_number (match_in i.a)) (nat_lt (scope_in i.a) scopes) (nat_lt (selector_in i.a) selectors) parts.0 in
+        let counts = counts_of (selects_params i.a) (is_list (keys_in i.c)) (is_list (params_in i.c)) (params_in i.c == 0) parts.2 in
+        record {
+          matching = selection.0;
+          scope = ltb-true (scope_in i.a) scopes selection.1;
+          selector = ltb-true (selector_in i.a) selectors selection.2;
+          names = list_size i.b parts.1;
+          keys = list_size (keys_in i.c) counts.0;
+          params = λ selected. list_size (params_in i.c) (counts.1 selected);
+          no_params = λ other. eqb-true (params_in i.c) 0 (counts.2 other);
+        }
+
+    -- the scope of a test that fields exist, and how many names it has
+    pub exists_known : operation_of i.op ≡ Some Exists → (i.a < scopes) × (1 ≤ i.b) × (i.b ≤ max_test_strings)
+    exists_known exists =
+        let parts = all_three (nat_lt i.a scopes) (is_list i.b) (i.c == 0) (formed_as Exists exists) in
+        let names = list_size i.b parts.1 in
+        (ltb-true i.a scopes parts.0, names.0, names.1)
+
+    -- how the current part's size is compared
+    pub part_size_known : operation_of i.op ≡ Some PartSize → i.a < 2
+    part_size_known size = ltb-true i.a 2 (all_three (nat_lt i.a 2) (i.b == 0) true (formed_as PartSize size)).0
+
+    -- how the current part's content is matched, and with how many keys
+    pub part_body_known : operation_of i.op ≡ Some PartBody → (is_match_number i.a ≡ true) × (1 ≤ i.c) × (i.c ≤ max_test_strings)
+    part_body_known body =
+        let parts = all_three (is_match_number i.a) (i.b == 0) (is_list i.c) (formed_as PartBody body) in
+        let keys = list_size i.c parts.2 in
+        (parts.0, keys.0, keys.1)
+
+    -- with how many keys the current part's digest is compared
+    pub part_digest_known : operation_of i.op ≡ Some PartDigest → (1 ≤ i.c) × (i.c ≤ max_test_strings)
+    part_digest_known digest = list_size i.c (all_three (i.a == 0) (i.b == 0) (is_list i.c) (formed_as PartDigest digest)).2
+
+    -- an operation on the current part stands in a loop
+    pub part_known : needs_part (row_in code i) ≡ true → length (open_loops code place) ≢ 0
+    part_known needs =
+        let outside : (length (open_loops code place) == 0) ≡ false = rw (here, needs) at (is.no_part place) in
+        eqb-false (length (open_loops code place)) 0 outside
+
+    -- a Break is of one loop or more, and of no more than are open
+    pub break_known : operation_of i.op ≡ Some Break → (1 ≤ i.a) × (i.a ≤ length (open_loops code place))
+    break_known breaks =
+        let missed : nat_lt (length (open_loops code place)) i.a ≡ false = rw (here, breaks) at (is.loop place) in
+        let parts = all_three (nat_le 1 i.a && nat_le i.a max_loops) (i.b == 0) (i.c == 0) (formed_as Break breaks) in
+        (leb-true 1 i.a (both (nat_le 1 i.a) (nat_le i.a max_loops) parts.0).0, ltb-false (length (open_loops code place)) i.a missed)
 
     -- the number is that of modifiers
     pub modifiers_known : operation_of i.op ≡ Some Set → (modifiers : Modifiers) × (modifiers_numbered i.a ≡ Some modifiers)

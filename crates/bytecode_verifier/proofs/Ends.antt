@@ -1,9 +1,9 @@
 -- What holds at the end of the program.
-use Rattle.std.proofs.Common.{◌≡◌, ℕ, suc, ◌-◌, ◌<◌, ◌≤◌, Bool, false, not, ◌&&◌, List, [], Option, Some, None, is_some, is_none, length, slice_get, refl, sym, ap, ◌∙◌, inl, inr, ◌≢◌, get_or, take, length-take-le, arith}
+use Rattle.std.proofs.Common.{◌≡◌, ℕ, suc, ◌-◌, ◌<◌, ◌≤◌, Bool, false, not, ◌&&◌, List, Option, Some, None, is_some, is_none, length, slice_get, refl, sym, ap, ◌∙◌, inl, inr, ◌≢◌, get_or, take, length-take-le, arith}
 use Rattle.std.proofs.lemmas.Bool.{cases_lt, ne_eqb}
 use Rattle.std.proofs.lemmas.Option.{slice_get_past, slice_get-get_or}
 use Rattle.std.specs.Bool.{then_some}
-use Rattle.std.specs.Option.{option_or, option_map, option_map_or, option_and_then}
+use Rattle.std.specs.Option.{option_or, option_map, option_and_then}
 use Rattle.bytecode_format.specs.declared.instruction.Instruction.{Instruction}
 use Rattle.bytecode_format.specs.declared.operation.Operation.{Operation}
 use Rattle.bytecode_format.specs.Operations.{operation_of}
@@ -11,14 +11,12 @@ use Rattle.bytecode_format.specs.Code.{Code}
 use Rattle.bytecode_verifier.specs.declared.error.Refusal.TheVariants.{Index, Form, End, Loop, Jump, NoPart, Stack}
 use Rattle.bytecode_verifier.specs.declared.pass.Pass.{Pass}
 use Rattle.bytecode_verifier.specs.Places.{holds_at, least_below, least_place}
-use Rattle.bytecode_verifier.specs.Loops.{loops}
 use Rattle.bytecode_verifier.specs.Shape.{Entries, shape_at}
 use Rattle.bytecode_verifier.specs.Rules.{is_halt, breaks_index, breaks_form, breaks_end, breaks_loop, breaks_jump, breaks_no_part, breaks_stack}
 use Rattle.bytecode_verifier.specs.Acceptance.{refusal_of}
 use Rattle.bytecode_verifier.specs.Pass.{HasPassed}
 use Rattle.bytecode_verifier.proofs.Tests.{same_place}
 use Rattle.bytecode_verifier.proofs.Least.{least_none, least_of_none, least_at_end, or_none_right}
-use Rattle.bytecode_verifier.proofs.Loopless.{misses_no_loop, needs_no_part, form_at, no_loops}
 
 -- after the last instruction no test holds
 pub past_rule : (code : Code) (place : ℕ) (test : Instruction → Bool) → length code.instructions ≤ place → holds_at code place test ≡ false
@@ -39,14 +37,6 @@ beyond code place test h = past_rule code place test (omega arith)
 pub beyond_stack : (code : Code) (place : ℕ) → length code.instructions < place → breaks_stack code place ≡ false
 beyond_stack code place h = past_stack code place (omega arith)
 
-none_passes : (o : Option Instruction) (test : Instruction → Bool) → ((i : Instruction) → o ≡ Some i → test i ≡ false) → option_map_or test o false ≡ false
-none_passes None test h = refl
-none_passes (Some i) test h = h i refl
-
--- a rule that no instruction breaks
-pub nowhere : (code : Code) (place : ℕ) (test : Instruction → Bool) → ((i : Instruction) → slice_get code.instructions place ≡ Some i → test i ≡ false) → holds_at code place test ≡ false
-nowhere code place test h = none_passes (slice_get code.instructions place) test h
-
 -- a rule that isn't broken up to the end, nor after it, is broken nowhere
 pub anywhere : (test : ℕ → Bool) (code : Code) → least_place test code ≡ None → ((place : ℕ) → length code.instructions < place → test place ≡ false) → (place : ℕ) → test place ≡ false
 anywhere test code none past place =
@@ -55,40 +45,31 @@ anywhere test code none past place =
       | inr le ↦ past place (omega arith)
     ]
 
-chain : (i f e l j p s : Option ℕ) → i ≡ None → f ≡ None → e ≡ None → l ≡ None → p ≡ None
+chain : (i f e l j p s l2 j2 p2 s2 : Option ℕ) → i ≡ None → f ≡ None → e ≡ None → l ≡ l2 → j ≡ j2 → p ≡ p2 → s ≡ s2
     → option_or (option_map Index i) (option_or (option_map Form f) (option_or (option_map End e) (option_or (option_map Loop l) (option_or (option_map Jump j) (option_or (option_map NoPart p) (option_map Stack s))))))
-    ≡ option_or (option_map Jump j) (option_map Stack s)
-chain i f e l j p s hi hf he hl hp = rw (hi, hf, he, hl, hp) refl
-
--- where each instruction has its form
-pub forms : (code : Code) → least_place (breaks_form code) code ≡ None → (place : ℕ) → breaks_form code place ≡ false
-forms code none = anywhere (breaks_form code) code none (λ place past. beyond code place _ past)
-
-no_loop_broken : (code : Code) → ((place : ℕ) → breaks_form code place ≡ false) → (place : ℕ) → breaks_loop code place ≡ false
-no_loop_broken code form place = nowhere code place _ (λ i here. misses_no_loop code place (operation_of i.op) i (form_at code place i (form place) here))
-
-no_part_needed : (code : Code) → ((place : ℕ) → breaks_form code place ≡ false) → (place : ℕ) → breaks_no_part code place ≡ false
-no_part_needed code form place = nowhere code place _ (λ i here. rw (needs_no_part code.version (operation_of i.op)) refl)
+    ≡ option_or (option_map Loop l2) (option_or (option_map Jump j2) (option_or (option_map NoPart p2) (option_map Stack s2)))
+chain i f e l j p s l2 j2 p2 s2 hi hf he hl hj hp hs = rw (hi, hf, he, hl, hj, hp, hs) refl
 
 -- what the pass has found at the end
-module _ (code : Code) (pass : Pass) (passed : HasPassed code (length code.instructions) pass) (form : pass.form ≡ None) where
-  form_none : least_place (breaks_form code) code ≡ None
-  form_none = least_at_end (breaks_form code) code (past_rule code (length code.instructions) _ (omega arith)) ∙ sym passed.form ∙ form
+module _ (code : Code) (pass : Pass) (passed : HasPassed code (length code.instructions) pass) where
+  found : (test : ℕ → Bool) (place : Option ℕ) → test (length code.instructions) ≡ false → place ≡ least_below test (length code.instructions) → least_place test code ≡ place
+  found test place past is = least_at_end test code past ∙ sym is
 
-  pub no_loops_found : loops code ≡ []
-  no_loops_found = no_loops code (forms code form_none)
+  past : (test : Instruction → Bool) → holds_at code (length code.instructions) test ≡ false
+  past test = past_rule code (length code.instructions) test (omega arith)
 
   -- the refusal, where neither an index nor a form nor the end is refused
-  pub refusal_found : pass.index ≡ None → least_place (breaks_end code) code ≡ None → refusal_of code ≡ option_or (option_map Jump pass.jump) (option_map Stack pass.stack)
-  refusal_found index end =
-      let indexes : least_place (breaks_index code) code ≡ None = least_at_end (breaks_index code) code (past_rule code (length code.instructions) _ (omega arith)) ∙ sym passed.index ∙ index in
-      let loop : least_place (breaks_loop code) code ≡ None = least_of_none (breaks_loop code) (suc (length code.instructions)) (λ p lt. no_loop_broken code (forms code form_none) p) in
-      let part : least_place (breaks_no_part code) code ≡ None = least_of_none (breaks_no_part code) (suc (length code.instructions)) (λ p lt. no_part_needed code (forms code form_none) p) in
-      let jump : least_place (breaks_jump code) code ≡ pass.jump = least_at_end (breaks_jump code) code (past_rule code (length code.instructions) _ (omega arith)) ∙ sym (passed.jump no_loops_found) in
-      let stack : least_place (breaks_stack code) code ≡ pass.stack = least_at_end (breaks_stack code) code (past_stack code (length code.instructions) (omega arith)) ∙ sym passed.stack in
-      chain _ _ _ _ (least_place (breaks_jump code) code) _ (least_place (breaks_stack code) code) indexes form_none end loop part
-      ∙ ap (λ j. option_or (option_map Jump j) (option_map Stack (least_place (breaks_stack code) code))) jump
-      ∙ ap (λ s. option_or (option_map Jump pass.jump) (option_map Stack s)) stack
+  pub refusal_found : pass.form ≡ None → pass.index ≡ None → least_place (breaks_end code) code ≡ None
+      → refusal_of code ≡ option_or (option_map Loop pass.brackets) (option_or (option_map Jump pass.jump) (option_or (option_map NoPart pass.part) (option_map Stack pass.stack)))
+  refusal_found form index end =
+      chain _ _ _ _ _ _ _ pass.brackets pass.jump pass.part pass.stack
+      (found (breaks_index code) pass.index (past _) passed.index ∙ index)
+      (found (breaks_form code) pass.form (past _) passed.form ∙ form)
+      end
+      (found (breaks_loop code) pass.brackets (past _) passed.brackets)
+      (found (breaks_jump code) pass.jump (past _) passed.jump)
+      (found (breaks_no_part code) pass.part (past _) passed.part)
+      (found (breaks_stack code) pass.stack (past_stack code (length code.instructions) (omega arith)) passed.stack)
 
 -- the least number that passes a test which no number but one can pass
 single : (test : ℕ → Bool) (last n : ℕ) → n ≡ suc last → ((p : ℕ) → p ≢ last → test p ≡ false) → least_below test (suc n) ≡ then_some (test last) last

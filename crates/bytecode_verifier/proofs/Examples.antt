@@ -2,18 +2,20 @@
 use Rattle.std.proofs.Common.{◌≡◌, ℕ, Bool, List, [], ◌∷◌, Some, None, refl, true, false}
 use Rattle.bytecode_format.specs.declared.instruction.Instruction.{Instruction}
 use Rattle.bytecode_format.specs.declared.operation.Operation.{Operation}
-use Rattle.bytecode_format.specs.declared.operation.Operation.TheVariants.{Halt, Literal, Variable, Capture, Join, Set, Bool as BoolOp, Not, Jump as Goto, JumpIfTrue, JumpIfFalse, Header, Exists, String, Size, Keep, Discard, File, Store, Each, Next, Break}
+use Rattle.bytecode_format.specs.declared.operation.Operation.TheVariants.{Halt, Literal, Variable, Capture, Join, Set, Bool as BoolOp, Not, Jump as Goto, JumpIfTrue, JumpIfFalse, Header, Exists, String, Size, PartSize, PartBody, PartDigest, Keep, Discard, File, Store, Each, Next, Break}
 use Rattle.bytecode_format.specs.Operations.{octet_of}
 use Rattle.bytecode_format.specs.Code.{Code}
-use Rattle.bytecode_verifier.specs.declared.error.Refusal.TheVariants.{Index, Form, End, Jump, Stack}
+use Rattle.bytecode_verifier.specs.declared.error.Refusal.TheVariants.{Index, Form, End, Loop, Jump, NoPart, Stack}
 use Rattle.bytecode_verifier.specs.Acceptance.{refusal_of}
 use Rattle.bytecode_verifier.specs.Loops.{loops, open_loops, same_loops}
-use Rattle.bytecode_verifier.specs.Rules.{breaks_loop, breaks_jump}
 use Rattle.bytecode_verifier.specs.Budget.{budget_of}
 use Rattle.bytecode_verifier.specs.Rows.{row_named, is_well_formed}
 
 abbrev at : Operation → ℕ → ℕ → Instruction
 at operation a c = record { op = octet_of operation; a = a; b = 0; c = c }
+
+abbrev at_octet : ℕ → Instruction
+at_octet octet = record { op = octet; a = 0; b = 0; c = 0 }
 
 abbrev plain : Operation → Instruction
 plain operation = at operation 0 0
@@ -33,8 +35,8 @@ nothing = refl
 missing_entry : refusal_of (program [] (plain Not ∷ plain Halt ∷ [])) ≡ Some (Stack 0)
 missing_entry = refl
 
-operation_to_come : refusal_of (program [] (plain Store ∷ plain Halt ∷ [])) ≡ Some (Form 0)
-operation_to_come = refl
+no_operation : refusal_of (program [] (at_octet 0 ∷ plain Halt ∷ [])) ≡ Some (Form 0)
+no_operation = refl
 
 -- the jump leads between a value and what takes it
 jump_into_value : refusal_of (program [] (at BoolOp 1 0 ∷ at JumpIfFalse 0 3 ∷ at BoolOp 1 0 ∷ plain Not ∷ at JumpIfTrue 0 5 ∷ plain Halt ∷ [])) ≡ Some (Stack 3)
@@ -134,7 +136,7 @@ join_of_a_truth = refl
 string_budget : (budget_of (with_strings lengths (at Literal 0 0 ∷ at Literal 0 1 ∷ at Literal 0 2 ∷ at Literal 0 3 ∷ lists String 4 2 2 ∷ at JumpIfFalse 0 7 ∷ plain Discard ∷ plain Halt ∷ []))).fixed ≡ 68 ∷ 0 ∷ 0 ∷ 0 ∷ []
 string_budget = refl
 
--- of fields: lists of 1 to 512, ways to match, no scope but the message's
+-- of fields: lists of 1 to 512, ways to match, scopes and selectors
 abbrev formed : (i : Instruction) → Bool
 formed i = is_well_formed (row_named 1 i.op) i
 
@@ -159,11 +161,39 @@ no_fourth_way = refl
 no_fourth_way_of_octets : formed (lists Header 7 1 1) ≡ false
 no_fourth_way_of_octets = refl
 
-no_other_scope : formed (lists Header 8 1 1) ≡ false
-no_other_scope = refl
+last_scope : formed (lists Header 16 1 1) ≡ true
+last_scope = refl
 
-exists_in_no_other_scope : formed (lists Exists 1 1 0) ≡ false
-exists_in_no_other_scope = refl
+no_fourth_scope : formed (lists Header 24 1 1) ≡ false
+no_fourth_scope = refl
+
+exists_in_the_last_scope : formed (lists Exists 2 1 0) ≡ true
+exists_in_the_last_scope = refl
+
+exists_in_no_fourth_scope : formed (lists Exists 3 1 0) ≡ false
+exists_in_no_fourth_scope = refl
+
+-- the contenttype of fields, and their parameters
+no_parameters : formed (lists Header 96 1 1) ≡ true
+no_parameters = refl
+
+parameters_of_a_contenttype : formed (lists Header 96 1 0x10001) ≡ false
+parameters_of_a_contenttype = refl
+
+parameters_missing : formed (lists Header 128 1 1) ≡ false
+parameters_missing = refl
+
+one_parameter : formed (lists Header 128 1 0x10001) ≡ true
+one_parameter = refl
+
+most_parameters : formed (lists Header 150 512 0x2000200) ≡ true
+most_parameters = refl
+
+a_parameter_too_many : formed (lists Header 128 1 0x2010001) ≡ false
+a_parameter_too_many = refl
+
+no_sixth_selector : formed (lists Header 160 1 1) ≡ false
+no_sixth_selector = refl
 
 tenth_capture : formed (at Capture 10 0) ≡ false
 tenth_capture = refl
@@ -212,55 +242,129 @@ into_other_loop = refl
 within_one_loop : same_loops brackets 2 5 ≡ true
 within_one_loop = refl
 
--- ---- rules of operations that haven't come: such a program is refused for its form, so these can't be seen yet
-
 -- four loops in one another
 abbrev nested : Code
 nested = program [] (at Each 0 7 ∷ at Each 0 6 ∷ at Each 0 5 ∷ at Each 0 4 ∷ at Next 0 3 ∷ at Next 0 2 ∷ at Next 0 1 ∷ at Next 0 0 ∷ plain Halt ∷ [])
 
-third_loop : breaks_loop nested 2 ≡ false
-third_loop = refl
-
-fourth_loop : breaks_loop nested 3 ≡ true
+fourth_loop : refusal_of nested ≡ Some (Loop 3)
 fourth_loop = refl
+
+three_loops : refusal_of (program [] (at Each 0 5 ∷ at Each 0 4 ∷ at Each 0 3 ∷ at Next 0 2 ∷ at Next 0 1 ∷ at Next 0 0 ∷ plain Halt ∷ [])) ≡ None
+three_loops = refl
 
 -- a loop whose Each and Next name each other, with a Break in it
 abbrev one_loop : ℕ → ℕ → ℕ → Code
 one_loop next each broken = program [] (at Each 0 next ∷ at Break broken 0 ∷ at Next 0 each ∷ plain Halt ∷ [])
 
-a_loop : breaks_loop (one_loop 2 0 1) 0 ≡ false
+a_loop : refusal_of (one_loop 2 0 1) ≡ None
 a_loop = refl
 
-its_end : breaks_loop (one_loop 2 0 1) 2 ≡ false
-its_end = refl
-
-each_names_another_place : breaks_loop (one_loop 3 0 1) 0 ≡ true
+each_names_another_place : refusal_of (one_loop 3 0 1) ≡ Some (Loop 0)
 each_names_another_place = refl
 
-next_names_another_place : breaks_loop (one_loop 2 1 1) 2 ≡ true
+next_names_another_place : refusal_of (one_loop 2 1 1) ≡ Some (Loop 2)
 next_names_another_place = refl
 
-break_of_one_loop : breaks_loop (one_loop 2 0 1) 1 ≡ false
-break_of_one_loop = refl
-
-break_of_two_loops : breaks_loop (one_loop 2 0 2) 1 ≡ true
+break_of_two_loops : refusal_of (one_loop 2 0 2) ≡ Some (Loop 1)
 break_of_two_loops = refl
 
-break_outside : breaks_loop (program [] (at Break 1 0 ∷ plain Halt ∷ [])) 0 ≡ true
+break_of_none : refusal_of (one_loop 2 0 0) ≡ Some (Form 1)
+break_of_none = refl
+
+break_of_four : refusal_of (one_loop 2 0 4) ≡ Some (Form 1)
+break_of_four = refl
+
+break_outside : refusal_of (program [] (at Break 1 0 ∷ plain Halt ∷ [])) ≡ Some (Loop 0)
 break_outside = refl
 
-next_alone : breaks_loop (program [] (plain Next ∷ plain Halt ∷ [])) 0 ≡ true
+next_alone : refusal_of (program [] (plain Next ∷ plain Halt ∷ [])) ≡ Some (Loop 0)
 next_alone = refl
 
-each_alone : breaks_loop (program [] (plain Each ∷ plain Halt ∷ [])) 0 ≡ true
+each_alone : refusal_of (program [] (plain Each ∷ plain Halt ∷ [])) ≡ Some (Loop 0)
 each_alone = refl
 
--- into a loop, out of it, and within it
-jump_into_loop : breaks_jump (program [] (at Goto 0 2 ∷ at Each 0 3 ∷ plain Keep ∷ at Next 0 1 ∷ plain Halt ∷ [])) 0 ≡ true
+-- an Each that is never closed, and a Next of a loop before it
+first_unmatched : refusal_of (program [] (at Each 0 4 ∷ at Each 0 2 ∷ at Next 0 1 ∷ plain Keep ∷ plain Halt ∷ [])) ≡ Some (Loop 0)
+first_unmatched = refl
+
+-- into a loop, out of it, within it, and from one into another
+jump_into_loop : refusal_of (program [] (at Goto 0 2 ∷ at Each 0 3 ∷ plain Keep ∷ at Next 0 1 ∷ plain Halt ∷ [])) ≡ Some (Jump 0)
 jump_into_loop = refl
 
-jump_out_of_loop : breaks_jump (program [] (at Each 0 2 ∷ at Goto 0 3 ∷ at Next 0 0 ∷ plain Halt ∷ [])) 1 ≡ true
+jump_out_of_loop : refusal_of (program [] (at Each 0 2 ∷ at Goto 0 3 ∷ at Next 0 0 ∷ plain Halt ∷ [])) ≡ Some (Jump 1)
 jump_out_of_loop = refl
 
-jump_to_the_end_of_the_loop : breaks_jump (program [] (at Each 0 3 ∷ at Goto 0 3 ∷ plain Keep ∷ at Next 0 0 ∷ plain Halt ∷ [])) 1 ≡ false
+jump_to_the_end_of_the_loop : refusal_of (program [] (at Each 0 3 ∷ at Goto 0 3 ∷ plain Keep ∷ at Next 0 0 ∷ plain Halt ∷ [])) ≡ None
 jump_to_the_end_of_the_loop = refl
+
+jump_over_a_loop : refusal_of (program [] (at Goto 0 3 ∷ at Each 0 2 ∷ at Next 0 1 ∷ plain Halt ∷ [])) ≡ None
+jump_over_a_loop = refl
+
+jump_into_another_loop : refusal_of (program [] (at Each 0 2 ∷ at Goto 0 4 ∷ at Next 0 0 ∷ at Each 0 4 ∷ at Next 0 3 ∷ plain Halt ∷ [])) ≡ Some (Jump 1)
+jump_into_another_loop = refl
+
+-- operations on the current part, outside of a loop and in one
+part_size_outside : refusal_of (program (7 ∷ []) (plain PartSize ∷ at JumpIfFalse 0 2 ∷ plain Halt ∷ [])) ≡ Some (NoPart 0)
+part_size_outside = refl
+
+part_size_inside : refusal_of (program (7 ∷ []) (at Each 0 4 ∷ plain PartSize ∷ at JumpIfFalse 0 4 ∷ plain Discard ∷ at Next 0 0 ∷ plain Halt ∷ [])) ≡ None
+part_size_inside = refl
+
+part_size_of_no_number : refusal_of (program [] (at Each 0 4 ∷ plain PartSize ∷ at JumpIfFalse 0 4 ∷ plain Discard ∷ at Next 0 0 ∷ plain Halt ∷ [])) ≡ Some (Index 1)
+part_size_of_no_number = refl
+
+store_outside : refusal_of (with_strings ((7 ∷ []) ∷ []) (plain Literal ∷ plain Store ∷ plain Halt ∷ [])) ≡ Some (NoPart 1)
+store_outside = refl
+
+store_after_a_loop : refusal_of (with_strings ((7 ∷ []) ∷ []) (at Each 0 1 ∷ at Next 0 0 ∷ plain Literal ∷ plain Store ∷ plain Halt ∷ [])) ≡ Some (NoPart 3)
+store_after_a_loop = refl
+
+-- the other rules, with a loop in the program
+index_in_a_loop : refusal_of (with_strings [] (at Each 0 3 ∷ plain Literal ∷ plain Store ∷ at Next 0 0 ∷ plain Halt ∷ [])) ≡ Some (Index 1)
+index_in_a_loop = refl
+
+form_in_a_loop : refusal_of (program [] (at Each 0 2 ∷ at Keep 1 0 ∷ at Next 0 0 ∷ plain Halt ∷ [])) ≡ Some (Form 1)
+form_in_a_loop = refl
+
+ends_in_a_loop : refusal_of (program [] (at Each 0 1 ∷ at Next 0 0 ∷ [])) ≡ Some (End 1)
+ends_in_a_loop = refl
+
+value_left_at_a_loop : refusal_of (program [] (at BoolOp 1 0 ∷ at Each 0 2 ∷ at Next 0 1 ∷ plain Halt ∷ [])) ≡ Some (Stack 1)
+value_left_at_a_loop = refl
+
+value_left_in_a_loop : refusal_of (program [] (at Each 0 2 ∷ at BoolOp 1 0 ∷ at Next 0 0 ∷ plain Halt ∷ [])) ≡ Some (Stack 2)
+value_left_in_a_loop = refl
+
+value_left_at_a_break : refusal_of (program [] (at Each 0 3 ∷ at BoolOp 1 0 ∷ at Break 1 0 ∷ at Next 0 0 ∷ plain Halt ∷ [])) ≡ Some (Stack 2)
+value_left_at_a_break = refl
+
+-- an Each counts outside of its loop, a Next in it
+two_loops_budget : budget_of (program [] (at Each 0 4 ∷ at Each 0 3 ∷ plain Keep ∷ at Next 0 1 ∷ at Next 0 0 ∷ plain Halt ∷ [])) ≡ record { version = 1; fixed = 2 ∷ 2 ∷ 2 ∷ 0 ∷ []; scaled = 0 ∷ 0 ∷ 0 ∷ 0 ∷ [] }
+two_loops_budget = refl
+
+-- a part's content with keys of 1 and 2 octets, its digest with one of 7, and a folder of 3
+abbrev parts : List Instruction
+parts =
+    at Each 0 10 ∷ at Literal 0 2 ∷ at Literal 0 3 ∷ at PartBody 4 2 ∷ at JumpIfFalse 0 10 ∷ at Literal 0 0 ∷ at PartDigest 0 1 ∷ at JumpIfFalse 0 10
+    ∷ at Literal 0 1 ∷ plain Store ∷ at Next 0 0 ∷ plain Halt ∷ []
+
+parts_accepted : refusal_of (with_strings lengths parts) ≡ None
+parts_accepted = refl
+
+-- 1 and 65 times 8, 1 and 3, and one for each of the others
+parts_budget : budget_of (with_strings lengths parts) ≡ record { version = 1; fixed = 2 ∷ 533 ∷ 0 ∷ 0 ∷ []; scaled = 0 ∷ 5 ∷ 0 ∷ 0 ∷ [] }
+parts_budget = refl
+
+-- two parameters of a field of 3 octets, a key of 1: 4, and twice 2
+abbrev parameters : List Instruction
+parameters = at Literal 0 1 ∷ at Literal 0 0 ∷ at Literal 0 3 ∷ at Literal 0 2 ∷ lists Header 128 1 0x20001 ∷ at JumpIfFalse 0 6 ∷ plain Halt ∷ []
+
+parameters_accepted : refusal_of (with_strings lengths parameters) ≡ None
+parameters_accepted = refl
+
+parameters_budget : (budget_of (with_strings lengths parameters)).scaled ≡ 8 ∷ 0 ∷ 0 ∷ 0 ∷ []
+parameters_budget = refl
+
+-- a parameter is missing on the stack
+parameter_missing : refusal_of (with_strings lengths (at Literal 0 1 ∷ at Literal 0 3 ∷ at Literal 0 2 ∷ lists Header 128 1 0x20001 ∷ at JumpIfFalse 0 5 ∷ plain Halt ∷ [])) ≡ Some (Stack 3)
+parameter_missing = refl

@@ -1,6 +1,5 @@
 pub mod Tests
 pub mod Least
-pub mod Loopless
 pub mod Steps
 pub mod Taking
 pub mod Short
@@ -10,3 +9,9 @@ pub mod Accepted
 pub mod Consequences
 pub mod Examples
 pub mod Budgets
+pub mod Closing
+pub mod Nests
+pub mod Open
+pub mod Around
+pub mod LoopRules
+pub mod Nesting

@@ -7,12 +7,13 @@ use Rattle.std.specs.Option.{option_and_then, option_map, option_map_or}
 use Rattle.octets.specs.Limits.{max_string, max_stack, max_value}
 use Rattle.bytecode_format.specs.declared.instruction.Instruction.{Instruction}
 use Rattle.bytecode_format.specs.declared.operation.Operation.{Operation}
-use Rattle.bytecode_format.specs.declared.operation.Operation.TheVariants.{Halt, Literal, Variable, Capture, Join, Set, Bool as BoolOp, Not, Jump, JumpIfTrue, JumpIfFalse, Header, Exists, String, Size, Keep, Discard, File}
+use Rattle.bytecode_format.specs.declared.operation.Operation.TheVariants.{Halt, Literal, Variable, Capture, Join, Set, Bool as BoolOp, Not, Jump, JumpIfTrue, JumpIfFalse, Header, Exists, String, Size, PartSize, PartBody, PartDigest, Keep, Discard, File, Store, Each, Next, Break}
 use Rattle.bytecode_format.specs.Operations.{operation_of}
 use Rattle.bytecode_format.specs.Code.{Code}
 use Rattle.bytecode_format.specs.Spelling.{IsProgram}
 use Rattle.bytecode_verifier.specs.declared.shape.Entry.{Entry}
 use Rattle.bytecode_verifier.specs.declared.shape.Entry.TheVariants.{Truth, Text}
+use Rattle.bytecode_verifier.specs.Rows.{keys_in, params_in}
 use Rattle.bytecode_verifier.specs.Shape.{Entries, Texts, Lists, with_entry, is_empty, has_truth, without_truth, take_texts, take_lists, with_string, with_joined, entries_after, shape_after, is_target, shape_at}
 use Rattle.bytecode_verifier.specs.Pass.{AreShort, IsSmall}
 use Rattle.bytecode_verifier.proofs.Taking.{taken, taken_lists}
@@ -58,6 +59,26 @@ taken_one entries after small e = go (take_texts 1 entries) refl e
         let few = small.few in
         subst IsSmall same (record { few = omega (arith, t.left); short = t.short })
 
+-- there were no entries
+cleared : (b : Bool) (after : Entries) → cond b (Some []) None ≡ Some after → IsSmall after
+cleared true after e = let same : [] ≡ after = cc in subst IsSmall same none
+cleared false after e = absurd cc
+
+-- a test takes texts
+tested : (number : ℕ) (entries after : Entries) → IsSmall entries → option_and_then (λ (texts : Texts). with_entry Truth texts.rest) (take_texts number entries) ≡ Some after → IsSmall after
+tested number entries after small e = go (take_texts number entries) refl e
+  where
+    go : (o : Option Texts) → take_texts number entries ≡ o → option_and_then (λ (texts : Texts). with_entry Truth texts.rest) o ≡ Some after → IsSmall after
+    go None h f = absurd cc
+    go (Some texts) h f = pushed Truth texts.rest after (taken number entries texts small.short h).short f
+
+tested_lists : (names params keys : ℕ) (entries after : Entries) → IsSmall entries → option_and_then (λ (lists : Lists). with_entry Truth lists.rest) (take_lists names params keys entries) ≡ Some after → IsSmall after
+tested_lists names params keys entries after small e = go (take_lists names params keys entries) refl e
+  where
+    go : (o : Option Lists) → take_lists names params keys entries ≡ o → option_and_then (λ (lists : Lists). with_entry Truth lists.rest) o ≡ Some after → IsSmall after
+    go None h f = absurd cc
+    go (Some lists) h f = pushed Truth lists.rest after (taken_lists names params keys entries lists small.short h).short f
+
 module _ (code : Code) (fits : IsProgram code) where
   lent : (k : ℕ) (o : Option (List ℕ)) (entries after : Entries) → slice_get code.strings k ≡ o → IsSmall entries → with_string o entries ≡ Some after → IsSmall after
   lent k None entries after here small e = absurd cc
@@ -67,36 +88,22 @@ module _ (code : Code) (fits : IsProgram code) where
   -- the entries that are left are short again
   small_after : (o : Operation) (i : Instruction) (entries after : Entries) → IsSmall entries → entries_after code o i entries ≡ Some after → IsSmall after
   small_after Halt i entries after small e = cleared (is_empty entries) after e
-    where
-      cleared : (b : Bool) (after : Entries) → cond b (Some []) None ≡ Some after → IsSmall after
-      cleared true after e = let same : [] ≡ after = cc in subst IsSmall same none
-      cleared false after e = absurd cc
   small_after Jump i entries after small e = cleared (is_empty entries) after e
-    where
-      cleared : (b : Bool) (after : Entries) → cond b (Some []) None ≡ Some after → IsSmall after
-      cleared true after e = let same : [] ≡ after = cc in subst IsSmall same none
-      cleared false after e = absurd cc
+  small_after Each i entries after small e = cleared (is_empty entries) after e
+  small_after Next i entries after small e = cleared (is_empty entries) after e
+  small_after Break i entries after small e = cleared (is_empty entries) after e
   small_after Literal i entries after small e = lent i.c (slice_get code.strings i.c) entries after refl small e
   small_after BoolOp i entries after small e = pushed Truth entries after small.short e
   small_after Size i entries after small e = pushed Truth entries after small.short e
+  small_after PartSize i entries after small e = pushed Truth entries after small.short e
   small_after Not i entries after small e = guarded (has_truth entries) entries after small e
   small_after JumpIfTrue i entries after small e = emptied entries after e
   small_after JumpIfFalse i entries after small e = emptied entries after e
-  small_after Header i entries after small e = go (take_lists i.b i.c entries) refl e
-    where
-      go : (o : Option Lists) → take_lists i.b i.c entries ≡ o → option_and_then (λ (lists : Lists). with_entry Truth lists.rest) o ≡ Some after → IsSmall after
-      go None h f = absurd cc
-      go (Some lists) h f = pushed Truth lists.rest after (taken_lists i.b i.c entries lists small.short h).short f
-  small_after Exists i entries after small e = go (take_texts i.b entries) refl e
-    where
-      go : (o : Option Texts) → take_texts i.b entries ≡ o → option_and_then (λ (names : Texts). with_entry Truth names.rest) o ≡ Some after → IsSmall after
-      go None h f = absurd cc
-      go (Some names) h f = pushed Truth names.rest after (taken i.b entries names small.short h).short f
-  small_after String i entries after small e = go (take_lists i.b i.c entries) refl e
-    where
-      go : (o : Option Lists) → take_lists i.b i.c entries ≡ o → option_and_then (λ (lists : Lists). with_entry Truth lists.rest) o ≡ Some after → IsSmall after
-      go None h f = absurd cc
-      go (Some lists) h f = pushed Truth lists.rest after (taken_lists i.b i.c entries lists small.short h).short f
+  small_after Header i entries after small e = tested_lists i.b (params_in i.c) (keys_in i.c) entries after small e
+  small_after String i entries after small e = tested_lists i.b 0 i.c entries after small e
+  small_after Exists i entries after small e = tested i.b entries after small e
+  small_after PartBody i entries after small e = tested i.c entries after small e
+  small_after PartDigest i entries after small e = tested i.c entries after small e
   small_after Variable i entries after small e = pushed (Text max_value) entries after (lit≤ tt, small.short) e
   small_after Capture i entries after small e = pushed (Text max_value) entries after (lit≤ tt, small.short) e
   small_after Join i entries after small e = go (take_texts i.b entries) refl e
@@ -106,9 +113,9 @@ module _ (code : Code) (fits : IsProgram code) where
       go (Some parts) h f = pushed (Text (min (sum parts.bounds) max_string)) parts.rest after (omega arith, (taken i.b entries parts small.short h).short) f
   small_after Set i entries after small e = taken_one entries after small e
   small_after File i entries after small e = taken_one entries after small e
+  small_after Store i entries after small e = taken_one entries after small e
   small_after Keep i entries after small e = let same : entries ≡ after = cc in subst IsSmall same small
   small_after Discard i entries after small e = let same : entries ≡ after = cc in subst IsSmall same small
-  small_after _ i entries after small e = absurd cc
 
   -- the entries of the shape at a place
   pub shape_small : (place : ℕ) (entries : Entries) → shape_at code place ≡ Some entries → IsSmall entries

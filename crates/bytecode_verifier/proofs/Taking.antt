@@ -4,7 +4,7 @@ use Rattle.std.proofs.lemmas.List.Sums.{sum_by-cons}
 use Rattle.std.specs.Bool.{then_some}
 use Rattle.std.specs.Option.{option_and_then, option_map, option_map_or}
 use Rattle.bytecode_verifier.specs.declared.shape.Entry.TheVariants.{Truth, Text}
-use Rattle.bytecode_verifier.specs.Shape.{Entries, Texts, Lists, with_entry, with_text, with_keys, with_joined, take_texts, take_lists}
+use Rattle.bytecode_verifier.specs.Shape.{Entries, Texts, Lists, with_entry, with_text, with_params_and_keys, with_joined, take_texts, take_below, take_lists}
 use Rattle.bytecode_verifier.specs.Budget.{one_more_each, one_charge, cap_of_octets}
 use Rattle.bytecode_verifier.specs.Pass.{AreShort, Passes, Takes}
 
@@ -118,34 +118,43 @@ taken (suc n) (Text bound ∷ entries) texts short e = go (take_texts n entries)
           total = omega (arith, sums, before.total, short.0);
         })
 
--- two lists that were taken from short entries
-pub record TakenLists (names keys : ℕ) (entries : Entries) (lists : Lists) : Type 0 where
+-- three lists that were taken from short entries
+pub record TakenLists (names params keys : ℕ) (entries : Entries) (lists : Lists) : Type 0 where
   pub names_are : length lists.names ≡ names
+  pub params_are : length lists.params ≡ params
   pub keys_are : length lists.keys ≡ keys
-  pub left : keys + names + length lists.rest ≡ length entries
+  pub left : keys + params + names + length lists.rest ≡ length entries
   pub short : AreShort lists.rest
   pub names_total : one_more_each lists.names ≤ names * 16385
   pub keys_total : one_more_each lists.keys ≤ keys * 16385
 
-pub taken_lists : (names keys : ℕ) (entries : Entries) (lists : Lists) → AreShort entries → take_lists names keys entries ≡ Some lists → TakenLists names keys entries lists
-taken_lists names keys entries lists short e = go (take_texts keys entries) refl e
+pub taken_lists : (names params keys : ℕ) (entries : Entries) (lists : Lists) → AreShort entries → take_lists names params keys entries ≡ Some lists → TakenLists names params keys entries lists
+taken_lists names params keys entries lists short e = go (take_texts keys entries) refl e
   where
-    both : (above below : Texts) → Taken keys entries above → Taken names above.rest below → with_keys above.bounds below ≡ lists → TakenLists names keys entries lists
-    both above below k n same =
-        subst (TakenLists names keys entries) same
+    all : (above between below : Texts) → Taken keys entries above → Taken params above.rest between → Taken names between.rest below → with_params_and_keys between.bounds above.bounds below ≡ lists
+        → TakenLists names params keys entries lists
+    all above between below k p n same =
+        subst (TakenLists names params keys entries) same
         (record {
           names_are = n.number_is;
+          params_are = p.number_is;
           keys_are = k.number_is;
-          left = omega (arith, n.left, k.left);
+          left = omega (arith, n.left, p.left, k.left);
           short = n.short;
           names_total = n.total;
           keys_total = k.total;
         })
 
-    then_names : (above : Texts) → Taken keys entries above → (o : Option Texts) → take_texts names above.rest ≡ o → option_map (with_keys above.bounds) o ≡ Some lists → TakenLists names keys entries lists
-    then_names above k None h f = absurd cc
-    then_names above k (Some below) h f = both above below k (taken names above.rest below k.short h) cc
+    then_names : (above between : Texts) → Taken keys entries above → Taken params above.rest between → (o : Option Texts) → take_texts names between.rest ≡ o
+        → option_map (with_params_and_keys between.bounds above.bounds) o ≡ Some lists → TakenLists names params keys entries lists
+    then_names above between k p None h f = absurd cc
+    then_names above between k p (Some below) h f = all above between below k p (taken names between.rest below p.short h) cc
 
-    go : (o : Option Texts) → take_texts keys entries ≡ o → option_and_then (λ (above : Texts). option_map (with_keys above.bounds) (take_texts names above.rest)) o ≡ Some lists → TakenLists names keys entries lists
+    then_params : (above : Texts) → Taken keys entries above → (o : Option Texts) → take_texts params above.rest ≡ o
+        → option_and_then (λ (between : Texts). option_map (with_params_and_keys between.bounds above.bounds) (take_texts names between.rest)) o ≡ Some lists → TakenLists names params keys entries lists
+    then_params above k None h f = absurd cc
+    then_params above k (Some between) h f = then_names above between k (taken params above.rest between k.short h) (take_texts names between.rest) refl f
+
+    go : (o : Option Texts) → take_texts keys entries ≡ o → option_and_then (take_below names params) o ≡ Some lists → TakenLists names params keys entries lists
     go None h f = absurd cc
-    go (Some above) h f = then_names above (taken keys entries above short h) (take_texts names above.rest) refl f
+    go (Some above) h f = then_params above (taken keys entries above short h) (take_texts params above.rest) refl f

@@ -6,4 +6,5 @@ pub mod Rules
 pub mod Acceptance
 pub mod Budget
 -- how the verifier goes; nothing public rests on it
+pub mod Nests
 pub mod Pass

@@ -1,14 +1,14 @@
 -- What the verifier knows when it has passed the instructions below a place.
-use Rattle.std.specs.Prelude.{◌≡◌, ℕ, ◌*◌, ◌^◌, ◌-◌, ◌≤◌, ◌==◌, length, List, [], ◌∷◌, Option, Some, None, if◌then◌else◌, is_none, slice_index}
-use Rattle.octets.specs.Limits.{max_stack, max_string}
+use Rattle.std.specs.Prelude.{◌≡◌, ℕ, ◌*◌, ◌^◌, ◌-◌, ◌≤◌, ◌==◌, length, List, [], ◌∷◌, Option, Some, None, if◌then◌else◌, is_none, nat_le, slice_index}
+use Rattle.octets.specs.Limits.{max_stack, max_string, max_loops}
 use Rattle.bytecode_format.specs.Code.{Code}
 use Rattle.bytecode_verifier.specs.declared.pass.Pass.{Pass}
-use Rattle.bytecode_cost.specs.Sums.{Sums}
+use Rattle.bytecode_cost.specs.Sums.{Sums, with_cap}
 use Rattle.bytecode_verifier.specs.Places.{least_below, sum_below}
-use Rattle.bytecode_verifier.specs.Loops.{loops, open_loops}
+use Rattle.bytecode_verifier.specs.Loops.{open_loops}
 use Rattle.bytecode_verifier.specs.declared.shape.Entry.TheVariants.{Truth, Text}
 use Rattle.bytecode_verifier.specs.Shape.{Entries, Texts, Lists, shape_at}
-use Rattle.bytecode_verifier.specs.Rules.{breaks_index, breaks_form, breaks_jump, breaks_stack}
+use Rattle.bytecode_verifier.specs.Rules.{breaks_index, breaks_form, breaks_loop, breaks_jump, breaks_no_part, breaks_stack}
 use Rattle.bytecode_verifier.specs.declared.cap.Cap.{Cap}
 use Rattle.bytecode_verifier.specs.Budget.{one_more_each, cap_at}
 
@@ -33,12 +33,12 @@ Takes number None now None = Unit {0}
 Takes number (Some total) now (Some texts) = (total ≡ one_more_each texts.bounds) × (length texts.bounds ≡ number) × (now ≡ texts.rest)
 Takes number _ now _ = ⊥
 
--- the same of two lists, of which the first has so many
-abbrev pub TakesBoth : ℕ → Option (ℕ × ℕ) → Entries → Option Lists → Type 0
-TakesBoth number None now None = Unit {0}
-TakesBoth number (Some totals) now (Some lists) =
-    (totals.0 ≡ one_more_each lists.names) × (totals.1 ≡ one_more_each lists.keys) × (length lists.names ≡ number) × (now ≡ lists.rest)
-TakesBoth number _ now _ = ⊥
+-- the same of names and of keys, with as many names and parameters as are wanted
+abbrev pub TakesLists : ℕ → ℕ → Option (ℕ × ℕ) → Entries → Option Lists → Type 0
+TakesLists names params None now None = Unit {0}
+TakesLists names params (Some totals) now (Some lists) =
+    (totals.0 ≡ one_more_each lists.names) × (totals.1 ≡ one_more_each lists.keys) × (length lists.names ≡ names) × (length lists.params ≡ params) × (now ≡ lists.rest)
+TakesLists names params _ now _ = ⊥
 
 -- the shape goes on to these entries with this cap, or it fails
 abbrev pub Passes : Option Cap → Entries → Cap → Option Entries → Type 0
@@ -61,16 +61,20 @@ abbrev pub budget_below : Code → ℕ → Sums
 budget_below code bound =
     record { version = code.version; fixed = sums_below (λ cap. cap.fixed) code bound; scaled = sums_below (λ cap. cap.scaled) code bound }
 
+-- the sums with the cap of an instruction inside so many loops, where there may be so many
+abbrev pub with_charge : ℕ → Cap → Sums → Sums
+with_charge depth cap sums = if nat_le depth max_loops then with_cap sums depth cap.fixed cap.scaled else sums
+
 -- the pass has taken the instructions below the place
 pub record HasPassed (code : Code) (place : ℕ) (pass : Pass) : Type 0 where
   pub index : pass.index ≡ least_below (breaks_index code) place
   pub form : pass.form ≡ least_below (breaks_form code) place
-  -- no operation opens a loop, so the places have the same open loops
-  pub jump : loops code ≡ [] → pass.jump ≡ least_below (breaks_jump code) place
+  pub brackets : pass.brackets ≡ least_below (breaks_loop code) place
+  pub jump : pass.jump ≡ least_below (breaks_jump code) place
+  pub part : pass.part ≡ least_below (breaks_no_part code) place
   pub stack : pass.stack ≡ least_below (breaks_stack code) place
   pub shape : shape_at code place ≡ unless_failed pass.stack pass.shape
-  -- and none stands inside one
-  pub budget : loops code ≡ [] → pass.stack ≡ None → pass.budget ≡ budget_below code place
-  -- each instruction adds at most so much to the sums of those outside all loops
-  pub fixed : slice_index pass.budget.fixed 0 ≤ place * max_cap
-  pub scaled : slice_index pass.budget.scaled 0 ≤ place * max_cap
+  pub budget : pass.stack ≡ None → pass.budget ≡ budget_below code place
+  -- each instruction adds at most so much to a sum
+  pub fixed : (k : ℕ) → slice_index pass.budget.fixed k ≤ place * max_cap
+  pub scaled : (k : ℕ) → slice_index pass.budget.scaled k ≤ place * max_cap

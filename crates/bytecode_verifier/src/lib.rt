@@ -8,7 +8,10 @@
 mod cap;
 mod error;
 pub mod laws;
+mod loop_rules;
+mod nest;
 mod pass;
+mod places;
 mod row;
 mod rules;
 mod shape;

@@ -1,14 +1,18 @@
 // One pass over the instructions.
-ghost use Rattle.std.specs.Prelude.{◌≡◌, ◌+◌, ◌<◌, Some, None, IfOk, OnOk, slice_get};
+ghost use Rattle.std.specs.Prelude.{◌≡◌, ◌+◌, ◌^◌, ◌<◌, ◌≤◌, Some, None, IfOk, OnOk, slice_get, slice_index};
 ghost use Rattle.std.specs.Bool.{then_some};
 ghost use Rattle.std.specs.Option.{option_or, option_and_then};
-ghost use Rattle.octets.specs.Limits.{max_instructions};
+ghost use Rattle.octets.specs.Limits.{max_instructions, max_loops};
 ghost use Rattle.bytecode_verifier.specs.Shape.{shape_after, is_target};
 ghost use Rattle.bytecode_verifier.specs.Budget.{cap_of};
-ghost use Rattle.bytecode_verifier.specs.Pass.{HasPassed, IsSmall, Passes, unless_failed};
+ghost use Rattle.bytecode_verifier.specs.Nests.{AreNests};
+ghost use Rattle.bytecode_verifier.specs.Pass.{HasPassed, IsSmall, Passes, unless_failed, with_charge};
 
 use crate::cap::{Cap, ONE_CHARGE};
-use crate::rules::{is_well_formed, misses_index, misses_target, row_named};
+use crate::loop_rules::{depth_at, misses_loop, misses_part, misses_target};
+use crate::nest::Nest;
+use crate::row::MAX_LOOPS;
+use crate::rules::{is_well_formed, misses_index, row_named};
 use crate::shape::Shape;
 use bytecode_cost::Budget;
 use bytecode_format::{Instruction, Operation, Program};
@@ -20,7 +24,9 @@ use std::alloc::{AllocError, Global};
 pub struct Pass {
     pub index: Option<usize>,
     pub form: Option<usize>,
+    pub brackets: Option<usize>,
     pub jump: Option<usize>,
+    pub part: Option<usize>,
     pub stack: Option<usize>,
     pub shape: Shape,
     pub budget: Budget,
@@ -34,7 +40,9 @@ impl Pass {
         Pass {
             index: None,
             form: None,
+            brackets: None,
             jump: None,
+            part: None,
             stack: None,
             shape: Shape::new(alloc),
             budget: Budget::new(program.version()),
@@ -45,19 +53,20 @@ impl Pass {
     pub fn take(
         &mut self,
         program: &Program,
+        nests: &[Nest],
         place: usize,
         instruction: &Instruction,
         targeted: bool,
     ) -> Result<(), AllocError>
         requires small { place < max_instructions }
         requires here { slice_get program.now.instructions place ≡ Some instruction.now }
+        requires nests { AreNests program.now.instructions nests.now }
         requires target { targeted ≡ is_target program.now.version program.now.instructions place }
         requires before { HasPassed program.now place self.old }
         ensures { OnOk result (HasPassed program.now (place + 1) self.new) }
     {
         let operation = Operation::of(instruction.op);
         let row = row_named(program.version(), instruction.op);
-        let count = program.instructions().len();
         let passed = advance(
             self.stack,
             &mut self.shape,
@@ -69,15 +78,26 @@ impl Pass {
         self.stack = first(self.stack, passed.is_none(), place);
         self.index = first(self.index, misses_index(program, row, instruction), place);
         self.form = first(self.form, !is_well_formed(row, instruction), place);
-        self.jump = first(
-            self.jump,
-            misses_target(count, place, row, instruction),
-            place,
-        );
-        // Outside all loops; of a program whose shape fails the budget is of no account.
+        let astray = misses_loop(nests, place, operation, instruction);
+        self.brackets = first(self.brackets, astray, place);
+        let leaves = misses_target(nests, place, row, instruction);
+        self.jump = first(self.jump, leaves, place);
+        self.part = first(self.part, misses_part(nests, place, row), place);
+        // Of a program whose shape fails the budget is of no account.
         let cap = passed.unwrap_or(ONE_CHARGE);
-        self.budget.add(0, cap.fixed as u128, cap.scaled as u128);
+        charge(&mut self.budget, depth_at(nests, place), cap);
         Ok(())
+    }
+}
+
+// Adds the cap of an instruction inside so many loops; with more than there may be it counts nowhere.
+fn charge(budget: &mut Budget, depth: u32, cap: Cap)
+    requires fixed { depth ≤ max_loops → slice_index budget.old.fixed depth + cap.fixed < 2 ^ 63 }
+    requires scaled { depth ≤ max_loops → slice_index budget.old.scaled depth + cap.scaled < 2 ^ 63 }
+    ensures { budget.new ≡ with_charge depth cap budget.old }
+{
+    if depth <= MAX_LOOPS {
+        budget.add(depth as usize, cap.fixed as u128, cap.scaled as u128);
     }
 }
 

@@ -13,6 +13,21 @@ const MAX_SEGMENTS: u32 = 256;
 /// How many captures there are.
 const CAPTURES: u32 = 10;
 
+/// How many scopes there are.
+const SCOPES: u32 = 3;
+
+/// How many selectors there are.
+const SELECTORS: u32 = 5;
+
+/// The selector of parameters.
+const PARAMS: u32 = 4;
+
+/// What a parameter counts in the number of keys and parameters.
+const PARAMS_UNIT: u32 = 65_536;
+
+/// The most loops that are open at a place.
+pub const MAX_LOOPS: u32 = 3;
+
 /// Which values a field of an instruction takes.
 #[derive(Clone, Copy, Debug, PartialEq, Eq)]
 pub enum Range {
@@ -76,6 +91,20 @@ const JUMP: Row = Row {
     ..PLAIN
 };
 
+/// A size compared with a number.
+const SIZE: Row = Row {
+    a: Range::Below(2),
+    c: Range::Any,
+    index: Some(Table::Numbers),
+    ..PLAIN
+};
+
+/// An operation on the current part that names no field.
+const PART: Row = Row {
+    needs_part: true,
+    ..PLAIN
+};
+
 /// How many strings a list of a test has.
 const LIST: Range = Range::Between(1, MAX_TEST_STRINGS);
 
@@ -115,45 +144,129 @@ pub fn row_of(_version: u8, operation: Operation) -> Option<Row>
             ..PLAIN
         }),
         Operation::Jump | Operation::JumpIfTrue | Operation::JumpIfFalse => Some(JUMP),
-        Operation::Size => Some(Row {
-            a: Range::Below(2),
-            c: Range::Any,
-            index: Some(Table::Numbers),
+        Operation::Size => Some(SIZE),
+        Operation::Header => Some(Row {
+            a: Range::Selection,
+            b: LIST,
+            c: Range::Counts,
             ..PLAIN
         }),
-        Operation::Header | Operation::String => Some(Row {
+        Operation::Exists => Some(Row {
+            a: Range::Below(SCOPES),
+            b: LIST,
+            ..PLAIN
+        }),
+        Operation::String => Some(Row {
             a: Range::Match,
             b: LIST,
             c: LIST,
             ..PLAIN
         }),
-        Operation::Exists => Some(Row {
-            a: Range::Below(1),
-            b: LIST,
+        Operation::PartSize => Some(Row {
+            needs_part: true,
+            ..SIZE
+        }),
+        Operation::PartBody => Some(Row {
+            a: Range::Match,
+            c: LIST,
+            ..PART
+        }),
+        Operation::PartDigest => Some(Row { c: LIST, ..PART }),
+        Operation::Store => Some(PART),
+        Operation::Each | Operation::Next => Some(Row {
+            c: Range::Any,
             ..PLAIN
         }),
-        Operation::PartSize
-        | Operation::PartBody
-        | Operation::PartDigest
-        | Operation::Store
-        | Operation::Each
-        | Operation::Next
-        | Operation::Break => None,
+        Operation::Break => Some(Row {
+            a: Range::Between(1, MAX_LOOPS),
+            ..PLAIN
+        }),
     }
 }
 
 impl Range {
-    /// Whether the field takes the value.
-    pub fn takes(self, value: u32) -> bool
-        ensures { result ≡ Rows.takes self value }
+    /// Whether the field of an instruction that has `a` takes the value.
+    pub fn takes(self, a: u8, value: u32) -> bool
+        ensures { result ≡ Rows.takes a self value }
     {
         match self {
             Range::Unnamed => value == 0,
             Range::Below(bound) => value < bound,
             Range::Between(least, most) => least <= value && value <= most,
-            Range::Match => value < 8 && value % 4 < 3,
+            Range::Match => is_match_number(value),
+            Range::Selection => is_selection(value),
+            Range::Counts => are_counts(a, value),
             Range::Modifiers => value < 256 && Modifiers::of(value as u8).is_some(),
             Range::Any => true,
         }
     }
+}
+
+// Whether the number says how values are matched with keys.
+fn is_match_number(value: u32) -> bool
+    ensures { result ≡ Rows.is_match_number value }
+{
+    value < 8 && value % 4 < 3
+}
+
+// Whether the number says how values are matched, in which scope, and which are selected.
+fn is_selection(value: u32) -> bool
+    ensures { result ≡ Rows.is_selection value }
+{
+    is_match_number(match_in(value)) && scope_in(value) < SCOPES && selector_in(value) < SELECTORS
+}
+
+// How values are matched, of what a says of a test of fields.
+fn match_in(a: u32) -> u32
+    ensures { result ≡ Rows.match_in a }
+{
+    a % 8
+}
+
+// In which scope.
+fn scope_in(a: u32) -> u32
+    ensures { result ≡ Rows.scope_in a }
+{
+    a / 8 % 4
+}
+
+// By which selector.
+fn selector_in(a: u32) -> u32
+    ensures { result ≡ Rows.selector_in a }
+{
+    a / 32
+}
+
+// Whether there are keys, and parameters exactly where `a` has their selector.
+fn are_counts(a: u8, value: u32) -> bool
+    ensures { result ≡ Rows.are_counts a value }
+{
+    let params = params_in(value);
+    let fine = if selector_in(u32::from(a)) == PARAMS {
+        is_list(params)
+    } else {
+        params == 0
+    };
+    is_list(keys_in(value)) && fine
+}
+
+// Whether a list of a test may have so many strings.
+fn is_list(strings: u32) -> bool
+    ensures { result ≡ Rows.is_list strings }
+{
+    1 <= strings && strings <= MAX_TEST_STRINGS
+}
+
+/// How many keys c says that there are in a test of fields.
+pub fn keys_in(c: u32) -> u32
+    ensures { result ≡ Rows.keys_in c }
+{
+    c % PARAMS_UNIT
+}
+
+/// How many parameters c says that there are in a test of fields.
+pub fn params_in(c: u32) -> u32
+    ensures { result ≡ Rows.params_in c }
+{
+    c / PARAMS_UNIT
 }

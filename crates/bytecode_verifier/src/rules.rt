@@ -1,5 +1,5 @@
 // The rules that look at one instruction.
-ghost use Rattle.std.specs.Prelude.{◌≡◌, ◌&&◌, ◌||◌, nat_le};
+ghost use Rattle.std.specs.Prelude.{◌≡◌};
 ghost use Rattle.bytecode_verifier.specs.Rows;
 ghost use Rattle.bytecode_verifier.specs.Rules;
 
@@ -19,7 +19,7 @@ pub fn is_well_formed(row: Option<Row>, instruction: &Instruction) -> bool
 {
     let Some(row) = row else { return false };
     let Instruction { a, b, c, .. } = *instruction;
-    row.a.takes(a as u32) && row.b.takes(b as u32) && row.c.takes(c)
+    row.a.takes(a, a as u32) && row.b.takes(a, b as u32) && row.c.takes(a, c)
 }
 
 /// Whether the instruction's index isn't below the count of what it is an index of.
@@ -59,16 +59,10 @@ pub fn is_halt(operation: Option<Operation>) -> bool
     matches!(operation, Some(Operation::Halt))
 }
 
-/// Whether the instruction at a place is a jump that isn't forward, or leads after the last of
-/// `count` instructions.
-pub fn misses_target(
-    count: usize,
-    place: usize,
-    row: Option<Row>,
-    instruction: &Instruction,
-) -> bool
-    ensures { result ≡ (Rows.is_jump row && (nat_le instruction.now.c place || nat_le count instruction.now.c)) }
+/// Whether the operation is on the current part.
+pub fn needs_part(row: Option<Row>) -> bool
+    ensures { result ≡ Rows.needs_part row }
 {
-    let target = instruction.c as usize;
-    is_jump(row) && (target <= place || count <= target)
+    let Some(row) = row else { return false };
+    row.needs_part
 }

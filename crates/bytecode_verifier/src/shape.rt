@@ -3,10 +3,11 @@ ghost use Rattle.std.specs.Prelude.{◌≡◌, ◌+◌, ◌*◌, ◌≤◌, [], 
 ghost use Rattle.std.specs.Option.{option_and_then, option_map, option_map_or};
 ghost use Rattle.octets.specs.Limits.{max_stack, max_string};
 ghost use Rattle.bytecode_verifier.specs.Shape.{Texts, Lists, is_empty, has_truth, with_entry, without_truth, with_string, with_joined, take_texts, take_lists, entries_after};
-ghost use Rattle.bytecode_verifier.specs.Budget.{one_charge, cap_of_octets, cap_of_names, cap_of_matching, cap_of_comparing, cap_of};
-ghost use Rattle.bytecode_verifier.specs.Pass.{IsSmall, Passes, Takes, TakesBoth};
+ghost use Rattle.bytecode_verifier.specs.Budget.{one_charge, cap_of_octets, cap_of_names, cap_of_matching, cap_of_comparing, cap_of_body, cap_of_digest, cap_of};
+ghost use Rattle.bytecode_verifier.specs.Pass.{IsSmall, Passes, Takes, TakesLists};
 
 use crate::cap::{Cap, ONE_CHARGE};
+use crate::row::{keys_in, params_in};
 use bytecode_format::{Instruction, Operation, Program};
 use std::alloc::{AllocError, Global};
 use std::marker::Model;
@@ -19,6 +20,9 @@ const MAX_STRING: usize = 16_384;
 
 /// How many octets the value of a variable has at most, and a capture.
 const MAX_VALUE: usize = 4096;
+
+/// How many octets a digest has.
+const DIGEST_LENGTH: u64 = 64;
 
 /// What is known of an entry of the stack.
 #[derive(Clone, Copy, Debug, PartialEq, Eq)]
@@ -99,28 +103,31 @@ impl Shape {
     {
         let Instruction { b, c, .. } = *instruction;
         let fine = match operation {
-            Some(Operation::Header) => return self.take_lists(b, c),
+            Some(Operation::Header) => return self.take_fields(b, params_in(c), keys_in(c)),
             Some(Operation::String) => return self.take_sources(b, c),
             Some(Operation::Exists) => return self.take_names(b),
+            Some(Operation::PartBody) => return self.take_body_keys(c),
+            Some(Operation::PartDigest) => return self.take_digest_keys(c),
             Some(Operation::Join) => return self.join(b),
-            Some(Operation::Set | Operation::File) => return Ok(self.take_text()),
-            Some(Operation::Halt | Operation::Jump) => self.is_empty(),
-            Some(Operation::Literal) => self.push_string(program, c)?,
-            Some(Operation::Variable | Operation::Capture) => self.push(Entry::Text(MAX_VALUE))?,
-            Some(Operation::Bool | Operation::Size) => self.push(Entry::Truth)?,
-            Some(Operation::Not) => self.has_truth(),
-            Some(Operation::JumpIfTrue | Operation::JumpIfFalse) => self.take_truth(),
-            Some(Operation::Keep | Operation::Discard) => true,
-            None
-            | Some(
-                Operation::PartSize
-                | Operation::PartBody
-                | Operation::PartDigest
-                | Operation::Store
+            Some(Operation::Set | Operation::File | Operation::Store) => return Ok(
+                self.take_text(),
+            ),
+            Some(
+                Operation::Halt
+                | Operation::Jump
                 | Operation::Each
                 | Operation::Next
                 | Operation::Break,
-            ) => false,
+            ) => self.is_empty(),
+            Some(Operation::Literal) => self.push_string(program, c)?,
+            Some(Operation::Variable | Operation::Capture) => self.push(Entry::Text(MAX_VALUE))?,
+            Some(Operation::Bool | Operation::Size | Operation::PartSize) => self.push(
+                Entry::Truth,
+            )?,
+            Some(Operation::Not) => self.has_truth(),
+            Some(Operation::JumpIfTrue | Operation::JumpIfFalse) => self.take_truth(),
+            Some(Operation::Keep | Operation::Discard) => true,
+            None => false,
         };
         Ok(fine.then_some(ONE_CHARGE))
     }
@@ -184,15 +191,42 @@ impl Shape {
         Ok(fine.then_some(Cap { fixed: 1, scaled }))
     }
 
-    // Takes the names of fields and the keys above them, and pushes whether one matches.
-    fn take_lists(&mut self, names: u16, keys: u32) -> Result<Option<Cap>, AllocError>
+    // Takes the keys that the current part's content is matched with, and pushes whether one does.
+    fn take_body_keys(&mut self, keys: u32) -> Result<Option<Cap>, AllocError>
         requires { IsSmall self.old }
-        ensures { IfOk result (λ cap. Passes cap self.new (option_map_or cap_of_matching (take_lists names keys self.old) one_charge) (option_and_then (λ (lists : Lists). with_entry Entry.Truth lists.rest) (take_lists names keys self.old))) }
+        ensures { IfOk result (λ cap. Passes cap self.new (option_map_or cap_of_body (take_texts keys self.old) one_charge) (option_and_then (λ (taken : Texts). with_entry Entry.Truth taken.rest) (take_texts keys self.old))) }
     {
-        let Some((names_total, keys_total)) = self.take_both(names, keys) else {
+        let Some(scaled) = self.take_texts(keys) else {
             return Ok(None);
         };
-        let scaled = names_total + u64::from(names) * keys_total;
+        let fine = self.push(Entry::Truth)?;
+        Ok(fine.then_some(Cap { fixed: 1, scaled }))
+    }
+
+    // Takes the keys that the current part's digest is compared with, and pushes whether one is equal.
+    fn take_digest_keys(&mut self, keys: u32) -> Result<Option<Cap>, AllocError>
+        requires { IsSmall self.old }
+        ensures { IfOk result (λ cap. Passes cap self.new (option_map_or cap_of_digest (take_texts keys self.old) one_charge) (option_and_then (λ (taken : Texts). with_entry Entry.Truth taken.rest) (take_texts keys self.old))) }
+    {
+        let Some(total) = self.take_texts(keys) else {
+            return Ok(None);
+        };
+        let fixed = 1 + (DIGEST_LENGTH + 1) * total;
+        let fine = self.push(Entry::Truth)?;
+        Ok(fine.then_some(Cap { fixed, scaled: 0 }))
+    }
+
+    // Takes the names of fields, the parameters above them and the keys above these, and pushes
+    // whether one matches.
+    fn take_fields(&mut self, names: u16, params: u32, keys: u32) -> Result<Option<Cap>, AllocError>
+        requires { IsSmall self.old }
+        ensures { IfOk result (λ cap. Passes cap self.new (option_map_or cap_of_matching (take_lists names params keys self.old) one_charge) (option_and_then (λ (lists : Lists). with_entry Entry.Truth lists.rest) (take_lists names params keys self.old))) }
+    {
+        let Some((names_total, keys_total)) = self.take_lists(names, params, keys) else {
+            return Ok(None);
+        };
+        let selected = u64::from(names) * u64::from(params.max(1));
+        let scaled = names_total + selected * keys_total;
         let fine = self.push(Entry::Truth)?;
         Ok(fine.then_some(Cap { fixed: 1, scaled }))
     }
@@ -200,9 +234,9 @@ impl Shape {
     // Takes sources and the keys above them, and pushes whether one matches.
     fn take_sources(&mut self, sources: u16, keys: u32) -> Result<Option<Cap>, AllocError>
         requires { IsSmall self.old }
-        ensures { IfOk result (λ cap. Passes cap self.new (option_map_or cap_of_comparing (take_lists sources keys self.old) one_charge) (option_and_then (λ (lists : Lists). with_entry Entry.Truth lists.rest) (take_lists sources keys self.old))) }
+        ensures { IfOk result (λ cap. Passes cap self.new (option_map_or cap_of_comparing (take_lists sources 0 keys self.old) one_charge) (option_and_then (λ (lists : Lists). with_entry Entry.Truth lists.rest) (take_lists sources 0 keys self.old))) }
     {
-        let Some((sources_total, keys_total)) = self.take_both(sources, keys) else {
+        let Some((sources_total, keys_total)) = self.take_lists(sources, 0, keys) else {
             return Ok(None);
         };
         let fixed = 1 + sources_total * keys_total;
@@ -210,17 +244,19 @@ impl Shape {
         Ok(fine.then_some(Cap { fixed, scaled: 0 }))
     }
 
-    // Takes so many texts and so many above them: the sums of the bounds of both, each bound with one
-    // more.
-    fn take_both(&mut self, below: u16, above: u32) -> Option<(u64, u64)>
+    // Takes so many names or sources, so many parameters above them and so many keys above these: the
+    // sums of the bounds of the first and the last, each bound with one more.
+    fn take_lists(&mut self, names: u16, params: u32, keys: u32) -> Option<(u64, u64)>
         requires { IsSmall self.old }
-        ensures texts { TakesBoth below result self.new (take_lists below above self.old) }
-        ensures below { IfSome result (λ totals. totals.0 ≤ max_stack * (max_string + 1)) }
-        ensures above { IfSome result (λ totals. totals.1 ≤ max_stack * (max_string + 1)) }
+        ensures texts { TakesLists names params result self.new (take_lists names params keys self.old) }
+        ensures names { IfSome result (λ totals. totals.0 ≤ max_stack * (max_string + 1)) }
+        ensures params { IfSome result (λ totals. params ≤ max_stack) }
+        ensures keys { IfSome result (λ totals. totals.1 ≤ max_stack * (max_string + 1)) }
     {
-        let above_total = self.take_texts(above)?;
-        let below_total = self.take_texts(u32::from(below))?;
-        Some((below_total, above_total))
+        let keys_total = self.take_texts(keys)?;
+        self.take_texts(params)?;
+        let names_total = self.take_texts(u32::from(names))?;
+        Some((names_total, keys_total))
     }
 
     // Takes so many texts from the top: the sum of their bounds, each with one more.
@@ -228,6 +264,7 @@ impl Shape {
         requires { IsSmall self.old }
         ensures texts { Takes number result self.new (take_texts number self.old) }
         ensures bound { IfSome result (λ total. total ≤ max_stack * (max_string + 1)) }
+        ensures few { IfSome result (λ total. number ≤ max_stack) }
         ensures small { OnSome result (IsSmall self.new) }
     {
         let mut total = 0;

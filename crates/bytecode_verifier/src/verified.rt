@@ -8,6 +8,7 @@ ghost use Rattle.bytecode_verifier.specs.Rules.{breaks_end};
 ghost use Rattle.bytecode_verifier.specs.declared.error.Refusal.TheVariants.{Memory};
 
 use crate::error::Refusal;
+use crate::nest::nests_of;
 use crate::pass::Pass;
 use crate::rules::is_halt;
 use crate::targets::targets_of;
@@ -58,7 +59,7 @@ impl Verified {
 /// The rules come in the order of [`Refusal`], each with the least place where it is broken; places
 /// count instructions from 0.
 /// [`Refusal::Memory`] comes only where memory was refused. The time is linear in the number of
-/// instructions, wherever the jumps lead.
+/// instructions, wherever the jumps lead and however the loops lie.
 pub fn verify(alloc: Global, program: Program) -> Result<Verified, (Program, Refusal)>
     ensures value { IfOk result (λ verified. verified ≡ program) }
     ensures accepted { IfOk result (λ _. IsAccepted program) }
@@ -80,9 +81,10 @@ fn examine(alloc: Global, program: &Program) -> Result<Budget, Refusal>
 {
     let instructions = program.instructions();
     let targets = targets_of(alloc, program.version(), instructions)?;
+    let nests = nests_of(alloc, instructions)?;
     let mut pass = Pass::new(alloc, program);
     for (place, instruction) in instructions.iter().enumerate() {
-        pass.take(program, place, instruction, targets[place])?;
+        pass.take(program, &nests, place, instruction, targets[place])?;
     }
     outcome(program, pass)
 }
@@ -97,7 +99,9 @@ fn outcome(program: &Program, pass: Pass) -> Result<Budget, Refusal>
     let Pass {
         index,
         form,
+        brackets,
         jump,
+        part,
         stack,
         budget,
         ..
@@ -111,8 +115,14 @@ fn outcome(program: &Program, pass: Pass) -> Result<Budget, Refusal>
     if let Some(place) = missing_end(program) {
         return Err(Refusal::End { place });
     }
+    if let Some(place) = brackets {
+        return Err(Refusal::Loop { place });
+    }
     if let Some(place) = jump {
         return Err(Refusal::Jump { place });
+    }
+    if let Some(place) = part {
+        return Err(Refusal::NoPart { place });
     }
     if let Some(place) = stack {
         return Err(Refusal::Stack { place });

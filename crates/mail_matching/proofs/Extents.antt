@@ -1,17 +1,34 @@
 -- How many octets texts have, and one more for each.
-use Rattle.std.proofs.Common.{◌≡◌, ℕ, ◌+◌, ◌*◌, ◌≤◌, List, [], ◌∷◌, ◌++◌, flat_map, map, length, take, drop, refl, sym, ◌∙◌, ap, arith, mul-add, add-mul, mul-zero, zero-mul, mul-le-mul_left, mul-le-mul_right, le_trans, add-zero, inl, inr}
-use Rattle.std.specs.Prelude.{sum_by, Option}
+use Rattle.std.proofs.Common.{◌≡◌, ℕ, ◌+◌, ◌*◌, ◌≤◌, List, [], ◌∷◌, ◌++◌, flat_map, map, length, take, drop, refl, sym, ◌∙◌, ap, arith, mul-add, add-mul, mul-zero, zero-mul, mul_assoc, mul-le-mul_left, mul-le-mul_right, le_trans, add-zero, inl, inr}
+use Rattle.std.specs.Prelude.{MatchOption, None, Option, Some, slice_get, sum_by}
+use Rattle.std.proofs.Math.Nat.{le-max_left, max-le}
+use Rattle.std.proofs.lemmas.Nat.{mul-le}
+use Rattle.std.proofs.lemmas.List.{append-nil}
+use Rattle.std.proofs.lemmas.List.Folds.{flat_map-map}
 use Rattle.std.proofs.lemmas.Bool.{cases_Bool}
 use Rattle.std.proofs.lemmas.List.Sums.{sum_by-cons, sum_by-append, sum_by-le, sum_by-le-sum_by, sum_by-take-le, sum_by-take-drop}
-use Rattle.octets.specs.Limits.{max_string, max_stack}
+use Rattle.octets.specs.Limits.{max_message, max_string, max_stack}
 use Rattle.header_fields.specs.Fields.{Field}
 use Rattle.header_fields.specs.Extent.{fields_extent}
 use Rattle.mime_tree.specs.PartTree.{is_word}
 use Rattle.mime_decode.specs.Mail.{Mail, Part, IsMail, parts_extent, size_of}
-use Rattle.mime_decode.specs.Scope.{Scope, Root, Current, CurrentAndBelow, Value, current_or_root, fields_named, first_and_below, parts_in_scope, selected_in, selected_of, selected_values}
+use Rattle.mime_params.specs.MediaValue.{value_named}
+use Rattle.mime_params.specs.declared.params.Parameter.{Parameter}
+use Rattle.sha2.specs.Sha256.{sha256}
+use Rattle.sha2.proofs.Facts256.{length-sha256}
+use Rattle.hex.specs.Hex.{lower_digits}
+use Rattle.hex.proofs.HexLemmas.{length-encode_with}
+use Rattle.mime_decode.specs.Content.{digest_of}
+use Rattle.mime_decode.specs.Scope.{Scope, Root, Current, CurrentAndBelow, Selector, Value, Main, Sub, ContentType, Param, content_type_of, current_or_root, first_and_below, given, main_of, params_of, parts_in_scope, reading_of, selected_of, selected_values, sub_of}
 use Rattle.mail_matching.specs.Costs.{extent_of, names_cost, values_cost}
-use Rattle.mail_matching.specs.HeaderTests.{fields_in_scope, values_named}
+use Rattle.mail_matching.specs.Headers.{AreWithin, headers_in_scope, selected_among, selected_in_all, selected_named, values_of_params}
+use Rattle.mail_matching.specs.HeaderTests.{fields_in_scope}
+use Rattle.mail_matching.specs.PartTests.{body_cost, digest_cost}
+use Rattle.mail_matching.specs.Selection.{selector_of, values_of_a_field}
+use Rattle.mail_matching.specs.declared.selection.Selector as declared
+use Rattle.mail_matching.specs.declared.selection.Selector.TheVariants as variants
 use Rattle.mail_matching.specs.Texts.{AreTexts}
+use Rattle.mail_matching.proofs.Lengths.{given_in, reading_in}
 
 -- ---- sums
 
@@ -46,27 +63,73 @@ pub texts_within : (texts : List (List ℕ)) → AreTexts texts → extent_of te
 texts_within texts are =
     le_trans (sum_by-le (λ text. length text + 1) (max_string + 1) texts (λ k d lt. omega (arith, are.short k d lt))) (mul-le-mul_right (max_string + 1) are.few)
 
-extent_flat_map : {A : Type 0} (f : A → List (List ℕ)) (xs : List A) → extent_of (flat_map f xs) ≡ sum_by (λ x. extent_of (f x)) xs
+pub extent_flat_map : {A : Type 0} (f : A → List (List ℕ)) (xs : List A) → extent_of (flat_map f xs) ≡ sum_by (λ x. extent_of (f x)) xs
 extent_flat_map f [] = refl
 extent_flat_map f (x ∷ xs) =
     extent-append (f x) (flat_map f xs) ∙ ap (λ n. extent_of (f x) + n) (extent_flat_map f xs) ∙ sym (sum_by-cons (λ y. extent_of (f y)) x xs)
 
--- ---- the fields of a name
+-- ---- what is selected of a field
 
-pub named_within : (name : List ℕ) (fields : List Field) → extent_of (values_named name fields) ≤ fields_extent fields
-named_within name [] = omega arith
-named_within name (field ∷ fields) =
-    let more = named_within name fields in
-    let whole = sum_by-cons (λ (f : Field). length f.value + 2) field fields in
-    elim (cases_Bool (is_word field.name name)) [
-      | inl named ↦ rw named (omega (arith, more, whole, sum_by-cons (λ (text : List ℕ). length text + 1) field.value (values_named name fields)))
-      | inr other ↦ rw other (omega (arith, more, whole))
-    ]
+given_within : (limit : ℕ) (o : Option (List ℕ)) → MatchOption o (Unit {0}) (λ v. length v ≤ limit) → extent_of (given o) ≤ limit + 2
+given_within limit None h = omega arith
+given_within limit (Some v) h = omega (arith, h, extent_one v)
 
--- the values of the fields of names, name by name
-pub names_within : (names : List (List ℕ)) (fields : List Field) → extent_of (flat_map (λ name. values_named name fields) names) ≤ length names * fields_extent fields
-names_within names fields =
-    rw (extent_flat_map (λ name. values_named name fields) names) (sum_by-le (λ name. extent_of (values_named name fields)) (fields_extent fields) names (λ k d lt. named_within _ fields))
+pub params_within : (limit : ℕ) (params : List Parameter) (names : List (List ℕ)) → AreWithin limit params → extent_of (values_of_params params names) ≤ length names * (limit + 2)
+params_within limit params names are =
+    rw (extent_flat_map (λ name. given (value_named name params)) names)
+    (sum_by-le (λ name. extent_of (given (value_named name params))) (limit + 2) names (λ k d lt. given_within limit (value_named _ params) (given_in limit _ params are)))
+
+field_within : (selector : Selector) (field : Field) → extent_of (selected_of selector field) ≤ values_of_a_field selector * (length field.value + 2)
+field_within Value field = omega (arith, extent_one field.value)
+field_within Main field = omega (arith, extent_one (main_of (reading_of field)), (reading_in field).main)
+field_within Sub field = omega (arith, extent_one (sub_of (reading_of field)), (reading_in field).sub)
+field_within ContentType field = omega (arith, extent_one (content_type_of (reading_of field)), (reading_in field).content_type)
+field_within (Param names) field =
+    le_trans (params_within (length field.value) (params_of (reading_of field)) names (reading_in field).params)
+    (mul-le-mul_right (length field.value + 2) (le-max_left (length names) 1))
+
+-- ---- what is selected of the fields of a name
+
+-- what is selected of one field, where it has the name
+abbrev pub where_named : Selector → List ℕ → Field → List (List ℕ)
+where_named selector name field = selected_named selector (field ∷ []) name
+
+pub named_each : (selector : Selector) (name : List ℕ) (fields : List Field) → selected_named selector fields name ≡ flat_map (where_named selector name) fields
+named_each selector name [] = refl
+named_each selector name (field ∷ fields) = elim (cases_Bool (is_word field.name name)) [
+  | inl named ↦ rw named (ap (λ values. values ++ selected_named selector fields name) (sym (append-nil (selected_of selector field))) ∙ ap (λ values. selected_of selector field ++ [] ++ values) (named_each selector name fields))
+  | inr other ↦ rw other (named_each selector name fields)
+]
+
+where_named_within : (selector : Selector) (name : List ℕ) (field : Field) → extent_of (where_named selector name field) ≤ values_of_a_field selector * (length field.value + 2)
+where_named_within selector name field = elim (cases_Bool (is_word field.name name)) [
+  | inl named ↦ rw named (rw (append-nil (selected_of selector field)) (field_within selector field))
+  | inr other ↦ rw other (omega arith)
+]
+
+named_within : (selector : Selector) (name : List ℕ) (fields : List Field) → extent_of (selected_named selector fields name) ≤ values_of_a_field selector * fields_extent fields
+named_within selector name fields =
+    let each = sum_by-le-sum_by (λ field. extent_of (where_named selector name field)) (λ (field : Field). values_of_a_field selector * (length field.value + 2)) fields (where_named_within selector name) in
+    omega (
+      arith,
+      ap extent_of (named_each selector name fields),
+      extent_flat_map (where_named selector name) fields,
+      each,
+      sum_scaled (values_of_a_field selector) (λ (field : Field). length field.value + 2) fields,
+    )
+
+-- what is selected in a header
+among_within : (selector : Selector) (names : List (List ℕ)) (fields : List Field) → extent_of (selected_among selector names fields) ≤ length names * (values_of_a_field selector * fields_extent fields)
+among_within selector names fields =
+    rw (extent_flat_map (selected_named selector fields) names)
+    (sum_by-le (λ name. extent_of (selected_named selector fields name)) (values_of_a_field selector * fields_extent fields) names (λ k d lt. named_within selector _ fields))
+
+-- what is selected in some headers
+pub all_within : (selector : Selector) (names : List (List ℕ)) (headers : List (List Field)) → extent_of (selected_in_all selector names headers) ≤ length names * values_of_a_field selector * sum_by fields_extent headers
+all_within selector names headers =
+    let factor = length names * values_of_a_field selector in
+    let each = sum_by-le-sum_by (λ fields. extent_of (selected_among selector names fields)) (λ (fields : List Field). factor * fields_extent fields) headers (λ fields. omega (arith, among_within selector names fields, mul_assoc (length names) (values_of_a_field selector) (fields_extent fields))) in
+    omega (arith, extent_flat_map (selected_among selector names) headers, each, sum_scaled factor fields_extent headers)
 
 -- ---- the parts in scope
 
@@ -75,7 +138,7 @@ first_within [] = omega arith
 first_within (part ∷ parts) =
     omega (arith, sum_by-cons (λ (p : Part). fields_extent p.fields) part parts, sum_by-cons (λ (p : Part). fields_extent p.fields) part (take part.below parts), sum_by-take-le (λ (p : Part). fields_extent p.fields) parts part.below)
 
-dropped_within : (place : ℕ) (parts : List Part) → parts_extent (drop place parts) ≤ parts_extent parts
+pub dropped_within : (place : ℕ) (parts : List Part) → parts_extent (drop place parts) ≤ parts_extent parts
 dropped_within place parts = omega (arith, sum_by-take-drop (λ (p : Part). fields_extent p.fields) parts place)
 
 scope_within : (scope : Scope) (current : Option ℕ) (mail : Mail) → parts_extent (parts_in_scope scope current mail) ≤ parts_extent mail.parts
@@ -104,27 +167,62 @@ names_cost-within mail is scope current names =
 
 -- ---- the values selected
 
-single : (fields : List Field) → flat_map (selected_of Value) fields ≡ map (λ (f : Field). f.value) fields
-single [] = refl
-single (field ∷ fields) = ap (λ values. field.value ∷ values) (single fields)
+sum_of_headers : (parts : List Part) → sum_by fields_extent (map (λ (p : Part). p.fields) parts) ≡ parts_extent parts
+sum_of_headers [] = refl
+sum_of_headers (part ∷ parts) =
+    sum_by-cons fields_extent part.fields (map (λ (p : Part). p.fields) parts)
+    ∙ ap (λ n. fields_extent part.fields + n) (sum_of_headers parts)
+    ∙ sym (sum_by-cons (λ (p : Part). fields_extent p.fields) part parts)
 
--- in a part
-pub selected_are : (names : List (List ℕ)) (part : Part) → selected_in Value names part ≡ flat_map (λ name. values_named name part.fields) names
-selected_are [] part = refl
-selected_are (name ∷ names) part = ap (λ values. values ++ flat_map (λ n. flat_map (selected_of Value) (fields_named n part.fields)) names) (single (fields_named name part.fields)) ∙ ap (λ values. values_named name part.fields ++ values) (selected_are names part)
+pub headers_extent : (parts : List Part) (limit : ℕ) → parts_extent parts ≤ limit → sum_by fields_extent (map (λ (p : Part). p.fields) parts) ≤ limit
+headers_extent parts limit le = omega (arith, sum_of_headers parts, le)
 
-part_within : (names : List (List ℕ)) (part : Part) → extent_of (selected_in Value names part) ≤ length names * fields_extent part.fields
-part_within names part = rw (selected_are names part) (names_within names part.fields)
+pub selected_are_in_all : (scope : Scope) (current : Option ℕ) (selector : Selector) (names : List (List ℕ)) (mail : Mail)
+    → selected_in_all selector names (headers_in_scope scope current mail) ≡ selected_values scope current selector names mail
+selected_are_in_all scope current selector names mail = flat_map-map (selected_among selector names) (λ (p : Part). p.fields) (parts_in_scope scope current mail)
 
-pub selected_within : (scope : Scope) (current : Option ℕ) (names : List (List ℕ)) (mail : Mail) → extent_of (selected_values scope current Value names mail) ≤ length names * parts_extent mail.parts
-selected_within scope current names mail =
-    let parts = parts_in_scope scope current mail in
-    let each = sum_by-le-sum_by (λ part. extent_of (selected_in Value names part)) (λ (part : Part). length names * fields_extent part.fields) parts (part_within names) in
-    let all = sum_scaled (length names) (λ (part : Part). fields_extent part.fields) parts in
-    let few = mul-le-mul_left (length names) (scope_within scope current mail) in
-    omega (arith, extent_flat_map (selected_in Value names) parts, each, all, few)
+selected_within : (mail : Mail) → IsMail mail → (scope : Scope) (current : Option ℕ) (selector : Selector) (names : List (List ℕ)) → extent_of (selected_values scope current selector names mail) ≤ length names * values_of_a_field selector * size_of mail
+selected_within mail is scope current selector names =
+    let headers = headers_extent (parts_in_scope scope current mail) (size_of mail) (le_trans (scope_within scope current mail) is.fields) in
+    omega (
+      arith,
+      ap extent_of (selected_are_in_all scope current selector names mail),
+      le_trans (all_within selector names (headers_in_scope scope current mail)) (mul-le-mul_left (length names * values_of_a_field selector) headers),
+    )
 
-pub values_cost-within : (mail : Mail) → IsMail mail → (scope : Scope) (current : Option ℕ) (names keys : List (List ℕ)) → values_cost (selected_values scope current Value names mail) keys ≤ length names * size_of mail * extent_of keys
-values_cost-within mail is scope current names keys =
-    let values = selected_values scope current Value names mail in
-    rw (values_cost-product values keys) (mul-le-mul_right (extent_of keys) (le_trans (selected_within scope current names mail) (mul-le-mul_left (length names) is.fields)))
+pub values_cost-within : (mail : Mail) → IsMail mail → (scope : Scope) (current : Option ℕ) (selector : Selector) (names keys : List (List ℕ)) → values_cost (selected_values scope current selector names mail) keys ≤ length names * values_of_a_field selector * size_of mail * extent_of keys
+values_cost-within mail is scope current selector names keys =
+    let values = selected_values scope current selector names mail in
+    rw (values_cost-product values keys) (mul-le-mul_right (extent_of keys) (selected_within mail is scope current selector names))
+
+-- ---- one value
+
+pub value_cost : (value : List ℕ) (keys : List (List ℕ)) → values_cost (value ∷ []) keys ≡ (length value + 1) * extent_of keys
+value_cost value keys = values_cost-product (value ∷ []) keys ∙ ap (λ n. n * extent_of keys) (extent_one value)
+
+pub body_cost-within : (mail : Mail) → IsMail mail → (place : ℕ) (part : Part) → slice_get mail.parts place ≡ Some part → (keys : List (List ℕ)) → body_cost part keys ≤ (size_of mail + 1) * extent_of keys
+body_cost-within mail is place part at keys =
+    let within = is.within place part at in
+    rw (value_cost part.content keys) (mul-le-mul_right (extent_of keys) (omega (arith, within.content, within.body)))
+
+digest_length : (octets : List ℕ) → length (digest_of octets) ≡ 64
+digest_length octets = omega (arith, length-encode_with lower_digits (sha256 octets), length-sha256 octets)
+
+pub digest_cost-is : (part : Part) (keys : List (List ℕ)) → digest_cost part keys ≡ 65 * extent_of keys
+digest_cost-is part keys = value_cost (digest_of part.content) keys ∙ ap (λ n. (n + 1) * extent_of keys) (digest_length part.content)
+
+-- ---- what a test selects is little enough to be counted
+
+values_few : (selector : declared.Selector) (params : List (List ℕ)) → AreTexts params → values_of_a_field (selector_of selector params) ≤ max_stack
+values_few variants.Value params are = omega arith
+values_few variants.Main params are = omega arith
+values_few variants.Sub params are = omega arith
+values_few variants.ContentType params are = omega arith
+values_few variants.Param params are = max-le are.few (omega arith)
+
+pub all_few : (selector : declared.Selector) (params names : List (List ℕ)) (headers : List (List Field)) → AreTexts params → AreTexts names → sum_by fields_extent headers ≤ max_message
+    → extent_of (selected_in_all (selector_of selector params) names headers) ≤ max_stack * max_stack * max_message
+all_few selector params names headers are few short =
+    let factor = mul-le (length names) (values_of_a_field (selector_of selector params)) max_stack max_stack few.few (values_few selector params are) in
+    le_trans (all_within (selector_of selector params) names headers)
+    (mul-le (length names * values_of_a_field (selector_of selector params)) (sum_by fields_extent headers) (max_stack * max_stack) max_message factor short)

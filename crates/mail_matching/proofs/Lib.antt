@@ -1,4 +1,6 @@
+pub mod Examples
 pub mod Extents
+pub mod Lengths
 pub mod Onward
-pub mod Roots
+pub mod Scopes
 pub mod TenCaptures

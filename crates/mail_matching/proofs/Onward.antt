@@ -1,21 +1,16 @@
 -- Values that are taken one after the other.
-use Rattle.std.proofs.Common.{◌≡◌, ℕ, ◌+◌, ◌*◌, ◌<◌, ◌≤◌, List, [], ◌∷◌, ◌++◌, flat_map, length, take, get_or, Option, None, Some, refl, sym, ◌∙◌, ap, arith, append-nil, le_trans, mul-le-mul_right, add-zero}
+use Rattle.std.proofs.Common.{◌≡◌, ℕ, ◌+◌, ◌<◌, ◌≤◌, List, [], ◌∷◌, ◌++◌, flat_map, length, take, get_or, Option, None, Some, refl, sym, ◌∙◌, ap, subst, arith, append-nil, add-zero, take_all}
 use Rattle.std.specs.Option.{option_or}
-use Rattle.std.proofs.lemmas.Bool.{cases_Bool}
-use Rattle.std.proofs.lemmas.List.{take_more, length-take}
+use Rattle.std.proofs.lemmas.List.{take_more}
 use Rattle.std.proofs.lemmas.List.Concat.{flat_map-append}
 use Rattle.std.proofs.lemmas.List.Sums.{sum_by-take-le}
-use Rattle.std.proofs.Common.{inl, inr}
 use Rattle.glob_match.specs.declared.match_type.Match.{Match}
-use Rattle.header_fields.specs.Fields.{Field}
-use Rattle.header_fields.specs.Extent.{fields_extent}
-use Rattle.mime_tree.specs.PartTree.{is_word}
 use Rattle.mail_matching.specs.Costs.{extent_of}
 use Rattle.mail_matching.specs.FirstMatch.{first_key, first_match}
-use Rattle.mail_matching.specs.HeaderTests.{values_named}
+use Rattle.mail_matching.specs.Headers.{values_of_params}
 use Rattle.mail_matching.specs.Outcomes.{GoesOn, after}
-use Rattle.mail_matching.specs.declared.header_test.Progress.{Progress}
-use Rattle.mail_matching.proofs.Extents.{extent-append, named_within, names_within}
+use Rattle.mail_matching.specs.declared.progress.Progress.{Progress}
+use Rattle.mail_matching.proofs.Extents.{extent-append, extent_flat_map}
 
 or_none : {A : Type 0} (a : Option A) → option_or a None ≡ a
 or_none None = refl
@@ -47,32 +42,40 @@ goes_on how values more keys first second third one two = record {
   extent = omega (arith, one.extent, two.extent, extent-append values more);
 }
 
--- ---- the fields of a name, one by one
+-- ---- lists of values, one by one
 
-named-append : (name : List ℕ) (fields more : List Field) → values_named name (fields ++ more) ≡ values_named name fields ++ values_named name more
-named-append name [] more = refl
-named-append name (field ∷ fields) more = elim (cases_Bool (is_word field.name name)) [
-  | inl named ↦ rw named (ap (λ values. field.value ∷ values) (named-append name fields more))
-  | inr other ↦ rw other (named-append name fields more)
-]
+pub values_more : {A : Type 0} (f : A → List (List ℕ)) (xs : List A) (place : ℕ) (x d : A) → place < length xs → x ≡ get_or xs place d
+    → flat_map f (take (place + 1) xs) ≡ flat_map f (take place xs) ++ f x
+values_more f xs place x d lt is =
+    ap (flat_map f) (take_more xs place d lt ∙ ap (λ y. take place xs ++ y ∷ []) (sym is))
+    ∙ flat_map-append f (take place xs) (x ∷ [])
+    ∙ ap (λ values. flat_map f (take place xs) ++ values) (append-nil (f x))
 
-pub named_more : (name : List ℕ) (fields : List Field) (place : ℕ) (field : Field) → place < length fields → field ≡ get_or fields place field
-    → values_named name (take (place + 1) fields) ≡ values_named name (take place fields) ++ values_named name (field ∷ [])
-named_more name fields place field lt is =
-    ap (values_named name) (take_more fields place field lt ∙ ap (λ f. take place fields ++ f ∷ []) (sym is)) ∙ named-append name (take place fields) (field ∷ [])
+pub values_room : {A : Type 0} (f : A → List (List ℕ)) (xs : List A) (place : ℕ) (x d : A) → place < length xs → x ≡ get_or xs place d
+    → extent_of (flat_map f (take place xs)) + extent_of (f x) ≤ extent_of (flat_map f xs)
+values_room f xs place x d lt is =
+    omega (
+      arith,
+      ap extent_of (values_more f xs place x d lt is),
+      extent-append (flat_map f (take place xs)) (f x),
+      extent_flat_map f (take (place + 1) xs),
+      extent_flat_map f xs,
+      sum_by-take-le (λ y. extent_of (f y)) xs (place + 1),
+    )
 
-pub named_room : (name : List ℕ) (fields : List Field) (place : ℕ) → extent_of (values_named name (take place fields)) ≤ fields_extent fields
-named_room name fields place = le_trans (named_within name (take place fields)) (sum_by-take-le (λ (f : Field). length f.value + 2) fields place)
+-- one more goes on where the former went
+pub goes_on_more : {A : Type 0} (how : Match) (keys : List (List ℕ)) (f : A → List (List ℕ)) (xs : List A) (place : ℕ) (x d : A) (first second third : Progress) → place < length xs → x ≡ get_or xs place d
+    → GoesOn how (flat_map f (take place xs)) keys first second → GoesOn how (f x) keys second third → GoesOn how (flat_map f (take (place + 1) xs)) keys first third
+goes_on_more how keys f xs place x d first second third lt is one two =
+    subst (λ values. GoesOn how values keys first third) (sym (values_more f xs place x d lt is))
+    (goes_on how (flat_map f (take place xs)) (f x) keys first second third one two)
 
--- ---- names, one by one
+-- at the end
+pub goes_on_all : {A : Type 0} (how : Match) (keys : List (List ℕ)) (f : A → List (List ℕ)) (xs : List A) (place : ℕ) (first last : Progress) → length xs ≤ place
+    → GoesOn how (flat_map f (take place xs)) keys first last → GoesOn how (flat_map f xs) keys first last
+goes_on_all how keys f xs place first last le goes = subst (λ ys. GoesOn how (flat_map f ys) keys first last) (take_all place xs le) goes
 
-pub names_more : (fields : List Field) (names : List (List ℕ)) (place : ℕ) (name : List ℕ) → place < length names → name ≡ get_or names place []
-    → flat_map (λ n. values_named n fields) (take (place + 1) names) ≡ flat_map (λ n. values_named n fields) (take place names) ++ values_named name fields
-names_more fields names place name lt is =
-    ap (flat_map (λ n. values_named n fields)) (take_more names place [] lt ∙ ap (λ n. take place names ++ n ∷ []) (sym is))
-    ∙ flat_map-append (λ n. values_named n fields) (take place names) (name ∷ [])
-    ∙ ap (λ values. flat_map (λ n. values_named n fields) (take place names) ++ values) (append-nil (values_named name fields))
-
-pub names_room : (fields : List Field) (names : List (List ℕ)) (place most : ℕ) → length names ≤ most → extent_of (flat_map (λ n. values_named n fields) (take place names)) ≤ most * fields_extent fields
-names_room fields names place most few =
-    le_trans (names_within (take place names) fields) (mul-le-mul_right (fields_extent fields) (omega (arith, few, length-take place names)))
+-- no parameters have no values
+pub values_of_none : (names : List (List ℕ)) → values_of_params [] names ≡ []
+values_of_none [] = refl
+values_of_none (name ∷ names) = values_of_none names

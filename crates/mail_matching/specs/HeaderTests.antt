@@ -1,11 +1,11 @@
 -- The tests `header` and `exists` (RFC 5228, sections 5.5 and 5.7; RFC 5703, section 4).
-use Rattle.std.specs.Prelude.{ℕ, ◌+◌, Bool, List, flat_map, map, Option}
+use Rattle.std.specs.Prelude.{ℕ, ◌+◌, Bool, List, flat_map, Option}
 use Rattle.std.specs.List.{list_all, list_any}
 use Rattle.glob_match.specs.declared.match_type.Match.{Match}
 use Rattle.header_fields.specs.Fields.{Field}
 use Rattle.mime_tree.specs.PartTree.{is_word}
 use Rattle.mime_decode.specs.Mail.{Mail, Part}
-use Rattle.mime_decode.specs.Scope.{Scope, Selector, fields_named, parts_in_scope, selected_values}
+use Rattle.mime_decode.specs.Scope.{Scope, Selector, parts_in_scope, selected_values}
 use Rattle.mail_matching.specs.Costs.{names_cost, values_cost}
 use Rattle.mail_matching.specs.FirstMatch.{first_match}
 
@@ -23,10 +23,6 @@ exists_in scope current names mail = list_all (has_field (fields_in_scope scope 
 
 abbrev pub exists_cost : Scope → Option ℕ → List (List ℕ) → Mail → ℕ
 exists_cost scope current names mail = names_cost (fields_in_scope scope current mail) names
-
--- the values of the fields of a name
-abbrev pub values_named : List ℕ → List Field → List (List ℕ)
-values_named name fields = map (λ (field : Field). field.value) (fields_named name fields)
 
 -- `header`: the captures after the first selected value that matches a key; None where no value does
 abbrev pub header_match : Match → Scope → Option ℕ → Selector → List (List ℕ) → List (List ℕ) → Mail → List (List ℕ) → Option (List (List ℕ))

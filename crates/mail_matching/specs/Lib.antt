@@ -10,3 +10,6 @@ pub mod PartTests
 pub mod Selection
 pub mod Texts
 pub mod Outcomes
+-- how the tests of headers go; nothing public rests on it
+pub mod Headers
+pub mod Readings

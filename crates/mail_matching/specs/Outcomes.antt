@@ -7,7 +7,7 @@ use Rattle.mail_matching.specs.Costs.{extent_of}
 use Rattle.mail_matching.specs.FirstMatch.{first_match, ten_of}
 use Rattle.mail_matching.specs.declared.comparing.Compared.{Compared}
 use Rattle.mail_matching.specs.declared.comparing.Compared.TheVariants.{Differs, Matches, Sets}
-use Rattle.mail_matching.specs.declared.header_test.Progress.{Progress}
+use Rattle.mail_matching.specs.declared.progress.Progress.{Progress}
 use Rattle.mail_matching.specs.declared.outcome.Outcome.{Outcome}
 use Rattle.mail_matching.specs.declared.outcome.Outcome.TheVariants.{Fails, Holds, Captures}
 

@@ -1,5 +1,5 @@
 // A value and the keys of a test.
-ghost use Rattle.std.specs.Prelude.{◌≡◌, ◌≤◌, ℕ, List, length, if◌then◌else◌};
+ghost use Rattle.std.specs.Prelude.{◌≡◌, ◌≤◌, ℕ, List, IfOk, length, if◌then◌else◌};
 ghost use Rattle.std.specs.Cow.{cow_slice_items};
 ghost use Rattle.octets.specs.Limits.{max_message, max_string};
 ghost use Rattle.mail_matching.specs.FirstMatch.{after_match, first_key};
@@ -9,6 +9,7 @@ ghost use Rattle.mail_matching.specs.Texts.{AreTexts};
 use crate::outcome::{Captured, Outcome};
 use crate::texts::Texts;
 use glob_match::{Captures, Match, MatchType, contains, is, matches};
+use std::alloc::{AllocError, Global};
 use std::borrow::CowSlice;
 
 /// How a value compares with a key.
@@ -33,6 +34,29 @@ pub(crate) fn first_key<'a, K: Texts>(value: CowSlice<'a, u8>, keys: &K, how: Ma
         Compared::Matches => Outcome::Holds,
         Compared::Sets(stretches) => Outcome::Captures(Captured::new(value, stretches)),
     }
+}
+
+/// The same of a value that is lent for now: it is copied where it sets captures.
+///
+/// An error comes only where memory was refused.
+pub(crate) fn first_key_of_lent<'a, K: Texts>(
+    alloc: Global,
+    value: &[u8],
+    keys: &K,
+    how: Match,
+) -> Result<Outcome<'a>, AllocError>
+    requires value { length value.now ≤ max_message }
+    requires keys { AreTexts (K.texts keys.now) }
+    ensures { IfOk result (λ outcome. (captures : List (List ℕ)) → after outcome captures ≡ first_key how value.now (K.texts keys.now) captures) }
+{
+    Ok(match first_comparison(value, keys, how) {
+        Compared::Differs => Outcome::Fails,
+        Compared::Matches => Outcome::Holds,
+        Compared::Sets(stretches) => {
+            let value = CowSlice::Owned(Vec::from_slice(alloc, value)?);
+            Outcome::Captures(Captured::new(value, stretches))
+        }
+    })
 }
 
 /// How a value compares with the first of the keys that it matches.

@@ -1,128 +1,84 @@
 // The test `header`.
-ghost use Rattle.std.specs.Prelude.{◌≡◌, ◌≤◌, ◌<◌, ◌^◌, ◌∷◌, [], ℕ, List, None, IfOk, OnOk, length};
-ghost use Rattle.octets.specs.Limits.{max_message};
-ghost use Rattle.header_fields.specs.Extent.{fields_extent};
-ghost use Rattle.mime_decode.specs.Scope.{Root, Value};
-ghost use Rattle.mail_matching.specs.HeaderTests.{header_cost, header_match, values_named};
+ghost use Rattle.std.specs.Prelude.{◌≡◌, ◌<◌, ℕ, List, IfOk, IfSome, OnOk, length};
+ghost use Rattle.mail_matching.specs.Headers.{selected_in_all};
+ghost use Rattle.mail_matching.specs.HeaderTests.{header_cost, header_match};
 ghost use Rattle.mail_matching.specs.Outcomes.{GoesOn, after};
+ghost use Rattle.mail_matching.specs.Selection.{scope_of, selector_of};
 ghost use Rattle.mail_matching.specs.Texts.{AreTexts};
+ghost use Rattle.mail_matching.specs.declared.outcome.Outcome.TheVariants.{Fails};
 
-use crate::comparing::first_key;
-use crate::cost::{extent_of, names_cost};
-use crate::existence::{is_named, root_fields};
+use crate::cost::{extent_of, names_cost, product};
+use crate::headers::{Headers, fields_number};
 use crate::outcome::{Answer, Outcome};
+use crate::progress::{Comparison, Progress};
+use crate::selection::HeaderTest;
 use crate::texts::Texts;
-use glob_match::Match;
-use header_fields::{Field, unfold, unfolded_length};
 use mime_decode::Message;
 use std::alloc::{AllocError, Global};
 
-/// The first value, of the fields of these names in the message's own header, that matches a key (RFC 5228, section 5.7).
+/// The first value selected in the parts in scope that matches a key (RFC 5228, section 5.7; RFC 5703, section 4.2).
 ///
-/// The fields are taken name by name, and for each value the keys in order. A value is unfolded at most once for each name that
-/// selects it, and none after the one that matches. The cost of 1,024 names and 1,024 keys of 16,384 octets in the largest message is below 2^61.
+/// Values are taken part by part, in each name by name, for each field by field, and for each parameter name by name; for each
+/// value the keys in order. A value is unfolded at most once for each name that selects it, and none after the one that matches,
+/// but where its type or its parameters have to be read. `params` are the names of the parameters, which
+/// [`Selector::Param`](crate::Selector::Param) asks for. The cost of 1,024 names, 1,024 parameters and 1,024 keys of 16,384
+/// octets in the largest message is below 2^71.
 ///
 /// # Errors
 ///
-/// An allocation was refused; none is made but for values that are folded.
-pub fn header<'m, N: Texts, K: Texts>(
+/// An allocation was refused; none is made but for values that are folded, for types and parameters, and for a parameter that
+/// sets captures.
+pub fn header<'m, N: Texts, P: Texts, K: Texts>(
     alloc: Global,
     message: &Message<'m>,
+    test: HeaderTest,
     names: &N,
+    params: &P,
     keys: &K,
-    how: Match,
 ) -> Result<Answer<'m>, AllocError>
+    requires current { IfSome test.reach.current (λ current. current < length message.now.parts) }
     requires names { AreTexts (N.texts names.now) }
+    requires params { AreTexts (P.texts params.now) }
     requires keys { AreTexts (K.texts keys.now) }
     ensures outcome { IfOk result (λ answer. (captures : List (List ℕ))
-        → after answer.outcome captures ≡ header_match how Root None Value (N.texts names.now) (K.texts keys.now) message.now captures) }
-    ensures cost { IfOk result (λ answer. answer.cost ≡ header_cost Root None Value (N.texts names.now) (K.texts keys.now) message.now) }
+        → after answer.outcome captures
+        ≡ header_match test.how (scope_of test.reach.scope) test.reach.current (selector_of test.selector (P.texts params.now)) (N.texts names.now) (K.texts keys.now) message.now captures) }
+    ensures cost { IfOk result (λ answer. answer.cost
+        ≡ header_cost (scope_of test.reach.scope) test.reach.current (selector_of test.selector (P.texts params.now)) (N.texts names.now) (K.texts keys.now) message.now) }
 {
-    let fields = root_fields(message);
+    let headers = Headers::in_scope(message, test.reach);
+    let comparison = Comparison {
+        selector: test.selector,
+        params,
+        keys,
+        how: test.how,
+    };
+    let progress = compared(alloc, &headers, names, &comparison)?;
+    let names_cost = names_cost(fields_number(&headers), names);
+    Ok(Answer {
+        outcome: progress.outcome,
+        cost: names_cost as u128 + product(progress.extent, extent_of(keys)),
+    })
+}
+
+// What comparing the values selected in the headers comes to.
+fn compared<'m, N: Texts, P: Texts, K: Texts>(
+    alloc: Global,
+    headers: &Headers<'_, 'm>,
+    names: &N,
+    test: &Comparison<'_, P, K>,
+) -> Result<Progress<'m>, AllocError>
+    requires names { AreTexts (N.texts names.now) }
+    requires params { AreTexts (P.texts test.now.params.now) }
+    requires keys { AreTexts (K.texts test.now.keys.now) }
+    ensures { IfOk result (λ progress. GoesOn test.now.how (selected_in_all (selector_of test.now.selector (P.texts test.now.params.now)) (N.texts names.now) headers.now) (K.texts test.now.keys.now) (record { outcome = Fails; extent = 0 }) progress) }
+{
     let mut progress = Progress {
         outcome: Outcome::Fails,
         extent: 0,
     };
-    for place in 0..names.count() {
-        progress.take_named(alloc, fields, names.text(place), keys, how)?;
+    for place in 0..headers.count() {
+        progress.take_header(alloc, headers.fields(place), names, test)?;
     }
-    let cost = names_cost(fields, names) + progress.extent * extent_of(keys);
-    Ok(Answer {
-        outcome: progress.outcome,
-        cost,
-    })
-}
-
-// What comparing the values so far comes to, and how many octets they have, and one more for each.
-#[derive(Drop)]
-struct Progress<'m> {
-    outcome: Outcome<'m>,
-    extent: u64,
-}
-
-impl<'m> Progress<'m> {
-    // Goes on with the values of the fields of a name.
-    fn take_named<K: Texts>(
-        &mut self,
-        alloc: Global,
-        fields: &[Field<'m>],
-        name: &[u8],
-        keys: &K,
-        how: Match,
-    ) -> Result<(), AllocError>
-        requires keys { AreTexts (K.texts keys.now) }
-        requires fields { fields_extent fields.now ≤ max_message }
-        requires room { self.old.extent < 2 ^ 40 }
-        ensures { OnOk result (GoesOn how (values_named name.now fields.now) (K.texts keys.now) self.old self.new) }
-    {
-        for field in fields {
-            self.take_where_named(alloc, field, name, keys, how)?;
-        }
-        Ok(())
-    }
-
-    // Goes on with the value of a field, where it has the name.
-    fn take_where_named<K: Texts>(
-        &mut self,
-        alloc: Global,
-        field: &Field<'m>,
-        name: &[u8],
-        keys: &K,
-        how: Match,
-    ) -> Result<(), AllocError>
-        requires keys { AreTexts (K.texts keys.now) }
-        requires field { length field.now.value ≤ max_message }
-        requires room { self.old.extent < 2 ^ 41 }
-        ensures { OnOk result (GoesOn how (values_named name.now (field.now ∷ [])) (K.texts keys.now) self.old self.new) }
-    {
-        if is_named(field, name) {
-            self.take(alloc, field, keys, how)?;
-        }
-        Ok(())
-    }
-
-    // Goes on with the value of a field. After a match it is only measured.
-    fn take<K: Texts>(
-        &mut self,
-        alloc: Global,
-        field: &Field<'m>,
-        keys: &K,
-        how: Match,
-    ) -> Result<(), AllocError>
-        requires keys { AreTexts (K.texts keys.now) }
-        requires field { length field.now.value ≤ max_message }
-        requires room { self.old.extent < 2 ^ 41 }
-        ensures { OnOk result (GoesOn how (field.now.value ∷ []) (K.texts keys.now) self.old self.new) }
-    {
-        let length = if self.outcome.holds() {
-            unfolded_length(field)
-        } else {
-            let value = unfold(alloc, field)?;
-            let length = value.len();
-            self.outcome = first_key(value, keys, how);
-            length
-        };
-        self.extent += length as u64 + 1;
-        Ok(())
-    }
+    Ok(progress)
 }

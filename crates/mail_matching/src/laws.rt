@@ -1,12 +1,14 @@
 //! The laws of the tests: how much they cost at most.
-ghost use Rattle.std.specs.Prelude.{◌≡◌, ◌+◌, ◌*◌, ◌≤◌, ℕ, List, Option, Some, length};
+ghost use Rattle.std.specs.Prelude.{◌≡◌, ◌+◌, ◌*◌, ◌≤◌, ℕ, List, Option, Some, length, slice_get};
 ghost use Rattle.glob_match.specs.Matching.{max_captures};
 ghost use Rattle.glob_match.specs.declared.match_type.Match.{Match};
-ghost use Rattle.mime_decode.specs.Mail.{IsMail, Mail, size_of};
-ghost use Rattle.mime_decode.specs.Scope.{Scope, Value, selected_values};
+ghost use Rattle.mime_decode.specs.Mail.{IsMail, Mail, Part, size_of};
+ghost use Rattle.mime_decode.specs.Scope.{Scope, Selector, selected_values};
 ghost use Rattle.mail_matching.specs.Costs.{extent_of, names_cost, values_cost};
 ghost use Rattle.mail_matching.specs.FirstMatch.{first_match};
 ghost use Rattle.mail_matching.specs.HeaderTests.{fields_in_scope};
+ghost use Rattle.mail_matching.specs.PartTests.{body_cost, digest_cost};
+ghost use Rattle.mail_matching.specs.Selection.{values_of_a_field};
 
 /// Looking for fields by their names costs at most one more than the message has octets, for each octet of a name and for one more.
 pub fn names_cost_is_within_the_message()
@@ -14,10 +16,22 @@ pub fn names_cost_is_within_the_message()
         → names_cost (fields_in_scope scope current mail) names ≤ (size_of mail + 1) * extent_of names }
 {}
 
-/// Comparing the values of the fields of so many names costs at most that many times what the message's octets do.
+/// Comparing what is selected of the fields of so many names costs at most that many times what the message's octets do, for
+/// each value that may be selected of a field.
 pub fn values_cost_is_within_the_message()
-    ensures { (mail : Mail) → IsMail mail → (scope : Scope) (current : Option ℕ) (names keys : List (List ℕ))
-        → values_cost (selected_values scope current Value names mail) keys ≤ length names * size_of mail * extent_of keys }
+    ensures { (mail : Mail) → IsMail mail → (scope : Scope) (current : Option ℕ) (selector : Selector) (names keys : List (List ℕ))
+        → values_cost (selected_values scope current selector names mail) keys ≤ length names * values_of_a_field selector * size_of mail * extent_of keys }
+{}
+
+/// Comparing the content of a part costs at most what the message's octets do.
+pub fn body_cost_is_within_the_message()
+    ensures { (mail : Mail) → IsMail mail → (place : ℕ) (part : Part) → slice_get mail.parts place ≡ Some part → (keys : List (List ℕ))
+        → body_cost part keys ≤ (size_of mail + 1) * extent_of keys }
+{}
+
+/// Comparing the digest of a part costs the same for each.
+pub fn digest_cost_is_fixed()
+    ensures { (part : Part) (keys : List (List ℕ)) → digest_cost part keys ≡ 65 * extent_of keys }
 {}
 
 /// The cost of comparing is a product.

@@ -1,23 +1,31 @@
-//! Tests of a message's header, `header` and `exists` (RFC 5228, sections 5.5 and 5.7; RFC 5229, section 3.2), and of texts that a
-//! filter holds, `string` (RFC 5229, section 5).
+//! Tests of a message's headers, `header` and `exists` (RFC 5228, sections 5.5 and 5.7; RFC 5703, section 4), of the content of a
+//! part and of its digest, and of texts that a filter holds, `string` (RFC 5229, section 5).
 //!
-//! [`header`] and [`string`] find the first value that matches a key, and [`exists`] whether each name is that of a field. All answer
-//! what the test costs, too. What matches first, which captures it leaves, and what is charged stands in `specs/`; how much that is at most
-//! of a message that was read is in the [`laws`]. Names, sources and keys are lent by any [`Texts`]. A field's value is copied only
-//! where it is folded, and a source only where it sets captures.
+//! [`header`], [`body`], [`digest`] and [`string`] find the first value that matches a key, and [`exists`] whether each name is
+//! that of a field. All answer what the test costs, too. What matches first, which captures it leaves, and what is charged stands
+//! in `specs/`; how much that is at most of a message that was read is in the [`laws`]. Names, sources and keys are lent by any
+//! [`Texts`]. A field's value is copied only where it is folded, or where its type or a parameter is asked for, and any other value
+//! only where it sets captures.
 #![tactic(auto)]
 
 mod comparing;
 mod cost;
 mod existence;
 mod header_test;
+mod headers;
 pub mod laws;
 mod outcome;
+mod part_tests;
+mod progress;
+mod reading;
+mod selection;
 mod string_test;
 mod texts;
 
 pub use existence::exists;
 pub use header_test::header;
 pub use outcome::{Answer, Captured, Outcome};
+pub use part_tests::{body, digest};
+pub use selection::{HeaderTest, Reach, Scope, Selector};
 pub use string_test::string;
 pub use texts::Texts;

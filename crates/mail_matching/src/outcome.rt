@@ -73,5 +73,5 @@ impl<'a> Outcome<'a> {
 pub struct Answer<'m> {
     pub outcome: Outcome<'m>,
     /// Of all names and fields, and of all values and keys, whichever were compared.
-    pub cost: u64,
+    pub cost: u128,
 }

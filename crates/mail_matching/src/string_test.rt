@@ -5,13 +5,12 @@ ghost use Rattle.mail_matching.specs.FirstMatch.{first_match};
 ghost use Rattle.mail_matching.specs.Outcomes.{after};
 ghost use Rattle.mail_matching.specs.Texts.{AreTexts};
 
-use crate::comparing::{Compared, first_comparison};
+use crate::comparing::first_key_of_lent;
 use crate::cost::values_cost;
-use crate::outcome::{Answer, Captured, Outcome};
+use crate::outcome::{Answer, Outcome};
 use crate::texts::Texts;
 use glob_match::Match;
 use std::alloc::{AllocError, Global};
-use std::borrow::CowSlice;
 
 /// The first of the sources that matches a key (RFC 5229, section 5).
 ///
@@ -51,14 +50,9 @@ fn first_source<'m, S: Texts, K: Texts>(
         → after outcome captures ≡ first_match how (S.texts sources.now) (K.texts keys.now) captures) }
 {
     for place in 0..sources.count() {
-        let source = sources.text(place);
-        match first_comparison(source, keys, how) {
-            Compared::Differs => {}
-            Compared::Matches => return Ok(Outcome::Holds),
-            Compared::Sets(stretches) => {
-                let value = CowSlice::Owned(Vec::from_slice(alloc, source)?);
-                return Ok(Outcome::Captures(Captured::new(value, stretches)));
-            }
+        let outcome = first_key_of_lent(alloc, sources.text(place), keys, how)?;
+        if outcome.holds() {
+            return Ok(outcome);
         }
     }
     Ok(Outcome::Fails)

@@ -5,10 +5,13 @@ ghost use Rattle.mail_matching.specs.Texts.{AreTexts};
 use crate::repeated::repeated;
 use glob_match::{Comparator, Match, MatchType};
 use header_fields::{Header, unfolded_length};
-use mail_matching::{Outcome, exists, header};
-use mime_decode::Message;
+use mail_matching::{
+    Answer, HeaderTest, Outcome, Reach, Scope, Selector, body, digest, exists, header,
+};
+use mime_decode::{MAX_MESSAGE, Message, digest_of};
 use octets::Octets;
 use std::alloc::{AllocError, Global};
+use std::borrow::CowSlice;
 use std::test::Fail;
 
 // Whether a test may have these names or keys.
@@ -29,12 +32,12 @@ fn texts(alloc: Global, all: &[&[u8]]) -> Result<Vec<Octets>, AllocError> {
 // What a test comes to: that it fails, that it holds, or that it sets captures, of which this is one; and what it costs.
 #[derive(Clone, Copy)]
 enum Want<'a> {
-    Fails(u64),
-    Holds(u64),
-    Sets(usize, &'a [u8], u64),
+    Fails(u128),
+    Holds(u128),
+    Sets(usize, &'a [u8], u128),
 }
 
-// Whether a test comes to this.
+// Whether a test of the message's own header comes to this.
 fn is_outcome(
     alloc: Global,
     text: &[u8],
@@ -43,17 +46,50 @@ fn is_outcome(
     how: Match,
     want: Want<'_>,
 ) -> bool {
+    let test = HeaderTest {
+        reach: ROOT,
+        selector: Selector::Value,
+        how,
+    };
+    is_selected(alloc, text, test, names, &Vec::new(alloc), keys, want)
+}
+
+const ROOT: Reach = Reach {
+    scope: Scope::Root,
+    current: None,
+};
+
+// Whether a test comes to this.
+fn is_selected(
+    alloc: Global,
+    text: &[u8],
+    test: HeaderTest,
+    names: &Vec<Octets>,
+    params: &Vec<Octets>,
+    keys: &Vec<Octets>,
+    want: Want<'_>,
+) -> bool {
     let Ok(message) = Message::read(alloc, text) else {
         return false;
     };
-    if !are_texts(names) || !are_texts(keys) {
+    if !are_texts(names) || !are_texts(params) || !are_texts(keys) {
         return false;
     }
-    let Ok(answer) = header(alloc, &message, names, keys, how) else {
+    if let Some(current) = test.reach.current {
+        if current >= message.parts() {
+            return false;
+        }
+    }
+    let Ok(answer) = header(alloc, &message, test, names, params, keys) else {
         return false;
     };
+    is_answer(&answer, want)
+}
+
+// Whether an answer is this.
+fn is_answer(answer: &Answer<'_>, want: Want<'_>) -> bool {
     let cost = answer.cost;
-    match answer.outcome {
+    match &answer.outcome {
         Outcome::Fails => matches!(want, Want::Fails(wanted) if wanted == cost),
         Outcome::Holds => matches!(want, Want::Holds(wanted) if wanted == cost),
         Outcome::Captures(captured) => match want {
@@ -61,6 +97,28 @@ fn is_outcome(
             Want::Fails(_) | Want::Holds(_) => false,
         },
     }
+}
+
+// Whether a test of a content comes to this.
+fn is_body(
+    alloc: Global,
+    content: &CowSlice<'_, u8>,
+    keys: &Vec<Octets>,
+    how: Match,
+    want: Want<'_>,
+) -> bool {
+    if !are_texts(keys) || content.len() > MAX_MESSAGE {
+        return false;
+    }
+    let Ok(answer) = body(alloc, content, keys, how) else {
+        return false;
+    };
+    is_answer(&answer, want)
+}
+
+// Whether a test of the digest of a content comes to this.
+fn is_digest(content: &[u8], keys: &Vec<Octets>, want: Want<'_>) -> bool {
+    are_texts(keys) && is_answer(&digest(&digest_of(content), keys), want)
 }
 
 fn matched(kind: MatchType) -> Match {
@@ -165,7 +223,7 @@ fn is_there(alloc: Global, text: &[u8], names: &Vec<Octets>, want: bool, cost: u
     if !are_texts(names) {
         return false;
     }
-    exists(&message, names) == (want, cost)
+    exists(&message, ROOT, names) == (want, cost)
 }
 
 #[test]
@@ -186,7 +244,7 @@ fn sixty_thousand_folded_fields(rt: HostRuntime) -> Result<(), Fail> {
     let alloc = rt.alloc();
     let text = repeated(alloc, b"", b"a: 1\r\n 2 \r\n", 60_000, b"b: 3\r\n\r\nbody")?;
     let names = texts(alloc, &[b"A", b"B"])?;
-    let cost = |key: u64| 60_002 * 4 + (60_000 * 4 + 2) * (key + 1);
+    let cost = |key: u128| 60_002 * 4 + (60_000 * 4 + 2) * (key + 1);
     let none = texts(alloc, &[b"12"])?;
     assert!(rt;
         is_outcome(
@@ -279,5 +337,156 @@ fn lengths_of_values(rt: HostRuntime) -> Result<(), Fail> {
         lengths.push(unfolded_length(field))?;
     }
     assert_eq!(rt; lengths.as_slice(), [4usize, 0, 0, 3].as_slice());
+    Ok(())
+}
+
+const PARTS: &[u8] =
+    b"Subject: root\nContent-Type: multipart/mixed; boundary=b\n\n--b\nSubject: one\nContent-Type: Text/HTML;\n Charset=\"utf\\-8\"; x=y\n\nfirst\n--b\nSubject: two\nContent-Disposition: attachment; filename=F.txt\n\nsecond\n--b--\n";
+
+// A test of the part at this place, and of those below it.
+fn below(current: usize, selector: Selector, kind: MatchType) -> HeaderTest {
+    HeaderTest {
+        reach: Reach {
+            scope: Scope::CurrentAndBelow,
+            current: Some(current),
+        },
+        selector,
+        how: matched(kind),
+    }
+}
+
+#[test]
+fn scopes_and_selectors(rt: HostRuntime) -> Result<(), Fail> {
+    let alloc = rt.alloc();
+    let none = Vec::new(alloc);
+    let subject = texts(alloc, &[b"subject"])?;
+    let two = texts(alloc, &[b"two"])?;
+    let value = below(0, Selector::Value, MatchType::Is);
+    assert!(rt;
+        is_selected(
+            alloc,
+            PARTS,
+            value,
+            &subject,
+            &none,
+            &two,
+            Want::Holds(7 * 8 + 13 * 4)
+        )
+    );
+    let value = below(1, Selector::Value, MatchType::Is);
+    assert!(rt;
+        is_selected(
+            alloc,
+            PARTS,
+            value,
+            &subject,
+            &none,
+            &two,
+            Want::Fails(3 * 8 + 4 * 4)
+        )
+    );
+    let types = texts(
+        alloc,
+        &[b"content-type", b"content-disposition", b"subject"],
+    )?;
+    let key = texts(alloc, &[b"t*/*"])?;
+    let both = below(1, Selector::ContentType, MatchType::Matches);
+    assert!(rt;
+        is_selected(
+            alloc,
+            PARTS,
+            both,
+            &types,
+            &none,
+            &key,
+            Want::Sets(2, b"HTML", 3 * 41 + (10 + 1) * 5)
+        )
+    );
+    let key = texts(alloc, &[b"?tt*"])?;
+    let main = below(2, Selector::Main, MatchType::Matches);
+    assert!(rt;
+        is_selected(
+            alloc,
+            PARTS,
+            main,
+            &types,
+            &none,
+            &key,
+            Want::Sets(2, b"achment", 3 * 41 + (11 + 1) * 5)
+        )
+    );
+    let key = texts(alloc, &[b"*"])?;
+    let sub = below(2, Selector::Sub, MatchType::Matches);
+    assert!(rt;
+        is_selected(
+            alloc,
+            PARTS,
+            sub,
+            &types,
+            &none,
+            &key,
+            Want::Sets(0, b"", 3 * 41 + 2 * 2)
+        )
+    );
+    let given = texts(alloc, &[b"absent", b"X", b"charset"])?;
+    let key = texts(alloc, &[b"utf*"])?;
+    let param = below(1, Selector::Param, MatchType::Matches);
+    assert!(rt;
+        is_selected(
+            alloc,
+            PARTS,
+            param,
+            &types,
+            &given,
+            &key,
+            Want::Sets(1, b"-8", 3 * 41 + (2 + 6) * 5)
+        )
+    );
+    let given = texts(alloc, &[b"absent"])?;
+    assert!(rt;
+        is_selected(
+            alloc,
+            PARTS,
+            param,
+            &types,
+            &given,
+            &key,
+            Want::Fails(3 * 41)
+        )
+    );
+    Ok(())
+}
+
+#[test]
+fn contents_and_digests(rt: HostRuntime) -> Result<(), Fail> {
+    let alloc = rt.alloc();
+    let keys = texts(alloc, &[b"none", b"SEC*d"])?;
+    let lent = CowSlice::Borrowed(b"second".as_slice());
+    let owned = CowSlice::Owned(Vec::from_slice(alloc, b"second")?);
+    let how = matched(MatchType::Matches);
+    assert!(rt; is_body(alloc, &lent, &keys, how, Want::Sets(1, b"on", 7 * 11)));
+    assert!(rt; is_body(alloc, &owned, &keys, how, Want::Sets(0, b"second", 7 * 11)));
+    assert!(rt;
+        is_body(
+            alloc,
+            &owned,
+            &keys,
+            matched(MatchType::Is),
+            Want::Fails(7 * 11)
+        )
+    );
+    let empty = texts(
+        alloc,
+        &[
+            b"",
+            b"e3b0c44298fc1c149afbf4c8996fb92427ae41e4649b934ca495991b7852b855",
+        ],
+    )?;
+    assert!(rt; is_digest(b"", &empty, Want::Holds(65 * 66)));
+    let upper = texts(
+        alloc,
+        &[b"E3B0C44298FC1C149AFBF4C8996FB92427AE41E4649B934CA495991B7852B855"],
+    )?;
+    assert!(rt; is_digest(b"", &upper, Want::Fails(65 * 65)));
     Ok(())
 }

@@ -16,8 +16,8 @@ use Rattle.bytecode_verifier.specs.Rules.{misses_index, is_halt, breaks_form, br
 use Rattle.std.specs.Option.{option_and_then}
 use Rattle.bytecode_verifier.specs.Rows.{row_of, row_named, is_jump}
 use Rattle.bytecode_verifier.specs.Shape.{Entries, is_empty, is_target, shape_at}
-use Rattle.bytecode_verifier.proofs.Ends.{nowhere, past_stack}
-use Rattle.sieve_compiler.proofs.Loopless.{needs_no_part, misses_no_loop, no_loops}
+use Rattle.bytecode_verifier.proofs.Ends.{past_stack}
+use Rattle.sieve_compiler.proofs.Loopless.{needs_no_part, misses_no_loop, no_loops, nowhere}
 use Rattle.sieve_check.specs.Bounded.{AreBoundedCommands}
 use Rattle.sieve_check.specs.Typed.{CommandForms}
 use Rattle.sieve_compiler.specs.Tables.{Tables, tables_of}

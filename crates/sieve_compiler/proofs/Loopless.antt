@@ -1,13 +1,14 @@
 -- The code of a script has no loops.
 use Rattle.std.proofs.Common.{◌≡◌, ℕ, suc, ◌+◌, Bool, true, false, List, [], ◌∷◌, Option, Some, None, slice_get, refl}
 use Rattle.std.specs.List.{filter_map, enumerate_from}
-use Rattle.std.specs.Option.{option_and_then}
+use Rattle.std.specs.Option.{option_and_then, option_map_or}
 use Rattle.bytecode_format.specs.declared.instruction.Instruction.{Instruction}
 use Rattle.bytecode_format.specs.declared.operation.Operation.{Operation}
 use Rattle.bytecode_format.specs.declared.operation.Operation.TheVariants.{PartSize, PartBody, PartDigest, Store, Each, Next, Break}
 use Rattle.bytecode_format.specs.Operations.{operation_of}
 use Rattle.bytecode_format.specs.Code.{Code}
 use Rattle.bytecode_verifier.specs.Loops.{opens, loop_from, loops}
+use Rattle.bytecode_verifier.specs.Places.{holds_at}
 use Rattle.bytecode_verifier.specs.Rows.{row_of, needs_part}
 use Rattle.bytecode_verifier.specs.Rules.{misses_loop}
 
@@ -51,3 +52,11 @@ no_loops_from instructions n (x ∷ xs) h = rw (loop_from_none instructions n x 
 
 pub no_loops : (code : Code) → ((place : ℕ) (i : Instruction) → slice_get code.instructions place ≡ Some i → is_loopless (operation_of i.op) ≡ true) → loops code ≡ []
 no_loops code h = no_loops_from code.instructions 0 code.instructions (λ k i e. opens_nothing _ (h k i e))
+
+none_passes : (o : Option Instruction) (test : Instruction → Bool) → ((i : Instruction) → o ≡ Some i → test i ≡ false) → option_map_or test o false ≡ false
+none_passes None test h = refl
+none_passes (Some i) test h = h i refl
+
+-- a rule that no instruction breaks
+pub nowhere : (code : Code) (place : ℕ) (test : Instruction → Bool) → ((i : Instruction) → slice_get code.instructions place ≡ Some i → test i ≡ false) → holds_at code place test ≡ false
+nowhere code place test h = none_passes (slice_get code.instructions place) test h

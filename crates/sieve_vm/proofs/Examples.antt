@@ -43,8 +43,11 @@ two_texts = refl
 too_many_texts : texts_on_top 4 pushed ≡ None
 too_many_texts = refl
 
-a_name_and_two_keys : lists_on_top 1 2 pushed ≡ Some (record { names = codes "a" ∷ []; keys = codes "b" ∷ codes "c" ∷ []; below = truth true ∷ [] })
+a_name_and_two_keys : lists_on_top 1 0 2 pushed ≡ Some (record { names = codes "a" ∷ []; params = []; keys = codes "b" ∷ codes "c" ∷ []; below = truth true ∷ [] })
 a_name_and_two_keys = refl
+
+one_of_each : lists_on_top 1 1 1 pushed ≡ Some (record { names = codes "a" ∷ []; params = codes "b" ∷ []; keys = codes "c" ∷ []; below = truth true ∷ [] })
+one_of_each = refl
 
 -- ---- a message with two fields
 

@@ -3,8 +3,11 @@ pub mod Pushed
 pub mod Charges
 pub mod Reached
 pub mod Falls
+pub mod Opened
 pub mod Bounds
 pub mod Steps
 pub mod Holding
+pub mod Visiting
 pub mod Tests
 pub mod Examples
+pub mod LoopExamples

@@ -1,5 +1,5 @@
 -- The texts that the machine lends of its stack, whose top entry is the last one.
-use Rattle.std.proofs.Common.{◌≡◌, ℕ, ◌+◌, ◌-◌, ◌≤◌, List, [], ◌∷◌, ◌++◌, Option, Some, None, length, map, reverse, take, drop, length-take-le, refl, sym, ap, subst, ◌∙◌, arith}
+use Rattle.std.proofs.Common.{◌≡◌, ℕ, ◌+◌, ◌-◌, ◌≤◌, List, [], ◌∷◌, ◌++◌, Option, Some, None, length, map, reverse, take, drop, slice_range, take_all, length-take-le, refl, sym, ap, subst, ◌∙◌, arith}
 use Rattle.std.proofs.lemmas.List.{reverse-append, reverse-reverse, map-append, length-map, length-drop, length-reverse, take-append-drop, take_at, drop_at, take_rest, take-take, drop-take}
 use Rattle.std.specs.Option.{option_and_then, option_map}
 use Rattle.octets.specs.Limits.{max_stack}
@@ -7,7 +7,7 @@ use Rattle.mail_matching.specs.Texts.{AreTexts}
 use Rattle.sieve_vm.specs.declared.entry.Entry.{Entry}
 use Rattle.sieve_vm.specs.declared.entry.Entry.TheVariants.{Truth, Text, Variable, Capture}
 use Rattle.sieve_vm.specs.State.{Value}
-use Rattle.sieve_vm.specs.Stack.{OnTop, texts_on_top, Lists, with_keys, lists_on_top}
+use Rattle.sieve_vm.specs.Stack.{OnTop, texts_on_top, Lists, with_params_and_keys, lists_below, lists_on_top}
 use Rattle.sieve_vm.specs.Standing.{value_of, octets_of}
 use Rattle.sieve_vm.proofs.Taking.{octets_in, AreShortTexts, IsTop, is_top}
 
@@ -19,24 +19,46 @@ texts_are n stack top few short e =
     let number = is.number in
     record { few = omega arith; short = (is.short short).0 }
 
--- both are texts of a test
-pub lists_are : (names keys : ℕ) (stack : List Value) (top : Lists) → length stack ≤ max_stack → AreShortTexts stack → lists_on_top names keys stack ≡ Some top → AreTexts top.names × AreTexts top.keys
-lists_are names keys stack top few short e = go (texts_on_top keys stack) refl e
-  where
-    then_names : (above : OnTop) → IsTop keys stack above → (o : Option OnTop) → texts_on_top names above.below ≡ o → option_map (with_keys above.texts) o ≡ Some top → AreTexts top.names × AreTexts top.keys
-    then_names above k None h f = absurd cc
-    then_names above k (Some under) h f =
-        let n = is_top names above.below under h in
-        let same : with_keys above.texts under ≡ top = cc in
-        let kw = k.within in let kn = k.number in let nw = n.within in let nn = n.number in
-        let left : length above.below ≡ length stack - keys = ap length k.below ∙ length-drop keys stack in
-        let ks = k.short short in
-        let both : AreTexts under.texts × AreTexts above.texts = (record { few = omega arith; short = (n.short ks.1).0 }, record { few = omega arith; short = ks.0 }) in
-        subst (λ (t : Lists). AreTexts t.names × AreTexts t.keys) same both
+-- the three are texts of a test
+pub record AreTestTexts (top : Lists) : Type 0 where
+  pub names : AreTexts top.names
+  pub params : AreTexts top.params
+  pub keys : AreTexts top.keys
 
-    go : (o : Option OnTop) → texts_on_top keys stack ≡ o → option_and_then (λ (above : OnTop). option_map (with_keys above.texts) (texts_on_top names above.below)) o ≡ Some top → AreTexts top.names × AreTexts top.keys
+pub lists_are : (names params keys : ℕ) (stack : List Value) (top : Lists) → length stack ≤ max_stack → AreShortTexts stack → lists_on_top names params keys stack ≡ Some top → AreTestTexts top
+lists_are names params keys stack top few short e = go (texts_on_top keys stack) refl e
+  where
+    -- what is left is no more, and as short
+    left : (n : ℕ) (vs : List Value) (t : OnTop) → length vs ≤ max_stack → AreShortTexts vs → texts_on_top n vs ≡ Some t → AreTexts t.texts × (length t.below ≤ max_stack) × AreShortTexts t.below
+    left n vs t less brief h =
+        let is = is_top n vs t h in
+        let rest : length t.below ≡ length vs - n = ap length is.below ∙ length-drop n vs in
+        (texts_are n vs t less brief h, omega (arith, rest, less), (is.short brief).1)
+
+    then_names : (above between : OnTop) → AreTexts above.texts → AreTexts between.texts → length between.below ≤ max_stack → AreShortTexts between.below
+        → (o : Option OnTop) → texts_on_top names between.below ≡ o → option_map (with_params_and_keys between.texts above.texts) o ≡ Some top → AreTestTexts top
+    then_names above between k p less brief None h f = absurd cc
+    then_names above between k p less brief (Some under) h f =
+        let same : with_params_and_keys between.texts above.texts under ≡ top = cc in
+        subst AreTestTexts same (record { names = (left names between.below under less brief h).0; params = p; keys = k })
+
+    then_params : (above : OnTop) → AreTexts above.texts → length above.below ≤ max_stack → AreShortTexts above.below
+        → (o : Option OnTop) → texts_on_top params above.below ≡ o → option_and_then (λ (between : OnTop). option_map (with_params_and_keys between.texts above.texts) (texts_on_top names between.below)) o ≡ Some top → AreTestTexts top
+    then_params above k less brief None h f = absurd cc
+    then_params above k less brief (Some between) h f =
+        let l = left params above.below between less brief h in
+        then_names above between k l.0 l.1 l.2 (texts_on_top names between.below) refl f
+
+    go : (o : Option OnTop) → texts_on_top keys stack ≡ o → option_and_then (lists_below names params) o ≡ Some top → AreTestTexts top
     go None h f = absurd cc
-    go (Some above) h f = then_names above (is_top keys stack above h) (texts_on_top names above.below) refl f
+    go (Some above) h f =
+        let l = left keys stack above few short h in
+        then_params above l.0 l.1 l.2 (texts_on_top params above.below) refl f
+
+range_of : {A : Type 0} (xs : List A) (from to : ℕ) → from ≤ to → drop from (take to xs) ≡ take (to - from) (drop from xs)
+range_of xs from to le =
+    let whole : to ≡ from + (to - from) = omega arith in
+    ap (λ n. drop from (take n xs)) whole ∙ drop-take from (to - from) xs
 
 module _ (variables captures : List (List ℕ)) where
   abbrev value : Entry → Value
@@ -84,40 +106,58 @@ module _ (variables captures : List (List ℕ)) where
         below = is.below ∙ ap (drop n) split ∙ drop_at (map value (reverse back)) (map value (reverse front)) n number;
       }
 
-  -- two lists of the last entries, and the others
-  pub record AreLent (names keys : ℕ) (items : List Entry) (top : Lists) : Type 0 where
-    pub within : keys + names ≤ length items
-    pub keys_are : top.keys ≡ map octets (drop (length items - keys) items)
-    pub names_are : top.names ≡ map octets (take names (drop (length items - keys - names) items))
-    pub below : top.below ≡ map value (reverse (take (length items - keys - names) items))
+  -- the same of the entries before a place
+  record LentBefore (n end : ℕ) (items : List Entry) (top : OnTop) : Type 0 where
+    within : n ≤ end
+    texts : top.texts ≡ map octets (take (end - (end - n)) (drop (end - n) items))
+    below : top.below ≡ map value (reverse (take (end - n) items))
 
-  both_lent : (names keys : ℕ) (items : List Entry) (above under : OnTop) → IsLent keys items above → IsLent names (take (length items - keys) items) under → AreLent names keys items (with_keys above.texts under)
-  both_lent names keys items above under k n =
-      let cut : ℕ = length items - keys - names in
-      let within = k.within in
-      let front : length (take (length items - keys) items) ≡ length items - keys = length-take-le (length items - keys) items (omega arith) in
-      let fits : names ≤ length items - keys = let w = n.within in omega arith in
-      let same : length (take (length items - keys) items) - names ≡ cut = ap (λ l. l - names) front in
-      let whole : length items - keys ≡ cut + names = omega arith in
+  lent_before : (n end : ℕ) (items : List Entry) (stack : List Value) (top : OnTop) → end ≤ length items → map value (reverse (take end items)) ≡ stack → texts_on_top n stack ≡ Some top → LentBefore n end items top
+  lent_before n end items stack top there stands e =
+      let is = lent n (take end items) stack top stands e in
+      let number : length (take end items) ≡ end = length-take-le end items there in
+      let within : n ≤ end = let w = is.within in omega arith in
       record {
-        within = omega arith;
-        keys_are = k.texts;
-        names_are = n.texts ∙ ap (λ l. map octets (drop l (take (length items - keys) items))) same ∙ ap (λ l. map octets (drop cut (take l items))) whole ∙ ap (map octets) (drop-take cut names items);
-        below = n.below ∙ ap (λ l. map value (reverse (take l (take (length items - keys) items)))) same ∙ ap (λ es. map value (reverse es)) (take-take cut (length items - keys) items (omega arith));
+        within = within;
+        texts = is.texts ∙ ap (λ l. map octets (drop (l - n) (take end items))) number ∙ ap (map octets) (range_of items (end - n) end (omega arith));
+        below = is.below ∙ ap (λ l. map value (reverse (take (l - n) (take end items)))) number ∙ ap (λ es. map value (reverse es)) (take-take (end - n) end items (omega arith));
       }
 
-  pub lists_lent : (names keys : ℕ) (items : List Entry) (stack : List Value) (top : Lists) → map value (reverse items) ≡ stack → lists_on_top names keys stack ≡ Some top → AreLent names keys items top
-  lists_lent names keys items stack top stands e = go (texts_on_top keys stack) refl e
-    where
-      then_names : (above : OnTop) → IsLent keys items above → (o : Option OnTop) → texts_on_top names above.below ≡ o → option_map (with_keys above.texts) o ≡ Some top → AreLent names keys items top
-      then_names above k None h f = absurd cc
-      then_names above k (Some under) h f =
-          let same : with_keys above.texts under ≡ top = cc in
-          subst (AreLent names keys items) same (both_lent names keys items above under k (lent names (take (length items - keys) items) above.below under (sym k.below) h))
+  -- three lists of the last entries, and the others
+  pub record AreLent (names params keys : ℕ) (items : List Entry) (top : Lists) : Type 0 where
+    pub within : keys + params + names ≤ length items
+    pub keys_are : top.keys ≡ map octets (slice_range items (length items - keys) (length items))
+    pub params_are : top.params ≡ map octets (slice_range items (length items - keys - params) (length items - keys))
+    pub names_are : top.names ≡ map octets (slice_range items (length items - keys - params - names) (length items - keys - params))
+    pub below : top.below ≡ map value (reverse (take (length items - keys - params - names) items))
 
-      go : (o : Option OnTop) → texts_on_top keys stack ≡ o → option_and_then (λ (above : OnTop). option_map (with_keys above.texts) (texts_on_top names above.below)) o ≡ Some top → AreLent names keys items top
+  pub lists_lent : (names params keys : ℕ) (items : List Entry) (stack : List Value) (top : Lists) → map value (reverse items) ≡ stack → lists_on_top names params keys stack ≡ Some top → AreLent names params keys items top
+  lists_lent names params keys items stack top stands e = go (texts_on_top keys stack) refl e
+    where
+      n : ℕ
+      n = length items
+
+      then_names : (above between : OnTop) → LentBefore keys n items above → LentBefore params (n - keys) items between → (o : Option OnTop) → texts_on_top names between.below ≡ o
+          → option_map (with_params_and_keys between.texts above.texts) o ≡ Some top → AreLent names params keys items top
+      then_names above between k p None h f = absurd cc
+      then_names above between k p (Some under) h f =
+          let same : with_params_and_keys between.texts above.texts under ≡ top = cc in
+          let kw = k.within in
+          let pw = p.within in
+          let l = lent_before names (n - keys - params) items between.below under (omega arith) (sym p.below) h in
+          let lw = l.within in
+          subst (AreLent names params keys items) same (record { within = omega arith; keys_are = k.texts; params_are = p.texts; names_are = l.texts; below = l.below })
+
+      then_params : (above : OnTop) → LentBefore keys n items above → (o : Option OnTop) → texts_on_top params above.below ≡ o
+          → option_and_then (λ (between : OnTop). option_map (with_params_and_keys between.texts above.texts) (texts_on_top names between.below)) o ≡ Some top → AreLent names params keys items top
+      then_params above k None h f = absurd cc
+      then_params above k (Some between) h f = then_names above between k (lent_before params (n - keys) items above.below between (omega arith) (sym k.below) h) (texts_on_top names between.below) refl f
+
+      go : (o : Option OnTop) → texts_on_top keys stack ≡ o → option_and_then (lists_below names params) o ≡ Some top → AreLent names params keys items top
       go None h f = absurd cc
-      go (Some above) h f = then_names above (lent keys items stack above stands h) (texts_on_top names above.below) refl f
+      go (Some above) h f =
+          let all : map value (reverse (take n items)) ≡ stack = ap (λ es. map value (reverse es)) (take_all n items (omega arith)) ∙ stands in
+          then_params above (lent_before keys n items stack above (omega arith) all h) (texts_on_top params above.below) refl f
 
   -- ---- as the code slices the stack
 
@@ -125,11 +165,3 @@ module _ (variables captures : List (List ℕ)) where
   pub last_texts : (n len : ℕ) (items slice : List Entry) (texts : List (List ℕ)) → slice ≡ items → len ≡ length items → texts ≡ map octets (drop (length items - n) items) → map octets (take (length slice - (len - n)) (drop (len - n) slice)) ≡ texts
   last_texts n len items slice texts same counted are =
       ap (map octets) (take_rest slice (len - n)) ∙ ap (λ l. map octets (drop (l - n) slice)) counted ∙ ap (λ es. map octets (drop (length items - n) es)) same ∙ sym are
-
-  -- the entries between two places
-  pub texts_between : (names keys len : ℕ) (items slice : List Entry) (texts : List (List ℕ)) → slice ≡ items → len ≡ length items → keys + names ≤ length items
-      → texts ≡ map octets (take names (drop (length items - keys - names) items)) → map octets (take (len - keys - (len - keys - names)) (drop (len - keys - names) slice)) ≡ texts
-  texts_between names keys len items slice texts same counted within are =
-      let number : len - keys - (len - keys - names) ≡ names = omega arith in
-      let start : len - keys - names ≡ length items - keys - names = ap (λ l. l - keys - names) counted in
-      ap (λ l. map octets (take l (drop (len - keys - names) slice))) number ∙ ap (λ l. map octets (take names (drop l slice))) start ∙ ap (λ es. map octets (take names (drop (length items - keys - names) es))) same ∙ sym are

@@ -6,12 +6,12 @@ use Rattle.std.proofs.lemmas.List.{reverse-append}
 use Rattle.std.specs.Option.{option_and_then, option_map}
 use Rattle.octets.specs.Limits.{max_string}
 use Rattle.bytecode_verifier.specs.declared.shape.Entry.TheVariants.{Truth, Text}
-use Rattle.bytecode_verifier.specs.Shape.{Entries, Texts, Lists as ListBounds, with_entry, with_text, with_joined, take_texts, take_lists, with_keys as with_key_bounds}
+use Rattle.bytecode_verifier.specs.Shape.{Entries, Texts, Lists as ListBounds, with_entry, with_text, with_joined, take_texts, take_below, take_lists, with_params_and_keys as with_bounds}
 use Rattle.bytecode_verifier.specs.Budget.{one_more_each}
 use Rattle.bytecode_verifier.specs.Pass.{AreShort}
 use Rattle.mail_matching.specs.Costs.{extent_of}
 use Rattle.sieve_vm.specs.State.{Value, truth, text}
-use Rattle.sieve_vm.specs.Stack.{OnTop, with_last, texts_on_top, Lists, with_keys, lists_on_top}
+use Rattle.sieve_vm.specs.Stack.{OnTop, with_last, texts_on_top, Lists, with_params_and_keys, lists_below, lists_on_top}
 
 -- the entries of the shape describe the stack
 abbrev pub Describes : Entries → List Value → Type 0
@@ -73,37 +73,46 @@ on_top (suc n) (Text bound ∷ entries) bounds (text t ∷ vs) e d = go (take_te
           number = omega (arith, length-append before.top.texts (t ∷ []));
         })
 
--- names, and keys above them
-pub record ListsAreOnTop (names keys : ℕ) (bounds : ListBounds) (stack : List Value) : Type 0 where
+-- names, parameters above them, and keys above these
+pub record ListsAreOnTop (names params keys : ℕ) (bounds : ListBounds) (stack : List Value) : Type 0 where
   pub top : Lists
-  pub is : lists_on_top names keys stack ≡ Some top
+  pub is : lists_on_top names params keys stack ≡ Some top
   pub below : Describes bounds.rest top.below
   pub names_extent : extent_of top.names ≤ one_more_each bounds.names
   pub names_number : length top.names ≡ length bounds.names
+  pub params_number : length top.params ≡ length bounds.params
   pub keys_extent : extent_of top.keys ≤ one_more_each bounds.keys
 
-pub lists_are_on_top : (names keys : ℕ) (entries : Entries) (bounds : ListBounds) (stack : List Value) → take_lists names keys entries ≡ Some bounds → Describes entries stack → ListsAreOnTop names keys bounds stack
-lists_are_on_top names keys entries bounds stack e d = go (take_texts keys entries) refl e
+pub lists_are_on_top : (names params keys : ℕ) (entries : Entries) (bounds : ListBounds) (stack : List Value) → take_lists names params keys entries ≡ Some bounds → Describes entries stack → ListsAreOnTop names params keys bounds stack
+lists_are_on_top names params keys entries bounds stack e d = go (take_texts keys entries) refl e
   where
-    both : (above under : Texts) → (k : AreOnTop keys above stack) → AreOnTop names under k.top.below → with_key_bounds above.bounds under ≡ bounds → ListsAreOnTop names keys bounds stack
-    both above under k n same =
-        subst (λ b. ListsAreOnTop names keys b stack) same
+    all : (above between under : Texts) → (k : AreOnTop keys above stack) → (p : AreOnTop params between k.top.below) → AreOnTop names under p.top.below → with_bounds between.bounds above.bounds under ≡ bounds → ListsAreOnTop names params keys bounds stack
+    all above between under k p n same =
+        subst (λ b. ListsAreOnTop names params keys b stack) same
         (record {
-          top = with_keys k.top.texts n.top;
-          is = ap (option_and_then (λ (top : OnTop). option_map (with_keys top.texts) (texts_on_top names top.below))) k.is ∙ ap (option_map (with_keys k.top.texts)) n.is;
+          top = with_params_and_keys p.top.texts k.top.texts n.top;
+          is = ap (option_and_then (lists_below names params)) k.is
+              ∙ ap (option_and_then (λ (top : OnTop). option_map (with_params_and_keys top.texts k.top.texts) (texts_on_top names top.below))) p.is
+              ∙ ap (option_map (with_params_and_keys p.top.texts k.top.texts)) n.is;
           below = n.below;
           names_extent = n.extent;
           names_number = n.number;
+          params_number = p.number;
           keys_extent = k.extent;
         })
 
-    then_names : (above : Texts) → AreOnTop keys above stack → (o : Option Texts) → take_texts names above.rest ≡ o → option_map (with_key_bounds above.bounds) o ≡ Some bounds → ListsAreOnTop names keys bounds stack
-    then_names above k None h f = absurd cc
-    then_names above k (Some under) h f = both above under k (on_top names above.rest under k.top.below h k.below) cc
+    then_names : (above between : Texts) → (k : AreOnTop keys above stack) → AreOnTop params between k.top.below → (o : Option Texts) → take_texts names between.rest ≡ o → option_map (with_bounds between.bounds above.bounds) o ≡ Some bounds → ListsAreOnTop names params keys bounds stack
+    then_names above between k p None h f = absurd cc
+    then_names above between k p (Some under) h f = all above between under k p (on_top names between.rest under p.top.below h p.below) cc
 
-    go : (o : Option Texts) → take_texts keys entries ≡ o → option_and_then (λ (above : Texts). option_map (with_key_bounds above.bounds) (take_texts names above.rest)) o ≡ Some bounds → ListsAreOnTop names keys bounds stack
+    then_params : (above : Texts) → AreOnTop keys above stack → (o : Option Texts) → take_texts params above.rest ≡ o
+        → option_and_then (λ (between : Texts). option_map (with_bounds between.bounds above.bounds) (take_texts names between.rest)) o ≡ Some bounds → ListsAreOnTop names params keys bounds stack
+    then_params above k None h f = absurd cc
+    then_params above k (Some between) h f = then_names above between k (on_top params above.rest between k.top.below h k.below) (take_texts names between.rest) refl f
+
+    go : (o : Option Texts) → take_texts keys entries ≡ o → option_and_then (take_below names params) o ≡ Some bounds → ListsAreOnTop names params keys bounds stack
     go None h f = absurd cc
-    go (Some above) h f = then_names above (on_top keys entries above stack h d) (take_texts names above.rest) refl f
+    go (Some above) h f = then_params above (on_top keys entries above stack h d) (take_texts params above.rest) refl f
 
 -- ---- texts that are no longer than strings
 
@@ -177,13 +186,13 @@ names_there n entries after stack e d = go (take_texts n entries) refl e
     go None h f = absurd cc
     go (Some bounds) h f = let are = on_top n entries bounds stack h d in (are.top, are.is)
 
-pub lists_there : (names keys : ℕ) (entries after : Entries) (stack : List Value) → option_and_then (λ (lists : ListBounds). with_entry Truth lists.rest) (take_lists names keys entries) ≡ Some after → Describes entries stack
-    → (top : Lists) × (lists_on_top names keys stack ≡ Some top)
-lists_there names keys entries after stack e d = go (take_lists names keys entries) refl e
+pub lists_there : (names params keys : ℕ) (entries after : Entries) (stack : List Value) → option_and_then (λ (lists : ListBounds). with_entry Truth lists.rest) (take_lists names params keys entries) ≡ Some after → Describes entries stack
+    → (top : Lists) × (lists_on_top names params keys stack ≡ Some top)
+lists_there names params keys entries after stack e d = go (take_lists names params keys entries) refl e
   where
-    go : (o : Option ListBounds) → take_lists names keys entries ≡ o → option_and_then (λ (lists : ListBounds). with_entry Truth lists.rest) o ≡ Some after → (top : Lists) × (lists_on_top names keys stack ≡ Some top)
+    go : (o : Option ListBounds) → take_lists names params keys entries ≡ o → option_and_then (λ (lists : ListBounds). with_entry Truth lists.rest) o ≡ Some after → (top : Lists) × (lists_on_top names params keys stack ≡ Some top)
     go None h f = absurd cc
-    go (Some bounds) h f = let are = lists_are_on_top names keys entries bounds stack h d in (are.top, are.is)
+    go (Some bounds) h f = let are = lists_are_on_top names params keys entries bounds stack h d in (are.top, are.is)
 
 pub folder_there : (entries after : Entries) (stack : List Value) → option_map (λ (folder : Texts). folder.rest) (take_texts 1 entries) ≡ Some after → Describes entries stack → (t : List ℕ) × ((rest : List Value) × (stack ≡ text t ∷ rest))
 folder_there [] after stack e d = absurd cc

@@ -4,7 +4,10 @@ pub mod MatchNumbers
 pub mod Machine
 pub mod Charge
 pub mod Runs
+pub mod Stores
 pub mod Potential
 pub mod Ending
+-- what the open loops of the code stand for
+pub mod Visits
 -- how the machine of the code stands for that of the definitions; nothing public rests on it
 pub mod Standing

@@ -1,5 +1,5 @@
 -- How the machine's fields stand for a state of a run.
-use Rattle.std.specs.Prelude.{◌≡◌, ◌<◌, ℕ, true, None, List, [], map, reverse, slice_index_or}
+use Rattle.std.specs.Prelude.{◌≡◌, ◌<◌, ◌+◌, ℕ, true, Option, None, List, [], map, reverse, slice_index_or}
 use Rattle.std.specs.Cow.{cow_slice_items}
 use Rattle.bytecode_format.specs.Actions.{first_occurrences}
 use Rattle.bytecode_format.specs.Code.{Code}
@@ -13,7 +13,11 @@ use Rattle.sieve_vm.specs.declared.machine.Flow.TheVariants.{On, To, Ends}
 use Rattle.sieve_vm.specs.declared.machine.Machine.{Machine}
 use Rattle.sieve_vm.specs.declared.workspace.Pushed.{Pushed}
 use Rattle.sieve_vm.specs.declared.workspace.Workspace.{Workspace}
-use Rattle.sieve_vm.specs.State.{Value, truth, text, State, start}
+use Rattle.bytecode_verifier.specs.Rows.{match_in, scope_in, selector_in}
+use Rattle.mail_matching.specs.HeaderTests.{header_match}
+use Rattle.sieve_vm.specs.MatchNumbers.{match_numbered, scope_numbered, selector_numbered}
+use Rattle.sieve_vm.specs.Stack.{Lists}
+use Rattle.sieve_vm.specs.State.{Value, truth, text, State, current_part, start}
 use Rattle.sieve_vm.specs.Machine.{Effect, on, jumps, halts}
 use Rattle.sieve_vm.specs.Runs.{Run, RunEnds}
 
@@ -60,14 +64,16 @@ held_by state = record { stack = state.stack; variables = state.variables; captu
 abbrev pub texts_of : Pushed → List (List ℕ)
 texts_of pushed = map (octets_of (variables_of pushed.work.now) (captures_of pushed.work.now.captures)) pushed.entries.now
 
--- what is charged once
+-- what is charged one
 abbrev pub once : Flow → Done
-once flow = record { flow = flow; charge = 1 }
+once flow = record { flow = flow; cost = 0 }
 
--- the machine stands for the state
-pub record StandsFor (state : State) (machine : Machine) : Type 0 where
+-- the machine stands for the state of a run on the message
+pub record StandsFor (mail : Mail) (state : State) (machine : Machine) : Type 0 where
   pub place : machine.place ≡ state.place
   pub work : held_of machine.work ≡ held_by state
+  pub mail_is : machine.loops.mail ≡ mail
+  pub frames : machine.loops.frames ≡ state.frames
   pub actions : machine.actions ≡ first_occurrences state.actions
   pub implicit_keep : machine.implicit_keep ≡ state.implicit_keep
   pub charge : machine.charged ≡ state.charge
@@ -76,6 +82,7 @@ pub record StandsFor (state : State) (machine : Machine) : Type 0 where
 pub record IsNewMachine (machine : Machine) : Type 0 where
   pub place : machine.place ≡ 0
   pub work : IsNew machine.work
+  pub frames : machine.loops.frames ≡ []
   pub actions : machine.actions ≡ []
   pub implicit_keep : machine.implicit_keep ≡ true
   pub charge : machine.charged ≡ 0
@@ -84,22 +91,27 @@ pub record IsNewMachine (machine : Machine) : Type 0 where
 pub record IsIn (code : Code) (mail : Mail) (state : State) (machine : Machine) : Type 0 where
   pub steps : ℕ
   pub run : Run code mail steps (start code) state
-  pub stands : StandsFor state machine
+  pub stands : StandsFor mail state machine
 
 -- the machine stands for a state of the program's run
 abbrev pub IsRunning : Code → Mail → Machine → Type 0
 IsRunning code mail machine = (state : State) × IsIn code mail state machine
 
 -- the machine has had the effect, but for its place and charge, and answers where the run goes
-abbrev pub GoesFrom : Effect → Flow → Machine → Type 0
-GoesFrom (on state) On machine = StandsFor state machine
-GoesFrom (jumps target state) (To place) machine = (place ≡ target) × StandsFor state machine
-GoesFrom (halts state) Ends machine = StandsFor state machine
-GoesFrom _ _ machine = ⊥
+abbrev pub GoesFrom : Mail → Effect → Flow → Machine → Type 0
+GoesFrom mail (on state) On machine = StandsFor mail state machine
+GoesFrom mail (jumps target state) (To place) machine = (place ≡ target) × StandsFor mail state machine
+GoesFrom mail (halts state) Ends machine = StandsFor mail state machine
+GoesFrom mail _ _ machine = ⊥
 
--- the same, and it answers what that is charged
-abbrev pub HasHad : Effect → ℕ → Done → Machine → Type 0
-HasHad effect charge done machine = GoesFrom effect done.flow machine × (done.charge ≡ charge)
+-- the same, and it answers what that is charged beyond one
+abbrev pub HasHad : Mail → Effect → ℕ → Done → Machine → Type 0
+HasHad mail effect charge done machine = GoesFrom mail effect done.flow machine × (1 + done.cost ≡ charge)
+
+-- what a test of fields finds
+abbrev pub found_in : Mail → ℕ → Lists → State → Option (List (List ℕ))
+found_in mail a lists state =
+    header_match (match_numbered (match_in a)) (scope_numbered (scope_in a)) (current_part state.frames) (selector_numbered (selector_in a) lists.params) lists.names lists.keys mail state.captures
 
 -- the machine goes from one state of the run to a later one
 pub record StepsOn (code : Code) (mail : Mail) (before after : Machine) : Type 0 where
@@ -110,4 +122,4 @@ pub record StepsOn (code : Code) (mail : Mail) (before after : Machine) : Type 0
 pub record IsOver (code : Code) (mail : Mail) (machine : Machine) : Type 0 where
   pub end : State
   pub over : RunEnds code mail end
-  pub stands : StandsFor end machine
+  pub stands : StandsFor mail end machine

@@ -1,5 +1,5 @@
 //! Laws of the machine, over its definitions alone.
-ghost use Rattle.std.specs.Prelude.{◌≡◌, ◌≢◌, ℕ, suc, ◌+◌, ◌≤◌};
+ghost use Rattle.std.specs.Prelude.{◌≡◌, ◌≢◌, ℕ, suc, ◌+◌, ◌≤◌, All, List};
 ghost use Rattle.bytecode_format.specs.Code.{Code};
 ghost use Rattle.bytecode_verifier.specs.Acceptance.{IsAccepted};
 ghost use Rattle.mime_decode.specs.Mail.{Mail, IsMail};
@@ -7,6 +7,9 @@ ghost use Rattle.sieve_vm.specs.State.{State, goes, ends, traps, start};
 ghost use Rattle.sieve_vm.specs.Machine.{step};
 ghost use Rattle.sieve_vm.specs.Runs.{Run, RunEnds};
 ghost use Rattle.sieve_vm.specs.Potential.{potential, limit_of};
+ghost use Rattle.bytecode_format.specs.declared.action.Action.{Action};
+ghost use Rattle.sieve_vm.specs.Ending.{IsOutcome};
+ghost use Rattle.sieve_vm.specs.Stores.{NamesPart};
 
 /// Accepted programs never trap: no state that a run reaches from the start steps to a trap.
 pub fn accepted_programs_never_trap()
@@ -36,4 +39,14 @@ pub fn runs_reach_their_end()
 /// A run has one end.
 pub fn runs_have_one_end()
     ensures { (code : Code) (mail : Mail) (one other : State) → RunEnds code mail one → RunEnds code mail other → one ≡ other }
+{}
+
+/// Each action of a run that stores a part names one of the message.
+pub fn runs_store_parts_of_the_message()
+    ensures { (code : Code) (mail : Mail) → IsAccepted code → IsMail mail → (n : ℕ) (state : State) → Run code mail n (start code) state → All (NamesPart mail) state.actions }
+{}
+
+/// And so does each final action.
+pub fn outcomes_store_parts_of_the_message()
+    ensures { (code : Code) (mail : Mail) (actions : List Action) (charged : ℕ) → IsAccepted code → IsMail mail → IsOutcome code mail actions charged → All (NamesPart mail) actions }
 {}

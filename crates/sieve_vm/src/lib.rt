@@ -6,9 +6,15 @@
 #![tactic(auto)]
 
 mod entry;
+mod frame;
+mod joining;
+mod known;
 pub mod laws;
+mod loops;
 mod machine;
+mod numbers;
 mod outcome;
+mod owning;
 mod workspace;
 
 pub use outcome::{Outcome, run};

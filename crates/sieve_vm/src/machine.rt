@@ -1,23 +1,24 @@
 // The machine as it runs.
 ghost use Rattle.std.specs.Prelude.{◌≡◌};
 ghost use Rattle.sieve_vm.specs.Machine.{compares};
-ghost use Rattle.sieve_vm.specs.MatchNumbers.{match_numbered};
 ghost use Rattle.sieve_vm.specs.Standing.{once};
 
 use crate::entry::Entry;
+use crate::loops::Loops;
+use crate::numbers::{header_counts, header_test, match_numbered, scope_numbered, string_counts};
 use crate::workspace::Workspace;
 use bytecode_format::{Action, ActionList, Instruction, Modifiers, Operation, Program};
-use glob_match::{Comparator, Match, MatchType};
-use mail_matching::{Answer, exists, header, string};
+use mail_matching::{Answer, HeaderTest, Reach, body, digest, exists, header, string};
 use mime_decode::Message;
 use std::alloc::{AllocError, Global};
 use std::borrow::CowSlice;
 
 /// What a run carries from one instruction to the next. Texts are lent by the program and the message.
 #[derive(Drop)]
-pub struct Machine<'p, 'm> {
+pub struct Machine<'p, 's, 'm> {
     pub place: usize,
     pub work: Workspace<'p, 'm>,
+    pub loops: Loops<'s, 'm>,
     pub actions: ActionList,
     pub implicit_keep: bool,
     pub charged: u128,
@@ -34,11 +35,11 @@ pub enum Flow {
     Ends,
 }
 
-/// What an instruction came to: where the run goes, and what it is charged.
+/// What an instruction came to: where the run goes, and what it is charged beyond one.
 #[derive(Clone, Copy, Debug, PartialEq, Eq)]
 pub struct Done {
     pub flow: Flow,
-    pub charge: u128,
+    pub cost: u128,
 }
 
 /// Whether the run goes on.
@@ -48,10 +49,10 @@ pub enum Turn {
     Ends,
 }
 
-impl<'p, 'm> Machine<'p, 'm> {
-    ghost use Rattle.std.specs.Prelude.{◌≡◌, ◌<◌, ◌+◌, ℕ, List, [], ◌∷◌, ◌++◌, Bool, false, not, Some, None, IfOk, OnOk, IsSome, length, take, slice_get, slice_index_or, slice_set, is_some};
+impl<'p, 's, 'm> Machine<'p, 's, 'm> {
+    ghost use Rattle.std.specs.Prelude.{◌≡◌, ◌<◌, ◌≤◌, ◌-◌, ℕ, suc, List, [], ◌∷◌, ◌++◌, Bool, false, not, Some, None, IfOk, OnOk, IfSome, IsSome, length, drop, take, slice_get, slice_index_or, slice_set, is_some};
     ghost use Rattle.std.specs.List.{concat};
-    ghost use Rattle.octets.specs.Limits.{max_string, max_value};
+    ghost use Rattle.octets.specs.Limits.{max_instructions, max_loops, max_message, max_string, max_value};
     ghost use Rattle.bytecode_format.specs.declared.modifiers.Modifiers.{Modifiers};
     ghost use Rattle.bytecode_format.specs.Modifiers.{modified, modifiers_numbered};
     ghost use Rattle.mail_matching.specs.FirstMatch.{first_match};
@@ -60,23 +61,27 @@ impl<'p, 'm> Machine<'p, 'm> {
     ghost use Rattle.bytecode_format.specs.Spelling.{IsProgram};
     ghost use Rattle.bytecode_format.specs.Operations.{operation_of};
     ghost use Rattle.bytecode_verifier.specs.Acceptance.{IsAccepted};
-    ghost use Rattle.mime_decode.specs.Mail.{Mail, IsMail};
-    ghost use Rattle.mime_decode.specs.Scope.{Root, Value as WholeValue};
-    ghost use Rattle.mail_matching.specs.HeaderTests.{exists_in, header_match};
+    ghost use Rattle.mime_decode.specs.Mail.{Mail, Part, IsMail};
+    ghost use Rattle.mime_decode.specs.Scope.{visited};
+    ghost use Rattle.mail_matching.specs.HeaderTests.{exists_in};
+    ghost use Rattle.mail_matching.specs.PartTests.{body_cost, body_match, digest_cost, digest_match};
+    ghost use Rattle.bytecode_verifier.specs.Rows.{keys_in, params_in};
+    ghost use Rattle.sieve_vm.specs.MatchNumbers.{match_numbered, scope_numbered};
+    ghost use Rattle.sieve_vm.specs.Visits.{part_in};
     ghost use Rattle.mail_matching.specs.Outcomes.{after};
     ghost use Rattle.mail_matching.specs.Texts.{AreTexts};
-    ghost use Rattle.sieve_vm.specs.State.{State, Value, truth, text};
+    ghost use Rattle.sieve_vm.specs.State.{Frame, State, Value, truth, text, current_part};
     ghost use Rattle.sieve_vm.specs.Stack.{OnTop, Lists, texts_on_top, lists_on_top};
     ghost use Rattle.sieve_vm.specs.Charge.{cost_of_names, cost_of_matching, cost_of_comparing, octets_on_top, charge_of};
-    ghost use Rattle.sieve_vm.specs.Machine.{branch, effect};
-    ghost use Rattle.sieve_vm.specs.Standing.{IsNewMachine, StandsFor, IsIn, IsRunning, HasHad, StepsOn, IsOver};
+    ghost use Rattle.sieve_vm.specs.Machine.{branch, effect, jumps, next_part, open_loop};
+    ghost use Rattle.sieve_vm.specs.Standing.{found_in, IsNewMachine, StandsFor, IsIn, IsRunning, HasHad, StepsOn, IsOver};
 
     /// Goes before the first instruction of the program.
     ///
     /// An error comes only where memory was refused.
     pub fn begin(&mut self, program: &Program) -> Result<(), AllocError>
         requires { IsNewMachine self.old }
-        ensures { OnOk result ((mail : Mail) → IsRunning program.now mail self.new) }
+        ensures { OnOk result (IsRunning program.now self.old.loops.mail self.new) }
     {
         self.work.begin(program.variables())
     }
@@ -100,7 +105,7 @@ impl<'p, 'm> Machine<'p, 'm> {
         let instruction = program.instructions()[self.place];
         let operation = Operation::of(instruction.op).unwrap();
         let done = self.act(alloc, program, message, operation, &instruction)?;
-        self.charged += done.charge;
+        self.charged += 1 + done.cost;
         Ok(match done.flow {
             Flow::On => {
                 self.place += 1;
@@ -130,7 +135,7 @@ impl<'p, 'm> Machine<'p, 'm> {
         requires here { slice_get program.now.instructions self.old.place ≡ Some instruction.now }
         requires named { operation_of instruction.now.op ≡ Some operation }
         requires running { IsRunning program.now message.now self.old }
-        ensures { IfOk result (λ done. (s : State) → IsIn program.now message.now s self.old → HasHad (effect program.now message.now operation instruction.now s) (charge_of program.now message.now operation instruction.now s) done self.new) }
+        ensures { IfOk result (λ done. (s : State) → IsIn program.now message.now s self.old → HasHad message.now (effect program.now message.now operation instruction.now s) (charge_of program.now message.now operation instruction.now s) done self.new) }
     {
         match operation {
             Operation::Halt => Ok(once(Flow::Ends)),
@@ -150,29 +155,32 @@ impl<'p, 'm> Machine<'p, 'm> {
             Operation::JumpIfTrue => Ok(self.branch(instruction.c, true)),
             Operation::JumpIfFalse => Ok(self.branch(instruction.c, false)),
             Operation::Header => self.header(alloc, message, instruction),
-            Operation::Exists => self.exists(message, instruction.b as usize),
+            Operation::Exists => self.exists(message, instruction),
             Operation::String => self.string(alloc, instruction),
             Operation::Size => {
                 let number = program.numbers()[instruction.c as usize];
                 self.push(compares(instruction, number, message.size() as u64))
             }
+            Operation::PartSize => {
+                let number = program.numbers()[instruction.c as usize];
+                self.part_size(alloc, instruction, number)
+            }
+            Operation::PartBody => self.part_body(alloc, instruction),
+            Operation::PartDigest => self.part_digest(alloc, instruction.c as usize),
             Operation::Keep => self.keep(),
             Operation::Discard => Ok(self.discard()),
             Operation::File => self.file(alloc),
-            Operation::PartSize
-            | Operation::PartBody
-            | Operation::PartDigest
-            | Operation::Store
-            | Operation::Each
-            | Operation::Next
-            | Operation::Break => unreachable!(),
+            Operation::Store => self.store(alloc),
+            Operation::Each => Ok(self.each(instruction.c)),
+            Operation::Next => Ok(self.next()),
+            Operation::Break => Ok(self.close(instruction.a as usize)),
         }
     }
 
     // Puts a truth value on top of the stack.
     #[inline(always)]
     fn push(&mut self, value: bool) -> Result<Done, AllocError>
-        ensures { IfOk result (λ done. (done ≡ once Flow.On) × ((s : State) → StandsFor s self.old → StandsFor (record s { stack = truth value ∷ s.stack }) self.new)) }
+        ensures { IfOk result (λ done. (done ≡ once Flow.On) × ((mail : Mail) (s : State) → StandsFor mail s self.old → StandsFor mail (record s { stack = truth value ∷ s.stack }) self.new)) }
     {
         self.work.push(Entry::Truth(value))?;
         Ok(once(Flow::On))
@@ -181,7 +189,7 @@ impl<'p, 'm> Machine<'p, 'm> {
     // Puts a text that the program lends on top of the stack.
     #[inline(always)]
     fn push_text(&mut self, octets: &'p [u8]) -> Result<Done, AllocError>
-        ensures { IfOk result (λ done. (done ≡ once Flow.On) × ((s : State) → StandsFor s self.old → StandsFor (record s { stack = text octets.now ∷ s.stack }) self.new)) }
+        ensures { IfOk result (λ done. (done ≡ once Flow.On) × ((mail : Mail) (s : State) → StandsFor mail s self.old → StandsFor mail (record s { stack = text octets.now ∷ s.stack }) self.new)) }
     {
         self.work.push(Entry::Text(CowSlice::Borrowed(octets)))?;
         Ok(once(Flow::On))
@@ -190,7 +198,7 @@ impl<'p, 'm> Machine<'p, 'm> {
     // Puts the value of a variable on top of the stack.
     #[inline(always)]
     fn push_variable(&mut self, number: usize) -> Result<Done, AllocError>
-        ensures { IfOk result (λ done. (done ≡ once Flow.On) × ((s : State) → StandsFor s self.old → StandsFor (record s { stack = text (slice_index_or s.variables number []) ∷ s.stack }) self.new)) }
+        ensures { IfOk result (λ done. (done ≡ once Flow.On) × ((mail : Mail) (s : State) → StandsFor mail s self.old → StandsFor mail (record s { stack = text (slice_index_or s.variables number []) ∷ s.stack }) self.new)) }
     {
         self.work.push(Entry::Variable(number))?;
         Ok(once(Flow::On))
@@ -199,7 +207,7 @@ impl<'p, 'm> Machine<'p, 'm> {
     // Puts a capture on top of the stack.
     #[inline(always)]
     fn push_capture(&mut self, number: usize) -> Result<Done, AllocError>
-        ensures { IfOk result (λ done. (done ≡ once Flow.On) × ((s : State) → StandsFor s self.old → StandsFor (record s { stack = text (slice_index_or s.captures number []) ∷ s.stack }) self.new)) }
+        ensures { IfOk result (λ done. (done ≡ once Flow.On) × ((mail : Mail) (s : State) → StandsFor mail s self.old → StandsFor mail (record s { stack = text (slice_index_or s.captures number []) ∷ s.stack }) self.new)) }
     {
         self.work.push(Entry::Capture(number))?;
         Ok(once(Flow::On))
@@ -208,8 +216,8 @@ impl<'p, 'm> Machine<'p, 'm> {
     // Takes the truth value on top of the stack.
     #[inline(always)]
     fn take(&mut self) -> bool
-        requires { (s : State) × ((b : Bool) × ((rest : List Value) × (StandsFor s self.old × (s.stack ≡ truth b ∷ rest)))) }
-        ensures { (s : State) (b : Bool) (rest : List Value) → StandsFor s self.old → s.stack ≡ truth b ∷ rest → (result ≡ b) × StandsFor (record s { stack = rest }) self.new }
+        requires { (mail : Mail) × ((s : State) × ((b : Bool) × ((rest : List Value) × (StandsFor mail s self.old × (s.stack ≡ truth b ∷ rest))))) }
+        ensures { (mail : Mail) (s : State) (b : Bool) (rest : List Value) → StandsFor mail s self.old → s.stack ≡ truth b ∷ rest → (result ≡ b) × StandsFor mail (record s { stack = rest }) self.new }
     {
         self.work.take_truth()
     }
@@ -217,8 +225,8 @@ impl<'p, 'm> Machine<'p, 'm> {
     // Takes the truth value on top of the stack, and goes to the target where it is this one.
     #[inline(always)]
     fn branch(&mut self, target: u32, wanted: bool) -> Done
-        requires { (s : State) × ((b : Bool) × ((rest : List Value) × (StandsFor s self.old × (s.stack ≡ truth b ∷ rest)))) }
-        ensures { (s : State) (b : Bool) (rest : List Value) → StandsFor s self.old → s.stack ≡ truth b ∷ rest → HasHad (branch target wanted b (record s { stack = rest })) 1 result self.new }
+        requires { (mail : Mail) × ((s : State) × ((b : Bool) × ((rest : List Value) × (StandsFor mail s self.old × (s.stack ≡ truth b ∷ rest))))) }
+        ensures { (mail : Mail) (s : State) (b : Bool) (rest : List Value) → StandsFor mail s self.old → s.stack ≡ truth b ∷ rest → HasHad mail (branch target wanted b (record s { stack = rest })) 1 result self.new }
     {
         if self.take() == wanted {
             once(Flow::To(target as usize))
@@ -229,32 +237,28 @@ impl<'p, 'm> Machine<'p, 'm> {
 
     // Lists Keep, and takes the implicit keep away.
     fn keep(&mut self) -> Result<Done, AllocError>
-        ensures { IfOk result (λ done. (done ≡ once Flow.On) × ((s : State) → StandsFor s self.old → StandsFor (record s { actions = s.actions ++ Action.Keep ∷ []; implicit_keep = false }) self.new)) }
+        ensures { IfOk result (λ done. (done ≡ once Flow.On) × ((mail : Mail) (s : State) → StandsFor mail s self.old → StandsFor mail (record s { actions = s.actions ++ Action.Keep ∷ []; implicit_keep = false }) self.new)) }
     {
         self.list(Action::Keep)?;
-        self.implicit_keep = false;
-        Ok(Done {
-            flow: Flow::On,
-            charge: 1,
-        })
+        Ok(self.discard())
     }
 
     // Lists File for the folder on top of the stack, which is taken, and takes the implicit keep away.
     fn file(&mut self, alloc: Global) -> Result<Done, AllocError>
-        requires { (s : State) × ((t : List ℕ) × ((rest : List Value) × (StandsFor s self.old × (s.stack ≡ text t ∷ rest)))) }
-        ensures { IfOk result (λ done. (s : State) (t : List ℕ) (rest : List Value) → StandsFor s self.old → s.stack ≡ text t ∷ rest
-            → (done ≡ record { flow = Flow.On; charge = 1 + length t }) × StandsFor (record s { stack = rest; actions = s.actions ++ Action.File t ∷ []; implicit_keep = false }) self.new) }
+        requires { (mail : Mail) × ((s : State) × ((t : List ℕ) × ((rest : List Value) × (StandsFor mail s self.old × (s.stack ≡ text t ∷ rest))))) }
+        ensures { IfOk result (λ done. (mail : Mail) (s : State) (t : List ℕ) (rest : List Value) → StandsFor mail s self.old → s.stack ≡ text t ∷ rest
+            → (done ≡ record { flow = Flow.On; cost = length t }) × StandsFor mail (record s { stack = rest; actions = s.actions ++ Action.File t ∷ []; implicit_keep = false }) self.new) }
     {
         let folder = self.work.take_text(alloc)?;
-        let charge = 1 + folder.len() as u128;
+        let cost = folder.len() as u128;
         self.list(Action::File(folder))?;
         let Done { flow, .. } = self.discard();
-        Ok(Done { flow, charge })
+        Ok(Done { flow, cost })
     }
 
     // Lists an action.
     fn list(&mut self, action: Action) -> Result<(), AllocError>
-        ensures { OnOk result ((s : State) → StandsFor s self.old → StandsFor (record s { actions = s.actions ++ action ∷ [] }) self.new) }
+        ensures { OnOk result ((mail : Mail) (s : State) → StandsFor mail s self.old → StandsFor mail (record s { actions = s.actions ++ action ∷ [] }) self.new) }
     {
         Ok(self.actions.push(action)?)
     }
@@ -262,72 +266,204 @@ impl<'p, 'm> Machine<'p, 'm> {
     // Takes the implicit keep away.
     fn discard(&mut self) -> Done
         ensures flow { result ≡ once Flow.On }
-        ensures stands { (s : State) → StandsFor s self.old → StandsFor (record s { implicit_keep = false }) self.new }
+        ensures stands { (mail : Mail) (s : State) → StandsFor mail s self.old → StandsFor mail (record s { implicit_keep = false }) self.new }
     {
         self.implicit_keep = false;
         once(Flow::On)
     }
 
-    // Takes so many names, and pushes whether the message's own header has a field of each.
-    fn exists(&mut self, message: &Message<'m>, number: usize) -> Result<Done, AllocError>
-        requires { (s : State) × ((top : OnTop) × (StandsFor s self.old × (texts_on_top number s.stack ≡ Some top) × AreTexts top.texts)) }
-        ensures { IfOk result (λ done. (s : State) (top : OnTop) → StandsFor s self.old → texts_on_top number s.stack ≡ Some top
-            → (done ≡ record { flow = Flow.On; charge = 1 + cost_of_names message.now top }) × StandsFor (record s { stack = truth (exists_in Root None top.texts message.now) ∷ top.below }) self.new) }
+    // Takes names, and pushes whether the parts in scope have a field of each.
+    fn exists(
+        &mut self,
+        message: &Message<'m>,
+        instruction: &Instruction,
+    ) -> Result<Done, AllocError>
+        requires current { IfSome (current_part self.old.loops.frames) (λ part. part < length message.now.parts) }
+        requires top { (mail : Mail) × ((s : State) × ((top : OnTop) × (StandsFor mail s self.old × (texts_on_top instruction.now.b s.stack ≡ Some top) × AreTexts top.texts))) }
+        ensures { IfOk result (λ done. (s : State) (top : OnTop) → StandsFor message.now s self.old → texts_on_top instruction.now.b s.stack ≡ Some top
+            → (done ≡ record { flow = Flow.On; cost = cost_of_names instruction.now.a (current_part s.frames) message.now top })
+            × StandsFor message.now (record s { stack = truth (exists_in (scope_numbered instruction.now.a) (current_part s.frames) top.texts message.now) ∷ top.below }) self.new) }
     {
+        let number = instruction.b as usize;
+        let reach = Reach {
+            scope: scope_numbered(instruction.a),
+            current: self.loops.current(),
+        };
         let names = self.work.texts(number);
-        let (found, cost) = exists(message, &names);
+        let (found, cost) = exists(message, reach, &names);
         self.work.drop_texts(number);
         self.push(found)?;
         Ok(Done {
             flow: Flow::On,
-            charge: 1 + cost as u128,
+            cost: cost as u128,
         })
     }
 
-    // Takes names and the keys above them, and pushes whether a value of these fields of the message's
-    // own header matches a key.
+    // Takes names, parameters and keys, and pushes whether what is selected of the fields of these names, in
+    // the parts in scope, matches a key.
     fn header(
         &mut self,
         alloc: Global,
         message: &Message<'m>,
         instruction: &Instruction,
     ) -> Result<Done, AllocError>
-        requires { (s : State) × ((top : Lists) × (StandsFor s self.old × (lists_on_top instruction.now.b instruction.now.c s.stack ≡ Some top) × AreTexts top.names × AreTexts top.keys)) }
-        ensures { IfOk result (λ done. (s : State) (top : Lists) → StandsFor s self.old → lists_on_top instruction.now.b instruction.now.c s.stack ≡ Some top
-            → (done ≡ record { flow = Flow.On; charge = 1 + cost_of_matching message.now top })
-            × StandsFor (record s {
-              stack = truth (is_some (header_match (match_numbered instruction.now.a) Root None WholeValue top.names top.keys message.now s.captures)) ∷ top.below;
-              captures = unwrap_or (header_match (match_numbered instruction.now.a) Root None WholeValue top.names top.keys message.now s.captures) s.captures;
+        requires current { IfSome (current_part self.old.loops.frames) (λ part. part < length message.now.parts) }
+        requires top { (mail : Mail) × ((s : State) × ((top : Lists) × (StandsFor mail s self.old × (lists_on_top instruction.now.b (params_in instruction.now.c) (keys_in instruction.now.c) s.stack ≡ Some top) × AreTexts top.names × AreTexts top.params × AreTexts top.keys))) }
+        ensures { IfOk result (λ done. (s : State) (top : Lists) → StandsFor message.now s self.old → lists_on_top instruction.now.b (params_in instruction.now.c) (keys_in instruction.now.c) s.stack ≡ Some top
+            → (done ≡ record { flow = Flow.On; cost = cost_of_matching instruction.now.a (current_part s.frames) message.now top })
+            × StandsFor message.now (record s {
+              stack = truth (is_some (found_in message.now instruction.now.a top s)) ∷ top.below;
+              captures = unwrap_or (found_in message.now instruction.now.a top s) s.captures;
             }) self.new) }
     {
-        let (number, above) = (instruction.b as usize, instruction.c as usize);
-        let (names, keys) = self.work.lists(number, above);
-        let answer = header(alloc, message, &names, &keys, match_numbered(instruction.a))?;
-        self.work.drop_lists(number, above);
+        let counts = header_counts(instruction);
+        let test = header_test(instruction.a, self.loops.current());
+        let lists = self.work.lists(counts);
+        let answer = header(
+            alloc,
+            message,
+            test,
+            &lists.names,
+            &lists.params,
+            &lists.keys,
+        )?;
+        self.work.drop_lists(counts);
         self.settle(alloc, answer)
     }
 
     // Takes sources and the keys above them, and pushes whether a source matches a key.
     fn string(&mut self, alloc: Global, instruction: &Instruction) -> Result<Done, AllocError>
-        requires { (s : State) × ((top : Lists) × (StandsFor s self.old × (lists_on_top instruction.now.b instruction.now.c s.stack ≡ Some top) × AreTexts top.names × AreTexts top.keys)) }
-        ensures { IfOk result (λ done. (s : State) (top : Lists) → StandsFor s self.old → lists_on_top instruction.now.b instruction.now.c s.stack ≡ Some top
-            → (done ≡ record { flow = Flow.On; charge = 1 + cost_of_comparing top })
-            × StandsFor (record s {
+        requires { (mail : Mail) × ((s : State) × ((top : Lists) × (StandsFor mail s self.old × (lists_on_top instruction.now.b 0 instruction.now.c s.stack ≡ Some top) × AreTexts top.names × AreTexts top.keys))) }
+        ensures { IfOk result (λ done. (mail : Mail) (s : State) (top : Lists) → StandsFor mail s self.old → lists_on_top instruction.now.b 0 instruction.now.c s.stack ≡ Some top
+            → (done ≡ record { flow = Flow.On; cost = cost_of_comparing top })
+            × StandsFor mail (record s {
               stack = truth (is_some (first_match (match_numbered instruction.now.a) top.names top.keys s.captures)) ∷ top.below;
               captures = unwrap_or (first_match (match_numbered instruction.now.a) top.names top.keys s.captures) s.captures;
             }) self.new) }
     {
-        let (number, above) = (instruction.b as usize, instruction.c as usize);
-        let (sources, keys) = self.work.lists(number, above);
-        let answer = string(alloc, &sources, &keys, match_numbered(instruction.a))?;
-        self.work.drop_lists(number, above);
+        let counts = string_counts(instruction);
+        let lists = self.work.lists(counts);
+        let answer = string(
+            alloc,
+            &lists.names,
+            &lists.keys,
+            match_numbered(instruction.a),
+        )?;
+        self.work.drop_lists(counts);
         self.settle(alloc, answer)
+    }
+
+    // Pushes whether the current part's content is over or under the number.
+    fn part_size(
+        &mut self,
+        alloc: Global,
+        instruction: &Instruction,
+        number: u64,
+    ) -> Result<Done, AllocError>
+        requires { IsSome (part_in self.old.loops) }
+        ensures { IfOk result (λ done. (mail : Mail) (s : State) (part : Part) → StandsFor mail s self.old → part_in self.old.loops ≡ Some part
+            → (done ≡ once Flow.On) × StandsFor mail (record s { stack = truth (compares instruction.now number (length part.content)) ∷ s.stack }) self.new) }
+    {
+        let length = self.loops.length(alloc)?;
+        self.push(compares(instruction, number, length as u64))
+    }
+
+    // Takes keys, and pushes whether the current part's content matches one.
+    fn part_body(&mut self, alloc: Global, instruction: &Instruction) -> Result<Done, AllocError>
+        requires part { (part : Part) × ((part_in self.old.loops ≡ Some part) × (length part.content ≤ max_message)) }
+        requires top { (mail : Mail) × ((s : State) × ((top : OnTop) × (StandsFor mail s self.old × (texts_on_top instruction.now.c s.stack ≡ Some top) × AreTexts top.texts))) }
+        ensures { IfOk result (λ done. (mail : Mail) (s : State) (top : OnTop) (part : Part) → StandsFor mail s self.old → texts_on_top instruction.now.c s.stack ≡ Some top → part_in self.old.loops ≡ Some part
+            → (done ≡ record { flow = Flow.On; cost = body_cost part top.texts })
+            × StandsFor mail (record s {
+              stack = truth (is_some (body_match (match_numbered instruction.now.a) part top.texts s.captures)) ∷ top.below;
+              captures = unwrap_or (body_match (match_numbered instruction.now.a) part top.texts s.captures) s.captures;
+            }) self.new) }
+    {
+        let number = instruction.c as usize;
+        let content = self.loops.take_content(alloc)?;
+        let keys = self.work.texts(number);
+        let answer = body(alloc, &content, &keys, match_numbered(instruction.a))?;
+        self.loops.keep_content(content);
+        self.work.drop_texts(number);
+        self.settle(alloc, answer)
+    }
+
+    // Takes so many keys, and pushes whether the digest of the current part's content equals one.
+    fn part_digest(&mut self, alloc: Global, number: usize) -> Result<Done, AllocError>
+        requires part { IsSome (part_in self.old.loops) }
+        requires top { (mail : Mail) × ((s : State) × ((top : OnTop) × (StandsFor mail s self.old × (texts_on_top number s.stack ≡ Some top) × AreTexts top.texts))) }
+        ensures { IfOk result (λ done. (mail : Mail) (s : State) (top : OnTop) (part : Part) → StandsFor mail s self.old → texts_on_top number s.stack ≡ Some top → part_in self.old.loops ≡ Some part
+            → (done ≡ record { flow = Flow.On; cost = digest_cost part top.texts })
+            × StandsFor mail (record s {
+              stack = truth (is_some (digest_match part top.texts s.captures)) ∷ top.below;
+              captures = unwrap_or (digest_match part top.texts s.captures) s.captures;
+            }) self.new) }
+    {
+        let found = self.loops.digest(alloc)?;
+        let keys = self.work.texts(number);
+        let answer = digest(&found, &keys);
+        self.work.drop_texts(number);
+        self.settle(alloc, answer)
+    }
+
+    // Lists Store for the current part and the folder on top of the stack, which is taken.
+    fn store(&mut self, alloc: Global) -> Result<Done, AllocError>
+        requires part { IsSome (current_part self.old.loops.frames) }
+        requires top { (mail : Mail) × ((s : State) × ((t : List ℕ) × ((rest : List Value) × (StandsFor mail s self.old × (s.stack ≡ text t ∷ rest))))) }
+        ensures { IfOk result (λ done. (mail : Mail) (s : State) (t : List ℕ) (rest : List Value) (part : ℕ) → StandsFor mail s self.old → s.stack ≡ text t ∷ rest → current_part s.frames ≡ Some part
+            → (done ≡ record { flow = Flow.On; cost = length t }) × StandsFor mail (record s { stack = rest; actions = s.actions ++ Action.Store t part ∷ [] }) self.new) }
+    {
+        let part = self.loops.current().unwrap();
+        let folder = self.work.take_text(alloc)?;
+        let cost = folder.len() as u128;
+        self.list(Action::Store(folder, part))?;
+        Ok(Done {
+            flow: Flow::On,
+            cost,
+        })
+    }
+
+    // Opens the loop of this Each, whose Next stands at the place, on its first part; or goes on after it.
+    fn each(&mut self, next: u32) -> Done
+        requires room { length self.old.loops.frames < max_loops }
+        requires current { IfSome (current_part self.old.loops.frames) (λ part. part < length self.old.loops.mail.parts) }
+        ensures { (mail : Mail) (s : State) → StandsFor mail s self.old → HasHad mail (open_loop next (visited (current_part s.frames) mail) s) 1 result self.new }
+    {
+        if self.loops.open(self.place, next as usize) {
+            once(Flow::On)
+        } else {
+            once(Flow::To(next as usize + 1))
+        }
+    }
+
+    // Goes on with the next part of the innermost loop, or closes it.
+    #[inline(always)]
+    fn next(&mut self) -> Done
+        requires { (frame : Frame) × ((frames : List Frame) × ((self.old.loops.frames ≡ frame ∷ frames) × (frame.each < max_instructions))) }
+        ensures { (mail : Mail) (s : State) (frame : Frame) (frames : List Frame) → StandsFor mail s self.old → s.frames ≡ frame ∷ frames
+            → HasHad mail (next_part frame frames frame.rest s) 1 result self.new }
+    {
+        match self.loops.next_part() {
+            Some(each) => once(Flow::To(each + 1)),
+            None => once(Flow::On),
+        }
+    }
+
+    // Closes so many loops, and goes on after the last one's Next.
+    fn close(&mut self, number: usize) -> Done
+        requires some { 0 < number }
+        requires there { (frame : Frame) × ((frames : List Frame) × ((drop (number - 1) self.old.loops.frames ≡ frame ∷ frames) × (frame.next < max_instructions))) }
+        ensures { (mail : Mail) (s : State) (frame : Frame) (frames : List Frame) → StandsFor mail s self.old → drop (number - 1) s.frames ≡ frame ∷ frames
+            → HasHad mail (jumps (suc frame.next) (record s { frames = frames })) 1 result self.new }
+    {
+        let next = self.loops.close(number);
+        once(Flow::To(next + 1))
     }
 
     // Keeps the captures that a test has set, and pushes whether it has matched.
     fn settle(&mut self, alloc: Global, answer: Answer<'m>) -> Result<Done, AllocError>
-        ensures { IfOk result (λ done. (done ≡ record { flow = Flow.On; charge = 1 + answer.entry.cost })
-            × ((s : State) → StandsFor s self.old → StandsFor (record s {
+        ensures { IfOk result (λ done. (done ≡ record { flow = Flow.On; cost = answer.entry.cost })
+            × ((mail : Mail) (s : State) → StandsFor mail s self.old → StandsFor mail (record s {
               stack = truth (is_some (after answer.entry.outcome s.captures)) ∷ s.stack;
               captures = unwrap_or (after answer.entry.outcome s.captures) s.captures;
             }) self.new)) }
@@ -336,35 +472,35 @@ impl<'p, 'm> Machine<'p, 'm> {
         self.push(matched)?;
         Ok(Done {
             flow: Flow::On,
-            charge: 1 + answer.cost as u128,
+            cost: answer.cost,
         })
     }
 
     // Joins so many texts on top of the stack.
     fn join(&mut self, alloc: Global, number: usize) -> Result<Done, AllocError>
-        requires { (s : State) × ((top : OnTop) × (StandsFor s self.old × (texts_on_top number s.stack ≡ Some top) × AreTexts top.texts)) }
-        ensures { IfOk result (λ done. (s : State) (top : OnTop) → StandsFor s self.old → texts_on_top number s.stack ≡ Some top
-            → (done ≡ record { flow = Flow.On; charge = 1 + octets_on_top top }) × StandsFor (record s { stack = text (take max_string (concat top.texts)) ∷ top.below }) self.new) }
+        requires { (mail : Mail) × ((s : State) × ((top : OnTop) × (StandsFor mail s self.old × (texts_on_top number s.stack ≡ Some top) × AreTexts top.texts))) }
+        ensures { IfOk result (λ done. (mail : Mail) (s : State) (top : OnTop) → StandsFor mail s self.old → texts_on_top number s.stack ≡ Some top
+            → (done ≡ record { flow = Flow.On; cost = octets_on_top top }) × StandsFor mail (record s { stack = text (take max_string (concat top.texts)) ∷ top.below }) self.new) }
     {
         let len = self.work.join(alloc, number)?;
         Ok(Done {
             flow: Flow::On,
-            charge: 1 + len as u128,
+            cost: len as u128,
         })
     }
 
     // Takes the text on top of the stack, and gives it, modified, to a variable.
     fn set(&mut self, alloc: Global, instruction: &Instruction) -> Result<Done, AllocError>
         requires modifiers { IsSome (modifiers_numbered instruction.now.a) }
-        requires top { (s : State) × ((t : List ℕ) × ((rest : List Value) × (StandsFor s self.old × (s.stack ≡ text t ∷ rest) × (instruction.now.c < length s.variables)))) }
-        ensures { IfOk result (λ done. (s : State) (t : List ℕ) (rest : List Value) (modifiers : Modifiers) → StandsFor s self.old → s.stack ≡ text t ∷ rest → modifiers_numbered instruction.now.a ≡ Some modifiers
-            → (done ≡ record { flow = Flow.On; charge = 1 + length t }) × StandsFor (record s { stack = rest; variables = slice_set s.variables instruction.now.c (take max_value (modified modifiers t)) }) self.new) }
+        requires top { (mail : Mail) × ((s : State) × ((t : List ℕ) × ((rest : List Value) × (StandsFor mail s self.old × (s.stack ≡ text t ∷ rest) × (instruction.now.c < length s.variables))))) }
+        ensures { IfOk result (λ done. (mail : Mail) (s : State) (t : List ℕ) (rest : List Value) (modifiers : Modifiers) → StandsFor mail s self.old → s.stack ≡ text t ∷ rest → modifiers_numbered instruction.now.a ≡ Some modifiers
+            → (done ≡ record { flow = Flow.On; cost = length t }) × StandsFor mail (record s { stack = rest; variables = slice_set s.variables instruction.now.c (take max_value (modified modifiers t)) }) self.new) }
     {
         let modifiers = Modifiers::of(instruction.a).unwrap();
         let taken = self.work.set(alloc, instruction.c as usize, modifiers)?;
         Ok(Done {
             flow: Flow::On,
-            charge: 1 + taken as u128,
+            cost: taken as u128,
         })
     }
 }
@@ -374,28 +510,7 @@ impl<'p, 'm> Machine<'p, 'm> {
 fn once(flow: Flow) -> Done
     ensures { result ≡ once flow }
 {
-    Done { flow, charge: 1 }
-}
-
-// How values are matched with keys, as an instruction says it.
-fn match_numbered(number: u8) -> Match
-    ensures { result ≡ match_numbered number }
-{
-    let kind = number % 4;
-    Match {
-        kind: if kind == 0 {
-            MatchType::Is
-        } else if kind == 1 {
-            MatchType::Contains
-        } else {
-            MatchType::Matches
-        },
-        comparator: if number % 8 < 4 {
-            Comparator::Casemap
-        } else {
-            Comparator::Octet
-        },
-    }
+    Done { flow, cost: 0 }
 }
 
 // Whether the size is over the number, where a is 0, or under it.

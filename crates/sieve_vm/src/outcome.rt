@@ -2,6 +2,7 @@
 ghost use Rattle.std.specs.Prelude.{IfOk};
 ghost use Rattle.sieve_vm.specs.Ending.{IsOutcome};
 
+use crate::loops::Loops;
 use crate::machine::{Machine, Turn};
 use crate::workspace::Workspace;
 use bytecode_format::{Action, ActionList};
@@ -31,6 +32,7 @@ pub fn run(alloc: Global, verified: &Verified, message: &Message<'_>) -> Result<
     let mut machine = Machine {
         place: 0,
         work: Workspace::new(alloc),
+        loops: Loops::new(alloc, message),
         actions: ActionList::new(alloc),
         implicit_keep: true,
         charged: 0,

@@ -1,5 +1,5 @@
 // What a run works on: the stack, the variables and the captures.
-ghost use Rattle.std.specs.Prelude.{◌≡◌, ◌<◌, ◌≤◌, ℕ, List, [], ◌∷◌, ◌++◌, Bool, Some, IfOk, OnOk, length, map, replicate, take, slice_index_or, slice_set, is_some, sum_by};
+ghost use Rattle.std.specs.Prelude.{◌≡◌, ◌<◌, ◌≤◌, ℕ, List, [], ◌∷◌, ◌++◌, Bool, Some, IfOk, OnOk, length, map, replicate, take, slice_index_or, slice_set, is_some, sum_by, slice_range};
 ghost use Rattle.std.specs.Cow.{cow_slice_items};
 ghost use Rattle.std.specs.List.{concat};
 ghost use Rattle.std.specs.Option.{unwrap_or};
@@ -13,17 +13,13 @@ ghost use Rattle.sieve_vm.specs.Stack.{OnTop, Lists, texts_on_top, lists_on_top}
 ghost use Rattle.sieve_vm.specs.Standing.{IsNew, held_of, value_of, octets_of, texts_of, variables_of};
 
 use crate::entry::Entry;
+use crate::joining::{MAX_VALUE, first, first_octets, joined, total_len};
+use crate::owning::{capture_of, own_captures, own_variable, owned};
 use bytecode_format::Modifiers;
 use mail_matching::{Captured, Outcome, Texts};
 use octets::Octets;
 use std::alloc::{AllocError, Global};
 use std::borrow::CowSlice;
-
-/// The most octets of a text that others are joined to.
-const MAX_STRING: usize = 16_384;
-
-/// The most octets of a variable's value.
-const MAX_VALUE: usize = 4096;
 
 /// The stack, and what its entries may name. What a variable or a capture holds is copied only before it
 /// changes while an entry still names it.
@@ -41,6 +37,22 @@ pub struct Workspace<'p, 'm> {
 pub struct Pushed<'s, 'p, 'm> {
     pub entries: &'s [Entry<'p>],
     pub work: &'s Workspace<'p, 'm>,
+}
+
+/// How many texts the lists of a test have.
+#[derive(Clone, Copy, Debug, PartialEq, Eq)]
+pub struct Counts {
+    pub names: usize,
+    pub params: usize,
+    pub keys: usize,
+}
+
+/// The lists of a test: names or sources, parameters above them, and keys above these.
+#[derive(Clone, Copy)]
+pub struct PushedLists<'s, 'p, 'm> {
+    pub names: Pushed<'s, 'p, 'm>,
+    pub params: Pushed<'s, 'p, 'm>,
+    pub keys: Pushed<'s, 'p, 'm>,
 }
 
 impl<'s, 'p, 'm> Texts for Pushed<'s, 'p, 'm> {
@@ -224,27 +236,33 @@ impl<'p, 'm> Workspace<'p, 'm> {
         }
     }
 
-    /// So many names or sources on the stack, and so many keys above them.
-    pub fn lists<'s>(
-        &'s self,
-        names: usize,
-        keys: usize,
-    ) -> (Pushed<'s, 'p, 'm>, Pushed<'s, 'p, 'm>)
-        requires { (top : Lists) × (lists_on_top names keys (held_of self.now).stack ≡ Some top) }
-        ensures names { (top : Lists) → lists_on_top names keys (held_of self.now).stack ≡ Some top → texts_of result.0 ≡ top.names }
-        ensures keys { (top : Lists) → lists_on_top names keys (held_of self.now).stack ≡ Some top → texts_of result.1 ≡ top.keys }
+    /// So many names or sources on the stack, so many parameters above them, and so many keys above these.
+    pub fn lists<'s>(&'s self, counts: Counts) -> PushedLists<'s, 'p, 'm>
+        requires { (top : Lists) × (lists_on_top counts.names counts.params counts.keys (held_of self.now).stack ≡ Some top) }
+        ensures names { (top : Lists) → lists_on_top counts.names counts.params counts.keys (held_of self.now).stack ≡ Some top → texts_of result.names ≡ top.names }
+        ensures params { (top : Lists) → lists_on_top counts.names counts.params counts.keys (held_of self.now).stack ≡ Some top → texts_of result.params ≡ top.params }
+        ensures keys { (top : Lists) → lists_on_top counts.names counts.params counts.keys (held_of self.now).stack ≡ Some top → texts_of result.keys ≡ top.keys }
     {
-        let above = self.entries.len() - keys;
-        let below = above - names;
-        let first = Pushed {
-            entries: &self.entries[below..above],
+        let keys = self.entries.len() - counts.keys;
+        let params = keys - counts.params;
+        let names = params - counts.names;
+        PushedLists {
+            names: self.between(names, params),
+            params: self.between(params, keys),
+            keys: self.between(keys, self.entries.len()),
+        }
+    }
+
+    // The entries between two places.
+    fn between<'s>(&'s self, from: usize, to: usize) -> Pushed<'s, 'p, 'm>
+        requires order { from ≤ to }
+        requires within { to ≤ length self.now.entries.items }
+        ensures { texts_of result ≡ map (octets_of (variables_of self.now) (captures_of self.now.captures)) (slice_range self.now.entries.items from to) }
+    {
+        Pushed {
+            entries: &self.entries[from..to],
             work: self,
-        };
-        let second = Pushed {
-            entries: &self.entries[above..],
-            work: self,
-        };
-        (first, second)
+        }
     }
 
     /// Drops so many texts on top of the stack.
@@ -256,14 +274,15 @@ impl<'p, 'm> Workspace<'p, 'm> {
         self.entries.truncate(below);
     }
 
-    /// Drops so many names or sources on the stack, and so many keys above them.
-    pub fn drop_lists(&mut self, names: usize, keys: usize)
-        requires { (top : Lists) × (lists_on_top names keys (held_of self.old).stack ≡ Some top) }
-        ensures { (top : Lists) → lists_on_top names keys (held_of self.old).stack ≡ Some top → held_of self.new ≡ record (held_of self.old) { stack = top.below } }
+    /// Drops so many names or sources on the stack, so many parameters above them, and so many keys above these.
+    pub fn drop_lists(&mut self, counts: Counts)
+        requires { (top : Lists) × (lists_on_top counts.names counts.params counts.keys (held_of self.old).stack ≡ Some top) }
+        ensures { (top : Lists) → lists_on_top counts.names counts.params counts.keys (held_of self.old).stack ≡ Some top → held_of self.new ≡ record (held_of self.old) { stack = top.below } }
     {
-        let above = self.entries.len() - keys;
-        let below = above - names;
-        self.entries.truncate(below);
+        let keys = self.entries.len() - counts.keys;
+        let params = keys - counts.params;
+        let names = params - counts.names;
+        self.entries.truncate(names);
     }
 
     /// Keeps the captures that a test has set, and says whether it has matched.
@@ -297,152 +316,5 @@ impl<'p, 'm> Workspace<'p, 'm> {
         ensures { result.now ≡ slice_index_or (captures_of self.now.captures) number [] }
     {
         capture_of(&self.captures, number)
-    }
-}
-
-// A capture, empty as long as none was set.
-fn capture_of<'s>(captures: &'s Option<Captured<'_>>, number: usize) -> &'s [u8]
-    ensures { result.now ≡ slice_index_or (captures_of captures.now) number [] }
-{
-    match captures {
-        Some(captured) => captured.text(number),
-        None => &[],
-    }
-}
-
-// Makes each entry that names the variable own its value.
-fn own_variable<'p>(
-    alloc: Global,
-    entries: &mut [Entry<'p>],
-    variable: usize,
-    value: &[u8],
-) -> Result<(), AllocError>
-    ensures len { length entries.new ≡ length entries.old }
-    ensures values { OnOk result ((variables captures : List (List ℕ)) (next : List ℕ) → slice_index_or variables variable [] ≡ value.now
-        → map (value_of (slice_set variables variable next) captures) entries.new ≡ map (value_of variables captures) entries.old) }
-{
-    for place in 0..entries.len() {
-        own_if_variable(alloc, &mut entries[place], variable, value)?;
-    }
-    Ok(())
-}
-
-// Makes an entry own the variable's value, where it names it.
-fn own_if_variable<'p>(
-    alloc: Global,
-    entry: &mut Entry<'p>,
-    variable: usize,
-    value: &[u8],
-) -> Result<(), AllocError>
-    ensures { OnOk result ((variables captures : List (List ℕ)) (next : List ℕ) → slice_index_or variables variable [] ≡ value.now
-        → value_of (slice_set variables variable next) captures entry.new ≡ value_of variables captures entry.old) }
-{
-    if let Entry::Variable(number) = entry {
-        if *number == variable {
-            *entry = own(alloc, value)?;
-        }
-    }
-    Ok(())
-}
-
-// Makes each entry that names a capture own it.
-fn own_captures<'p>(
-    alloc: Global,
-    entries: &mut [Entry<'p>],
-    captures: &Option<Captured<'_>>,
-) -> Result<(), AllocError>
-    ensures len { length entries.new ≡ length entries.old }
-    ensures values { OnOk result ((variables next : List (List ℕ)) → map (value_of variables next) entries.new ≡ map (value_of variables (captures_of captures.now)) entries.old) }
-{
-    for place in 0..entries.len() {
-        own_if_capture(alloc, &mut entries[place], captures)?;
-    }
-    Ok(())
-}
-
-// Makes an entry own the capture that it names, if it names one.
-fn own_if_capture<'p>(
-    alloc: Global,
-    entry: &mut Entry<'p>,
-    captures: &Option<Captured<'_>>,
-) -> Result<(), AllocError>
-    ensures { OnOk result ((variables next : List (List ℕ)) → value_of variables next entry.new ≡ value_of variables (captures_of captures.now) entry.old) }
-{
-    if let Entry::Capture(number) = entry {
-        *entry = own(alloc, capture_of(captures, *number))?;
-    }
-    Ok(())
-}
-
-// An entry that owns the octets.
-fn own<'p>(alloc: Global, octets: &[u8]) -> Result<Entry<'p>, AllocError>
-    ensures { IfOk result (λ entry. (variables captures : List (List ℕ)) → value_of variables captures entry ≡ text octets.now) }
-{
-    let copy = Vec::from_slice(alloc, octets)?;
-    Ok(Entry::Text(CowSlice::Owned(copy)))
-}
-
-// As many octets as a variable's value has at most.
-#[tactic(auto, using(std::proofs::lemmas::List::take_min))]
-fn first(octets: &[u8]) -> &[u8]
-    ensures { result.now ≡ take max_value octets.now }
-{
-    &octets[..MAX_VALUE.min(octets.len())]
-}
-
-// The first octets of a text, still lent where they are.
-fn first_octets<'p>(octets: CowSlice<'p, u8>) -> CowSlice<'p, u8>
-    ensures { cow_slice_items result ≡ take max_value (cow_slice_items octets.entry) }
-{
-    match octets {
-        CowSlice::Borrowed(octets) => CowSlice::Borrowed(first(octets)),
-        CowSlice::Owned(mut octets) => {
-            octets.truncate(MAX_VALUE);
-            CowSlice::Owned(octets)
-        }
-    }
-}
-
-// How many octets texts have.
-fn total_len<T: Texts>(texts: &T) -> usize
-    requires { AreTexts (T.texts texts.now) }
-    ensures { result ≡ sum_by length (T.texts texts.now) }
-{
-    let mut total = 0;
-    for place in 0..texts.count() {
-        total += texts.text(place).len();
-    }
-    total
-}
-
-// Texts, one after the other, of which the first octets stay.
-fn joined<T: Texts>(alloc: Global, texts: &T) -> Result<Vec<u8>, AllocError>
-    requires { AreTexts (T.texts texts.now) }
-    ensures { IfOk result (λ octets. octets.items ≡ take max_string (concat (T.texts texts.now))) }
-{
-    let mut out = Vec::with_capacity(alloc, total_len(texts).min(MAX_STRING))?;
-    for place in 0..texts.count() {
-        put(&mut out, texts.text(place))?;
-    }
-    Ok(out)
-}
-
-// Puts a text at the end, as far as there is room.
-fn put(out: &mut Vec<u8>, text: &[u8]) -> Result<(), AllocError>
-    requires { length out.old.items ≤ max_string }
-    ensures { OnOk result (out.new.items ≡ take max_string (out.old.items ++ text.now)) }
-{
-    let room = MAX_STRING - out.len();
-    out.extend_from_slice(&text[..room.min(text.len())])?;
-    Ok(())
-}
-
-// The octets, copied where they are lent.
-fn owned(alloc: Global, octets: CowSlice<'_, u8>) -> Result<Octets, AllocError>
-    ensures { IfOk result (λ o. o ≡ cow_slice_items octets.entry) }
-{
-    match octets {
-        CowSlice::Owned(octets) => Ok(Octets::from_vec(octets)),
-        CowSlice::Borrowed(octets) => Ok(Octets::from_vec(Vec::from_slice(alloc, octets)?)),
     }
 }

@@ -1,11 +1,15 @@
 use Rattle.std.proofs.Common.{sym, ap, subst, arith}
 use Rattle.bytecode_verifier.specs.Acceptance.{IsAccepted}
 use Rattle.sieve_vm.specs.Potential.{limit_of}
+use Rattle.sieve_vm.specs.Standing.{IsRunning}
+use Rattle.sieve_vm.specs.Visits.{Visits}
 use Rattle.sieve_vm.proofs.Steps.{running_within, outcome_of}
 use Rattle.sieve_vm.proofs.outcome.run.Goals as goal
 
 pub steps-init : goal.steps-init
-steps-init c = rw c.program-program.ensures.value at (c.in_ok-begin.ensures c.args.message.now)
+steps-init c =
+    rw c.program-program.ensures.value at
+    (subst (λ mail. IsRunning c.program-program.result.now mail c.begin.new.self) (ap (λ (v : Visits). v.mail) c.new-2.ensures) c.in_ok-begin.ensures)
 
 pub steps-smaller : goal.steps-smaller
 steps-smaller c =

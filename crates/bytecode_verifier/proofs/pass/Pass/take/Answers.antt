@@ -1,4 +1,4 @@
-use Rattle.std.proofs.Common.{◌≡◌, length, ap, ◌∙◌, arith}
+use Rattle.std.proofs.Common.{ap, ◌∙◌, arith}
 use Rattle.std.specs.Bool.{then_some}
 use Rattle.std.specs.Option.{option_or}
 use Rattle.bytecode_verifier.specs.Rows.{row_named}
@@ -8,26 +8,28 @@ use Rattle.bytecode_verifier.proofs.pass.Pass.take.Goals as goal
 pub advance-requires : goal.advance-requires
 advance-requires c = small_here c.args.program.now c.args.place c.args.instruction.now c.args.self.now c.version.ensures.program c.requires.here c.requires.before
 
-pub add-requires-clause-fixed : goal.add-requires-clause-fixed
-add-requires-clause-fixed c =
+pub charge-requires-clause-fixed : goal.charge-requires-clause-fixed
+charge-requires-clause-fixed c = λ few.
     let fits = cap_fits_here c.args.program.now c.args.place c.args.instruction.now c.args.self.now c.version.ensures.program c.requires.here c.requires.before c.args.targeted c.of-operation.result c.in_ok-passed.passed
     c.unwrap_or-cap.result c.advance.new.shape c.of-operation.ensures c.in_ok-passed.ensures c.unwrap_or-cap.ensures in
-    omega (arith, fits.0, c.requires.before.fixed)
+    omega (arith, fits.0, c.requires.before.fixed c.depth_at.result, c.requires.small)
 
-pub add-requires-clause-scaled : goal.add-requires-clause-scaled
-add-requires-clause-scaled c =
+pub charge-requires-clause-scaled : goal.charge-requires-clause-scaled
+charge-requires-clause-scaled c = λ few.
     let fits = cap_fits_here c.args.program.now c.args.place c.args.instruction.now c.args.self.now c.version.ensures.program c.requires.here c.requires.before c.args.targeted c.of-operation.result c.in_ok-passed.passed
     c.unwrap_or-cap.result c.advance.new.shape c.of-operation.ensures c.in_ok-passed.ensures c.unwrap_or-cap.ensures in
-    omega (arith, fits.1, c.requires.before.scaled)
+    omega (arith, fits.1, c.requires.before.scaled c.depth_at.result, c.requires.small)
 
 pub returns : goal.returns
 returns c =
-    let count : length c.instructions-count.result.now ≡ length c.args.program.now.instructions = ap length c.instructions-count.ensures.value in
     passed_more c.args.program.now c.args.place c.args.instruction.now c.of-operation.result c.row_named-row.result c.args.self.now _ c.in_ok-passed.passed c.unwrap_or-cap.result c.args.targeted
-    c.misses_index.result c.is_well_formed.result c.misses_target.result _
-    c.requires.here c.requires.before c.requires.target c.of-operation.ensures (c.row_named-row.ensures ∙ ap (λ v. row_named v c.args.instruction.now.op) c.version.ensures.value) count
-    c.misses_index.ensures c.first-self-2.ensures c.is_well_formed.ensures c.first-self-3.ensures c.misses_target.ensures c.first-self-4.ensures
+    c.misses_index.result c.is_well_formed.result c.misses_loop-astray.result c.misses_target-leaves.result c.misses_part.result c.depth_at.result
+    c.requires.here c.requires.before c.requires.target c.of-operation.ensures (c.row_named-row.ensures ∙ ap (λ v. row_named v c.args.instruction.now.op) c.version.ensures.value)
+    c.misses_index.ensures c.first-self-2.ensures c.is_well_formed.ensures c.first-self-3.ensures
+    (c.misses_loop-astray.ensures c.args.program.now c.requires.nests) c.first-self-4.ensures
+    (c.misses_target-leaves.ensures c.args.program.now c.requires.nests) c.first-self-5.ensures
+    (c.misses_part.ensures c.args.program.now c.requires.nests) c.first-self-6.ensures
     (c.first-self.ensures ∙ ap (λ fails. option_or c.args.self.now.stack (then_some fails c.args.place)) (none_from c.in_ok-passed.passed c.is_none.result c.is_none.ensures)) c.in_ok-passed.ensures c.unwrap_or-cap.ensures
     (cap_fits_here c.args.program.now c.args.place c.args.instruction.now c.args.self.now c.version.ensures.program c.requires.here c.requires.before c.args.targeted c.of-operation.result c.in_ok-passed.passed
     c.unwrap_or-cap.result c.advance.new.shape c.of-operation.ensures c.in_ok-passed.ensures c.unwrap_or-cap.ensures)
-    c.add.ensures
+    (c.depth_at.ensures c.args.program.now c.requires.nests) c.charge.ensures

@@ -41,6 +41,20 @@ overflow_add-self c =
     let small = limit_small c.args.program.now c.args.message.now c.instructions.ensures.program c.requires.mail in
     omega (arith, within, small, had.1)
 
+pub overflow_add-self-2 : goal.overflow_add-self-2
+overflow_add-self-2 c =
+    let i : Instruction = get_or c.instructions.result.now c.args.self.now.place no_instruction in
+    let here : slice_get c.args.program.now.instructions c.args.self.now.place ≡ Some i =
+    slice_get-get_or c.args.program.now.instructions c.args.self.now.place no_instruction (place_within c.args.program.now c.args.message.now c.requires.accepted c.requires.mail c.args.self.now c.requires.running.0 c.requires.running.1)
+    ∙ ap (λ xs. Some (get_or xs c.args.self.now.place no_instruction)) (sym c.instructions.ensures.value) in
+    let done : Effect = effect c.args.program.now c.args.message.now c.unwrap-operation.result i c.requires.running.0 in
+    let cost : ℕ = charge_of c.args.program.now c.args.message.now c.unwrap-operation.result i c.requires.running.0 in
+    let had = c.in_ok-done.ensures c.requires.running.0 c.requires.running.1 in
+    let one = stepped c.args.program.now c.args.message.now c.requires.accepted c.requires.mail c.args.self.now c.requires.running.0 c.requires.running.1 i here c.unwrap-operation.result (sym c.of.ensures ∙ c.unwrap-operation.ensures) in
+    let within = charged_within c.args.program.now c.args.message.now c.requires.accepted c.requires.mail c.args.self.now c.requires.running.0 c.requires.running.1 cost done one c.act.new.self c.in_ok-done.done.flow had.0 in
+    let small = limit_small c.args.program.now c.args.message.now c.instructions.ensures.program c.requires.mail in
+    omega (arith, within, small, had.1)
+
 pub overflow_add-self-in-On : goal.overflow_add-self-in-On
 overflow_add-self-in-On c =
     let i : Instruction = get_or c.instructions.result.now c.args.self.now.place no_instruction in
@@ -51,7 +65,7 @@ overflow_add-self-in-On c =
     let cost : ℕ = charge_of c.args.program.now c.args.message.now c.unwrap-operation.result i c.requires.running.0 in
     let had = c.in_ok-done.ensures c.requires.running.0 c.requires.running.1 in
     let one = stepped c.args.program.now c.args.message.now c.requires.accepted c.requires.mail c.args.self.now c.requires.running.0 c.requires.running.1 i here c.unwrap-operation.result (sym c.of.ensures ∙ c.unwrap-operation.ensures) in
-    let went : GoesFrom done On c.act.new.self = subst (λ f. GoesFrom done f c.act.new.self) c.in-On.is had.0 in
+    let went : GoesFrom c.args.message.now done On c.act.new.self = subst (λ f. GoesFrom c.args.message.now done f c.act.new.self) c.in-On.is had.0 in
     omega (arith, still_there c.args.program.now c.args.message.now c.requires.accepted c.requires.mail c.args.self.now c.requires.running.0 c.requires.running.1 cost done one c.act.new.self went, c.instructions.ensures.program.instructions)
 
 pub returns-in-On-clause-goes_on : goal.returns-in-On-clause-goes_on
@@ -64,8 +78,8 @@ returns-in-On-clause-goes_on c =
     let cost : ℕ = charge_of c.args.program.now c.args.message.now c.unwrap-operation.result i c.requires.running.0 in
     let had = c.in_ok-done.ensures c.requires.running.0 c.requires.running.1 in
     let one = stepped c.args.program.now c.args.message.now c.requires.accepted c.requires.mail c.args.self.now c.requires.running.0 c.requires.running.1 i here c.unwrap-operation.result (sym c.of.ensures ∙ c.unwrap-operation.ensures) in
-    let went : GoesFrom done On c.act.new.self = subst (λ f. GoesFrom done f c.act.new.self) c.in-On.is had.0 in
-    λ _. goes_on c.args.program.now c.args.message.now c.requires.accepted c.requires.mail c.args.self.now c.requires.running.0 c.requires.running.1 cost done one c.act.new.self went _ refl refl refl refl (ap (λ n. c.act.new.self.charged + n) had.1)
+    let went : GoesFrom c.args.message.now done On c.act.new.self = subst (λ f. GoesFrom c.args.message.now done f c.act.new.self) c.in-On.is had.0 in
+    λ _. goes_on c.args.program.now c.args.message.now c.requires.accepted c.requires.mail c.args.self.now c.requires.running.0 c.requires.running.1 cost done one c.act.new.self went _ refl refl refl refl refl (ap (λ n. c.act.new.self.charged + n) had.1)
 
 pub returns-in-To-clause-goes_on : goal.returns-in-To-clause-goes_on
 returns-in-To-clause-goes_on c =
@@ -77,8 +91,8 @@ returns-in-To-clause-goes_on c =
     let cost : ℕ = charge_of c.args.program.now c.args.message.now c.unwrap-operation.result i c.requires.running.0 in
     let had = c.in_ok-done.ensures c.requires.running.0 c.requires.running.1 in
     let one = stepped c.args.program.now c.args.message.now c.requires.accepted c.requires.mail c.args.self.now c.requires.running.0 c.requires.running.1 i here c.unwrap-operation.result (sym c.of.ensures ∙ c.unwrap-operation.ensures) in
-    let went : GoesFrom done (To c.in-To.place) c.act.new.self = subst (λ f. GoesFrom done f c.act.new.self) c.in-To.is had.0 in
-    λ _. goes_to c.args.program.now c.args.message.now c.requires.accepted c.requires.mail c.args.self.now c.requires.running.0 c.requires.running.1 cost done one c.act.new.self c.in-To.place went _ refl refl refl refl (ap (λ n. c.act.new.self.charged + n) had.1)
+    let went : GoesFrom c.args.message.now done (To c.in-To.place) c.act.new.self = subst (λ f. GoesFrom c.args.message.now done f c.act.new.self) c.in-To.is had.0 in
+    λ _. goes_to c.args.program.now c.args.message.now c.requires.accepted c.requires.mail c.args.self.now c.requires.running.0 c.requires.running.1 cost done one c.act.new.self c.in-To.place went _ refl refl refl refl refl (ap (λ n. c.act.new.self.charged + n) had.1)
 
 pub returns-in-Ends-clause-ends : goal.returns-in-Ends-clause-ends
 returns-in-Ends-clause-ends c =
@@ -90,5 +104,5 @@ returns-in-Ends-clause-ends c =
     let cost : ℕ = charge_of c.args.program.now c.args.message.now c.unwrap-operation.result i c.requires.running.0 in
     let had = c.in_ok-done.ensures c.requires.running.0 c.requires.running.1 in
     let one = stepped c.args.program.now c.args.message.now c.requires.accepted c.requires.mail c.args.self.now c.requires.running.0 c.requires.running.1 i here c.unwrap-operation.result (sym c.of.ensures ∙ c.unwrap-operation.ensures) in
-    let went : GoesFrom done Ends c.act.new.self = subst (λ f. GoesFrom done f c.act.new.self) c.in-Ends.is had.0 in
-    λ _. comes_to_end c.args.program.now c.args.message.now c.requires.accepted c.requires.mail c.args.self.now c.requires.running.0 c.requires.running.1 cost done one c.act.new.self went _ refl refl refl refl (ap (λ n. c.act.new.self.charged + n) had.1)
+    let went : GoesFrom c.args.message.now done Ends c.act.new.self = subst (λ f. GoesFrom c.args.message.now done f c.act.new.self) c.in-Ends.is had.0 in
+    λ _. comes_to_end c.args.program.now c.args.message.now c.requires.accepted c.requires.mail c.args.self.now c.requires.running.0 c.requires.running.1 cost done one c.act.new.self went _ refl refl refl refl refl (ap (λ n. c.act.new.self.charged + n) had.1)

@@ -8,7 +8,7 @@ use Rattle.sieve_vm.proofs.machine.Machine.begin.Goals as goal
 pub returns : goal.returns
 returns c =
     on_ok_weaker c.begin.result
-    (λ held mail. (
+    (λ held. (
       start c.args.program.now,
       record {
         steps = 0;
@@ -16,6 +16,8 @@ returns c =
         stands = record {
           place = c.requires.place;
           work = held ∙ ap (λ n. let h : Held = record { stack = []; variables = replicate n []; captures = no_captures } in h) c.variables.ensures.value;
+          mail_is = refl;
+          frames = c.requires.frames;
           actions = c.requires.actions;
           implicit_keep = c.requires.implicit_keep;
           charge = c.requires.charge;

@@ -7,12 +7,12 @@ use Rattle.sieve_vm.proofs.Tests.{stack_is, holds_now}
 use Rattle.sieve_vm.proofs.machine.Machine.file.Goals as goal
 
 pub returns : goal.returns
-returns c = λ s t rest stands top.
+returns c = λ mail s t rest stands top.
     let m = c.args.self.now in
-    let took = c.in_ok-folder.ensures t rest (stack_is s m stands ∙ top) in
-    let left = holds_now s m stands c.take_text.new.self (λ (h : Held). record h { stack = rest }) took.1 in
-    let charge = c.len.ensures ∙ ap length took.0 in (
-      ap (λ (done : Done). let d : Done = record { flow = done.flow; charge = 1 + c.len.result } in d) c.discard-flow.ensures.flow ∙ ap (λ n. charged_at (1 + n)) charge,
-      c.discard-flow.ensures.stands (record s { stack = rest; actions = s.actions ++ action.File t ∷ [] })
-          (subst (λ folder. StandsFor (record s { stack = rest; actions = s.actions ++ action.File folder ∷ [] }) c.list.new.self) took.0 (c.in_ok-list.ensures (record s { stack = rest }) left)),
+    let took = c.in_ok-folder.ensures t rest (stack_is mail s m stands ∙ top) in
+    let left = holds_now mail s m stands c.take_text.new.self (λ (h : Held). record h { stack = rest }) took.1 in
+    let charge = c.len-cost.ensures ∙ ap length took.0 in (
+      ap (λ (done : Done). let d : Done = record { flow = done.flow; cost = c.len-cost.result } in d) c.discard-flow.ensures.flow ∙ ap charged_at charge,
+      c.discard-flow.ensures.stands mail (record s { stack = rest; actions = s.actions ++ action.File t ∷ [] })
+          (subst (λ folder. StandsFor mail (record s { stack = rest; actions = s.actions ++ action.File folder ∷ [] }) c.list.new.self) took.0 (c.in_ok-list.ensures mail (record s { stack = rest }) left)),
     )

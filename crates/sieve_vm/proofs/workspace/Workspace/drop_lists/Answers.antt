@@ -1,26 +1,41 @@
-use Rattle.std.proofs.Common.{take, map, reverse, refl, sym, ap, ◌∙◌, ◌-◌, arith}
+use Rattle.std.proofs.Common.{◌≡◌, ◌-◌, length, map, reverse, take, slice_range, refl, sym, ap, ◌∙◌, arith}
 use Rattle.mail_matching.specs.FirstMatch.{captures_of}
-use Rattle.sieve_vm.specs.Standing.{value_of, variables_of, held_of}
-use Rattle.sieve_vm.proofs.Pushed.{lists_lent}
+use Rattle.sieve_vm.specs.Standing.{variables_of, held_of, value_of, octets_of}
 use Rattle.sieve_vm.proofs.Holding.{same_parts}
+use Rattle.sieve_vm.proofs.Pushed.{lists_lent}
 use Rattle.sieve_vm.proofs.workspace.Workspace.drop_lists.Goals as goal
 
-pub overflow_sub-above : goal.overflow_sub-above
-overflow_sub-above c =
+pub overflow_sub-keys : goal.overflow_sub-keys
+overflow_sub-keys c =
     let work = c.args.self.now in
-    let are = lists_lent (variables_of work) (captures_of work.captures) c.args.names c.args.keys work.entries.items (held_of work).stack c.requires.0 refl c.requires.1 in
-    omega (arith, are.within)
+    let counts = c.args.counts in
+    let are = lists_lent (variables_of work) (captures_of work.captures) counts.names counts.params counts.keys work.entries.items (held_of work).stack c.requires.0 refl c.requires.1 in
+    let counted : c.len.result ≡ length work.entries.items = c.len.ensures ∙ work.entries.ok.0 in
+    omega (arith, are.within, counted)
 
-pub overflow_sub-below : goal.overflow_sub-below
-overflow_sub-below c =
+pub overflow_sub-params : goal.overflow_sub-params
+overflow_sub-params c =
     let work = c.args.self.now in
-    let are = lists_lent (variables_of work) (captures_of work.captures) c.args.names c.args.keys work.entries.items (held_of work).stack c.requires.0 refl c.requires.1 in
-    omega (arith, are.within)
+    let counts = c.args.counts in
+    let are = lists_lent (variables_of work) (captures_of work.captures) counts.names counts.params counts.keys work.entries.items (held_of work).stack c.requires.0 refl c.requires.1 in
+    let counted : c.len.result ≡ length work.entries.items = c.len.ensures ∙ work.entries.ok.0 in
+    omega (arith, are.within, counted)
+
+pub overflow_sub-names : goal.overflow_sub-names
+overflow_sub-names c =
+    let work = c.args.self.now in
+    let counts = c.args.counts in
+    let are = lists_lent (variables_of work) (captures_of work.captures) counts.names counts.params counts.keys work.entries.items (held_of work).stack c.requires.0 refl c.requires.1 in
+    let counted : c.len.result ≡ length work.entries.items = c.len.ensures ∙ work.entries.ok.0 in
+    omega (arith, are.within, counted)
 
 pub returns : goal.returns
 returns c = λ top e.
     let work = c.args.self.now in
-    let are = lists_lent (variables_of work) (captures_of work.captures) c.args.names c.args.keys work.entries.items (held_of work).stack top refl e in
+    let counts = c.args.counts in
+    let items = work.entries.items in
+    let are = lists_lent (variables_of work) (captures_of work.captures) counts.names counts.params counts.keys items (held_of work).stack top refl e in
     let value = value_of (variables_of work) (captures_of work.captures) in
-    let left = ap (λ es. map value (reverse es)) (c.truncate.ensures.items ∙ ap (λ l. take (l - c.args.keys - c.args.names) work.entries.items) (c.len.ensures ∙ work.entries.ok.0)) ∙ sym are.below in
+    let counted : c.len.result ≡ length items = c.len.ensures ∙ work.entries.ok.0 in
+    let left = ap (λ es. map value (reverse es)) (c.truncate.ensures.items ∙ ap (λ l. take (l - counts.keys - counts.params - counts.names) items) counted) ∙ sym are.below in
     same_parts _ top.below (variables_of work) (captures_of work.captures) left refl refl

@@ -1,31 +1,60 @@
-use Rattle.std.proofs.Common.{length, refl, sym, ap, ◌∙◌, arith}
+use Rattle.std.proofs.Common.{◌≡◌, ◌-◌, length, map, reverse, take, slice_range, refl, sym, ap, ◌∙◌, arith}
 use Rattle.mail_matching.specs.FirstMatch.{captures_of}
-use Rattle.sieve_vm.specs.Standing.{variables_of, held_of}
-use Rattle.sieve_vm.proofs.Pushed.{lists_lent, last_texts, texts_between}
+use Rattle.sieve_vm.specs.Standing.{variables_of, held_of, value_of, octets_of}
+use Rattle.sieve_vm.proofs.Pushed.{lists_lent}
 use Rattle.sieve_vm.proofs.workspace.Workspace.lists.Goals as goal
 
-pub overflow_sub-above : goal.overflow_sub-above
-overflow_sub-above c =
+pub overflow_sub-keys : goal.overflow_sub-keys
+overflow_sub-keys c =
     let work = c.args.self.now in
-    let are = lists_lent (variables_of work) (captures_of work.captures) c.args.names c.args.keys work.entries.items (held_of work).stack c.requires.0 refl c.requires.1 in
-    omega (arith, are.within)
+    let counts = c.args.counts in
+    let are = lists_lent (variables_of work) (captures_of work.captures) counts.names counts.params counts.keys work.entries.items (held_of work).stack c.requires.0 refl c.requires.1 in
+    let counted : c.len.result ≡ length work.entries.items = c.len.ensures ∙ work.entries.ok.0 in
+    omega (arith, are.within, counted)
 
-pub overflow_sub-below : goal.overflow_sub-below
-overflow_sub-below c =
+pub overflow_sub-params : goal.overflow_sub-params
+overflow_sub-params c =
     let work = c.args.self.now in
-    let are = lists_lent (variables_of work) (captures_of work.captures) c.args.names c.args.keys work.entries.items (held_of work).stack c.requires.0 refl c.requires.1 in
-    omega (arith, are.within)
+    let counts = c.args.counts in
+    let are = lists_lent (variables_of work) (captures_of work.captures) counts.names counts.params counts.keys work.entries.items (held_of work).stack c.requires.0 refl c.requires.1 in
+    let counted : c.len.result ≡ length work.entries.items = c.len.ensures ∙ work.entries.ok.0 in
+    omega (arith, are.within, counted)
+
+pub overflow_sub-names : goal.overflow_sub-names
+overflow_sub-names c =
+    let work = c.args.self.now in
+    let counts = c.args.counts in
+    let are = lists_lent (variables_of work) (captures_of work.captures) counts.names counts.params counts.keys work.entries.items (held_of work).stack c.requires.0 refl c.requires.1 in
+    let counted : c.len.result ≡ length work.entries.items = c.len.ensures ∙ work.entries.ok.0 in
+    omega (arith, are.within, counted)
 
 pub returns-clause-names : goal.returns-clause-names
 returns-clause-names c = λ top e.
     let work = c.args.self.now in
-    let are = lists_lent (variables_of work) (captures_of work.captures) c.args.names c.args.keys work.entries.items (held_of work).stack top refl e in
-    let counted = c.len.ensures ∙ sym c.deref.ensures.len ∙ ap length c.deref.ensures.value in
-    texts_between (variables_of work) (captures_of work.captures) c.args.names c.args.keys c.len.result work.entries.items c.deref.result.now top.names c.deref.ensures.value counted are.within are.names_are
+    let counts = c.args.counts in
+    let items = work.entries.items in
+    let octets = octets_of (variables_of work) (captures_of work.captures) in
+    let are = lists_lent (variables_of work) (captures_of work.captures) counts.names counts.params counts.keys items (held_of work).stack top refl e in
+    let counted : c.len.result ≡ length items = c.len.ensures ∙ work.entries.ok.0 in
+    c.between.ensures ∙ ap (λ l. map octets (slice_range items (l - counts.keys - counts.params - counts.names) (l - counts.keys - counts.params))) counted ∙ sym are.names_are
+
+pub returns-clause-params : goal.returns-clause-params
+returns-clause-params c = λ top e.
+    let work = c.args.self.now in
+    let counts = c.args.counts in
+    let items = work.entries.items in
+    let octets = octets_of (variables_of work) (captures_of work.captures) in
+    let are = lists_lent (variables_of work) (captures_of work.captures) counts.names counts.params counts.keys items (held_of work).stack top refl e in
+    let counted : c.len.result ≡ length items = c.len.ensures ∙ work.entries.ok.0 in
+    c.between-2.ensures ∙ ap (λ l. map octets (slice_range items (l - counts.keys - counts.params) (l - counts.keys))) counted ∙ sym are.params_are
 
 pub returns-clause-keys : goal.returns-clause-keys
 returns-clause-keys c = λ top e.
     let work = c.args.self.now in
-    let are = lists_lent (variables_of work) (captures_of work.captures) c.args.names c.args.keys work.entries.items (held_of work).stack top refl e in
-    let counted = c.len.ensures ∙ sym c.deref.ensures.len ∙ ap length c.deref.ensures.value in
-    last_texts (variables_of work) (captures_of work.captures) c.args.keys c.len.result work.entries.items c.deref-2.result.now top.keys c.deref-2.ensures.value counted are.keys_are
+    let counts = c.args.counts in
+    let items = work.entries.items in
+    let octets = octets_of (variables_of work) (captures_of work.captures) in
+    let are = lists_lent (variables_of work) (captures_of work.captures) counts.names counts.params counts.keys items (held_of work).stack top refl e in
+    let counted : c.len.result ≡ length items = c.len.ensures ∙ work.entries.ok.0 in
+    let whole : c.len-2.result ≡ length items = c.len-2.ensures ∙ work.entries.ok.0 in
+    c.between-3.ensures ∙ ap (λ l. map octets (slice_range items (l - counts.keys) c.len-2.result)) counted ∙ ap (λ l. map octets (slice_range items (length items - counts.keys) l)) whole ∙ sym are.keys_are

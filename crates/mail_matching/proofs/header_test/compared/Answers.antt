@@ -1,0 +1,29 @@
+use Rattle.std.proofs.Common.{◌<◌, [], arith, length}
+use Rattle.mail_matching.specs.Headers.{selected_among}
+use Rattle.mail_matching.specs.Selection.{selector_of}
+use Rattle.mail_matching.specs.declared.outcome.Outcome.TheVariants.{Fails}
+use Rattle.mail_matching.proofs.Extents.{all_few}
+use Rattle.mail_matching.proofs.Onward.{goes_on_more, values_room}
+use Rattle.mail_matching.proofs.header_test.compared.Goals as goal
+
+pub take_header-requires-clause-room : goal.take_header-requires-clause-room
+take_header-requires-clause-room g c =
+    let params = g.P.Texts.texts c.args.test.now.params.now in
+    let selector = selector_of c.args.test.now.selector params in
+    let names = g.N.Texts.texts c.args.names.now in
+    let headers = c.args.headers.now in
+    let lt : c.loop-place.place < length headers = omega (arith, c.loop-place-test.true, c.count-place-end.ensures.count) in
+    omega (
+      arith,
+      c.loop-place.invariant.extent,
+      values_room (selected_among selector names) headers c.loop-place.place c.fields.result.now [] lt c.fields.ensures,
+      all_few c.args.test.now.selector params names headers c.requires.params c.requires.names c.count-place-end.ensures.few,
+    )
+
+pub loop-place-preserved : goal.loop-place-preserved
+loop-place-preserved g c =
+    let selector = selector_of c.args.test.now.selector (g.P.Texts.texts c.args.test.now.params.now) in
+    let names = g.N.Texts.texts c.args.names.now in
+    let headers = c.args.headers.now in
+    let lt : c.loop-place.place < length headers = omega (arith, c.loop-place-test.true, c.count-place-end.ensures.count) in
+    goes_on_more c.args.test.now.how (g.K.Texts.texts c.args.test.now.keys.now) (selected_among selector names) headers c.loop-place.place c.fields.result.now [] (record { outcome = Fails; extent = 0 }) c.loop-place.progress c.take_header.new.self lt c.fields.ensures c.loop-place.invariant c.in_ok-take_header.ensures

@@ -1,0 +1,24 @@
+use Rattle.std.proofs.Common.{◌<◌, [], arith, length}
+use Rattle.mail_matching.specs.Headers.{selected_named}
+use Rattle.mail_matching.specs.Selection.{selector_of}
+use Rattle.mail_matching.proofs.Onward.{goes_on_more, values_room}
+use Rattle.mail_matching.proofs.progress.Progress.take_header.Goals as goal
+
+pub take_named-requires-clause-room : goal.take_named-requires-clause-room
+take_named-requires-clause-room g c =
+    let selector = selector_of c.args.test.now.selector (g.P.Texts.texts c.args.test.now.params.now) in
+    let names = g.N.Texts.texts c.args.names.now in
+    let lt : c.loop-place.place < length names = omega (arith, c.loop-place-test.true, c.count-place-end.ensures) in
+    omega (
+      arith,
+      c.requires.room,
+      c.loop-place.invariant.extent,
+      values_room (selected_named selector c.args.fields.now) names c.loop-place.place c.text.result.now [] lt c.text.ensures,
+    )
+
+pub loop-place-preserved : goal.loop-place-preserved
+loop-place-preserved g c =
+    let selector = selector_of c.args.test.now.selector (g.P.Texts.texts c.args.test.now.params.now) in
+    let names = g.N.Texts.texts c.args.names.now in
+    let lt : c.loop-place.place < length names = omega (arith, c.loop-place-test.true, c.count-place-end.ensures) in
+    goes_on_more c.args.test.now.how (g.K.Texts.texts c.args.test.now.keys.now) (selected_named selector c.args.fields.now) names c.loop-place.place c.text.result.now [] c.args.self.now c.loop-place.self c.take_named.new.self lt c.text.ensures c.loop-place.invariant c.in_ok-take_named.ensures

@@ -1,0 +1,35 @@
+use Rattle.std.proofs.Common.{sym, ap, arith, subst}
+use Rattle.mail_matching.specs.Costs.{extent_of}
+use Rattle.mail_matching.specs.Outcomes.{GoesOn}
+use Rattle.mail_matching.specs.Selection.{selector_of}
+use Rattle.mail_matching.proofs.Extents.{named_each, where_named}
+use Rattle.mail_matching.proofs.Onward.{goes_on_all, goes_on_more, values_room}
+use Rattle.mail_matching.proofs.progress.Progress.take_named.Goals as goal
+
+pub take_where_named-requires-clause-room : goal.take_where_named-requires-clause-room
+take_where_named-requires-clause-room g c =
+    let selector = selector_of c.args.test.now.selector (g.P.Texts.texts c.args.test.now.params.now) in
+    let name = c.args.name.now in
+    let fields = c.args.fields.now in
+    omega (
+      arith,
+      c.requires.room,
+      c.loop-field.invariant.extent,
+      ap extent_of (named_each selector name fields),
+      values_room (where_named selector name) fields c.loop-field.field-index c.field-item.result c.field-item.result c.loop-field-test.true c.field-item.is,
+    )
+
+pub loop-field-preserved : goal.loop-field-preserved
+loop-field-preserved g c =
+    let selector = selector_of c.args.test.now.selector (g.P.Texts.texts c.args.test.now.params.now) in
+    goes_on_more c.args.test.now.how (g.K.Texts.texts c.args.test.now.keys.now) (where_named selector c.args.name.now) c.args.fields.now c.loop-field.field-index c.field-item.result c.field-item.result c.args.self.now c.loop-field.self c.take_where_named.new.self c.loop-field-test.true c.field-item.is c.loop-field.invariant c.in_ok-take_where_named.ensures
+
+pub returns : goal.returns
+returns g c =
+    let selector = selector_of c.args.test.now.selector (g.P.Texts.texts c.args.test.now.params.now) in
+    let name = c.args.name.now in
+    let fields = c.args.fields.now in
+    let how = c.args.test.now.how in
+    let keys = g.K.Texts.texts c.args.test.now.keys.now in
+    subst (λ values. GoesOn how values keys c.args.self.now c.loop-field.self) (sym (named_each selector name fields))
+    (goes_on_all how keys (where_named selector name) fields c.loop-field.field-index c.args.self.now c.loop-field.self (omega (arith, c.loop-field-test.false)) c.loop-field.invariant)

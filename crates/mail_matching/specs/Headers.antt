@@ -1,0 +1,39 @@
+-- The headers of the parts in scope.
+use Rattle.std.specs.Prelude.{ℕ, ◌≤◌, All, List, length, map, flat_map, take, drop, Option}
+use Rattle.header_fields.specs.Fields.{Field}
+use Rattle.mime_decode.specs.Mail.{Mail, Part}
+use Rattle.mime_params.specs.MediaValue.{value_named}
+use Rattle.mime_params.specs.declared.params.Parameter.{Parameter}
+use Rattle.mime_decode.specs.Scope.{Scope, Selector, fields_named, given, parts_in_scope, selected_of}
+
+-- the fields of each of so many parts, from one on
+abbrev pub headers_from : ℕ → ℕ → Mail → List (List Field)
+headers_from first number mail = map (λ (part : Part). part.fields) (take number (drop first mail.parts))
+
+-- the fields of each part in scope
+abbrev pub headers_in_scope : Scope → Option ℕ → Mail → List (List Field)
+headers_in_scope scope current mail = map (λ (part : Part). part.fields) (parts_in_scope scope current mail)
+
+-- all fields of some headers
+abbrev pub all_fields : List (List Field) → List Field
+all_fields headers = flat_map (λ fields. fields) headers
+
+-- what is selected of the fields of a name
+abbrev pub selected_named : Selector → List Field → List ℕ → List (List ℕ)
+selected_named selector fields name = flat_map (selected_of selector) (fields_named name fields)
+
+-- what is selected in a header, name by name
+abbrev pub selected_among : Selector → List (List ℕ) → List Field → List (List ℕ)
+selected_among selector names fields = flat_map (selected_named selector fields) names
+
+-- what is selected in some headers, one by one
+abbrev pub selected_in_all : Selector → List (List ℕ) → List (List Field) → List (List ℕ)
+selected_in_all selector names headers = flat_map (selected_among selector names) headers
+
+-- the values of the parameters of these names
+abbrev pub values_of_params : List Parameter → List (List ℕ) → List (List ℕ)
+values_of_params params names = flat_map (λ name. given (value_named name params)) names
+
+-- no parameter's value is longer than this
+abbrev pub AreWithin : ℕ → List Parameter → Type 0
+AreWithin limit params = All (λ (p : Parameter). length p.value ≤ limit) params

@@ -1,0 +1,93 @@
+// The tests of a part's content and of its digest.
+ghost use Rattle.std.specs.Prelude.{◌≡◌, ◌≤◌, ◌∷◌, [], ℕ, List, None, Some, IfOk, if◌then◌else◌, length};
+ghost use Rattle.std.specs.Cow.{cow_slice_items};
+ghost use Rattle.octets.specs.Limits.{max_message};
+ghost use Rattle.mail_matching.specs.Costs.{values_cost};
+ghost use Rattle.mail_matching.specs.FirstMatch.{first_key, first_match};
+ghost use Rattle.mail_matching.specs.Outcomes.{after};
+ghost use Rattle.mail_matching.specs.PartTests.{exactly};
+ghost use Rattle.mail_matching.specs.Texts.{AreTexts};
+
+use crate::comparing::{Compared, first_comparison};
+use crate::cost::{extent_of, product};
+use crate::outcome::{Answer, Captured, Outcome};
+use crate::texts::Texts;
+use glob_match::{Comparator, Match, is};
+use std::alloc::{AllocError, Global};
+use std::borrow::CowSlice;
+
+/// Whether the content of a part matches a key, the keys in order.
+///
+/// The cost of 1,024 keys of 16,384 octets and the largest content is below 2^51.
+///
+/// # Errors
+///
+/// An allocation was refused; none is made but where the content is owned and sets captures, and so is copied.
+pub fn body<'m, K: Texts>(
+    alloc: Global,
+    content: &CowSlice<'m, u8>,
+    keys: &K,
+    how: Match,
+) -> Result<Answer<'m>, AllocError>
+    requires content { length (cow_slice_items content.now) ≤ max_message }
+    requires keys { AreTexts (K.texts keys.now) }
+    ensures outcome { IfOk result (λ answer. (captures : List (List ℕ))
+        → after answer.outcome captures ≡ first_match how (cow_slice_items content.now ∷ []) (K.texts keys.now) captures) }
+    ensures cost { IfOk result (λ answer. answer.cost ≡ values_cost (cow_slice_items content.now ∷ []) (K.texts keys.now)) }
+{
+    let outcome = match first_comparison(content.as_slice(), keys, how) {
+        Compared::Differs => Outcome::Fails,
+        Compared::Matches => Outcome::Holds,
+        Compared::Sets(stretches) => {
+            Outcome::Captures(Captured::new(lent_or_copied(alloc, content)?, stretches))
+        }
+    };
+    Ok(Answer {
+        outcome,
+        cost: product(content.len() as u64 + 1, extent_of(keys)),
+    })
+}
+
+// The octets, which are copied where they are owned.
+fn lent_or_copied<'m>(
+    alloc: Global,
+    octets: &CowSlice<'m, u8>,
+) -> Result<CowSlice<'m, u8>, AllocError>
+    ensures { IfOk result (λ same. cow_slice_items same ≡ cow_slice_items octets.now) }
+{
+    match octets {
+        CowSlice::Borrowed(lent) => Ok(CowSlice::Borrowed(lent)),
+        CowSlice::Owned(owned) => Ok(CowSlice::Owned(Vec::from_slice(alloc, owned)?)),
+    }
+}
+
+/// Whether the digest of a part equals a key, octet by octet. No captures are set, and no memory is taken.
+pub fn digest<'m, K: Texts>(digest: &[u8; 64], keys: &K) -> Answer<'m>
+    requires keys { AreTexts (K.texts keys.now) }
+    ensures outcome { (captures : List (List ℕ)) → after result.outcome captures ≡ first_match exactly (digest.now ∷ []) (K.texts keys.now) captures }
+    ensures cost { result.cost ≡ values_cost (digest.now ∷ []) (K.texts keys.now) }
+{
+    let outcome = if equals_a_key(digest, keys) {
+        Outcome::Holds
+    } else {
+        Outcome::Fails
+    };
+    Answer {
+        outcome,
+        cost: product(digest.len() as u64 + 1, extent_of(keys)),
+    }
+}
+
+// Whether the value equals one of the keys.
+fn equals_a_key<K: Texts>(value: &[u8], keys: &K) -> bool
+    requires value { length value.now ≤ max_message }
+    requires keys { AreTexts (K.texts keys.now) }
+    ensures { (captures : List (List ℕ)) → first_key exactly value.now (K.texts keys.now) captures ≡ (if result then Some captures else None) }
+{
+    for place in 0..keys.count() {
+        if is(value, keys.text(place), Comparator::Octet).0 {
+            return true;
+        }
+    }
+    false
+}

@@ -1,0 +1,232 @@
+// The values that a test selects, compared one after the other.
+ghost use Rattle.std.specs.Prelude.{◌≡◌, ◌+◌, ◌<◌, ◌≤◌, ◌^◌, ◌∷◌, [], IfSome, OnOk, length};
+ghost use Rattle.std.specs.Cow.{cow_slice_items};
+ghost use Rattle.octets.specs.Limits.{max_message};
+ghost use Rattle.mime_params.specs.MediaValue.{value_named};
+ghost use Rattle.header_fields.specs.Extent.{fields_extent};
+ghost use Rattle.mime_decode.specs.Scope.{given, selected_of};
+ghost use Rattle.mail_matching.specs.Costs.{extent_of};
+ghost use Rattle.mail_matching.specs.Headers.{AreWithin, selected_among, selected_named, values_of_params};
+ghost use Rattle.mail_matching.specs.Outcomes.{GoesOn};
+ghost use Rattle.mail_matching.specs.Selection.{selector_of};
+ghost use Rattle.mail_matching.specs.Texts.{AreTexts};
+
+use crate::comparing::{first_key, first_key_of_lent};
+use crate::existence::is_named;
+use crate::outcome::Outcome;
+use crate::reading::{read, read_described};
+use crate::selection::Selector;
+use crate::texts::Texts;
+use glob_match::Match;
+use header_fields::{Field, unfold, unfolded_length};
+use mime_params::{Params, param};
+use std::alloc::{AllocError, Global};
+use std::borrow::CowSlice;
+
+/// What is selected of a field, and what it is compared with.
+#[derive(Drop)]
+pub(crate) struct Comparison<'t, P, K> {
+    pub selector: Selector,
+    pub params: &'t P,
+    pub keys: &'t K,
+    pub how: Match,
+}
+
+/// What comparing the values so far comes to, and how many octets they have, and one more for each.
+#[derive(Drop)]
+pub(crate) struct Progress<'m> {
+    pub outcome: Outcome<'m>,
+    pub extent: u64,
+}
+
+impl<'m> Progress<'m> {
+    /// Goes on with what is selected in a header, name by name.
+    pub(crate) fn take_header<N: Texts, P: Texts, K: Texts>(
+        &mut self,
+        alloc: Global,
+        fields: &[Field<'m>],
+        names: &N,
+        test: &Comparison<'_, P, K>,
+    ) -> Result<(), AllocError>
+        requires params { AreTexts (P.texts test.now.params.now) }
+        requires keys { AreTexts (K.texts test.now.keys.now) }
+        requires fields { fields_extent fields.now ≤ max_message }
+        requires room { self.old.extent + extent_of (selected_among (selector_of test.now.selector (P.texts test.now.params.now)) (N.texts names.now) fields.now) < 2 ^ 64 }
+        ensures { OnOk result (GoesOn test.now.how (selected_among (selector_of test.now.selector (P.texts test.now.params.now)) (N.texts names.now) fields.now) (K.texts test.now.keys.now) self.old self.new) }
+    {
+        for place in 0..names.count() {
+            self.take_named(alloc, fields, names.text(place), test)?;
+        }
+        Ok(())
+    }
+
+    // Goes on with what is selected of the fields of a name.
+    fn take_named<P: Texts, K: Texts>(
+        &mut self,
+        alloc: Global,
+        fields: &[Field<'m>],
+        name: &[u8],
+        test: &Comparison<'_, P, K>,
+    ) -> Result<(), AllocError>
+        requires params { AreTexts (P.texts test.now.params.now) }
+        requires keys { AreTexts (K.texts test.now.keys.now) }
+        requires fields { fields_extent fields.now ≤ max_message }
+        requires room { self.old.extent + extent_of (selected_named (selector_of test.now.selector (P.texts test.now.params.now)) fields.now name.now) < 2 ^ 64 }
+        ensures { OnOk result (GoesOn test.now.how (selected_named (selector_of test.now.selector (P.texts test.now.params.now)) fields.now name.now) (K.texts test.now.keys.now) self.old self.new) }
+    {
+        for field in fields {
+            self.take_where_named(alloc, field, name, test)?;
+        }
+        Ok(())
+    }
+
+    // Goes on with what is selected of a field, where it has the name.
+    fn take_where_named<P: Texts, K: Texts>(
+        &mut self,
+        alloc: Global,
+        field: &Field<'m>,
+        name: &[u8],
+        test: &Comparison<'_, P, K>,
+    ) -> Result<(), AllocError>
+        requires params { AreTexts (P.texts test.now.params.now) }
+        requires keys { AreTexts (K.texts test.now.keys.now) }
+        requires field { length field.now.value ≤ max_message }
+        requires room { self.old.extent + extent_of (selected_named (selector_of test.now.selector (P.texts test.now.params.now)) (field.now ∷ []) name.now) < 2 ^ 64 }
+        ensures { OnOk result (GoesOn test.now.how (selected_named (selector_of test.now.selector (P.texts test.now.params.now)) (field.now ∷ []) name.now) (K.texts test.now.keys.now) self.old self.new) }
+    {
+        if is_named(field, name) {
+            self.take_field(alloc, field, test)?;
+        }
+        Ok(())
+    }
+
+    // Goes on with what is selected of a field.
+    fn take_field<P: Texts, K: Texts>(
+        &mut self,
+        alloc: Global,
+        field: &Field<'m>,
+        test: &Comparison<'_, P, K>,
+    ) -> Result<(), AllocError>
+        requires params { AreTexts (P.texts test.now.params.now) }
+        requires keys { AreTexts (K.texts test.now.keys.now) }
+        requires field { length field.now.value ≤ max_message }
+        requires room { self.old.extent + extent_of (selected_of (selector_of test.now.selector (P.texts test.now.params.now)) field.now) < 2 ^ 64 }
+        ensures { OnOk result (GoesOn test.now.how (selected_of (selector_of test.now.selector (P.texts test.now.params.now)) field.now) (K.texts test.now.keys.now) self.old self.new) }
+    {
+        match test.selector {
+            Selector::Value => self.take_value(alloc, field, test.keys, test.how),
+            Selector::Main => {
+                let main = read_described(alloc, field)?.into_main();
+                self.take(main, test.keys, test.how);
+                Ok(())
+            }
+            Selector::Sub => {
+                let sub = read_described(alloc, field)?.into_sub();
+                self.take(sub, test.keys, test.how);
+                Ok(())
+            }
+            Selector::ContentType => {
+                let content_type = read_described(alloc, field)?.into_content_type()?;
+                self.take(content_type, test.keys, test.how);
+                Ok(())
+            }
+            Selector::Param => match read(alloc, field)?.params() {
+                Some(params) => self.take_params(alloc, params, test),
+                None => Ok(()),
+            },
+        }
+    }
+
+    // Goes on with the value of a field. After a match it is only measured.
+    fn take_value<K: Texts>(
+        &mut self,
+        alloc: Global,
+        field: &Field<'m>,
+        keys: &K,
+        how: Match,
+    ) -> Result<(), AllocError>
+        requires keys { AreTexts (K.texts keys.now) }
+        requires field { length field.now.value ≤ max_message }
+        requires room { self.old.extent + extent_of (field.now.value ∷ []) < 2 ^ 64 }
+        ensures { OnOk result (GoesOn how (field.now.value ∷ []) (K.texts keys.now) self.old self.new) }
+    {
+        if self.outcome.holds() {
+            self.extent += unfolded_length(field) as u64 + 1;
+        } else {
+            let value = unfold(alloc, field)?;
+            self.take(value, keys, how);
+        }
+        Ok(())
+    }
+
+    // Goes on with the values of the parameters of the given names.
+    fn take_params<P: Texts, K: Texts>(
+        &mut self,
+        alloc: Global,
+        params: &Params,
+        test: &Comparison<'_, P, K>,
+    ) -> Result<(), AllocError>
+        requires keys { AreTexts (K.texts test.now.keys.now) }
+        requires short { AreWithin max_message params.now }
+        requires room { self.old.extent + extent_of (values_of_params params.now (P.texts test.now.params.now)) < 2 ^ 64 }
+        ensures { OnOk result (GoesOn test.now.how (values_of_params params.now (P.texts test.now.params.now)) (K.texts test.now.keys.now) self.old self.new) }
+    {
+        for place in 0..test.params.count() {
+            let name = test.params.text(place);
+            self.take_param(alloc, params, name, test)?;
+        }
+        Ok(())
+    }
+
+    // Goes on with the value of the parameter of a name, if there is one.
+    fn take_param<P: Texts, K: Texts>(
+        &mut self,
+        alloc: Global,
+        params: &Params,
+        name: &[u8],
+        test: &Comparison<'_, P, K>,
+    ) -> Result<(), AllocError>
+        requires keys { AreTexts (K.texts test.now.keys.now) }
+        requires short { IfSome (value_named name.now params.now) (λ value. length value ≤ max_message) }
+        requires room { self.old.extent + extent_of (given (value_named name.now params.now)) < 2 ^ 64 }
+        ensures { OnOk result (GoesOn test.now.how (given (value_named name.now params.now)) (K.texts test.now.keys.now) self.old self.new) }
+    {
+        if let Some(value) = param(params, name) {
+            self.take_lent(alloc, value, test.keys, test.how)?;
+        }
+        Ok(())
+    }
+
+    // Goes on with a value.
+    fn take<K: Texts>(&mut self, value: CowSlice<'m, u8>, keys: &K, how: Match)
+        requires keys { AreTexts (K.texts keys.now) }
+        requires value { length (cow_slice_items value) ≤ max_message }
+        requires room { self.old.extent + extent_of (cow_slice_items value ∷ []) < 2 ^ 64 }
+        ensures { GoesOn how (cow_slice_items value.entry ∷ []) (K.texts keys.now) self.old self.new }
+    {
+        self.extent += value.len() as u64 + 1;
+        if !self.outcome.holds() {
+            self.outcome = first_key(value, keys, how);
+        }
+    }
+
+    // Goes on with a value that is lent for now: it is copied where it sets captures.
+    fn take_lent<K: Texts>(
+        &mut self,
+        alloc: Global,
+        lent: &[u8],
+        keys: &K,
+        how: Match,
+    ) -> Result<(), AllocError>
+        requires keys { AreTexts (K.texts keys.now) }
+        requires lent { length lent.now ≤ max_message }
+        requires room { self.old.extent + extent_of (lent.now ∷ []) < 2 ^ 64 }
+        ensures { OnOk result (GoesOn how (lent.now ∷ []) (K.texts keys.now) self.old self.new) }
+    {
+        self.extent += lent.len() as u64 + 1;
+        if !self.outcome.holds() {
+            self.outcome = first_key_of_lent(alloc, lent, keys, how)?;
+        }
+        Ok(())
+    }
+}

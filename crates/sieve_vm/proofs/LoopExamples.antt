@@ -1,0 +1,145 @@
+-- Loops over the parts of a small message, by computation.
+use Rattle.std.proofs.Common.{◌≡◌, ℕ, zero, suc, ◌+◌, ◌*◌, true, false, List, [], ◌∷◌, codes, refl, ap}
+use Rattle.bytecode_format.specs.declared.action.Action.TheVariants as action
+use Rattle.bytecode_format.specs.declared.instruction.Instruction.{Instruction}
+use Rattle.bytecode_format.specs.declared.operation.Operation.{Operation}
+use Rattle.bytecode_format.specs.declared.operation.Operation.TheVariants.{Halt, Header, Exists, PartSize, PartBody, PartDigest, Keep, Store, Each, Next, Break}
+use Rattle.bytecode_format.specs.Operations.{octet_of}
+use Rattle.bytecode_format.specs.Code.{Code}
+use Rattle.mime_decode.specs.Mail.{Mail, Part}
+use Rattle.mail_matching.proofs.Extents.{digest_cost-is}
+use Rattle.sieve_vm.specs.State.{Value, truth, text, Frame, State, Turn, goes, ends, traps, start}
+use Rattle.sieve_vm.specs.Charge.{charge_of}
+use Rattle.sieve_vm.specs.Machine.{on, jumps, fails, effect, step}
+
+module _ (root : Part) where
+  -- a part with so many below it, a subject and a content
+  abbrev part : ℕ → List ℕ → List ℕ → Part
+  part below subject content = record root { below = below; fields = record { name = codes "Subject"; value = subject } ∷ []; content = content }
+
+  -- the root, one part with another below it
+  abbrev mail : Mail
+  mail =
+      record {
+        octets = codes "0123456789";
+        parts =
+            part 2 (codes "root") (codes "rr")
+            ∷ part 1 (codes "one") (codes "one")
+            ∷ part 0 (codes "below") (codes "body")
+            ∷ [];
+      }
+
+  abbrev instruction : Operation → ℕ → ℕ → ℕ → Instruction
+  instruction operation a b c = record { op = octet_of operation; a = a; b = b; c = c }
+
+  abbrev program : List Instruction → Code
+  program instructions = record { version = 1; variables = 0; numbers = 3 ∷ []; strings = []; instructions = instructions }
+
+  -- so many steps
+  abbrev after : ℕ → Code → Turn → Turn
+  after zero code turn = turn
+  after (suc n) code (goes state) = after n code (step code mail state)
+  after (suc n) code (ends state) = ends state
+  after (suc n) code traps = traps
+
+  abbrev keeps : List Instruction → ℕ → ℕ → State
+  keeps instructions place charge =
+      record (start (program instructions)) { place = place; charge = charge }
+
+  -- ---- runs
+
+  -- each part once: the Each, a Keep and a Next for each part, and the Halt
+  abbrev one_loop : List Instruction
+  one_loop = instruction Each 0 0 2 ∷ instruction Keep 0 0 0 ∷ instruction Next 0 0 0 ∷ instruction Halt 0 0 0 ∷ []
+
+  three_parts : after 8 (program one_loop) (goes (start (program one_loop)))
+      ≡ ends (record (keeps one_loop 3 8) { actions = action.Keep ∷ action.Keep ∷ action.Keep ∷ []; implicit_keep = false })
+  three_parts = refl
+
+  not_ended_before : after 7 (program one_loop) (goes (start (program one_loop)))
+      ≡ goes (record (keeps one_loop 3 7) { actions = action.Keep ∷ action.Keep ∷ action.Keep ∷ []; implicit_keep = false })
+  not_ended_before = refl
+
+  -- an inner loop visits what is below the current part: two parts at the root, one at the first part, and none at the last
+  abbrev nested : Instruction → List Instruction
+  nested inner = instruction Each 0 0 4 ∷ instruction Each 0 0 3 ∷ inner ∷ instruction Next 0 0 1 ∷ instruction Next 0 0 0 ∷ instruction Halt 0 0 0 ∷ []
+
+  below_each : after 14 (program (nested (instruction Keep 0 0 0))) (goes (start (program (nested (instruction Keep 0 0 0)))))
+      ≡ ends (record (keeps (nested (instruction Keep 0 0 0)) 5 14) { actions = action.Keep ∷ action.Keep ∷ action.Keep ∷ []; implicit_keep = false })
+  below_each = refl
+
+  -- both loops are closed
+  break_two : after 4 (program (nested (instruction Break 2 0 0))) (goes (start (program (nested (instruction Break 2 0 0))))) ≡ ends (keeps (nested (instruction Break 2 0 0)) 5 4)
+  break_two = refl
+
+  -- the inner one alone
+  break_one : after 10 (program (nested (instruction Break 1 0 0))) (goes (start (program (nested (instruction Break 1 0 0))))) ≡ ends (keeps (nested (instruction Break 1 0 0)) 5 10)
+  break_one = refl
+
+  break_three : after 3 (program (nested (instruction Break 3 0 0))) (goes (start (program (nested (instruction Break 3 0 0))))) ≡ traps
+  break_three = refl
+
+  -- ---- operations on the current part, which is the first below the root
+
+  abbrev frame : Frame
+  frame = record { each = 0; next = 2; part = 1; rest = 2 ∷ [] }
+
+  abbrev in_loop : List Value → State
+  in_loop stack = record (start (program one_loop)) { place = 1; frames = frame ∷ []; stack = stack }
+
+  abbrev code : Code
+  code = program one_loop
+
+  -- its content has three octets: not over three, and not under three
+  not_over : effect code mail PartSize (instruction PartSize 0 0 0) (in_loop []) ≡ on (in_loop (truth false ∷ []))
+  not_over = refl
+
+  no_part : effect code mail PartSize (instruction PartSize 0 0 0) (start code) ≡ fails
+  no_part = refl
+
+  body_is : effect code mail PartBody (instruction PartBody 0 0 1) (in_loop (text (codes "ONE") ∷ [])) ≡ on (in_loop (truth true ∷ []))
+  body_is = refl
+
+  body_charge : charge_of code mail PartBody (instruction PartBody 0 0 1) (in_loop (text (codes "ON") ∷ [])) ≡ 1 + 4 * 3
+  body_charge = refl
+
+  -- 64 octets and one more
+  digest_charge : charge_of code mail PartDigest (instruction PartDigest 0 0 1) (in_loop (text (codes "ab") ∷ [])) ≡ 1 + 65 * 3
+  digest_charge = ap (λ n. 1 + n) (digest_cost-is (part 1 (codes "one") (codes "one")) (codes "ab" ∷ []))
+
+  -- the part's number is stored, and the implicit keep stays
+  stored : effect code mail Store (instruction Store 0 0 0) (in_loop (text (codes "box") ∷ [])) ≡ on (record (in_loop []) { actions = action.Store (codes "box") 1 ∷ [] })
+  stored = refl
+
+  -- the root; the current part; that with those below it
+  root_alone : effect code mail Header (instruction Header 0 1 1) (in_loop (text (codes "root") ∷ text (codes "Subject") ∷ [])) ≡ on (in_loop (truth true ∷ []))
+  root_alone = refl
+
+  current_alone : effect code mail Header (instruction Header 8 1 1) (in_loop (text (codes "below") ∷ text (codes "Subject") ∷ [])) ≡ on (in_loop (truth false ∷ []))
+  current_alone = refl
+
+  current_and_below : effect code mail Header (instruction Header 16 1 1) (in_loop (text (codes "below") ∷ text (codes "Subject") ∷ [])) ≡ on (in_loop (truth true ∷ []))
+  current_and_below = refl
+
+  -- two fields and one more, of a name of 7 octets and one more; values of 3 and 5 octets, each with one more, of a key of 1 and one more
+  scope_charge : charge_of code mail Header (instruction Header 16 1 1) (in_loop (text (codes "x") ∷ text (codes "Subject") ∷ [])) ≡ 1 + 3 * 8 + (4 * 2 + 6 * 2)
+  scope_charge = refl
+
+  exists_charge : charge_of code mail Exists (instruction Exists 1 1 0) (in_loop (text (codes "Subject") ∷ [])) ≡ 1 + 2 * 8
+  exists_charge = refl
+
+  -- ---- brackets
+
+  -- the Each of another place
+  other_each : effect code mail Next (instruction Next 0 0 1) (record (in_loop []) { place = 2 }) ≡ fails
+  other_each = refl
+
+  last_part : effect code mail Next (instruction Next 0 0 0) (record (in_loop []) { place = 2; frames = record frame { part = 2; rest = [] } ∷ [] }) ≡ on (record (in_loop []) { place = 2; frames = [] })
+  last_part = refl
+
+  next_part : effect code mail Next (instruction Next 0 0 0) (record (in_loop []) { place = 2 }) ≡ jumps 1 (record (in_loop []) { place = 2; frames = record frame { part = 2; rest = [] } ∷ [] })
+  next_part = refl
+
+  -- three loops are open
+  no_fourth : effect code mail Each (instruction Each 0 0 2) (record (start code) { frames = frame ∷ frame ∷ frame ∷ [] }) ≡ fails
+  no_fourth = refl

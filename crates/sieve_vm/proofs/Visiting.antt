@@ -1,0 +1,156 @@
+-- The open loops of the code, and what is known of the parts that they visit.
+use Rattle.std.proofs.Common.{◌≡◌, ℕ, zero, suc, ◌+◌, ◌-◌, ◌<◌, ◌≤◌, Bool, true, false, cond, nat_eq, List, [], ◌∷◌, ◌++◌, Option, Some, None, IfSome, All, length, map, reverse, take, drop, get_or, slice_get, refl, sym, ap, subst, ◌∙◌, Global, Result, Ok, Err, IfOk, arith}
+use Rattle.std.proofs.lemmas.Bool.{cases_Bool, eqb-true}
+use Rattle.std.proofs.lemmas.List.{take-append-drop, take_more, drop_at, map-append, reverse-append, length-reverse, length-drop, length-map}
+use Rattle.std.proofs.lemmas.List.Elements.{All-get_or}
+use Rattle.std.specs.declared.borrow.CowSlice.{CowSlice}
+use Rattle.std.proofs.lemmas.Option.{get_or_from_slice_get}
+use Rattle.std.specs.declared.alloc.AllocError.{AllocError}
+use Rattle.std.specs.List.{HoldsAt}
+use Rattle.std.specs.Cow.{cow_slice_items}
+use Rattle.std.specs.Option.{option_and_then, option_map_or}
+use Rattle.mime_tree.specs.PartTree as tree
+use Rattle.mime_decode.specs.Content.{digest_of}
+use Rattle.mime_decode.specs.Mail.{Mail, Part, IsMail, mail_of, part_of}
+use Rattle.mime_decode.specs.Scope.{numbers_from, visited}
+use Rattle.mime_decode.proofs.MailLemmas.{parts_are, parts_number}
+use Rattle.sieve_vm.specs.declared.frame.Frame as code
+use Rattle.sieve_vm.specs.State.{Frame, current_part}
+use Rattle.sieve_vm.specs.Visits.{Visits, frame_of, frames_of, HasContent, IsKnown, part_in}
+
+-- ---- the parts below a part
+
+pub record IsBelow (mail : Mail) (place found : ℕ) : Type 0 where
+  pub part : Part
+  pub here : slice_get mail.parts place ≡ Some part
+  pub below_is : found ≡ part.below
+
+below_at : (parts : List tree.Part) (place found : ℕ) → place < length parts → HoldsAt (λ (p : tree.Part). found ≡ p.below) parts place → (part : Part) × (slice_get (map part_of parts) place ≡ Some part) × (found ≡ part.below)
+below_at [] place found lt at = absurd (omega (arith, lt))
+below_at (part ∷ parts) zero found lt at = (part_of part, refl, at part)
+below_at (part ∷ parts) (suc place) found lt at = below_at parts place found (omega (arith, lt)) at
+
+pub tree_number : (mail : Mail) → mail ≡ mail_of mail.octets → length (tree.tree_of mail.octets) ≡ length mail.parts
+tree_number mail is = sym (parts_number mail.octets) ∙ ap (λ (m : Mail). length m.parts) (sym is)
+
+pub is_below : (mail : Mail) (place found : ℕ) → mail ≡ mail_of mail.octets → place < length mail.parts → HoldsAt (λ (p : tree.Part). found ≡ p.below) (tree.tree_of mail.octets) place → IsBelow mail place found
+is_below mail place found is lt at =
+    let b = below_at (tree.tree_of mail.octets) place found (omega (arith, lt, tree_number mail is)) at in
+    let all : mail.parts ≡ map part_of (tree.tree_of mail.octets) = ap (λ (m : Mail). m.parts) is ∙ parts_are mail.octets in
+    record { part = b.0; here = ap (λ parts. slice_get parts place) all ∙ b.1; below_is = b.2 }
+
+pub below_visited : (mail : Mail) (place found : ℕ) → IsBelow mail place found → numbers_from (place + 1) found ≡ visited (Some place) mail
+below_visited mail place found is =
+    let next : place + 1 ≡ suc place = omega arith in
+    rw is.here (ap (λ n. numbers_from n found) next ∙ ap (numbers_from (suc place)) is.below_is)
+
+pub below_few : (mail : Mail) (place found : ℕ) → IsMail mail → IsBelow mail place found → place + 1 + found ≤ length mail.parts
+below_few mail place found known is = let nests = known.nests place is.part is.here in omega (arith, nests.within, is.below_is)
+
+-- ---- loops that are closed
+
+pub record Closes (items : List code.Frame) (number : ℕ) (frame : Frame) (frames : List Frame) : Type 0 where
+  pub last : (d : code.Frame) → frame_of (get_or items (length items - number) d) ≡ frame
+  pub left : frames_of (take (length items - number) items) ≡ frames
+
+pub closes : (items : List code.Frame) (number : ℕ) (frame : Frame) (frames : List Frame) → 0 < number → number ≤ length items → drop (number - 1) (frames_of items) ≡ frame ∷ frames → Closes items number frame frames
+closes items number frame frames some there e =
+    record { last = λ d. (split d).0; left = (split blank).1 }
+  where
+    blank : code.Frame
+    blank = record { each = 0; next = 0; part = 0; last = 0; content = None }
+
+    k : ℕ
+    k = length items - number
+
+    split : (d : code.Frame) → (frame_of (get_or items k d) ≡ frame) × (frames_of (take k items) ≡ frames)
+    split d =
+        let x : code.Frame = get_or items k d in
+        let front : take (k + 1) items ≡ take k items ++ x ∷ [] = take_more items k d (omega arith) in
+        let back : List code.Frame = drop (k + 1) items in
+        let whole : frames_of items ≡ map frame_of (reverse back) ++ (frame_of x ∷ frames_of (take k items)) =
+        ap frames_of (sym (take-append-drop (k + 1) items)) ∙ ap (map frame_of) (reverse-append (take (k + 1) items) back) ∙ map-append frame_of (reverse back) (reverse (take (k + 1) items))
+        ∙ ap (λ ys. map frame_of (reverse back) ++ map frame_of (reverse ys)) front ∙ ap (λ ys. map frame_of (reverse back) ++ map frame_of ys) (reverse-append (take k items) (x ∷ [])) in
+        let number_is : length (map frame_of (reverse back)) ≡ number - 1 = omega (arith, length-map (reverse back) frame_of, length-reverse back, length-drop (k + 1) items) in
+        let both : frame_of x ∷ frames_of (take k items) ≡ frame ∷ frames = sym (ap (drop (number - 1)) whole ∙ drop_at (map frame_of (reverse back)) (frame_of x ∷ frames_of (take k items)) (number - 1) number_is) ∙ e in
+        (cc, cc)
+
+-- ---- the current part
+
+pub current_at : (visits : Visits) (place : ℕ) (part : Part) → current_part visits.frames ≡ Some place → part_in visits ≡ Some part → slice_get visits.mail.parts place ≡ Some part
+current_at visits place part e at = sym (ap (option_and_then (slice_get visits.mail.parts)) e) ∙ at
+
+-- the content that the innermost loop has is that of the current part
+pub content_held : (mail : Mail) (items : List code.Frame) (d : code.Frame) (place : ℕ) (part : Part) (content : CowSlice ℕ Global) → All (HasContent mail) items → current_part (frames_of items) ≡ Some place → slice_get mail.parts place ≡ Some part
+    → (get_or items (length items - 1) d).content ≡ Some content → cow_slice_items content ≡ part.content
+content_held mail items d place part content all current at held = go (frames_of items) refl current
+  where
+    some : (fs : List Frame) → frames_of items ≡ fs → current_part fs ≡ Some place → 0 < length items
+    some [] e now = absurd cc
+    some (f ∷ fs) e now = omega (arith, sym (length-map (reverse items) frame_of) ∙ ap length e, length-reverse items)
+
+    go : (fs : List Frame) → frames_of items ≡ fs → current_part fs ≡ Some place → cow_slice_items content ≡ part.content
+    go [] e now = absurd cc
+    go (f ∷ fs) e now =
+        let there = some (f ∷ fs) e now in
+        let is = (closes items 1 f fs (omega arith) (omega (arith, there)) e).last d in
+        let x : code.Frame = get_or items (length items - 1) d in
+        let number : x.part ≡ place = ap (λ (g : Frame). g.part) is ∙ (let same : Some f.part ≡ Some place = now in cc) in
+        let has : IfSome (Some content) (λ c. (p : Part) → slice_get mail.parts x.part ≡ Some p → cow_slice_items c ≡ p.content) =
+        subst (λ o. IfSome o (λ c. (p : Part) → slice_get mail.parts x.part ≡ Some p → cow_slice_items c ≡ p.content)) held (All-get_or (HasContent mail) items (length items - 1) d (omega (arith, there)) all) in
+        has part (ap (slice_get mail.parts) number ∙ at)
+
+-- the content that was fetched
+pub fetched : (mail : Mail) (visits : Visits) (place : ℕ) (result : Result (CowSlice ℕ Global) AllocError) → mail ≡ visits.mail → current_part visits.frames ≡ Some place → place < length visits.mail.parts
+    → HoldsAt (λ (p : Part). IfOk result (λ content. cow_slice_items content ≡ p.content)) mail.parts place → IfOk result (λ content. (part : Part) → part_in visits ≡ Some part → cow_slice_items content ≡ part.content)
+fetched mail visits place (Err e) same current within at = tt
+fetched mail visits place (Ok content) same current within at = λ part e.
+    let here : slice_get mail.parts place ≡ Some part = ap (λ (m : Mail). slice_get m.parts place) same ∙ current_at visits place part current e in
+    let is : get_or mail.parts place part ≡ part = get_or_from_slice_get mail.parts place part part here in
+    at part ∙ ap (λ (p : Part). p.content) is
+
+-- ---- what is known
+
+-- one length more
+pub length_kept : (mail : Mail) (lengths next : List (Option ℕ)) (digests : List (Option (List ℕ))) (place found : ℕ) → IsKnown mail lengths digests
+    → ((other : ℕ) → get_or next other None ≡ cond (nat_eq other place) (Some found) (get_or lengths other None)) → ((part : Part) → slice_get mail.parts place ≡ Some part → found ≡ length part.content) → IsKnown mail next digests
+length_kept mail lengths next digests place found known now right =
+    record {
+      length_is = λ other n part e at. go other n part e at (nat_eq other place) refl;
+      digest_is = known.digest_is;
+    }
+  where
+    go : (other n : ℕ) (part : Part) → get_or next other None ≡ Some n → slice_get mail.parts other ≡ Some part → (b : Bool) → nat_eq other place ≡ b → n ≡ length part.content
+    go other n part e at true same =
+        let here : other ≡ place = eqb-true other place same in
+        let is : Some found ≡ Some n = sym (now other ∙ ap (λ b. cond b (Some found) (get_or lengths other None)) same) ∙ e in
+        let equal : found ≡ n = cc in
+        sym equal ∙ right part (ap (slice_get mail.parts) (sym here) ∙ at)
+    go other n part e at false same =
+        known.length_is other n part (sym (now other ∙ ap (λ b. cond b (Some found) (get_or lengths other None)) same) ∙ e) at
+
+pub digest_kept : (mail : Mail) (lengths : List (Option ℕ)) (digests next : List (Option (List ℕ))) (place : ℕ) (found : List ℕ) → IsKnown mail lengths digests
+    → ((other : ℕ) → get_or next other None ≡ cond (nat_eq other place) (Some found) (get_or digests other None)) → ((part : Part) → slice_get mail.parts place ≡ Some part → found ≡ digest_of part.content) → IsKnown mail lengths next
+digest_kept mail lengths digests next place found known now right =
+    record {
+      length_is = known.length_is;
+      digest_is = λ other n part e at. go other n part e at (nat_eq other place) refl;
+    }
+  where
+    go : (other : ℕ) (n : List ℕ) (part : Part) → get_or next other None ≡ Some n → slice_get mail.parts other ≡ Some part → (b : Bool) → nat_eq other place ≡ b → n ≡ digest_of part.content
+    go other n part e at true same =
+        let here : other ≡ place = eqb-true other place same in
+        let is : Some found ≡ Some n = sym (now other ∙ ap (λ b. cond b (Some found) (get_or digests other None)) same) ∙ e in
+        let equal : found ≡ n = cc in
+        sym equal ∙ right part (ap (slice_get mail.parts) (sym here) ∙ at)
+    go other n part e at false same =
+        known.digest_is other n part (sym (now other ∙ ap (λ b. cond b (Some found) (get_or digests other None)) same) ∙ e) at
+
+-- nothing more
+pub lengths_same : (mail : Mail) (lengths next : List (Option ℕ)) (digests : List (Option (List ℕ))) → IsKnown mail lengths digests → ((other : ℕ) → get_or next other None ≡ get_or lengths other None) → IsKnown mail next digests
+lengths_same mail lengths next digests known now =
+    record { length_is = λ other n part e at. known.length_is other n part (sym (now other) ∙ e) at; digest_is = known.digest_is }
+
+pub digests_same : (mail : Mail) (lengths : List (Option ℕ)) (digests next : List (Option (List ℕ))) → IsKnown mail lengths digests → ((other : ℕ) → get_or next other None ≡ get_or digests other None) → IsKnown mail lengths next
+digests_same mail lengths digests next known now =
+    record { length_is = known.length_is; digest_is = λ other n part e at. known.digest_is other n part (sym (now other) ∙ e) at }

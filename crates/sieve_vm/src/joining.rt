@@ -1,0 +1,71 @@
+// Texts that are cut and joined.
+ghost use Rattle.std.specs.Prelude.{◌≡◌, ◌≤◌, ◌++◌, IfOk, OnOk, length, take, sum_by};
+ghost use Rattle.std.specs.Cow.{cow_slice_items};
+ghost use Rattle.std.specs.List.{concat};
+ghost use Rattle.octets.specs.Limits.{max_string, max_value};
+ghost use Rattle.mail_matching.specs.Texts.{AreTexts};
+
+use mail_matching::Texts;
+use std::alloc::{AllocError, Global};
+use std::borrow::CowSlice;
+
+/// The most octets of a text that others are joined to.
+const MAX_STRING: usize = 16_384;
+
+/// The most octets of a variable's value.
+pub const MAX_VALUE: usize = 4096;
+
+/// As many octets as a variable's value has at most.
+#[tactic(auto, using(std::proofs::lemmas::List::take_min))]
+pub fn first(octets: &[u8]) -> &[u8]
+    ensures { result.now ≡ take max_value octets.now }
+{
+    &octets[..MAX_VALUE.min(octets.len())]
+}
+
+/// The first octets of a text, still lent where they are.
+pub fn first_octets<'p>(octets: CowSlice<'p, u8>) -> CowSlice<'p, u8>
+    ensures { cow_slice_items result ≡ take max_value (cow_slice_items octets.entry) }
+{
+    match octets {
+        CowSlice::Borrowed(octets) => CowSlice::Borrowed(first(octets)),
+        CowSlice::Owned(mut octets) => {
+            octets.truncate(MAX_VALUE);
+            CowSlice::Owned(octets)
+        }
+    }
+}
+
+/// How many octets texts have.
+pub fn total_len<T: Texts>(texts: &T) -> usize
+    requires { AreTexts (T.texts texts.now) }
+    ensures { result ≡ sum_by length (T.texts texts.now) }
+{
+    let mut total = 0;
+    for place in 0..texts.count() {
+        total += texts.text(place).len();
+    }
+    total
+}
+
+/// Texts, one after the other, of which the first octets stay.
+pub fn joined<T: Texts>(alloc: Global, texts: &T) -> Result<Vec<u8>, AllocError>
+    requires { AreTexts (T.texts texts.now) }
+    ensures { IfOk result (λ octets. octets.items ≡ take max_string (concat (T.texts texts.now))) }
+{
+    let mut out = Vec::with_capacity(alloc, total_len(texts).min(MAX_STRING))?;
+    for place in 0..texts.count() {
+        put(&mut out, texts.text(place))?;
+    }
+    Ok(out)
+}
+
+// Puts a text at the end, as far as there is room.
+fn put(out: &mut Vec<u8>, text: &[u8]) -> Result<(), AllocError>
+    requires { length out.old.items ≤ max_string }
+    ensures { OnOk result (out.new.items ≡ take max_string (out.old.items ++ text.now)) }
+{
+    let room = MAX_STRING - out.len();
+    out.extend_from_slice(&text[..room.min(text.len())])?;
+    Ok(())
+}

@@ -1,0 +1,202 @@
+// The open loops, and what is known of the parts that they visit.
+ghost use Rattle.std.specs.Prelude.{◌≡◌, ◌<◌, ◌≤◌, ◌+◌, ◌-◌, ℕ, suc, List, [], ◌∷◌, Some, IfOk, OnOk, IfSome, IsSome, length, drop};
+ghost use Rattle.std.specs.Cow.{cow_slice_items};
+ghost use Rattle.octets.specs.Limits.{max_loops, max_parts};
+ghost use Rattle.mime_decode.specs.Content.{digest_of};
+ghost use Rattle.mime_decode.specs.Mail.{Part};
+ghost use Rattle.mime_decode.specs.Scope.{numbers_from, visited};
+ghost use Rattle.sieve_vm.specs.State;
+ghost use Rattle.sieve_vm.specs.State.{current_part};
+ghost use Rattle.sieve_vm.specs.Visits.{Continues, Opens, part_in};
+
+use crate::frame::Frame;
+use crate::known::{keep, known};
+use arrayvec::ArrayVec;
+use mime_decode::{Message, digest_of};
+use std::alloc::{AllocError, Global};
+use std::borrow::CowSlice;
+use std::marker::Model;
+
+/// The most open loops.
+const MAX_LOOPS: usize = 3;
+
+/// The open loops of a run on a message. A contract sees both.
+///
+/// A part's content is decoded where it is asked for, and kept as long as a loop stays on the part. How long it is, and its digest, are
+/// kept for the whole run.
+#[derive(Drop)]
+pub struct Loops<'s, 'm> {
+    message: &'s Message<'m>,
+    // The innermost is the last one.
+    frames: ArrayVec<Frame<'m>, MAX_LOOPS>,
+    lengths: Vec<Option<usize>>,
+    digests: Vec<Option<[u8; 64]>>,
+}
+
+impl<'s, 'm> Model for Loops<'s, 'm> {
+    ghost use Rattle.std.specs.Prelude.{All};
+    ghost use Rattle.sieve_vm.specs.Visits.{Visits, HasContent, IsKnown, frames_of};
+
+    ghost Value = { Visits };
+
+    ghost view = { λ l. record { mail = l.message.now; frames = frames_of l.frames.items } };
+
+    ghost invariant = { λ l. All (HasContent l.message.now) l.frames.items × IsKnown l.message.now l.lengths.items l.digests.items };
+}
+
+impl<'s, 'm> Loops<'s, 'm> {
+    /// No loop is open on the message.
+    pub fn new(alloc: Global, message: &'s Message<'m>) -> Loops<'s, 'm>
+        ensures { result ≡ record { mail = message.now; frames = [] } }
+    {
+        Loops {
+            message,
+            frames: ArrayVec::new(),
+            lengths: Vec::new(alloc),
+            digests: Vec::new(alloc),
+        }
+    }
+
+    /// The current part, that of the innermost loop.
+    #[inline(always)]
+    pub fn current(&self) -> Option<usize>
+        ensures { result ≡ current_part self.now.frames }
+    {
+        match self.frames.as_slice() {
+            [.., frame] => Some(frame.part),
+            [] => None,
+        }
+    }
+
+    // The first of the parts that a loop visits which is opened here, and how many they are.
+    fn visited(&self) -> (usize, usize)
+        requires { IfSome (current_part self.now.frames) (λ part. part < length self.now.mail.parts) }
+        ensures parts { numbers_from result.0 result.1 ≡ visited (current_part self.now.frames) self.now.mail }
+        ensures few { result.0 + result.1 ≤ max_parts }
+    {
+        let parts = self.message.parts();
+        match self.current() {
+            None => (0, parts),
+            Some(part) => (part + 1, self.message.tree().below(part)),
+        }
+    }
+
+    /// Opens a loop on its first part, if there is one.
+    pub fn open(&mut self, each: usize, next: usize) -> bool
+        requires room { length self.old.frames < max_loops }
+        requires current { IfSome (current_part self.old.frames) (λ part. part < length self.old.mail.parts) }
+        ensures { Opens each next (visited (current_part self.old.frames) self.old.mail) result self.old self.new }
+    {
+        let (first, number) = self.visited();
+        if number == 0 {
+            return false;
+        }
+        self.frames.push(Frame {
+            each,
+            next,
+            part: first,
+            last: first + number - 1,
+            content: None,
+        });
+        true
+    }
+
+    /// Goes on with the next part of the innermost loop, and answers the place of its Each; or closes it.
+    #[inline(always)]
+    pub fn next_part(&mut self) -> Option<usize>
+        requires { 0 < length self.old.frames }
+        ensures { (frame : State.Frame) (frames : List State.Frame) → self.old.frames ≡ frame ∷ frames → Continues frame frames frame.rest result self.old self.new }
+    {
+        let innermost = self.frames.len() - 1;
+        let each = self.frames[innermost].each;
+        if self.frames[innermost].go_on() {
+            return Some(each);
+        }
+        self.frames.pop();
+        None
+    }
+
+    /// Closes so many loops, and answers the place of the last one's Next.
+    pub fn close(&mut self, number: usize) -> usize
+        requires some { 0 < number }
+        requires there { number ≤ length self.old.frames }
+        ensures { (frame : State.Frame) (frames : List State.Frame) → drop (number - 1) self.old.frames ≡ frame ∷ frames → (result ≡ frame.next) × (self.new ≡ record self.old { frames = frames }) }
+    {
+        let left = self.frames.len() - number;
+        let next = self.frames[left].next;
+        self.frames.truncate(left);
+        next
+    }
+
+    /// The content of the current part, until it is given back.
+    ///
+    /// An error comes only where memory was refused.
+    pub fn take_content(&mut self, alloc: Global) -> Result<CowSlice<'m, u8>, AllocError>
+        requires { IsSome (part_in self.old) }
+        ensures content { IfOk result (λ content. (part : Part) → part_in self.old ≡ Some part → cow_slice_items content ≡ part.content) }
+        ensures same { OnOk result (self.new ≡ self.old) }
+    {
+        let part = self.part();
+        let innermost = self.frames.len() - 1;
+        match self.frames[innermost].content.take() {
+            Some(content) => Ok(content),
+            None => self.message.content(alloc, part),
+        }
+    }
+
+    /// Keeps the content of the current part, as long as the loop stays on it.
+    pub fn keep_content(&mut self, content: CowSlice<'m, u8>)
+        requires { (part : Part) × ((part_in self.old ≡ Some part) × (cow_slice_items content ≡ part.content)) }
+        ensures { self.new ≡ self.old }
+    {
+        let innermost = self.frames.len() - 1;
+        self.frames[innermost].content = Some(content);
+    }
+
+    /// The length of the current part's content.
+    ///
+    /// An error comes only where memory was refused.
+    pub fn length(&mut self, alloc: Global) -> Result<usize, AllocError>
+        requires { IsSome (part_in self.old) }
+        ensures length { IfOk result (λ found. (part : Part) → part_in self.old ≡ Some part → found ≡ length part.content) }
+        ensures same { OnOk result (self.new ≡ self.old) }
+    {
+        let part = self.part();
+        if let Some(found) = known(&self.lengths, part) {
+            return Ok(found);
+        }
+        let content = self.take_content(alloc)?;
+        let found = content.as_slice().len();
+        self.keep_content(content);
+        keep(&mut self.lengths, self.message.parts(), part, found)?;
+        Ok(found)
+    }
+
+    /// The digest of the current part's content.
+    ///
+    /// An error comes only where memory was refused.
+    pub fn digest(&mut self, alloc: Global) -> Result<[u8; 64], AllocError>
+        requires { IsSome (part_in self.old) }
+        ensures digest { IfOk result (λ found. (part : Part) → part_in self.old ≡ Some part → found ≡ digest_of part.content) }
+        ensures same { OnOk result (self.new ≡ self.old) }
+    {
+        let part = self.part();
+        if let Some(found) = known(&self.digests, part) {
+            return Ok(found);
+        }
+        let content = self.take_content(alloc)?;
+        let found = digest_of(content.as_slice());
+        self.keep_content(content);
+        keep(&mut self.digests, self.message.parts(), part, found)?;
+        Ok(found)
+    }
+
+    // The number of the current part.
+    fn part(&self) -> usize
+        requires { IsSome (part_in self.now) }
+        ensures current { current_part self.now.frames ≡ Some result }
+        ensures within { result < length self.now.mail.parts }
+    {
+        self.current().unwrap()
+    }
+}
