@@ -8,7 +8,15 @@ mod format;
 #[cfg(test)]
 mod large;
 #[cfg(test)]
+mod loops;
+#[cfg(test)]
+mod parts;
+#[cfg(test)]
+mod plain_loops;
+#[cfg(test)]
 mod programs;
+#[cfg(test)]
+mod small_loops;
 #[cfg(test)]
 mod strings;
 #[cfg(test)]

@@ -62,15 +62,18 @@ fn answer(alloc: Global, program: Program, message: &Message) -> Result<String, 
     Ok(format!(in alloc; "{actions}, charged {} of {limit}", outcome.charged)?)
 }
 
-// The answer is this, of the program as it is built, and as it is read from its octets.
-fn check(rt: HostRuntime, code: &[Small], message: &[u8], wanted: &str) -> Result<(), Fail> {
-    let alloc = rt.alloc();
+// The answer of the program as it is built, which is also that of the program as it is read from its octets.
+fn answers(alloc: Global, code: &[Small], message: &[u8]) -> Result<String, Fail> {
     let message = Message::read(alloc, message)?;
     let program = built(alloc, code)?;
     let read = read_again(alloc, &program)?;
-    assert_eq!(rt; answer(alloc, program, &message)?.as_str(), wanted);
-    assert_eq!(rt; answer(alloc, read, &message)?.as_str(), wanted);
-    Ok(())
+    let of_built = answer(alloc, program, &message)?;
+    let of_read = answer(alloc, read, &message)?;
+    if of_built.as_str() == of_read.as_str() {
+        Ok(of_built)
+    } else {
+        Err(Fail::from("another answer of the octets"))
+    }
 }
 
 #[test]
@@ -84,10 +87,20 @@ fn nested_loops(rt: HostRuntime) -> Result<(), Fail> {
         Small::Halt,
     ];
     let four = chain(rt.alloc(), 4)?;
-    check(rt, &code, &four, "keep, charged 32 of 62")?;
-    check(rt, &code, TWO_LEAVES, "keep, charged 12 of 26")?;
+    assert_eq!(rt;
+        answers(rt.alloc(), &code, &four)?.as_str(),
+        "keep, charged 32 of 62"
+    );
+    assert_eq!(rt;
+        answers(rt.alloc(), &code, TWO_LEAVES)?.as_str(),
+        "keep, charged 12 of 26"
+    );
     // One part, and none below it.
-    check(rt, &code, b"", "keep, charged 4 of 6")
+    assert_eq!(rt;
+        answers(rt.alloc(), &code, b"")?.as_str(),
+        "keep, charged 4 of 6"
+    );
+    Ok(())
 }
 
 #[test]
@@ -101,7 +114,11 @@ fn a_jump_within_a_loop(rt: HostRuntime) -> Result<(), Fail> {
         Small::Halt,
     ];
     let four = chain(rt.alloc(), 4)?;
-    check(rt, &code, &four, "keep, charged 17 of 22")
+    assert_eq!(rt;
+        answers(rt.alloc(), &code, &four)?.as_str(),
+        "keep, charged 17 of 22"
+    );
+    Ok(())
 }
 
 #[test]
@@ -115,7 +132,10 @@ fn breaks(rt: HostRuntime) -> Result<(), Fail> {
         Small::Halt,
     ];
     let four = chain(rt.alloc(), 4)?;
-    check(rt, &both, &four, "keep, charged 4 of 62")?;
+    assert_eq!(rt;
+        answers(rt.alloc(), &both, &four)?.as_str(),
+        "keep, charged 4 of 62"
+    );
     // The innermost alone: four parts have one below them, where it is opened; the last has none.
     let one = [
         Small::Each(4),
@@ -125,7 +145,11 @@ fn breaks(rt: HostRuntime) -> Result<(), Fail> {
         Small::Next(0),
         Small::Halt,
     ];
-    check(rt, &one, &four, "keep, charged 16 of 62")
+    assert_eq!(rt;
+        answers(rt.alloc(), &one, &four)?.as_str(),
+        "keep, charged 16 of 62"
+    );
+    Ok(())
 }
 
 #[test]
@@ -137,9 +161,15 @@ fn refused_jumps(rt: HostRuntime) -> Result<(), Fail> {
         Small::Next(1),
         Small::Halt,
     ];
-    check(rt, &into, b"", "refused 25 Jump at 0")?;
+    assert_eq!(rt;
+        answers(rt.alloc(), &into, b"")?.as_str(),
+        "refused 25 Jump at 0"
+    );
     let out = [Small::Each(2), Small::Jump(3), Small::Next(0), Small::Halt];
-    check(rt, &out, b"", "refused 25 Jump at 1")?;
+    assert_eq!(rt;
+        answers(rt.alloc(), &out, b"")?.as_str(),
+        "refused 25 Jump at 1"
+    );
     // From one loop into the next one, of the same depth.
     let beside = [
         Small::Each(2),
@@ -150,7 +180,11 @@ fn refused_jumps(rt: HostRuntime) -> Result<(), Fail> {
         Small::Next(3),
         Small::Halt,
     ];
-    check(rt, &beside, b"", "refused 25 Jump at 1")
+    assert_eq!(rt;
+        answers(rt.alloc(), &beside, b"")?.as_str(),
+        "refused 25 Jump at 1"
+    );
+    Ok(())
 }
 
 #[test]
@@ -166,30 +200,33 @@ fn refused_loops(rt: HostRuntime) -> Result<(), Fail> {
         Small::Next(0),
         Small::Halt,
     ];
-    check(rt, &four, b"", "refused 24 Loop at 3")?;
-    check(
-        rt,
-        &[Small::Break(1), Small::Halt],
-        b"",
-        "refused 24 Loop at 0",
-    )?;
-    check(
-        rt,
-        &[Small::Each(1), Small::Halt],
-        b"",
-        "refused 24 Loop at 0",
-    )?;
-    check(
-        rt,
-        &[Small::Next(0), Small::Halt],
-        b"",
-        "refused 24 Loop at 0",
-    )?;
+    assert_eq!(rt;
+        answers(rt.alloc(), &four, b"")?.as_str(),
+        "refused 24 Loop at 3"
+    );
+    assert_eq!(rt;
+        answers(rt.alloc(), &[Small::Break(1), Small::Halt], b"")?.as_str(),
+        "refused 24 Loop at 0"
+    );
+    assert_eq!(rt;
+        answers(rt.alloc(), &[Small::Each(1), Small::Halt], b"")?.as_str(),
+        "refused 24 Loop at 0"
+    );
+    assert_eq!(rt;
+        answers(rt.alloc(), &[Small::Next(0), Small::Halt], b"")?.as_str(),
+        "refused 24 Loop at 0"
+    );
     // Each names another place, and Next does.
     let each = [Small::Each(2), Small::Next(0), Small::Halt];
-    check(rt, &each, b"", "refused 24 Loop at 0")?;
+    assert_eq!(rt;
+        answers(rt.alloc(), &each, b"")?.as_str(),
+        "refused 24 Loop at 0"
+    );
     let next = [Small::Each(1), Small::Next(1), Small::Halt];
-    check(rt, &next, b"", "refused 24 Loop at 1")?;
+    assert_eq!(rt;
+        answers(rt.alloc(), &next, b"")?.as_str(),
+        "refused 24 Loop at 1"
+    );
     let crossed = [
         Small::Each(2),
         Small::Each(3),
@@ -197,7 +234,11 @@ fn refused_loops(rt: HostRuntime) -> Result<(), Fail> {
         Small::Next(1),
         Small::Halt,
     ];
-    check(rt, &crossed, b"", "refused 24 Loop at 0")
+    assert_eq!(rt;
+        answers(rt.alloc(), &crossed, b"")?.as_str(),
+        "refused 24 Loop at 0"
+    );
+    Ok(())
 }
 
 // Three loops around each other are accepted, and run over chains of parts, each below the one before it.
@@ -214,6 +255,13 @@ fn three_loops(rt: HostRuntime) -> Result<(), Fail> {
         Small::Halt,
     ];
     let four = chain(rt.alloc(), 4)?;
-    check(rt, &code, &four, "keep, charged 52 of 312")?;
-    check(rt, &code, b"", "keep, charged 4 of 8")
+    assert_eq!(rt;
+        answers(rt.alloc(), &code, &four)?.as_str(),
+        "keep, charged 52 of 312"
+    );
+    assert_eq!(rt;
+        answers(rt.alloc(), &code, b"")?.as_str(),
+        "keep, charged 4 of 8"
+    );
+    Ok(())
 }

@@ -1,5 +1,5 @@
 // Operations on the current part, and tests of the header over parts.
-use crate::programs::{at, plain};
+use crate::programs::{as_field, at, plain};
 use bytecode_format::{Action, Instruction, Operation, Program};
 use bytecode_verifier::{Verified, verify};
 use mime_decode::Message;
@@ -57,7 +57,7 @@ fn accepted(alloc: Global, program: Program) -> Result<Verified, Fail> {
 // The refusal of a program.
 fn refusal(alloc: Global, strings: &[&[u8]], instructions: &[Instruction]) -> Result<String, Fail> {
     match verify(alloc, program(alloc, &[], strings, instructions)?) {
-        Ok(_verified) => Ok(String::from(alloc, "accepted")?),
+        Ok(_verified) => Ok(String::from_str(alloc, "accepted")?),
         Err((_program, refusal)) => Ok(format!(in alloc; "{refusal}")?),
     }
 }
@@ -88,7 +88,7 @@ fn stores(action: &Action, wanted: &[u8], number: usize) -> bool {
 
 // A loop whose body has one test of the part, of so many instructions, and stores the parts that pass it in `h`, string 0.
 fn storing(alloc: Global, test: &[Instruction]) -> Result<Vec<Instruction>, Fail> {
-    let next = test.len().saturating_add(4) as u32;
+    let next = as_field(test.len().saturating_add(4));
     let mut code = [at(Operation::Each, 0, next)].as_slice().to_vec(alloc)?;
     code.extend_from_slice(test)?;
     code.push(at(Operation::JumpIfFalse, 0, next))?;
@@ -164,11 +164,14 @@ fn digests(rt: HostRuntime) -> Result<(), Fail> {
     let alloc = rt.alloc();
     let test = [literal(1), full(Operation::PartDigest, 0, 0, 1)];
     let strings = [b"h".as_slice(), DIGEST];
-    assert_eq!(rt; passing(alloc, &[], &strings, &test, ABC)?.as_slice(), &[0]);
+    assert_eq!(rt;
+        passing(alloc, &[], &strings, &test, ABC)?.as_slice(),
+        [0].as_slice()
+    );
     // The third part below is the text of the forwarded message; nothing else has these octets.
     assert_eq!(rt;
         passing(alloc, &[], &strings, &test, MIXED)?.as_slice(),
-        &[3]
+        [3].as_slice()
     );
     let upper = octets::to_uppercase(alloc, DIGEST)?;
     let strings = [b"h".as_slice(), upper.as_slice()];
@@ -189,19 +192,19 @@ fn lengths(rt: HostRuntime) -> Result<(), Fail> {
     let under = [full(Operation::PartSize, 1, 0, 0)];
     assert_eq!(rt;
         passing(alloc, &[6], &[b"h"], &under, MIXED)?.as_slice(),
-        &[3]
+        [3].as_slice()
     );
     assert_eq!(rt;
         passing(alloc, &[7], &[b"h"], &under, MIXED)?.as_slice(),
-        &[1, 3]
+        [1, 3].as_slice()
     );
     assert_eq!(rt;
         passing(alloc, &[5], &[b"h"], &over, MIXED)?.as_slice(),
-        &[0, 1, 2]
+        [0, 1, 2].as_slice()
     );
     assert_eq!(rt;
         passing(alloc, &[6], &[b"h"], &over, MIXED)?.as_slice(),
-        &[0, 2]
+        [0, 2].as_slice()
     );
     Ok(())
 }
@@ -233,15 +236,27 @@ fn scopes(rt: HostRuntime) -> Result<(), Fail> {
     let alloc = rt.alloc();
     let (field, key) = (b"subject".as_slice(), b"inner".as_slice());
     assert!(rt; selecting(alloc, 0, 0, field, key)?.is_empty());
-    assert_eq!(rt; selecting(alloc, 1, 0, field, key)?.as_slice(), &[3]);
-    assert_eq!(rt; selecting(alloc, 2, 0, field, key)?.as_slice(), &[0, 2, 3]);
+    assert_eq!(rt;
+        selecting(alloc, 1, 0, field, key)?.as_slice(),
+        [3].as_slice()
+    );
+    assert_eq!(rt;
+        selecting(alloc, 2, 0, field, key)?.as_slice(),
+        [0, 2, 3].as_slice()
+    );
     let (field, key) = (b"Subject".as_slice(), b"Fwd".as_slice());
     assert_eq!(rt;
         selecting(alloc, 0, 0, field, key)?.as_slice(),
-        &[0, 1, 2, 3]
+        [0, 1, 2, 3].as_slice()
     );
-    assert_eq!(rt; selecting(alloc, 1, 0, field, key)?.as_slice(), &[0]);
-    assert_eq!(rt; selecting(alloc, 2, 0, field, key)?.as_slice(), &[0]);
+    assert_eq!(rt;
+        selecting(alloc, 1, 0, field, key)?.as_slice(),
+        [0].as_slice()
+    );
+    assert_eq!(rt;
+        selecting(alloc, 2, 0, field, key)?.as_slice(),
+        [0].as_slice()
+    );
     Ok(())
 }
 
@@ -251,55 +266,69 @@ fn selectors(rt: HostRuntime) -> Result<(), Fail> {
     let media = b"Content-Type".as_slice();
     assert_eq!(rt;
         selecting(alloc, 1, 1, media, b"application")?.as_slice(),
-        &[1]
+        [1].as_slice()
     );
-    assert_eq!(rt; selecting(alloc, 1, 2, media, b"pdf")?.as_slice(), &[1]);
+    assert_eq!(rt;
+        selecting(alloc, 1, 2, media, b"pdf")?.as_slice(),
+        [1].as_slice()
+    );
     assert_eq!(rt;
         selecting(alloc, 1, 3, media, b"application/pdf")?.as_slice(),
-        &[1]
+        [1].as_slice()
     );
     assert_eq!(rt;
         selecting(alloc, 1, 3, media, b"message/rfc822")?.as_slice(),
-        &[2]
+        [2].as_slice()
     );
     let disposition = b"Content-Disposition".as_slice();
     assert_eq!(rt;
         selecting(alloc, 1, 1, disposition, b"attachment")?.as_slice(),
-        &[1]
+        [1].as_slice()
     );
-    assert_eq!(rt; selecting(alloc, 1, 2, disposition, b"")?.as_slice(), &[1]);
+    assert_eq!(rt;
+        selecting(alloc, 1, 2, disposition, b"")?.as_slice(),
+        [1].as_slice()
+    );
     assert_eq!(rt;
         selecting(alloc, 1, 3, disposition, b"attachment")?.as_slice(),
-        &[1]
+        [1].as_slice()
     );
     // Other fields have no type.
     assert_eq!(rt;
         selecting(alloc, 1, 1, b"Subject", b"")?.as_slice(),
-        &[0, 3]
+        [0, 3].as_slice()
     );
     Ok(())
 }
 
-#[test]
-fn parameters(rt: HostRuntime) -> Result<(), Fail> {
-    let alloc = rt.alloc();
+// The parts in which a parameter of the field has this value.
+fn named(alloc: Global, field: &[u8], name: &[u8], key: &[u8]) -> Result<Vec<usize>, Fail> {
     let test = [
         literal(1),
         literal(2),
         literal(3),
         full(Operation::Header, 8 + 4 * 32, 1, 65_536 + 1),
     ];
-    let named = |field: &'static [u8], name: &'static [u8], key: &'static [u8]| {
-        passing(alloc, &[], &[b"h", field, name, key], &test, MIXED)
-    };
+    passing(alloc, &[], &[b"h", field, name, key], &test, MIXED)
+}
+
+#[test]
+fn parameters(rt: HostRuntime) -> Result<(), Fail> {
+    let alloc = rt.alloc();
     let (media, disposition) = (
         b"Content-Type".as_slice(),
         b"Content-Disposition".as_slice(),
     );
-    assert_eq!(rt; named(media, b"NAME", b"a.pdf")?.as_slice(), &[1]);
-    assert_eq!(rt; named(disposition, b"filename", b"b.pdf")?.as_slice(), &[1]);
+    assert_eq!(rt;
+        named(alloc, media, b"NAME", b"a.pdf")?.as_slice(),
+        [1].as_slice()
+    );
+    assert_eq!(rt;
+        named(alloc, disposition, b"filename", b"b.pdf")?.as_slice(),
+        [1].as_slice()
+    );
     // One that is absent selects nothing, and no empty value either.
-    assert!(rt; named(disposition, b"name", b"")?.is_empty());
+    assert!(rt; named(alloc, disposition, b"name", b"")?.is_empty());
     Ok(())
 }
 
@@ -387,13 +416,13 @@ fn a_large_content(rt: HostRuntime) -> Result<(), Fail> {
         test.push(at(
             Operation::JumpIfFalse,
             0,
-            (test.len() as u32).wrapping_add(2),
+            as_field(test.len()).wrapping_add(2),
         ))?;
     }
     test.push(full(Operation::PartSize, 0, 0, 0))?;
     let strings = [b"h".as_slice(), b"abcdefg"];
     let parts = passing(alloc, &[6_299_999], &strings, &test, &message)?;
-    assert_eq!(rt; parts.as_slice(), &[0]);
+    assert_eq!(rt; parts.as_slice(), [0].as_slice());
     let parts = passing(alloc, &[6_300_000], &strings, &test, &message)?;
     assert!(rt; parts.is_empty());
     Ok(())

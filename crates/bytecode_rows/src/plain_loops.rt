@@ -150,10 +150,20 @@ fn stack_fault(code: &[Small]) -> Option<usize> {
     None
 }
 
-// The first place where a rule is broken.
-fn first_place<B: Fn(&[Small], usize, Small) -> bool>(code: &[Small], breaks: B) -> Option<usize> {
+// The first place where the rule of loops is broken.
+fn loop_fault(code: &[Small]) -> Option<usize> {
     for (place, small) in code.iter().enumerate() {
-        if breaks(code, place, *small) {
+        if breaks_loop(code, place, *small) {
+            return Some(place);
+        }
+    }
+    None
+}
+
+// The first place where that of jumps is.
+fn jump_fault(code: &[Small]) -> Option<usize> {
+    for (place, small) in code.iter().enumerate() {
+        if breaks_jump(code, place, *small) {
             return Some(place);
         }
     }
@@ -165,10 +175,10 @@ pub fn fault(code: &[Small]) -> Option<(Broken, usize)> {
     if !matches!(code.last(), Some(Small::Halt)) {
         return Some((Broken::End, code.len().saturating_sub(1)));
     }
-    if let Some(place) = first_place(code, breaks_loop) {
+    if let Some(place) = loop_fault(code) {
         return Some((Broken::Loop, place));
     }
-    if let Some(place) = first_place(code, breaks_jump) {
+    if let Some(place) = jump_fault(code) {
         return Some((Broken::Jump, place));
     }
     stack_fault(code).map(|place| (Broken::Stack, place))
@@ -220,7 +230,7 @@ fn open(
 }
 
 // Takes the innermost loop's next part, or closes it, and says where the run goes on.
-fn turn(turns: &mut Vec<Turn>, place: usize, each: usize) -> Result<usize, Fail> {
+fn next_turn(turns: &mut Vec<Turn>, place: usize, each: usize) -> Result<usize, Fail> {
     let Some(mut turn) = turns.pop() else {
         return Err(Fail::from("no loop is open"));
     };
@@ -240,7 +250,10 @@ fn close(turns: &mut Vec<Turn>, loops: u8) -> Result<usize, Fail> {
     for _ in 0..loops {
         place = turns.pop().map(|turn| turn.next.saturating_add(1));
     }
-    place.ok_or(Fail::from("too few loops are open"))
+    match place {
+        Some(place) => Ok(place),
+        None => Err(Fail::from("too few loops are open")),
+    }
 }
 
 /// What an accepted program charges on a message, of whose parts so many are below each.
@@ -256,7 +269,7 @@ pub fn run_plainly(alloc: Global, code: &[Small], below: &[usize]) -> Result<u12
             None => return Err(Fail::from("after the last instruction")),
             Some(Small::Halt) => return Ok(charged),
             Some(Small::Each(next)) => open(alloc, below, &mut turns, place, *next as usize)?,
-            Some(Small::Next(each)) => turn(&mut turns, place, *each as usize)?,
+            Some(Small::Next(each)) => next_turn(&mut turns, place, *each as usize)?,
             Some(Small::Break(loops)) => close(&mut turns, *loops)?,
             Some(Small::Keep) => after,
             Some(Small::Bool(pushed)) => {

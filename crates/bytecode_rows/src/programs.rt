@@ -29,3 +29,8 @@ pub fn at(operation: Operation, a: u8, c: u32) -> Instruction {
 pub fn plain(operation: Operation) -> Instruction {
     at(operation, 0, 0)
 }
+
+/// A place as an instruction names it; those of the examples are small.
+pub fn as_field(place: usize) -> u32 {
+    place.min(100_000) as u32
+}

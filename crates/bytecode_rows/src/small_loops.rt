@@ -1,6 +1,7 @@
 // Every small program of loops and jumps: accepted or refused, and run, as the plain reader and machine say.
 use crate::loops::{built, chain};
 use crate::plain_loops::{Broken, Small, fault, run_plainly};
+use crate::programs::as_field;
 use bytecode_format::Action;
 use bytecode_verifier::{Refusal, Verified, verify};
 use mime_decode::Message;
@@ -40,10 +41,10 @@ fn alternatives(alloc: Global, places: u32) -> Result<Vec<Small>, Fail> {
     Ok(all)
 }
 
-// The program whose instructions are the digits of a number.
-fn spell(code: &mut [Small], alternatives: &[Small], number: usize) {
+// Makes the first instructions of a program those that the digits of a number name.
+fn spell(code: &mut [Small], free: usize, alternatives: &[Small], number: usize) {
     let mut rest = number;
-    for small in code.iter_mut() {
+    for small in code.iter_mut().take(free) {
         let digit = rest.checked_rem(alternatives.len()).unwrap_or(0);
         rest = rest.checked_div(alternatives.len()).unwrap_or(0);
         *small = alternatives.get(digit).copied().unwrap_or(Small::Halt);
@@ -79,18 +80,22 @@ fn runs_plainly(
 }
 
 // Whether the verifier and the machine do with a program what the plain ones do; true where it is accepted.
-fn agrees(rt: HostRuntime, code: &[Small], cases: &[Case]) -> Result<bool, Fail> {
-    let alloc = rt.alloc();
+fn agrees(alloc: Global, code: &[Small], cases: &[Case]) -> Result<bool, Fail> {
     match (verify(alloc, built(alloc, code)?), fault(code)) {
         (Ok(verified), None) => {
             for case in cases {
-                assert!(rt; runs_plainly(alloc, code, &verified, case)?);
+                if !runs_plainly(alloc, code, &verified, case)? {
+                    return Err(Fail::from("another run"));
+                }
             }
             Ok(true)
         }
         (Err((_program, refusal)), Some(wanted)) => {
-            assert_eq!(rt; broken(&refusal), Some(wanted));
-            Ok(false)
+            if broken(&refusal) == Some(wanted) {
+                Ok(false)
+            } else {
+                Err(Fail::from("another refusal"))
+            }
         }
         _ => Err(Fail::from("one accepts and the other refuses")),
     }
@@ -111,21 +116,17 @@ fn with_cases<'a>(alloc: Global, chained: &'a [u8]) -> Result<Vec<Case<'a>>, Fai
 }
 
 // Every program of so many instructions, of which the last ones are given.
-fn all_of(rt: HostRuntime, cases: &[Case], length: usize, free: usize) -> Result<usize, Fail> {
-    let alternatives = alternatives(rt.alloc(), length as u32)?;
-    let mut code = vec![in rt.alloc(); Small::Halt; length]?;
+fn all_of(alloc: Global, cases: &[Case], length: usize, free: usize) -> Result<usize, Fail> {
+    let alternatives = alternatives(alloc, as_field(length))?;
+    let mut code = vec![in alloc; Small::Halt; length]?;
     let mut number = 1usize;
     for _ in 0..free {
         number = number.saturating_mul(alternatives.len());
     }
     let mut accepted = 0usize;
     for program in 0..number {
-        spell(
-            code.as_mut_slice().split_at_mut(free.min(length)).0,
-            &alternatives,
-            program,
-        );
-        if agrees(rt, &code, cases)? {
+        spell(&mut code, free, &alternatives, program);
+        if agrees(alloc, &code, cases)? {
             accepted = accepted.saturating_add(1);
         }
     }
@@ -137,7 +138,7 @@ fn up_to_four_instructions(rt: HostRuntime) -> Result<(), Fail> {
     let chained = chain(rt.alloc(), 3)?;
     let cases = with_cases(rt.alloc(), &chained)?;
     for length in 0..5 {
-        let accepted = all_of(rt, &cases, length, length)?;
+        let accepted = all_of(rt.alloc(), &cases, length, length)?;
         assert!(rt; accepted > 0 || length == 0);
     }
     Ok(())
@@ -147,7 +148,7 @@ fn up_to_four_instructions(rt: HostRuntime) -> Result<(), Fail> {
 fn five_instructions(rt: HostRuntime) -> Result<(), Fail> {
     let chained = chain(rt.alloc(), 3)?;
     let cases = with_cases(rt.alloc(), &chained)?;
-    assert!(rt; all_of(rt, &cases, 5, 4)? > 0);
+    assert!(rt; all_of(rt.alloc(), &cases, 5, 4)? > 0);
     Ok(())
 }
 
@@ -166,6 +167,43 @@ fn any(alternatives: &[Small], state: u64) -> Small {
     alternatives.get(digit).copied().unwrap_or(Small::Halt)
 }
 
+// Two instructions by chance, as they often stand in an accepted program: a truth value and its jump, or one without
+// a value and one more of them.
+fn fitting(place: usize, state: u64) -> (Small, Small) {
+    let target = as_field(place.saturating_add(2)).wrapping_add((state >> 40) as u32 % 4);
+    let value = (state >> 50).is_multiple_of(2);
+    match (state >> 33) % 8 {
+        0 | 1 => (Small::Each(0), Small::Keep),
+        2 => (Small::Keep, Small::Next(0)),
+        3 => (Small::Next(0), Small::Each(0)),
+        4 => (Small::Break(1), Small::Next(0)),
+        5 => (Small::Each(0), Small::Break(2)),
+        6 => (Small::Jump(target), Small::Next(0)),
+        _ => (Small::Bool(value), Small::JumpIfTrue(target)),
+    }
+}
+
+// Fills a program up to its last instruction with pairs that fit, and answers the state after them.
+fn fill(code: &mut [Small], state: u64) -> u64 {
+    let mut state = state;
+    let last = code.len().saturating_sub(1);
+    for place in 0..last {
+        if place.is_multiple_of(2) {
+            state = next(state);
+            let (first, second) = fitting(place, state);
+            if let Some(small) = code.get_mut(place) {
+                *small = first;
+            }
+            if place.saturating_add(1) < last {
+                if let Some(small) = code.get_mut(place.saturating_add(1)) {
+                    *small = second;
+                }
+            }
+        }
+    }
+    state
+}
+
 // Makes the brackets of a program name each other, where they can.
 fn name_partners(code: &mut [Small], open: &mut Vec<usize>) -> Result<(), Fail> {
     for place in 0..code.len() {
@@ -173,9 +211,9 @@ fn name_partners(code: &mut [Small], open: &mut Vec<usize>) -> Result<(), Fail> 
             Small::Each(_) => open.push(place)?,
             Small::Next(_) => {
                 if let Some(each) = open.pop() {
-                    code[place] = Small::Next(each as u32);
+                    code[place] = Small::Next(as_field(each));
                     if let Some(small) = code.get_mut(each) {
-                        *small = Small::Each(place as u32);
+                        *small = Small::Each(as_field(place));
                     }
                 }
             }
@@ -185,7 +223,7 @@ fn name_partners(code: &mut [Small], open: &mut Vec<usize>) -> Result<(), Fail> 
     Ok(())
 }
 
-// Programs of 6 to 12 instructions by chance: of every two one has brackets that name each other.
+// Programs of 6 to 12 instructions by chance: of every two one has pairs that fit, and brackets that name each other.
 #[test]
 fn longer_programs(rt: HostRuntime) -> Result<(), Fail> {
     let alloc = rt.alloc();
@@ -195,24 +233,21 @@ fn longer_programs(rt: HostRuntime) -> Result<(), Fail> {
     let mut accepted = 0usize;
     for number in 0..200_000usize {
         let length = 6 + number % 7;
-        let alternatives = alternatives(alloc, length as u32)?;
         let mut code = vec![in alloc; Small::Halt; length]?;
-        for small in code
-            .as_mut_slice()
-            .split_at_mut(length.saturating_sub(1))
-            .0
-            .iter_mut()
-        {
-            state = next(state);
-            *small = any(&alternatives, state);
-        }
-        if number % 2 == 0 {
+        if number.is_multiple_of(2) {
+            state = fill(&mut code, state);
             name_partners(&mut code, &mut Vec::new(alloc))?;
+        } else {
+            let alternatives = alternatives(alloc, as_field(length))?;
+            for small in code.iter_mut().take(length.saturating_sub(1)) {
+                state = next(state);
+                *small = any(&alternatives, state);
+            }
         }
-        if agrees(rt, &code, &cases)? {
+        if agrees(alloc, &code, &cases)? {
             accepted = accepted.saturating_add(1);
         }
     }
-    assert!(rt; accepted > 100);
+    assert!(rt; accepted > 1_000);
     Ok(())
 }

@@ -13,7 +13,6 @@ use Rattle.bytecode_verifier.specs.Budget.{one_more_each, one_charge, cap_of_oct
 use Rattle.bytecode_verifier.proofs.Consequences.{left_by}
 use Rattle.bytecode_verifier.specs.Rows.{keys_in, params_in, scope_in, selector_in}
 use Rattle.mime_decode.specs.Mail.{Mail, Part, IsMail, size_of}
-use Rattle.mime_decode.specs.Scope.{Selector, Value as WholeValue, Main, Sub, ContentType, Param}
 use Rattle.mail_matching.specs.PartTests.{body_cost, digest_cost}
 use Rattle.mail_matching.specs.Selection.{values_of_a_field}
 use Rattle.mail_matching.specs.Costs.{extent_of}

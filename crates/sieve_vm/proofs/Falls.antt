@@ -1,17 +1,15 @@
 -- The potential: what is left of the open loops' bodies, and of the program.
-use Rattle.std.proofs.Common.{◌≡◌, ℕ, zero, suc, ◌+◌, ◌-◌, ◌*◌, ◌^◌, ◌<◌, ◌≤◌, Bool, true, false, nat_le, nat_eq, cond, List, [], ◌∷◌, drop, length, refl, sym, ap, ◌∙◌, inl, inr, mul-add, arith}
+use Rattle.std.proofs.Common.{◌≡◌, ℕ, zero, suc, ◌+◌, ◌-◌, ◌*◌, ◌^◌, ◌<◌, ◌≤◌, Bool, true, false, nat_le, nat_eq, cond, List, [], ◌∷◌, drop, length, refl, ap, ◌∙◌, inl, inr, mul-add, arith}
 use Rattle.std.proofs.lemmas.Bool.{cases_lt, le-leb, leb-true}
 use Rattle.std.proofs.Math.Nat.{mul-le-mul}
 use native.Mathlib.Numerals.{unary_clauses}
 use Rattle.bytecode_format.specs.Code.{Code}
 use Rattle.bytecode_verifier.specs.Places.{sum_below}
 use Rattle.bytecode_verifier.specs.Loops.{open_loops}
-use Rattle.bytecode_verifier.specs.declared.cap.Cap.{Cap}
 use Rattle.bytecode_verifier.specs.Budget.{cap_at, sum_inside}
-use Rattle.bytecode_verifier.specs.Acceptance.{IsAccepted}
 use Rattle.bytecode_verifier.proofs.Nesting.{Nesting}
 use Rattle.mime_decode.specs.Mail.{Mail, size_of}
-use Rattle.sieve_vm.specs.State.{Frame, State, start}
+use Rattle.sieve_vm.specs.State.{Frame, start}
 use Rattle.sieve_vm.specs.Potential.{cap_value, weight_at, stretch, potential_from, potential, limit_of}
 
 -- ---- sums over places

@@ -9,7 +9,7 @@ use Rattle.bytecode_verifier.proofs.Nesting.{Nesting}
 use Rattle.mime_decode.specs.Mail.{Mail, Part, IsMail}
 use Rattle.mime_decode.specs.Scope.{numbers_from, visited}
 use Rattle.sieve_vm.specs.State.{Frame, State, current_part}
-use Rattle.sieve_vm.specs.Machine.{Effect, jumps, close}
+use Rattle.sieve_vm.specs.Machine.{jumps, close}
 use Rattle.sieve_vm.proofs.Falls.{end_of}
 
 -- the loop of a frame

@@ -9,7 +9,7 @@ use Rattle.sieve_vm.specs.declared.entry.Entry.TheVariants.{Truth, Text, Variabl
 use Rattle.sieve_vm.specs.State.{Value}
 use Rattle.sieve_vm.specs.Stack.{OnTop, texts_on_top, Lists, with_params_and_keys, lists_below, lists_on_top}
 use Rattle.sieve_vm.specs.Standing.{value_of, octets_of}
-use Rattle.sieve_vm.proofs.Taking.{octets_in, AreShortTexts, IsTop, is_top}
+use Rattle.sieve_vm.proofs.Taking.{octets_in, AreShortTexts, is_top}
 
 -- texts that are taken are texts of a test
 pub texts_are : (n : ℕ) (stack : List Value) (top : OnTop) → length stack ≤ max_stack → AreShortTexts stack → texts_on_top n stack ≡ Some top → AreTexts top.texts

@@ -1,6 +1,6 @@
 -- What holds of every state that a run of an accepted program reaches, and what a step does to it.
-use Rattle.std.proofs.Common.{◌≡◌, ℕ, zero, suc, ◌+◌, ◌-◌, ◌<◌, ◌≤◌, Bool, true, false, not, ◌&&◌, ◌==◌, nat_lt, cond, List, [], ◌∷◌, ◌++◌, length-append, Option, Some, None, All, inl, inr, min, sum, sum_by, take, replicate, length, slice_get, slice_set, slice_index_or, get_or, refl, sym, ap, subst, ◌∙◌, leb-false, arith}
-use Rattle.std.proofs.lemmas.Bool.{cases_lt, lt-ltb, ltb-true, ltb-false, leb-true}
+use Rattle.std.proofs.Common.{◌≡◌, ℕ, zero, suc, ◌+◌, ◌-◌, ◌<◌, ◌≤◌, Bool, true, false, not, ◌&&◌, ◌==◌, nat_lt, cond, List, [], ◌∷◌, ◌++◌, length-append, Option, Some, None, All, inl, inr, min, sum, sum_by, take, replicate, length, slice_get, slice_set, slice_index_or, get_or, refl, sym, ap, subst, ◌∙◌, arith}
+use Rattle.std.proofs.lemmas.Bool.{cases_lt, lt-ltb, ltb-true}
 use Rattle.std.proofs.lemmas.Option.{slice_get-get_or, slice_get_within}
 use Rattle.std.proofs.lemmas.List.{length-set, length-take, length-replicate, get_or_past}
 use Rattle.std.proofs.lemmas.List.Elements.{All-replicate, All-set, All-get_or, All-push, All-nil}
@@ -18,7 +18,7 @@ use Rattle.bytecode_verifier.specs.Rows.{row_of, is_well_formed, is_jump, needs_
 use Rattle.bytecode_verifier.specs.Shape.{Entries, Texts, Lists as ListBounds, is_empty, has_truth, with_entry, with_string, with_joined, without_truth, take_texts, take_lists, shape_at}
 use Rattle.bytecode_verifier.specs.Places.{holds_at}
 use Rattle.bytecode_verifier.specs.Loops.{Loop, opens, closes, open_loops}
-use Rattle.bytecode_verifier.specs.Rules.{row_in, misses_index, misses_loop, is_halt}
+use Rattle.bytecode_verifier.specs.Rules.{row_in, is_halt}
 use Rattle.bytecode_verifier.specs.Acceptance.{IsAccepted}
 use Rattle.bytecode_verifier.proofs.Tests.{same_place}
 use Rattle.bytecode_verifier.proofs.Consequences.{left_by, well_formed, number_known, part_number_known, break_known, string_known, variable_known, set_known, modifiers_known, not_last, jump_forward, jump_within, jump_same_loops, jump_target, shape_known, shape_next, target_empty}
@@ -33,7 +33,7 @@ use Rattle.sieve_vm.specs.Stack.{OnTop, Lists, texts_on_top}
 use Rattle.sieve_vm.specs.Stores.{NamesPart}
 use Rattle.sieve_vm.specs.Machine as machine
 use Rattle.sieve_vm.specs.Machine.{Effect, on, jumps, halts, fails, push, branch, with_truth, with_text, with_texts, with_lists, with_number, file, test_names, tested, test_values, test_sources, with_part, store_part, test_body, test_digest, are_partners, open_loop, next_part, next, close, is_sound_jump, compares, effect, turn, turn_of, turn_at, step}
-use Rattle.sieve_vm.specs.Potential.{cap_value, potential_from, potential}
+use Rattle.sieve_vm.specs.Potential.{potential_from, potential}
 use Rattle.bytecode_verifier.specs.Budget.{cap_of, cap_at}
 use Rattle.mime_decode.specs.Scope.{selected_values, visited}
 use Rattle.glob_match.specs.Matching.{max_captures}

@@ -1,6 +1,6 @@
 -- The open loops of the code, and what is known of the parts that they visit.
 use Rattle.std.proofs.Common.{◌≡◌, ℕ, zero, suc, ◌+◌, ◌-◌, ◌<◌, ◌≤◌, Bool, true, false, cond, nat_eq, List, [], ◌∷◌, ◌++◌, Option, Some, None, IfSome, All, length, map, reverse, take, drop, get_or, slice_get, refl, sym, ap, subst, ◌∙◌, Global, Result, Ok, Err, IfOk, arith}
-use Rattle.std.proofs.lemmas.Bool.{cases_Bool, eqb-true}
+use Rattle.std.proofs.lemmas.Bool.{eqb-true}
 use Rattle.std.proofs.lemmas.List.{take-append-drop, take_more, drop_at, map-append, reverse-append, length-reverse, length-drop, length-map}
 use Rattle.std.proofs.lemmas.List.Elements.{All-get_or}
 use Rattle.std.specs.declared.borrow.CowSlice.{CowSlice}
@@ -8,7 +8,7 @@ use Rattle.std.proofs.lemmas.Option.{get_or_from_slice_get}
 use Rattle.std.specs.declared.alloc.AllocError.{AllocError}
 use Rattle.std.specs.List.{HoldsAt}
 use Rattle.std.specs.Cow.{cow_slice_items}
-use Rattle.std.specs.Option.{option_and_then, option_map_or}
+use Rattle.std.specs.Option.{option_and_then}
 use Rattle.mime_tree.specs.PartTree as tree
 use Rattle.mime_decode.specs.Content.{digest_of}
 use Rattle.mime_decode.specs.Mail.{Mail, Part, IsMail, mail_of, part_of}

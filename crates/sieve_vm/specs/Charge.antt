@@ -1,5 +1,5 @@
 -- What a step costs.
-use Rattle.std.specs.Prelude.{ℕ, ◌+◌, List, [], ◌∷◌, Option, Some, None, length, slice_get, sum_by}
+use Rattle.std.specs.Prelude.{ℕ, ◌+◌, List, Option, Some, None, length, slice_get, sum_by}
 use Rattle.std.specs.Option.{option_map_or}
 use Rattle.bytecode_format.specs.declared.instruction.Instruction.{Instruction}
 use Rattle.bytecode_format.specs.declared.operation.Operation.{Operation}
@@ -11,7 +11,7 @@ use Rattle.mail_matching.specs.Costs.{values_cost}
 use Rattle.mail_matching.specs.HeaderTests.{exists_cost, header_cost}
 use Rattle.mail_matching.specs.PartTests.{body_cost, digest_cost}
 use Rattle.sieve_vm.specs.MatchNumbers.{scope_numbered, selector_numbered}
-use Rattle.sieve_vm.specs.State.{Frame, State, current_part}
+use Rattle.sieve_vm.specs.State.{State, current_part}
 use Rattle.sieve_vm.specs.Stack.{OnTop, Lists, texts_on_top, lists_on_top, length_on_top}
 
 -- looking for the fields of these names in the scope that a says, as it is seen from the current part

@@ -1,5 +1,5 @@
 -- What the open loops of the code stand for.
-use Rattle.std.specs.Prelude.{◌≡◌, ◌<◌, ℕ, suc, ◌+◌, ◌-◌, Bool, true, false, List, [], ◌∷◌, ◌++◌, Option, Some, None, IfSome, length, map, reverse, slice_get, slice_index_or}
+use Rattle.std.specs.Prelude.{◌≡◌, ℕ, suc, ◌-◌, Bool, true, false, List, [], ◌∷◌, Option, Some, None, IfSome, length, map, reverse, slice_get, slice_index_or}
 use Rattle.std.specs.Cow.{cow_slice_items}
 use Rattle.std.specs.Option.{option_and_then}
 use Rattle.mime_decode.specs.Content.{digest_of}

@@ -2,7 +2,8 @@
 //!
 //! What a step does is defined in `specs/Machine`, what it costs in `specs/Charge`. The [`laws`] say
 //! that a run of an accepted program never traps, stays within the program's budget and reaches its
-//! end; [`run`] is that run.
+//! end, and that it stores parts of the message alone; [`run`] is that run. What of a part's content it
+//! needs it decodes once for each stay of a loop on the part, and nothing of parts that no instruction asks for.
 #![tactic(auto)]
 
 mod entry;
@@ -15,6 +16,7 @@ mod machine;
 mod numbers;
 mod outcome;
 mod owning;
+mod testing;
 mod workspace;
 
 pub use outcome::{Outcome, run};

@@ -9,6 +9,14 @@ use bytecode_format::Instruction;
 use glob_match::{Comparator, Match, MatchType};
 use mail_matching::{HeaderTest, Reach, Scope, Selector};
 
+// How many numbers of a match there are in an a, and of a scope above them.
+const MATCHES: u8 = 8;
+
+const SCOPES: u8 = 4;
+
+// How many numbers of keys there are in a c.
+const KEYS: u32 = 65_536;
+
 /// How values are matched with keys.
 pub fn match_numbered(number: u8) -> Match
     ensures { result ≡ match_numbered number }
@@ -22,7 +30,7 @@ pub fn match_numbered(number: u8) -> Match
         } else {
             MatchType::Matches
         },
-        comparator: if number % 8 < 4 {
+        comparator: if number % MATCHES < 4 {
             Comparator::Casemap
         } else {
             Comparator::Octet
@@ -63,11 +71,11 @@ pub fn header_test(a: u8, current: Option<usize>) -> HeaderTest
 {
     HeaderTest {
         reach: Reach {
-            scope: scope_numbered(a / 8 % 4),
+            scope: scope_numbered(a / MATCHES % SCOPES),
             current,
         },
-        selector: selector_numbered(a / 32),
-        how: match_numbered(a % 8),
+        selector: selector_numbered(a / (MATCHES * SCOPES)),
+        how: match_numbered(a % MATCHES),
     }
 }
 
@@ -77,8 +85,8 @@ pub fn header_counts(instruction: &Instruction) -> Counts
 {
     Counts {
         names: instruction.b as usize,
-        params: (instruction.c / 65_536) as usize,
-        keys: (instruction.c % 65_536) as usize,
+        params: (instruction.c / KEYS) as usize,
+        keys: (instruction.c % KEYS) as usize,
     }
 }
 

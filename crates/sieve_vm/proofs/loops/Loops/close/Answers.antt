@@ -1,4 +1,4 @@
-use Rattle.std.proofs.Common.{◌≡◌, ◌≤◌, reverse, length, drop, refl, sym, ap, ◌∙◌, ◌-◌, List, take, get_or, arith}
+use Rattle.std.proofs.Common.{◌≡◌, ◌≤◌, reverse, length, drop, ap, ◌∙◌, ◌-◌, List, take, get_or, arith}
 use Rattle.sieve_vm.specs.declared.frame.Frame as code
 use Rattle.sieve_vm.specs.State.{Frame}
 use Rattle.sieve_vm.specs.Visits.{Visits, frame_of, frames_of}

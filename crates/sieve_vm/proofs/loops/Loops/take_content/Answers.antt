@@ -1,8 +1,5 @@
-use Rattle.std.proofs.Common.{◌≡◌, List, Some, IfOk, slice_get, length, sym, ap, ◌∙◌, ◌-◌, get_or}
-use Rattle.std.proofs.lemmas.Option.{get_or_from_slice_get}
-use Rattle.std.proofs.lemmas.Result.{IfOk-weaker}
-use Rattle.std.specs.Cow.{cow_slice_items}
-use Rattle.mime_decode.specs.Mail.{Mail, Part}
+use Rattle.std.proofs.Common.{List, slice_get, sym, ap, ◌∙◌, ◌-◌, get_or}
+use Rattle.mime_decode.specs.Mail.{Mail}
 use Rattle.sieve_vm.specs.declared.frame.Frame as code
 use Rattle.sieve_vm.specs.State.{current_part}
 use Rattle.sieve_vm.specs.Visits.{Visits}

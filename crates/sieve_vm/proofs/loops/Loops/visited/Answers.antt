@@ -1,11 +1,11 @@
-use Rattle.std.proofs.Common.{◌≡◌, ◌<◌, ◌≤◌, ℕ, Option, Some, IfSome, ◌∙◌, sym, ap, length, arith, subst}
+use Rattle.std.proofs.Common.{◌≡◌, ◌<◌, ℕ, Option, Some, IfSome, ◌∙◌, sym, ap, length, arith, subst}
 use Rattle.std.specs.List.{HoldsAt}
 use Rattle.mime_tree.specs.PartTree as tree
 use Rattle.mime_decode.specs.Mail.{Mail}
 use Rattle.mime_decode.specs.Scope.{visited}
 use Rattle.sieve_vm.specs.State.{current_part}
 use Rattle.sieve_vm.specs.Visits.{Visits}
-use Rattle.sieve_vm.proofs.Visiting.{IsBelow, is_below, below_visited, below_few, tree_number}
+use Rattle.sieve_vm.proofs.Visiting.{is_below, below_visited, below_few, tree_number}
 use Rattle.sieve_vm.proofs.loops.Loops.visited.Goals as goal
 
 pub overflow_add-result : goal.overflow_add-result

@@ -1,4 +1,4 @@
-use Rattle.std.proofs.Common.{◌+◌, [], ◌∷◌, ◌++◌, length, ap, subst, ◌∙◌}
+use Rattle.std.proofs.Common.{[], ◌∷◌, ◌++◌, length, ap, subst, ◌∙◌}
 use Rattle.bytecode_format.specs.declared.action.Action.TheVariants as action
 use Rattle.sieve_vm.specs.declared.machine.Done.{Done}
 use Rattle.sieve_vm.specs.Standing.{Held, StandsFor}

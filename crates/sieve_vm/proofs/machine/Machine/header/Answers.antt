@@ -1,8 +1,6 @@
-use Rattle.std.proofs.Common.{◌≡◌, ℕ, List, Option, Some, ap, ◌∙◌}
+use Rattle.std.proofs.Common.{◌≡◌, Some, ap, ◌∙◌}
 use Rattle.std.proofs.lemmas.Result.{IfOk-weaker}
-use Rattle.glob_match.specs.declared.match_type.Match.{Match}
 use Rattle.bytecode_verifier.specs.Rows.{keys_in, params_in, match_in, scope_in, selector_in}
-use Rattle.mime_decode.specs.Scope.{Scope, Selector}
 use Rattle.mail_matching.specs.HeaderTests.{header_match, header_cost}
 use Rattle.mail_matching.specs.Outcomes.{after}
 use Rattle.mail_matching.specs.Selection.{scope_of, selector_of}

@@ -1,4 +1,4 @@
-use Rattle.std.proofs.Common.{◌≡◌, ◌+◌, Some, slice_set, take, sym, subst, ap, ◌∙◌}
+use Rattle.std.proofs.Common.{◌≡◌, Some, slice_set, take, sym, subst, ap, ◌∙◌}
 use Rattle.bytecode_format.specs.Modifiers.{modified}
 use Rattle.bytecode_format.specs.declared.modifiers.Modifiers.{Modifiers}
 use Rattle.sieve_vm.specs.Standing.{Held, held_of}

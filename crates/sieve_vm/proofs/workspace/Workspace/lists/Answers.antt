@@ -1,6 +1,6 @@
-use Rattle.std.proofs.Common.{◌≡◌, ◌-◌, length, map, reverse, take, slice_range, refl, sym, ap, ◌∙◌, arith}
+use Rattle.std.proofs.Common.{◌≡◌, ◌-◌, length, map, slice_range, refl, sym, ap, ◌∙◌, arith}
 use Rattle.mail_matching.specs.FirstMatch.{captures_of}
-use Rattle.sieve_vm.specs.Standing.{variables_of, held_of, value_of, octets_of}
+use Rattle.sieve_vm.specs.Standing.{variables_of, held_of, octets_of}
 use Rattle.sieve_vm.proofs.Pushed.{lists_lent}
 use Rattle.sieve_vm.proofs.workspace.Workspace.lists.Goals as goal
 

@@ -1,0 +1,197 @@
+// The machine's tests.
+ghost use Rattle.std.specs.Prelude.{◌≡◌};
+ghost use Rattle.sieve_vm.specs.Machine.{compares};
+ghost use Rattle.sieve_vm.specs.Standing.{once};
+
+use crate::entry::Entry;
+use crate::machine::{Done, Flow, Machine, once};
+use crate::numbers::{header_counts, header_test, match_numbered, scope_numbered, string_counts};
+use bytecode_format::Instruction;
+use mail_matching::{Answer, Reach, body, digest, exists, header, string};
+use mime_decode::Message;
+use std::alloc::{AllocError, Global};
+
+impl<'p, 's, 'm> Machine<'p, 's, 'm> {
+    ghost use Rattle.std.specs.Prelude.{◌≡◌, ◌<◌, ◌≤◌, ◌-◌, ◌∷◌, Some, IfOk, IfSome, IsSome, length, is_some};
+    ghost use Rattle.octets.specs.Limits.{max_message};
+    ghost use Rattle.mail_matching.specs.FirstMatch.{first_match};
+    ghost use Rattle.std.specs.Option.{unwrap_or};
+    ghost use Rattle.mime_decode.specs.Mail.{Mail, Part};
+    ghost use Rattle.mail_matching.specs.HeaderTests.{exists_in};
+    ghost use Rattle.mail_matching.specs.PartTests.{body_cost, body_match, digest_cost, digest_match};
+    ghost use Rattle.bytecode_verifier.specs.Rows.{keys_in, params_in};
+    ghost use Rattle.sieve_vm.specs.MatchNumbers.{match_numbered, scope_numbered};
+    ghost use Rattle.sieve_vm.specs.Visits.{part_in};
+    ghost use Rattle.mail_matching.specs.Outcomes.{after};
+    ghost use Rattle.mail_matching.specs.Texts.{AreTexts};
+    ghost use Rattle.sieve_vm.specs.State.{State, truth, current_part};
+    ghost use Rattle.sieve_vm.specs.Stack.{OnTop, Lists, texts_on_top, lists_on_top};
+    ghost use Rattle.sieve_vm.specs.Charge.{cost_of_names, cost_of_matching, cost_of_comparing};
+    ghost use Rattle.sieve_vm.specs.Standing.{found_in, StandsFor};
+
+    /// Takes names, and pushes whether the parts in scope have a field of each.
+    pub fn exists(
+        &mut self,
+        message: &Message<'m>,
+        instruction: &Instruction,
+    ) -> Result<Done, AllocError>
+        requires current { IfSome (current_part self.old.loops.frames) (λ part. part < length message.now.parts) }
+        requires top { (mail : Mail) × ((s : State) × ((top : OnTop) × (StandsFor mail s self.old × (texts_on_top instruction.now.b s.stack ≡ Some top) × AreTexts top.texts))) }
+        ensures { IfOk result (λ done. (s : State) (top : OnTop) → StandsFor message.now s self.old → texts_on_top instruction.now.b s.stack ≡ Some top
+            → (done ≡ record { flow = Flow.On; cost = cost_of_names instruction.now.a (current_part s.frames) message.now top })
+            × StandsFor message.now (record s { stack = truth (exists_in (scope_numbered instruction.now.a) (current_part s.frames) top.texts message.now) ∷ top.below }) self.new) }
+    {
+        let number = instruction.b as usize;
+        let reach = Reach {
+            scope: scope_numbered(instruction.a),
+            current: self.loops.current(),
+        };
+        let names = self.work.texts(number);
+        let (found, cost) = exists(message, reach, &names);
+        self.work.drop_texts(number);
+        self.push(found)?;
+        Ok(Done {
+            flow: Flow::On,
+            cost: cost as u128,
+        })
+    }
+
+    /// Takes names, parameters and keys, and pushes whether what is selected of the fields of these names, in
+    /// the parts in scope, matches a key.
+    pub fn header(
+        &mut self,
+        alloc: Global,
+        message: &Message<'m>,
+        instruction: &Instruction,
+    ) -> Result<Done, AllocError>
+        requires current { IfSome (current_part self.old.loops.frames) (λ part. part < length message.now.parts) }
+        requires top { (mail : Mail) × ((s : State) × ((top : Lists) × (StandsFor mail s self.old × (lists_on_top instruction.now.b (params_in instruction.now.c) (keys_in instruction.now.c) s.stack ≡ Some top) × AreTexts top.names × AreTexts top.params × AreTexts top.keys))) }
+        ensures { IfOk result (λ done. (s : State) (top : Lists) → StandsFor message.now s self.old → lists_on_top instruction.now.b (params_in instruction.now.c) (keys_in instruction.now.c) s.stack ≡ Some top
+            → (done ≡ record { flow = Flow.On; cost = cost_of_matching instruction.now.a (current_part s.frames) message.now top })
+            × StandsFor message.now (record s {
+              stack = truth (is_some (found_in message.now instruction.now.a top s)) ∷ top.below;
+              captures = unwrap_or (found_in message.now instruction.now.a top s) s.captures;
+            }) self.new) }
+    {
+        let counts = header_counts(instruction);
+        let test = header_test(instruction.a, self.loops.current());
+        let lists = self.work.lists(counts);
+        let answer = header(
+            alloc,
+            message,
+            test,
+            &lists.names,
+            &lists.params,
+            &lists.keys,
+        )?;
+        self.work.drop_lists(counts);
+        self.settle(alloc, answer)
+    }
+
+    /// Takes sources and the keys above them, and pushes whether a source matches a key.
+    pub fn string(&mut self, alloc: Global, instruction: &Instruction) -> Result<Done, AllocError>
+        requires { (mail : Mail) × ((s : State) × ((top : Lists) × (StandsFor mail s self.old × (lists_on_top instruction.now.b 0 instruction.now.c s.stack ≡ Some top) × AreTexts top.names × AreTexts top.keys))) }
+        ensures { IfOk result (λ done. (mail : Mail) (s : State) (top : Lists) → StandsFor mail s self.old → lists_on_top instruction.now.b 0 instruction.now.c s.stack ≡ Some top
+            → (done ≡ record { flow = Flow.On; cost = cost_of_comparing top })
+            × StandsFor mail (record s {
+              stack = truth (is_some (first_match (match_numbered instruction.now.a) top.names top.keys s.captures)) ∷ top.below;
+              captures = unwrap_or (first_match (match_numbered instruction.now.a) top.names top.keys s.captures) s.captures;
+            }) self.new) }
+    {
+        let counts = string_counts(instruction);
+        let lists = self.work.lists(counts);
+        let answer = string(
+            alloc,
+            &lists.names,
+            &lists.keys,
+            match_numbered(instruction.a),
+        )?;
+        self.work.drop_lists(counts);
+        self.settle(alloc, answer)
+    }
+
+    /// Pushes whether the current part's content is over or under the number.
+    pub fn part_size(
+        &mut self,
+        alloc: Global,
+        instruction: &Instruction,
+        number: u64,
+    ) -> Result<Done, AllocError>
+        requires { IsSome (part_in self.old.loops) }
+        ensures { IfOk result (λ done. (mail : Mail) (s : State) (part : Part) → StandsFor mail s self.old → part_in self.old.loops ≡ Some part
+            → (done ≡ once Flow.On) × StandsFor mail (record s { stack = truth (compares instruction.now number (length part.content)) ∷ s.stack }) self.new) }
+    {
+        let length = self.loops.length(alloc)?;
+        self.push(compares(instruction, number, length as u64))
+    }
+
+    /// Takes keys, and pushes whether the current part's content matches one.
+    pub fn part_body(
+        &mut self,
+        alloc: Global,
+        instruction: &Instruction,
+    ) -> Result<Done, AllocError>
+        requires part { (part : Part) × ((part_in self.old.loops ≡ Some part) × (length part.content ≤ max_message)) }
+        requires top { (mail : Mail) × ((s : State) × ((top : OnTop) × (StandsFor mail s self.old × (texts_on_top instruction.now.c s.stack ≡ Some top) × AreTexts top.texts))) }
+        ensures { IfOk result (λ done. (mail : Mail) (s : State) (top : OnTop) (part : Part) → StandsFor mail s self.old → texts_on_top instruction.now.c s.stack ≡ Some top → part_in self.old.loops ≡ Some part
+            → (done ≡ record { flow = Flow.On; cost = body_cost part top.texts })
+            × StandsFor mail (record s {
+              stack = truth (is_some (body_match (match_numbered instruction.now.a) part top.texts s.captures)) ∷ top.below;
+              captures = unwrap_or (body_match (match_numbered instruction.now.a) part top.texts s.captures) s.captures;
+            }) self.new) }
+    {
+        let number = instruction.c as usize;
+        let content = self.loops.take_content(alloc)?;
+        let keys = self.work.texts(number);
+        let answer = body(alloc, &content, &keys, match_numbered(instruction.a))?;
+        self.loops.keep_content(content);
+        self.work.drop_texts(number);
+        self.settle(alloc, answer)
+    }
+
+    /// Takes so many keys, and pushes whether the digest of the current part's content equals one.
+    pub fn part_digest(&mut self, alloc: Global, number: usize) -> Result<Done, AllocError>
+        requires part { IsSome (part_in self.old.loops) }
+        requires top { (mail : Mail) × ((s : State) × ((top : OnTop) × (StandsFor mail s self.old × (texts_on_top number s.stack ≡ Some top) × AreTexts top.texts))) }
+        ensures { IfOk result (λ done. (mail : Mail) (s : State) (top : OnTop) (part : Part) → StandsFor mail s self.old → texts_on_top number s.stack ≡ Some top → part_in self.old.loops ≡ Some part
+            → (done ≡ record { flow = Flow.On; cost = digest_cost part top.texts })
+            × StandsFor mail (record s {
+              stack = truth (is_some (digest_match part top.texts s.captures)) ∷ top.below;
+              captures = unwrap_or (digest_match part top.texts s.captures) s.captures;
+            }) self.new) }
+    {
+        let found = self.loops.digest(alloc)?;
+        let keys = self.work.texts(number);
+        let answer = digest(&found, &keys);
+        self.work.drop_texts(number);
+        self.settle(alloc, answer)
+    }
+
+    /// Keeps the captures that a test has set, and pushes whether it has matched.
+    pub fn settle(&mut self, alloc: Global, answer: Answer<'m>) -> Result<Done, AllocError>
+        ensures { IfOk result (λ done. (done ≡ record { flow = Flow.On; cost = answer.entry.cost })
+            × ((mail : Mail) (s : State) → StandsFor mail s self.old → StandsFor mail (record s {
+              stack = truth (is_some (after answer.entry.outcome s.captures)) ∷ s.stack;
+              captures = unwrap_or (after answer.entry.outcome s.captures) s.captures;
+            }) self.new)) }
+    {
+        let matched = self.work.settle(alloc, answer.outcome)?;
+        self.push(matched)?;
+        Ok(Done {
+            flow: Flow::On,
+            cost: answer.cost,
+        })
+    }
+}
+
+/// Whether the size is over the number, where a is 0, or under it.
+#[inline(always)]
+pub fn compares(instruction: &Instruction, number: u64, size: u64) -> bool
+    ensures { result ≡ compares instruction.now number size }
+{
+    if instruction.a == 0 {
+        number < size
+    } else {
+        size < number
+    }
+}
