@@ -281,7 +281,7 @@ fn first_list(arguments: &[Argument]) -> Option<(&[Argument], &[Argument])>
     }
 }
 
-// What was read, with the comparator of this name.
+// What was read so far, with the comparator that is named next.
 fn with_comparator(reading: Reading<'_>) -> Option<Reading<'_>>
     ensures { Settles reading.entry (Some Tag.Comparator) result }
 {
@@ -298,7 +298,7 @@ fn with_comparator(reading: Reading<'_>) -> Option<Reading<'_>>
     })
 }
 
-// What was read, with the names of parameters.
+// What was read so far, with the list of `:param`, which comes next.
 fn with_params(reading: Reading<'_>) -> Option<Reading<'_>>
     ensures { Settles reading.entry (Some (Tag.Select Piece.Params)) result }
 {
@@ -310,7 +310,7 @@ fn with_params(reading: Reading<'_>) -> Option<Reading<'_>>
     })
 }
 
-// What was read, with the argument that the last tag takes.
+// What was read so far, with the argument that the last tag takes.
 fn settle(tag: Tag, reading: Reading<'_>) -> Option<Reading<'_>>
     ensures { Settles reading.entry (awaited tag) result }
 {
