@@ -167,41 +167,71 @@ fn any(alternatives: &[Small], state: u64) -> Small {
     alternatives.get(digit).copied().unwrap_or(Small::Halt)
 }
 
-// Two instructions by chance, as they often stand in an accepted program: a truth value and its jump, or one without
-// a value and one more of them.
-fn fitting(place: usize, state: u64) -> (Small, Small) {
-    let target = as_field(place.saturating_add(2)).wrapping_add((state >> 40) as u32 % 4);
-    let value = (state >> 50).is_multiple_of(2);
-    match (state >> 33) % 8 {
-        0 | 1 => (Small::Each(0), Small::Keep),
-        2 => (Small::Keep, Small::Next(0)),
-        3 => (Small::Next(0), Small::Each(0)),
-        4 => (Small::Break(1), Small::Next(0)),
-        5 => (Small::Each(0), Small::Break(2)),
-        6 => (Small::Jump(target), Small::Next(0)),
-        _ => (Small::Bool(value), Small::JumpIfTrue(target)),
+// How a program by chance goes on: where it stands, how many loops are open there, and the state of the sequence.
+#[derive(Drop)]
+struct Writing {
+    place: usize,
+    depth: usize,
+    state: u64,
+}
+
+// Puts an instruction, where there is a place for it.
+fn put(code: &mut [Small], writing: &mut Writing, small: Small) {
+    if let Some(here) = code.get_mut(writing.place) {
+        *here = small;
+    }
+    writing.place = writing.place.saturating_add(1);
+}
+
+// Puts an Each, or the Next of an open loop.
+fn put_bracket(code: &mut [Small], writing: &mut Writing, opens: bool) {
+    if opens {
+        put(code, writing, Small::Each(0));
+        writing.depth = writing.depth.saturating_add(1);
+    } else {
+        put(code, writing, Small::Next(0));
+        writing.depth = writing.depth.saturating_sub(1);
     }
 }
 
-// Fills a program up to its last instruction with pairs that fit, and answers the state after them.
+// Puts what stands often in an accepted program, where so many places are left before its HALT.
+fn put_any(code: &mut [Small], writing: &mut Writing, left: usize) {
+    let target = as_field(writing.place.saturating_add(2)).wrapping_add(
+        (writing.state >> 40) as u32 % 4,
+    );
+    let odd = (writing.state >> 50) % 2 == 1;
+    let has_room = left > writing.depth.saturating_add(1);
+    match (writing.state >> 33) % 8 {
+        0 | 1 if has_room => put_bracket(code, writing, true),
+        2 | 3 => put_bracket(code, writing, false),
+        4 => put(code, writing, Small::Break(if odd { 2 } else { 1 })),
+        6 => put(code, writing, Small::Jump(target)),
+        7 if has_room => {
+            put(code, writing, Small::Bool(odd));
+            put(code, writing, Small::JumpIfTrue(target.wrapping_add(1)));
+        }
+        _ => put(code, writing, Small::Keep),
+    }
+}
+
+// Writes a program up to its last instruction, in which every loop is closed, and answers the state after it.
 fn fill(code: &mut [Small], state: u64) -> u64 {
-    let mut state = state;
     let last = code.len().saturating_sub(1);
-    for place in 0..last {
-        if place.is_multiple_of(2) {
-            state = next(state);
-            let (first, second) = fitting(place, state);
-            if let Some(small) = code.get_mut(place) {
-                *small = first;
-            }
-            if place.saturating_add(1) < last {
-                if let Some(small) = code.get_mut(place.saturating_add(1)) {
-                    *small = second;
-                }
-            }
+    let mut writing = Writing {
+        place: 0,
+        depth: 0,
+        state,
+    };
+    for _ in 0..last {
+        let left = last.saturating_sub(writing.place);
+        writing.state = next(writing.state);
+        if left > writing.depth {
+            put_any(code, &mut writing, left);
+        } else if left > 0 {
+            put_bracket(code, &mut writing, false);
         }
     }
-    state
+    writing.state
 }
 
 // Makes the brackets of a program name each other, where they can.
@@ -223,7 +253,7 @@ fn name_partners(code: &mut [Small], open: &mut Vec<usize>) -> Result<(), Fail> 
     Ok(())
 }
 
-// Programs of 6 to 12 instructions by chance: of every two one has pairs that fit, and brackets that name each other.
+// Programs of 6 to 12 instructions by chance: of every two one is written so that it is often accepted.
 #[test]
 fn longer_programs(rt: HostRuntime) -> Result<(), Fail> {
     let alloc = rt.alloc();
