@@ -47,8 +47,8 @@ fn by_program(alloc: Global, script: &[u8], message: &[u8]) -> Result<Report, Fa
     Ok(execute(alloc, &program, message)?)
 }
 
-// Whether the script files the message into the folder: by its evaluation, its program and its meaning.
-fn is_filed(alloc: Global, script: &[u8], message: &[u8], folder: &[u8]) -> Result<bool, Fail> {
+/// Whether the script files the message into the folder: by its evaluation, its program and its meaning.
+pub fn is_filed(alloc: Global, script: &[u8], message: &[u8], folder: &[u8]) -> Result<bool, Fail> {
     let report = evaluate(alloc, script, message)?;
     let run = by_program(alloc, script, message)?;
     let checked = check(alloc, parse(alloc, script)?)?;

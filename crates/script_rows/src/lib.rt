@@ -14,6 +14,8 @@ mod lexer;
 #[cfg(test)]
 mod meaning;
 #[cfg(test)]
+mod mime;
+#[cfg(test)]
 mod parser;
 #[cfg(test)]
 mod repeated;

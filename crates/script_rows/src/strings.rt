@@ -1,7 +1,7 @@
 // Scripts with strings that are checked: the faults that are named, the limits, and the typed form.
 use crate::repeated::repeated;
 use glob_match::{Comparator, Match, MatchType};
-use sieve_check::{CheckError, Command, Segment, Test, check};
+use sieve_check::{CheckError, Command, Scope, Segment, Selection, Test, check};
 use sieve_parser::parse;
 use std::alloc::Global;
 
@@ -30,8 +30,8 @@ fn outcome_of(alloc: Global, script: &[u8]) -> Outcome {
     }
 }
 
-// Each script, and the number and place of the fault that is named.
-fn all_named(alloc: Global, rows: &[(&[u8], u8, usize)]) -> bool {
+/// Each script, and the number and place of the fault that is named.
+pub fn all_named(alloc: Global, rows: &[(&[u8], u8, usize)]) -> bool {
     for (script, number, place) in rows {
         if outcome_of(alloc, script) != Outcome::Refused(*number, *place) {
             return false;
@@ -40,7 +40,8 @@ fn all_named(alloc: Global, rows: &[(&[u8], u8, usize)]) -> bool {
     true
 }
 
-fn all_accepted(alloc: Global, scripts: &[&[u8]]) -> bool {
+/// Whether nothing is wrong with any of the scripts.
+pub fn all_accepted(alloc: Global, scripts: &[&[u8]]) -> bool {
     for script in scripts {
         if outcome_of(alloc, script) != Outcome::Accepted {
             return false;
@@ -181,13 +182,10 @@ fn faults_of_exists(rt: HostRuntime) {
 // Tags of tests that come later are unknown, whatever was required; so are commands.
 #[test]
 fn what_has_not_come(rt: HostRuntime) {
-    let rows: [(&[u8], u8, usize); 6] = [
-        (b"if header :mime \"a\" \"b\" {}", 18, 1),
-        (b"require \"mime\"; if header :mime \"a\" \"b\" {}", 18, 4),
-        (b"if header :anychild \"a\" \"b\" {}", 18, 1),
-        (b"if exists :mime \"a\" {}", 18, 1),
+    let rows: [(&[u8], u8, usize); 3] = [
         (b"require \"foreverypart\"; break;", 15, 3),
         (b"require \"vnd.depot\"; store \"a\";", 15, 3),
+        (b"require \"vnd.depot\"; if partsize :over 1 {}", 15, 4),
     ];
     assert!(rt; all_named(rt.alloc(), &rows));
 }
@@ -493,6 +491,8 @@ fn is_header(test: &Test, wanted: Match, first: &[&[u8]], second: &[&[u8]]) -> b
     match test {
         Test::Header {
             matching,
+            scope: Scope::Message,
+            selection: Selection::Value,
             names,
             keys,
         } => *matching == wanted && are(names, first) && are(keys, second),
@@ -548,6 +548,8 @@ fn typed_forms_with_strings(rt: HostRuntime) {
         assert!(rt; false);
         return;
     };
-    assert!(rt; matches!(&**inner, Test::Exists(names) if are(names, &[b"a", b""])));
+    assert!(rt;
+        matches!(&**inner, Test::Exists(Scope::Message, names) if are(names, &[b"a", b""]))
+    );
     assert!(rt; is_header(&fourth.test, matches, &[b"n"], &[b"*"]));
 }

@@ -1,20 +1,15 @@
 -- Rows that were worked out by hand.
 use Rattle.std.proofs.Common.{◌≡◌, ℕ, zero, suc, ◌+◌, List, [], ◌∷◌, ◌++◌, Some, None, true, refl}
 use Rattle.std.specs.Prelude.{codes}
-use Rattle.glob_match.specs.declared.comparator.Comparator.TheVariants.{Octet, Casemap}
-use Rattle.glob_match.specs.declared.match_type.MatchType.TheVariants.{Is, Contains}
-use Rattle.sieve_parser.specs.Tree.{text, text_list, amount, label, InvocationTree, invocation, no_test, one_test, test_list, last, next, CommandsTree, simple, block, no_command, command}
+use Rattle.sieve_parser.specs.Tree.{ArgumentTree, text, text_list, amount, label, InvocationTree, invocation, no_test, one_test, test_list, last, next, CommandsTree, simple, block, no_command, command}
 use Rattle.sieve_check.specs.declared.error.CheckError.TheVariants.{UnknownCommand, MissingCapability, UnknownCapability, BadArguments, Limit}
 use Rattle.sieve_check.specs.declared.error.Fault.TheVariants as fault
 use Rattle.sieve_check.specs.declared.names.Capability.TheVariants.{Mime, FileInto}
 use Rattle.sieve_check.specs.declared.names.TestName.TheVariants.{Header, Exists, Size}
 use Rattle.sieve_check.specs.declared.typed.Order.TheVariants.{Over}
-use Rattle.sieve_check.specs.FormOf.{IsFormOf, form_of, test_form_of}
 use Rattle.sieve_check.specs.Rules.{Visit, first_fault, fault_of, after_invocation}
 use Rattle.sieve_check.specs.Signatures.{Read, no_tag, reading, test_signature}
 use Rattle.sieve_check.specs.Surroundings.{at_start, lacks}
-use Rattle.sieve_check.specs.Typed.{constant, header, exists, size, keep, file_into, stop, choice, otherwise, branch}
-use Rattle.sieve_check.specs.Typed as typed
 
 abbrev keep_at : ℕ → CommandsTree → CommandsTree
 keep_at n others = command (simple (invocation n (codes "keep") [] no_test)) others
@@ -89,7 +84,7 @@ not_all_required : lacks (after_invocation at_start (invocation 0 (codes "requir
 not_all_required = refl
 
 -- size :over 10, with one tag, with none, with two, and with the tag behind the number
-over_read : reading (test_signature Size) (label (codes "over") ∷ amount 10 ∷ []) ≡ Some (let r : Read = record { tags = record no_tag { order = Some Over }; positional = amount 10 ∷ [] } in r)
+over_read : reading (test_signature Size) (label (codes "over") ∷ amount 10 ∷ []) ≡ Some (let r : Read = record { tags = record no_tag { order = Some Over }; params = []; positional = amount 10 ∷ [] } in r)
 over_read = refl
 
 no_tag_read : reading (test_signature Size) (amount 10 ∷ []) ≡ None
@@ -156,3 +151,100 @@ enough_strings = refl
 
 too_many_strings : fault_of (if_test (invocation 1 (codes "header") (text_list [] (strings_numbered 255) ∷ text_list [] (strings_numbered 256) ∷ []) no_test)) ≡ Some (Limit 1)
 too_many_strings = refl
+
+-- ---- tests with :mime
+
+-- if and a test with these arguments, after a require of a capability
+abbrev if_after : List ℕ → List ℕ → List ArgumentTree → CommandsTree
+if_after capability name args =
+    command (simple (invocation 0 (codes "require") (text capability ∷ []) no_test)) (command (block (invocation 3 (codes "if") [] (one_test (invocation 4 name args no_test))) no_command) no_command)
+
+abbrev after_mime : List ℕ → List ArgumentTree → CommandsTree
+after_mime name args = if_after (codes "mime") name args
+
+abbrev after_another : List ℕ → List ArgumentTree → CommandsTree
+after_another name args = if_after (codes "fileinto") name args
+
+abbrev field_and_key : List ArgumentTree
+field_and_key = text (codes "X") ∷ text (codes "y") ∷ []
+
+-- header :mime :param ["a", "b"] :anychild "X" "y"
+abbrev of_params : List ArgumentTree
+of_params = label (codes "mime") ∷ label (codes "param") ∷ text_list (codes "a") (codes "b" ∷ []) ∷ label (codes "anychild") ∷ field_and_key
+
+mime_accepted : fault_of (after_mime (codes "header") of_params) ≡ None
+mime_accepted = refl
+
+exists_accepted : fault_of (after_mime (codes "exists") (label (codes "anychild") ∷ label (codes "mime") ∷ text (codes "X") ∷ [])) ≡ None
+exists_accepted = refl
+
+-- without the capability, also where the tag stands behind an argument, and as that of a comparator
+mime_missing : fault_of (after_another (codes "header") of_params) ≡ Some (MissingCapability 4)
+mime_missing = refl
+
+mime_missing_behind : fault_of (after_another (codes "header") (text (codes "X") ∷ label (codes "MIME") ∷ text (codes "y") ∷ [])) ≡ Some (MissingCapability 4)
+mime_missing_behind = refl
+
+mime_missing_compared : fault_of (after_another (codes "header") (label (codes "comparator") ∷ label (codes "mime") ∷ field_and_key)) ≡ Some (MissingCapability 4)
+mime_missing_compared = refl
+
+exists_missing : fault_of (after_another (codes "exists") (label (codes "mime") ∷ text (codes "X") ∷ [])) ≡ Some (MissingCapability 4)
+exists_missing = refl
+
+mime_behind : fault_of (after_mime (codes "header") (text (codes "X") ∷ label (codes "mime") ∷ text (codes "y") ∷ [])) ≡ Some (BadArguments 4)
+mime_behind = refl
+
+-- what stands only with :mime, with the capability and without
+below_alone : fault_of (after_mime (codes "header") (label (codes "anychild") ∷ field_and_key)) ≡ Some (BadArguments 4)
+below_alone = refl
+
+below_alone_too : fault_of (after_another (codes "header") (label (codes "anychild") ∷ field_and_key)) ≡ Some (BadArguments 4)
+below_alone_too = refl
+
+exists_below_alone : fault_of (after_mime (codes "exists") (label (codes "anychild") ∷ text (codes "X") ∷ [])) ≡ Some (BadArguments 4)
+exists_below_alone = refl
+
+type_alone : fault_of (after_mime (codes "header") (label (codes "type") ∷ field_and_key)) ≡ Some (BadArguments 4)
+type_alone = refl
+
+params_alone : fault_of (after_mime (codes "header") (label (codes "param") ∷ text (codes "a") ∷ field_and_key)) ≡ Some (BadArguments 4)
+params_alone = refl
+
+-- tests that don't know the tags, and tags that come twice
+mime_of_size : fault_of (after_another (codes "size") (label (codes "mime") ∷ label (codes "over") ∷ amount 1 ∷ [])) ≡ Some (BadArguments 4)
+mime_of_size = refl
+
+type_of_exists : fault_of (after_mime (codes "exists") (label (codes "mime") ∷ label (codes "type") ∷ text (codes "X") ∷ [])) ≡ Some (BadArguments 4)
+type_of_exists = refl
+
+mime_twice : fault_of (after_mime (codes "header") (label (codes "mime") ∷ label (codes "mime") ∷ field_and_key)) ≡ Some (BadArguments 4)
+mime_twice = refl
+
+below_twice : fault_of (after_mime (codes "header") (label (codes "mime") ∷ label (codes "anychild") ∷ label (codes "anychild") ∷ field_and_key)) ≡ Some (BadArguments 4)
+below_twice = refl
+
+type_and_params : fault_of (after_mime (codes "header") (label (codes "mime") ∷ label (codes "type") ∷ label (codes "param") ∷ text (codes "a") ∷ field_and_key)) ≡ Some (BadArguments 4)
+type_and_params = refl
+
+params_twice : fault_of (after_mime (codes "header") (label (codes "mime") ∷ label (codes "param") ∷ text (codes "a") ∷ label (codes "param") ∷ text (codes "b") ∷ field_and_key)) ≡ Some (BadArguments 4)
+params_twice = refl
+
+-- :param with a number, with a tag, and with nothing
+params_of_number : fault_of (after_mime (codes "header") (label (codes "mime") ∷ label (codes "param") ∷ amount 1 ∷ field_and_key)) ≡ Some (BadArguments 4)
+params_of_number = refl
+
+params_of_tag : fault_of (after_mime (codes "header") (label (codes "mime") ∷ label (codes "param") ∷ label (codes "is") ∷ field_and_key)) ≡ Some (BadArguments 4)
+params_of_tag = refl
+
+no_params : fault_of (after_mime (codes "header") (label (codes "mime") ∷ label (codes "param") ∷ [])) ≡ Some (BadArguments 4)
+no_params = refl
+
+-- 512 strings in the three lists, and one more
+abbrev three_lists : ℕ → List ArgumentTree
+three_lists n = label (codes "mime") ∷ label (codes "param") ∷ text_list [] (strings_numbered n) ∷ text_list [] (strings_numbered 169) ∷ text_list [] (strings_numbered 170) ∷ []
+
+enough_of_three : fault_of (after_mime (codes "header") (three_lists 170)) ≡ None
+enough_of_three = refl
+
+too_many_of_three : fault_of (after_mime (codes "header") (three_lists 171)) ≡ Some (Limit 4)
+too_many_of_three = refl

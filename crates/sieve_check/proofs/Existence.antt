@@ -1,6 +1,5 @@
 -- A script of which nothing is wrong has a typed form, which is within the limits.
-use Rattle.std.proofs.Common.{◌≡◌, ℕ, ◌≤◌, Bool, true, false, ◌&&◌, ◌||◌, not, List, [], ◌∷◌, ◌++◌, length, map, drop, take, bytes_eq, Option, Some, None, option_map, refl, sym, ap, subst, ◌∙◌}
-use Rattle.std.specs.Prelude.{flat_map}
+use Rattle.std.proofs.Common.{◌≡◌, ℕ, ◌≤◌, Bool, true, false, ◌&&◌, ◌||◌, not, List, [], ◌∷◌, ◌++◌, length, drop, bytes_eq, Option, Some, None, option_map, refl, sym, ap, subst, ◌∙◌}
 use Rattle.std.specs.List.{list_any}
 use Rattle.std.proofs.lemmas.Grind.{flat_map-append}
 use Rattle.std.proofs.lemmas.List.{append-nil, append_assoc}
@@ -10,9 +9,8 @@ use Rattle.octets.specs.Limits.{max_variables}
 use Rattle.octets.specs.Once.{each_once}
 use Rattle.sieve_references.specs.References.{names_in}
 use Rattle.sieve_parser.specs.Scripts.{IsTree}
-use Rattle.sieve_parser.specs.Tree.{ArgumentTree, text, InvocationTree, invocation, TestsTree, CommandTree, simple, block, CommandsTree, no_command as no_tree, command as tree}
+use Rattle.sieve_parser.specs.Tree.{ArgumentTree, InvocationTree, invocation, TestsTree, CommandTree, simple, block, CommandsTree, no_command as no_tree, command as tree}
 use Rattle.sieve_check.specs.declared.error.Fault.TheVariants.{MissingCapability, UnknownCapability, BadArguments, Limit}
-use Rattle.sieve_check.specs.declared.names.Capability.TheVariants.{Variables}
 use Rattle.sieve_check.specs.declared.names.CommandName.{CommandName}
 use Rattle.sieve_check.specs.declared.names.CommandName.TheVariants.{Require, If, Elsif, Else, Stop, Keep, Discard, FileInto, Set}
 use Rattle.sieve_check.specs.declared.signature.Tests.{Tests}
@@ -21,17 +19,17 @@ use Rattle.sieve_check.specs.declared.signature.Ending.TheVariants.{Semicolon, B
 use Rattle.sieve_check.specs.Bounded.{IsBoundedCommand, AreBoundedCommands, AreBoundedBranches, IsBounded}
 use Rattle.sieve_check.specs.FormOf.{InnerForms, none, one, bracketed, template_of, text_in, setting_in, inner_forms_of, PartForm, action, simple_of, block_of, simple_part, block_part, Forms, closed, closed_by, after_none, put, part_of, forms_of, IsFormOf}
 use Rattle.sieve_check.specs.Names.{command_named}
-use Rattle.sieve_check.specs.Rules.{Visit, fault_of, known_command_fault, command_needs, may_stand, has_unknown_capability, has_long_string, has_wrong_mention, has_large_mention, Mentions, mentions_of, strings_read, where_required, command_mentions, names_by, names_mentioned, same_tests, same_ending, is_well_formed, kind_of, strings_of, tests_visits, head_visits, command_visits, commands_visits, after_invocation, invocation_of, loops_opened}
-use Rattle.sieve_check.specs.Signatures.{◌>>=◌, Read, is_complete, reading, command_signature, ending_of}
+use Rattle.sieve_check.specs.Rules.{Visit, fault_of, known_command_fault, command_needs, may_stand, has_unknown_capability, has_long_string, has_wrong_mention, has_large_mention, mentions_of, strings_read, lists_read, where_required, command_mentions, names_by, names_mentioned, same_tests, same_ending, is_well_formed, kind_of, strings_of, tests_visits, head_visits, command_visits, commands_visits, after_invocation, invocation_of, loops_opened}
+use Rattle.sieve_check.specs.Signatures.{◌>>=◌, Read, is_positional, reading, command_signature, ending_of}
 use Rattle.sieve_check.specs.Surroundings.{Context, lacks, at_start, in_block, following}
 use Rattle.sieve_check.specs.Typed.{CommandForm, keep, discard, file_into, set, stop, choice, CommandForms, no_command, command, no_branch, otherwise, branch}
 use Rattle.sieve_check.specs.Variables.{test_variables, command_variables, commands_variables, branches_variables}
 use Rattle.sieve_check.proofs.Extent.{form_fits}
 use Rattle.sieve_check.proofs.Faultless.{AreFaultless, faultless_both, names_brought, none_refused, few_in_script}
 use Rattle.sieve_check.proofs.Lists.{expands, is_large, read_short, texted, both_texted}
-use Rattle.sieve_check.proofs.Options.{all_taken, if_none, not_false, both_true, either_false}
-use Rattle.sieve_check.proofs.Templates.{IsSound, names_at, mentioned_at, expanding, expanding_names, nothing_mentioned, template_names, template_bounded}
-use Rattle.sieve_check.proofs.TestExistence.{known, WellFormed, well_formed, none_large, inner_kind, IsBoundedInner, inner_variables, unnamed, Inner, inner_exists}
+use Rattle.sieve_check.proofs.Options.{all_taken, if_none, not_false, not_both, both_true, either_false}
+use Rattle.sieve_check.proofs.Templates.{names_at, mentioned_at, expanding, expanding_names, nothing_mentioned, template_names, template_bounded}
+use Rattle.sieve_check.proofs.TestExistence.{known, WellFormed, well_formed, complete_parts, none_large, inner_kind, IsBoundedInner, inner_variables, unnamed, Inner, inner_exists}
 
 -- ---- what follows from there being no fault
 
@@ -41,8 +39,22 @@ pub record CommandWellFormed (s : Context) (name : CommandName) (args : List Arg
   pub stands : may_stand s name ≡ true
   pub ends : same_ending (ending_of name) ending ≡ true
   pub form : WellFormed (command_signature name) args tests
+  pub positional : is_positional (command_signature name).positional form.read.positional ≡ true
+  pub alone : lists_read form.read ≡ form.read.positional
   pub short : has_long_string form.read.positional ≡ false
   pub few : expands s ≡ true → list_any is_large (mentions_of name (strings_of form.read.positional)).expanded ≡ false
+
+-- no command takes something of a field
+unselecting : (name : CommandName) → (command_signature name).selecting ≡ false
+unselecting Require = refl
+unselecting If = refl
+unselecting Elsif = refl
+unselecting Else = refl
+unselecting Stop = refl
+unselecting Keep = refl
+unselecting Discard = refl
+unselecting FileInto = refl
+unselecting Set = refl
 
 command_well_formed : (s : Context) (name : CommandName) (args : List ArgumentTree) (tests : Tests) (ending : Ending) → known_command_fault s name args tests ending ≡ None → CommandWellFormed s name args tests ending
 command_well_formed s name args tests ending h =
@@ -56,13 +68,17 @@ command_well_formed s name args tests ending h =
     let large = either_false (has_long_string args) _ g.0 in
     let form = well_formed (command_signature name) args tests e.1 in
     let mentions = mentions_of name (strings_read (reading (command_signature name) args)) in
+    let alone = form.alone (unselecting name) in
     record {
       has = a.0;
       stands = d.0;
       ends = e.0;
       form = form;
-      short = read_short (command_signature name) args form.read form.is large.0;
-      few = λ yes. ap (λ o. list_any is_large (mentions_of name (strings_read o)).expanded) (sym form.is) ∙ none_large (expands s) mentions large.1 yes;
+      positional = (complete_parts (command_signature name) form.read form.complete).1;
+      alone = alone;
+      short = ap has_long_string (sym alone) ∙ read_short (command_signature name) args form.read form.is large.0;
+      few = λ yes. ap (λ xs. list_any is_large (mentions_of name (strings_of xs)).expanded) (sym alone)
+          ∙ ap (λ o. list_any is_large (mentions_of name (strings_read o)).expanded) (sym form.is) ∙ none_large (expands s) mentions large.1 yes;
     }
 
 -- ---- forms that go on
@@ -89,10 +105,6 @@ along s names others o p e f goes = record { forms = goes.forms; is = e ∙ goes
 shut : (rest : Forms) → rest.branches ≡ no_branch → closed rest ≡ Some rest.commands
 shut rest h = ap (λ b. closed_by b rest.commands) h
 
-not_both : (b : Bool) → b ≡ true → b ≡ false → ⊥
-not_both true h k = absurd (cc)
-not_both false h k = absurd (cc)
-
 -- the names that a command brings by its own arguments
 abbrev own_names : Context → CommandName → Read → List (List ℕ)
 own_names s name read = mentioned_at (expands s) (mentions_of name (strings_of read.positional))
@@ -116,11 +128,11 @@ action_goes s name read c rest part is within same alone bounded = record {
   variables = behind (command_variables c) (own_names s name read) rest same alone;
 }
 
-filed : (s : Context) (read : Read) (rest : Forms) → is_complete (command_signature FileInto) read ≡ true → has_long_string read.positional ≡ false → (expands s ≡ true → list_any is_large (strings_of read.positional) ≡ false) → rest.branches ≡ no_branch → AreBoundedForms rest
+filed : (s : Context) (read : Read) (rest : Forms) → is_positional (command_signature FileInto).positional read.positional ≡ true → has_long_string read.positional ≡ false → (expands s ≡ true → list_any is_large (strings_of read.positional) ≡ false) → rest.branches ≡ no_branch → AreBoundedForms rest
     → Goes s ((own_names s FileInto read ++ []) ++ forms_variables rest) (simple_of s FileInto read none >>= λ part. put part rest)
-filed s read rest complete short few alone bounded =
+filed s read rest positional short few alone bounded =
     let b = expands s in
-    let folder = texted b read.positional complete short few in
+    let folder = texted b read.positional positional short few in
     action_goes s FileInto read (file_into (template_of s folder.0)) rest (simple_of s FileInto read none) (ap (λ xs. option_map (λ folder. action (file_into (template_of s folder))) (text_in xs)) folder.1) (template_bounded b folder.0 folder.2)
     (template_names b folder.0 ∙ sym (append-nil (names_at b folder.0)) ∙ sym (expanding_names b (folder.0 ∷ [])) ∙ ap (λ xs. mentioned_at b (expanding (strings_of xs))) (sym folder.1))
     alone bounded
@@ -130,54 +142,54 @@ set_names : (b : Bool) (name x : List ℕ) → b ≡ true → names_at b x ++ lo
 set_names true name x h = ap (λ names. names ++ lowercase_of name ∷ []) (sym (append-nil (names_in x)))
 set_names false name x h = absurd (cc)
 
-assigned : (s : Context) (read : Read) (rest : Forms) → lacks s (command_needs Set) ≡ false → is_complete (command_signature Set) read ≡ true → has_long_string read.positional ≡ false → (expands s ≡ true → list_any is_large (drop 1 (strings_of read.positional)) ≡ false)
+assigned : (s : Context) (read : Read) (rest : Forms) → lacks s (command_needs Set) ≡ false → is_positional (command_signature Set).positional read.positional ≡ true → has_long_string read.positional ≡ false → (expands s ≡ true → list_any is_large (drop 1 (strings_of read.positional)) ≡ false)
     → rest.branches ≡ no_branch → AreBoundedForms rest → Goes s ((own_names s Set read ++ []) ++ forms_variables rest) (simple_of s Set read none >>= λ part. put part rest)
-assigned s read rest has complete short few alone bounded =
+assigned s read rest has positional short few alone bounded =
     let b = expands s in
     let modifiers = read.tags.modifiers in
-    let both = both_texted b read.positional complete short few in
+    let both = both_texted b read.positional positional short few in
     let name = both.0 in
     let x = both.1 in
     action_goes s Set read (set modifiers (lowercase_of name) (template_of s x)) rest (simple_of s Set read none) (ap (λ xs. option_map action (setting_in s modifiers xs)) both.2) (template_bounded b x both.3)
     (ap (λ names. names ++ lowercase_of name ∷ []) (template_names b x) ∙ set_names b name x (not_false b has) ∙ ap (λ xs. mentioned_at b (mentions_of Set (strings_of xs))) (sym both.2))
     alone bounded
 
-simple_goes : (s : Context) (name : CommandName) (strings : List (List ℕ)) (read : Read) (inner : InnerForms) (rest : Forms) → lacks s (command_needs name) ≡ false → is_complete (command_signature name) read ≡ true → same_ending (ending_of name) Semicolon ≡ true
+simple_goes : (s : Context) (name : CommandName) (strings : List (List ℕ)) (read : Read) (inner : InnerForms) (rest : Forms) → lacks s (command_needs name) ≡ false → is_positional (command_signature name).positional read.positional ≡ true → same_ending (ending_of name) Semicolon ≡ true
     → same_tests (command_signature name).tests (inner_kind inner) ≡ true → has_long_string read.positional ≡ false → (expands s ≡ true → list_any is_large (mentions_of name (strings_of read.positional)).expanded ≡ false)
     → ((following s (Some name) strings).after_if ≡ false → rest.branches ≡ no_branch) → AreBoundedForms rest → Goes s ((own_names s name read ++ inner_variables inner) ++ forms_variables rest) (simple_of s name read inner >>= λ part. put part rest)
-simple_goes s Require strings read none rest has complete ends same short few begins bounded = record {
+simple_goes s Require strings read none rest has positional ends same short few begins bounded = record {
   forms = after_none rest.commands;
   is = ap (option_map after_none) (shut rest (begins refl));
   begins = λ _. refl;
   bounded = (tt, bounded.1);
   variables = behind [] (own_names s Require read) rest (sym (nothing_mentioned (expands s))) (begins refl);
 }
-simple_goes s Stop strings read none rest has complete ends same short few begins bounded = action_goes s Stop read stop rest (Some (action stop)) refl tt (unnamed (expands s) read.positional complete) (begins refl) bounded
-simple_goes s Keep strings read none rest has complete ends same short few begins bounded = action_goes s Keep read keep rest (Some (action keep)) refl tt (unnamed (expands s) read.positional complete) (begins refl) bounded
-simple_goes s Discard strings read none rest has complete ends same short few begins bounded = action_goes s Discard read discard rest (Some (action discard)) refl tt (unnamed (expands s) read.positional complete) (begins refl) bounded
-simple_goes s FileInto strings read none rest has complete ends same short few begins bounded = filed s read rest complete short few (begins refl) bounded
-simple_goes s Set strings read none rest has complete ends same short few begins bounded = assigned s read rest has complete short few (begins refl) bounded
-simple_goes s Require strings read (one f) rest has complete ends same short few begins bounded = absurd (cc)
-simple_goes s Require strings read (bracketed f fs) rest has complete ends same short few begins bounded = absurd (cc)
-simple_goes s If strings read none rest has complete ends same short few begins bounded = absurd (cc)
-simple_goes s If strings read (one f) rest has complete ends same short few begins bounded = absurd (cc)
-simple_goes s If strings read (bracketed f fs) rest has complete ends same short few begins bounded = absurd (cc)
-simple_goes s Elsif strings read none rest has complete ends same short few begins bounded = absurd (cc)
-simple_goes s Elsif strings read (one f) rest has complete ends same short few begins bounded = absurd (cc)
-simple_goes s Elsif strings read (bracketed f fs) rest has complete ends same short few begins bounded = absurd (cc)
-simple_goes s Else strings read none rest has complete ends same short few begins bounded = absurd (cc)
-simple_goes s Else strings read (one f) rest has complete ends same short few begins bounded = absurd (cc)
-simple_goes s Else strings read (bracketed f fs) rest has complete ends same short few begins bounded = absurd (cc)
-simple_goes s Stop strings read (one f) rest has complete ends same short few begins bounded = absurd (cc)
-simple_goes s Stop strings read (bracketed f fs) rest has complete ends same short few begins bounded = absurd (cc)
-simple_goes s Keep strings read (one f) rest has complete ends same short few begins bounded = absurd (cc)
-simple_goes s Keep strings read (bracketed f fs) rest has complete ends same short few begins bounded = absurd (cc)
-simple_goes s Discard strings read (one f) rest has complete ends same short few begins bounded = absurd (cc)
-simple_goes s Discard strings read (bracketed f fs) rest has complete ends same short few begins bounded = absurd (cc)
-simple_goes s FileInto strings read (one f) rest has complete ends same short few begins bounded = absurd (cc)
-simple_goes s FileInto strings read (bracketed f fs) rest has complete ends same short few begins bounded = absurd (cc)
-simple_goes s Set strings read (one f) rest has complete ends same short few begins bounded = absurd (cc)
-simple_goes s Set strings read (bracketed f fs) rest has complete ends same short few begins bounded = absurd (cc)
+simple_goes s Stop strings read none rest has positional ends same short few begins bounded = action_goes s Stop read stop rest (Some (action stop)) refl tt (unnamed (expands s) read.positional positional) (begins refl) bounded
+simple_goes s Keep strings read none rest has positional ends same short few begins bounded = action_goes s Keep read keep rest (Some (action keep)) refl tt (unnamed (expands s) read.positional positional) (begins refl) bounded
+simple_goes s Discard strings read none rest has positional ends same short few begins bounded = action_goes s Discard read discard rest (Some (action discard)) refl tt (unnamed (expands s) read.positional positional) (begins refl) bounded
+simple_goes s FileInto strings read none rest has positional ends same short few begins bounded = filed s read rest positional short few (begins refl) bounded
+simple_goes s Set strings read none rest has positional ends same short few begins bounded = assigned s read rest has positional short few (begins refl) bounded
+simple_goes s Require strings read (one f) rest has positional ends same short few begins bounded = absurd (cc)
+simple_goes s Require strings read (bracketed f fs) rest has positional ends same short few begins bounded = absurd (cc)
+simple_goes s If strings read none rest has positional ends same short few begins bounded = absurd (cc)
+simple_goes s If strings read (one f) rest has positional ends same short few begins bounded = absurd (cc)
+simple_goes s If strings read (bracketed f fs) rest has positional ends same short few begins bounded = absurd (cc)
+simple_goes s Elsif strings read none rest has positional ends same short few begins bounded = absurd (cc)
+simple_goes s Elsif strings read (one f) rest has positional ends same short few begins bounded = absurd (cc)
+simple_goes s Elsif strings read (bracketed f fs) rest has positional ends same short few begins bounded = absurd (cc)
+simple_goes s Else strings read none rest has positional ends same short few begins bounded = absurd (cc)
+simple_goes s Else strings read (one f) rest has positional ends same short few begins bounded = absurd (cc)
+simple_goes s Else strings read (bracketed f fs) rest has positional ends same short few begins bounded = absurd (cc)
+simple_goes s Stop strings read (one f) rest has positional ends same short few begins bounded = absurd (cc)
+simple_goes s Stop strings read (bracketed f fs) rest has positional ends same short few begins bounded = absurd (cc)
+simple_goes s Keep strings read (one f) rest has positional ends same short few begins bounded = absurd (cc)
+simple_goes s Keep strings read (bracketed f fs) rest has positional ends same short few begins bounded = absurd (cc)
+simple_goes s Discard strings read (one f) rest has positional ends same short few begins bounded = absurd (cc)
+simple_goes s Discard strings read (bracketed f fs) rest has positional ends same short few begins bounded = absurd (cc)
+simple_goes s FileInto strings read (one f) rest has positional ends same short few begins bounded = absurd (cc)
+simple_goes s FileInto strings read (bracketed f fs) rest has positional ends same short few begins bounded = absurd (cc)
+simple_goes s Set strings read (one f) rest has positional ends same short few begins bounded = absurd (cc)
+simple_goes s Set strings read (bracketed f fs) rest has positional ends same short few begins bounded = absurd (cc)
 
 -- variables of a branch before others
 branch_behind : (names tests within : List (List ℕ)) (rest : Forms) → [] ≡ names → tests ++ within ++ branches_variables rest.branches ++ commands_variables rest.commands ≡ ((names ++ tests) ++ within) ++ forms_variables rest
@@ -185,55 +197,55 @@ branch_behind names tests within rest same =
     append_assoc (tests ++ within) (branches_variables rest.branches) (commands_variables rest.commands)
     ∙ ap (λ vs. ((vs ++ tests) ++ within) ++ forms_variables rest) same
 
-block_goes : (s : Context) (name : CommandName) (strings : List (List ℕ)) (read : Read) (inner : InnerForms) (body : CommandForms) (rest : Forms) → is_complete (command_signature name) read ≡ true → may_stand s name ≡ true → same_ending (ending_of name) Block ≡ true
+block_goes : (s : Context) (name : CommandName) (strings : List (List ℕ)) (read : Read) (inner : InnerForms) (body : CommandForms) (rest : Forms) → is_positional (command_signature name).positional read.positional ≡ true → may_stand s name ≡ true → same_ending (ending_of name) Block ≡ true
     → same_tests (command_signature name).tests (inner_kind inner) ≡ true → ((following s (Some name) strings).after_if ≡ false → rest.branches ≡ no_branch) → IsBoundedInner inner → AreBoundedCommands body → AreBoundedForms rest
     → Goes s (((own_names s name read ++ inner_variables inner) ++ commands_variables body) ++ forms_variables rest) (block_of name inner body >>= λ part. put part rest)
-block_goes s If strings read (one f) body rest complete stands ends same begins tests within bounded = record {
+block_goes s If strings read (one f) body rest positional stands ends same begins tests within bounded = record {
   forms = after_none (command (choice (branch f body rest.branches)) rest.commands);
   is = refl;
   begins = λ _. refl;
   bounded = (tt, ((tests, within, bounded.0), bounded.1));
-  variables = branch_behind (own_names s If read) (test_variables f) (commands_variables body) rest (unnamed (expands s) read.positional complete);
+  variables = branch_behind (own_names s If read) (test_variables f) (commands_variables body) rest (unnamed (expands s) read.positional positional);
 }
-block_goes s Elsif strings read (one f) body rest complete stands ends same begins tests within bounded = record {
+block_goes s Elsif strings read (one f) body rest positional stands ends same begins tests within bounded = record {
   forms = record { branches = branch f body rest.branches; commands = rest.commands };
   is = refl;
   begins = λ h. absurd (not_both s.after_if stands h);
   bounded = ((tests, within, bounded.0), bounded.1);
-  variables = branch_behind (own_names s Elsif read) (test_variables f) (commands_variables body) rest (unnamed (expands s) read.positional complete);
+  variables = branch_behind (own_names s Elsif read) (test_variables f) (commands_variables body) rest (unnamed (expands s) read.positional positional);
 }
-block_goes s Else strings read none body rest complete stands ends same begins tests within bounded = record {
+block_goes s Else strings read none body rest positional stands ends same begins tests within bounded = record {
   forms = record { branches = otherwise body; commands = rest.commands };
   is = ap (option_map (λ cs. let x : Forms = record { branches = otherwise body; commands = cs } in x)) (shut rest (begins refl));
   begins = λ h. absurd (not_both s.after_if stands h);
   bounded = (within, bounded.1);
   variables = ap (λ bs. commands_variables body ++ (branches_variables bs ++ commands_variables rest.commands)) (sym (begins refl))
-      ∙ ap (λ vs. ((vs ++ []) ++ commands_variables body) ++ forms_variables rest) (unnamed (expands s) read.positional complete);
+      ∙ ap (λ vs. ((vs ++ []) ++ commands_variables body) ++ forms_variables rest) (unnamed (expands s) read.positional positional);
 }
-block_goes s Require strings read none body rest complete stands ends same begins tests within bounded = absurd (cc)
-block_goes s Require strings read (one f) body rest complete stands ends same begins tests within bounded = absurd (cc)
-block_goes s Require strings read (bracketed f fs) body rest complete stands ends same begins tests within bounded = absurd (cc)
-block_goes s If strings read none body rest complete stands ends same begins tests within bounded = absurd (cc)
-block_goes s If strings read (bracketed f fs) body rest complete stands ends same begins tests within bounded = absurd (cc)
-block_goes s Elsif strings read none body rest complete stands ends same begins tests within bounded = absurd (cc)
-block_goes s Elsif strings read (bracketed f fs) body rest complete stands ends same begins tests within bounded = absurd (cc)
-block_goes s Else strings read (one f) body rest complete stands ends same begins tests within bounded = absurd (cc)
-block_goes s Else strings read (bracketed f fs) body rest complete stands ends same begins tests within bounded = absurd (cc)
-block_goes s Stop strings read none body rest complete stands ends same begins tests within bounded = absurd (cc)
-block_goes s Stop strings read (one f) body rest complete stands ends same begins tests within bounded = absurd (cc)
-block_goes s Stop strings read (bracketed f fs) body rest complete stands ends same begins tests within bounded = absurd (cc)
-block_goes s Keep strings read none body rest complete stands ends same begins tests within bounded = absurd (cc)
-block_goes s Keep strings read (one f) body rest complete stands ends same begins tests within bounded = absurd (cc)
-block_goes s Keep strings read (bracketed f fs) body rest complete stands ends same begins tests within bounded = absurd (cc)
-block_goes s Discard strings read none body rest complete stands ends same begins tests within bounded = absurd (cc)
-block_goes s Discard strings read (one f) body rest complete stands ends same begins tests within bounded = absurd (cc)
-block_goes s Discard strings read (bracketed f fs) body rest complete stands ends same begins tests within bounded = absurd (cc)
-block_goes s FileInto strings read none body rest complete stands ends same begins tests within bounded = absurd (cc)
-block_goes s FileInto strings read (one f) body rest complete stands ends same begins tests within bounded = absurd (cc)
-block_goes s FileInto strings read (bracketed f fs) body rest complete stands ends same begins tests within bounded = absurd (cc)
-block_goes s Set strings read none body rest complete stands ends same begins tests within bounded = absurd (cc)
-block_goes s Set strings read (one f) body rest complete stands ends same begins tests within bounded = absurd (cc)
-block_goes s Set strings read (bracketed f fs) body rest complete stands ends same begins tests within bounded = absurd (cc)
+block_goes s Require strings read none body rest positional stands ends same begins tests within bounded = absurd (cc)
+block_goes s Require strings read (one f) body rest positional stands ends same begins tests within bounded = absurd (cc)
+block_goes s Require strings read (bracketed f fs) body rest positional stands ends same begins tests within bounded = absurd (cc)
+block_goes s If strings read none body rest positional stands ends same begins tests within bounded = absurd (cc)
+block_goes s If strings read (bracketed f fs) body rest positional stands ends same begins tests within bounded = absurd (cc)
+block_goes s Elsif strings read none body rest positional stands ends same begins tests within bounded = absurd (cc)
+block_goes s Elsif strings read (bracketed f fs) body rest positional stands ends same begins tests within bounded = absurd (cc)
+block_goes s Else strings read (one f) body rest positional stands ends same begins tests within bounded = absurd (cc)
+block_goes s Else strings read (bracketed f fs) body rest positional stands ends same begins tests within bounded = absurd (cc)
+block_goes s Stop strings read none body rest positional stands ends same begins tests within bounded = absurd (cc)
+block_goes s Stop strings read (one f) body rest positional stands ends same begins tests within bounded = absurd (cc)
+block_goes s Stop strings read (bracketed f fs) body rest positional stands ends same begins tests within bounded = absurd (cc)
+block_goes s Keep strings read none body rest positional stands ends same begins tests within bounded = absurd (cc)
+block_goes s Keep strings read (one f) body rest positional stands ends same begins tests within bounded = absurd (cc)
+block_goes s Keep strings read (bracketed f fs) body rest positional stands ends same begins tests within bounded = absurd (cc)
+block_goes s Discard strings read none body rest positional stands ends same begins tests within bounded = absurd (cc)
+block_goes s Discard strings read (one f) body rest positional stands ends same begins tests within bounded = absurd (cc)
+block_goes s Discard strings read (bracketed f fs) body rest positional stands ends same begins tests within bounded = absurd (cc)
+block_goes s FileInto strings read none body rest positional stands ends same begins tests within bounded = absurd (cc)
+block_goes s FileInto strings read (one f) body rest positional stands ends same begins tests within bounded = absurd (cc)
+block_goes s FileInto strings read (bracketed f fs) body rest positional stands ends same begins tests within bounded = absurd (cc)
+block_goes s Set strings read none body rest positional stands ends same begins tests within bounded = absurd (cc)
+block_goes s Set strings read (one f) body rest positional stands ends same begins tests within bounded = absurd (cc)
+block_goes s Set strings read (bracketed f fs) body rest positional stands ends same begins tests within bounded = absurd (cc)
 
 -- ---- any command
 
@@ -256,7 +268,8 @@ known_command s token word args tests ending h =
       is_name = name.1;
       form = form;
       inner = inner;
-      names = ap (λ o. names_mentioned (where_required s (mentions_of name.0 (strings_read o))) ++ inner_variables inner.inner) (sym form.form.is)
+      names = ap (λ xs. mentioned_at (expands s) (mentions_of name.0 (strings_of xs)) ++ inner_variables inner.inner) (sym form.alone)
+          ∙ ap (λ o. names_mentioned (where_required s (mentions_of name.0 (strings_read o))) ++ inner_variables inner.inner) (sym form.form.is)
           ∙ ap (λ o. names_by (λ known. command_mentions s known args) o ++ inner_variables inner.inner) (sym name.1)
           ∙ ap (λ names. names_by (λ known. command_mentions s known args) (command_named word) ++ names) inner.variables;
     }
@@ -274,7 +287,7 @@ simple_exists s (invocation token word args tests) rest h begins bounded =
     along s _ _ _ (simple_of s k.name read k.inner.inner >>= λ part. put part rest)
     (ap (λ o. o >>= λ part. put part rest) (all_taken (inner_forms_of s tests) k.inner.inner (command_named word) k.name (λ name. reading (command_signature name) args) read (λ inner name read. simple_of s name read inner) k.inner.is k.is_name k.form.form.is))
     (ap (λ names. names ++ forms_variables rest) k.names)
-    (simple_goes s k.name (strings_of args) read k.inner.inner rest k.form.has k.form.form.complete k.form.ends same k.form.short k.form.few (λ h. begins (following_word s word k.name (strings_of args) k.is_name h)) bounded)
+    (simple_goes s k.name (strings_of args) read k.inner.inner rest k.form.has k.form.positional k.form.ends same k.form.short k.form.few (λ h. begins (following_word s word k.name (strings_of args) k.is_name h)) bounded)
 
 block_exists : (s : Context) (i : InvocationTree) (body : CommandForms) (rest : Forms) → AreFaultless (head_visits s i Block) → ((after_invocation s i).after_if ≡ false → rest.branches ≡ no_branch) → AreBoundedCommands body → AreBoundedForms rest
     → Goes s ((names_brought (head_visits s i Block) ++ commands_variables body) ++ forms_variables rest) (block_part s i body >>= λ part. put part rest)
@@ -285,7 +298,7 @@ block_exists s (invocation token word args tests) body rest h begins within boun
     along s _ _ _ (block_of k.name k.inner.inner body >>= λ part. put part rest)
     (ap (λ o. o >>= λ part. put part rest) (all_taken (inner_forms_of s tests) k.inner.inner (command_named word) k.name (λ name. reading (command_signature name) args) read (λ inner name read. block_of name inner body) k.inner.is k.is_name k.form.form.is))
     (ap (λ names. (names ++ commands_variables body) ++ forms_variables rest) k.names)
-    (block_goes s k.name (strings_of args) read k.inner.inner body rest k.form.form.complete k.form.stands k.form.ends same (λ h. begins (following_word s word k.name (strings_of args) k.is_name h)) k.inner.bounded within bounded)
+    (block_goes s k.name (strings_of args) read k.inner.inner body rest k.form.positional k.form.stands k.form.ends same (λ h. begins (following_word s word k.name (strings_of args) k.is_name h)) k.inner.bounded within bounded)
 
 both_names : (vs ws : List Visit) → names_brought (vs ++ ws) ≡ names_brought vs ++ names_brought ws
 both_names vs ws = flat_map-append (λ (v : Visit). v.names) vs ws

@@ -1,5 +1,5 @@
 -- A typed form has no more octets than the commands that are written so.
-use Rattle.std.proofs.Common.{◌≡◌, ℕ, ◌+◌, ◌≤◌, suc, List, [], ◌∷◌, ◌++◌, length, map, Option, Some, None, arith, refl, ap, subst, ◌∙◌}
+use Rattle.std.proofs.Common.{◌≡◌, ℕ, ◌+◌, ◌≤◌, suc, List, [], ◌∷◌, ◌++◌, length, map, Option, Some, None, arith, refl, ap, subst, inl, inr}
 use Rattle.std.specs.Char.{to_ascii_lowercase}
 use Rattle.std.proofs.lemmas.List.{length-map}
 use Rattle.std.proofs.lemmas.Option.{same_Some}
@@ -17,25 +17,27 @@ use Rattle.sieve_check.specs.declared.names.CommandName.TheVariants.{Require, If
 use Rattle.sieve_check.specs.declared.names.TestName.{TestName}
 use Rattle.sieve_check.specs.declared.names.TestName.TheVariants.{Constant, Not, AllOf, AnyOf, Header, Exists, Size, String}
 use Rattle.sieve_check.specs.declared.typed.Order.{Order}
+use Rattle.sieve_check.specs.declared.names.Piece.{Piece}
+use Rattle.sieve_check.specs.declared.names.Piece.TheVariants.{Main, Sub, ContentType, Params}
 use Rattle.sieve_check.specs.declared.names.Tag.{Tag}
 use Rattle.sieve_check.specs.declared.signature.Signature.{Signature}
-use Rattle.sieve_check.specs.declared.signature.Tags.{Tags}
-use Rattle.sieve_check.specs.Names.{command_named, test_named, tag_named}
-use Rattle.sieve_check.specs.Signatures.{Read, no_tag, add_tag, awaited, with_argument, tags_read, is_complete, reading, command_signature, test_signature}
+use Rattle.sieve_check.specs.Names.{command_named, test_named}
+use Rattle.sieve_check.specs.Signatures.{Read, Given, with_tag, with_argument, reading, command_signature, test_signature}
 use Rattle.sieve_check.specs.Rules.{after_invocation, invocation_of, loops_opened}
 use Rattle.sieve_check.specs.Surroundings.{Context, at_start, has_capability, in_block}
-use Rattle.sieve_check.specs.Typed.{Template, TestForm, constant, negation, all_of, any_of, header, exists, size, string, TestForms, no_test as no_other, test, CommandForm, keep, discard, file_into, set, stop, CommandForms, no_command, command, BranchForms, no_branch, otherwise, branch}
+use Rattle.sieve_check.specs.Typed.{Template, params_of, TestForm, constant, negation, all_of, any_of, header, exists, size, string, TestForms, no_test as no_other, test, CommandForm, keep, discard, file_into, set, stop, CommandForms, no_command, command, BranchForms, no_branch, otherwise, branch}
 use Rattle.sieve_check.specs.Extent.{strings_extent, test_extent, tests_extent, command_extent, commands_extent, branches_extent}
-use Rattle.sieve_check.specs.FormOf.{InnerForms, none, one, bracketed, number_in, template_of, text_in, setting_in, list_in, of_list, of_lists, match_of, test_of, test_form_of, inner_forms_of, more_forms_of, PartForm, nothing, action, first, next_branch, last, simple_of, block_of, simple_part, block_part, Forms, closed, closed_by, after_none, put, part_of, forms_of, IsFormOf}
-use Rattle.sieve_check.proofs.Options.{step_some, map_some, if_some}
+use Rattle.sieve_check.specs.FormOf.{InnerForms, none, one, bracketed, number_in, template_of, text_in, setting_in, list_in, of_list, of_lists, match_of, scope_of, selected_by, params_in, header_of, test_of, test_form_of, inner_forms_of, more_forms_of, PartForm, nothing, action, first, next_branch, last, simple_of, block_of, simple_part, block_part, Forms, closed, closed_by, after_none, put, part_of, forms_of, IsFormOf}
+use Rattle.sieve_check.proofs.Options.{step_some, map_some}
+use Rattle.sieve_check.proofs.TagSteps.{argument_taken, IsKept, kept_by_reading}
 use Rattle.sieve_check.proofs.Templates.{written, template_fits, templates_fit}
 
 -- an order that was given, as a number
-abbrev given : Option Order → ℕ
-given None = 0
-given (Some order) = 1
+abbrev given_order : Option Order → ℕ
+given_order None = 0
+given_order (Some order) = 1
 
-one_at_most : (o : Option Order) → given o ≤ 1
+one_at_most : (o : Option Order) → given_order o ≤ 1
 one_at_most None = omega arith
 one_at_most (Some order) = omega arith
 
@@ -56,28 +58,26 @@ argument_some (text_list s ss) = omega arith
 argument_some (amount n) = omega arith
 argument_some (label name) = omega arith
 
--- each tag that was read is an argument
-tags_fit : (signature : Signature) (tags : Tags) (last : Option Tag) (args : List ArgumentTree) (read : Read) → tags_read signature tags last args ≡ Some read
-    → given read.tags.order + arguments_extent read.positional ≤ given tags.order + arguments_extent args
-tags_fit signature tags None [] read h = subst (λ (r : Read). given r.tags.order + arguments_extent r.positional ≤ given tags.order + 0) (same_Some _ read h) (omega arith)
-tags_fit signature tags None (text s ∷ args) read h = subst (λ (r : Read). given r.tags.order + arguments_extent r.positional ≤ given tags.order + arguments_extent (text s ∷ args)) (same_Some _ read h) (omega arith)
-tags_fit signature tags None (text_list s ss ∷ args) read h = subst (λ (r : Read). given r.tags.order + arguments_extent r.positional ≤ given tags.order + arguments_extent (text_list s ss ∷ args)) (same_Some _ read h) (omega arith)
-tags_fit signature tags None (amount n ∷ args) read h = subst (λ (r : Read). given r.tags.order + arguments_extent r.positional ≤ given tags.order + arguments_extent (amount n ∷ args)) (same_Some _ read h) (omega arith)
-tags_fit signature tags None (label name ∷ args) read h =
-    let tag = step_some (tag_named name) _ read h in
-    let more = step_some (add_tag signature tag.0 tags) _ read tag.2 in
-    omega (arith, tags_fit signature more.0 (awaited tag.0) args read more.2, one_at_most more.0.order)
-tags_fit signature tags (Some tag) [] read h = absurd (cc)
-tags_fit signature tags (Some tag) (a ∷ args) read h =
-    let more = step_some (with_argument tag a tags) _ read h in
-    omega (arith, tags_fit signature more.0 None args read more.2, one_at_most more.0.order, argument_some a)
+-- each tag that was read is an argument, as is that of `:param`
+abbrev IsWithin : ℕ → Option Tag → Given → List ArgumentTree → Type 0
+IsWithin most awaiting given args = given_order given.tags.order + arguments_extent given.params + arguments_extent args ≤ most
 
--- the arguments behind the tags, as they were read
-positional_fits : (signature : Signature) (args : List ArgumentTree) (read : Read) → reading signature args ≡ Some read → arguments_extent read.positional ≤ arguments_extent args
-positional_fits signature args read h =
-    let r = step_some (tags_read signature no_tag None args) _ read h in
-    let same = same_Some r.0 read (if_some (is_complete signature r.0) r.0 read r.2).1 in
-    omega (arith, tags_fit signature no_tag None args read (r.1 ∙ ap Some same))
+argument_within : (most : ℕ) (tag : Tag) (a : ArgumentTree) (given more : Given) (args : List ArgumentTree) → with_argument tag a given ≡ Some more → IsWithin most (Some tag) given (a ∷ args) → IsWithin most None more args
+argument_within most tag a given more args h within =
+    elim (argument_taken tag a given more h) [
+      | inl c ↦ omega (arith, within, one_at_most more.tags.order, argument_some a, ap arguments_extent c.1)
+      | inr c ↦ subst (λ (g : Given). IsWithin most None g args) c.2 (omega (arith, within))
+    ]
+
+-- the arguments, as they were read
+read_fits : (signature : Signature) (args : List ArgumentTree) (read : Read) → reading signature args ≡ Some read → given_order read.tags.order + arguments_extent read.params + arguments_extent read.positional ≤ arguments_extent args
+read_fits signature args read h =
+    let P = IsWithin (arguments_extent args) in
+    let kept : IsKept signature P = record {
+      tag = λ tag name given rest h within. omega (arith, within, one_at_most (with_tag tag given.tags).order);
+      argument = argument_within (arguments_extent args);
+    } in
+    kept_by_reading signature P kept args read h (omega arith)
 
 text_fits : (xs : List ArgumentTree) (x : List ℕ) → text_in xs ≡ Some x → 2 + length x ≤ arguments_extent xs
 text_fits (text t ∷ []) x h = subst (λ y. 2 + length y ≤ arguments_extent (text t ∷ [])) (same_Some t x h) (omega arith)
@@ -116,23 +116,43 @@ one_list_fits s make is (a ∷ []) f h =
     subst (λ x. test_extent x ≤ 1 + arguments_extent (a ∷ [])) (same_Some (make l.0) f l.2) (omega (arith, is l.0, list_fits s a l.0 l.1))
 one_list_fits s make is (a ∷ b ∷ xs) f h = absurd (cc)
 
-two_lists_fit : (s : Context) (make : List Template → List Template → TestForm) → ((k l : List Template) → test_extent (make k l) ≡ 1 + strings_extent k + strings_extent l) → (xs : List ArgumentTree) (f : TestForm) → of_lists s make xs ≡ Some f → test_extent f ≤ 1 + arguments_extent xs
-two_lists_fit s make is [] f h = absurd (cc)
-two_lists_fit s make is (a ∷ []) f h = absurd (cc)
-two_lists_fit s make is (a ∷ b ∷ []) f h =
+two_lists_fit : (s : Context) (n : ℕ) (make : List Template → List Template → TestForm) → ((k l : List Template) → test_extent (make k l) ≡ n + strings_extent k + strings_extent l) → (xs : List ArgumentTree) (f : TestForm) → of_lists s make xs ≡ Some f → test_extent f ≤ n + arguments_extent xs
+two_lists_fit s n make is [] f h = absurd (cc)
+two_lists_fit s n make is (a ∷ []) f h = absurd (cc)
+two_lists_fit s n make is (a ∷ b ∷ []) f h =
     let first = step_some (list_in s a) _ f h in
     let second = map_some (list_in s b) (make first.0) f first.2 in
-    subst (λ x. test_extent x ≤ 1 + arguments_extent (a ∷ b ∷ [])) (same_Some (make first.0 second.0) f second.2) (omega (arith, is first.0 second.0, list_fits s a first.0 first.1, list_fits s b second.0 second.1))
-two_lists_fit s make is (a ∷ b ∷ c ∷ xs) f h = absurd (cc)
+    subst (λ x. test_extent x ≤ n + arguments_extent (a ∷ b ∷ [])) (same_Some (make first.0 second.0) f second.2) (omega (arith, is first.0 second.0, list_fits s a first.0 first.1, list_fits s b second.0 second.1))
+two_lists_fit s n make is (a ∷ b ∷ c ∷ xs) f h = absurd (cc)
+
+-- a test of fields, with the names of parameters
+params_fit : (s : Context) (params : List ArgumentTree) (names : List Template) → params_in s params ≡ Some names → strings_extent names ≤ arguments_extent params
+params_fit s [] names h = subst (λ names. strings_extent names ≤ 0) (same_Some [] names h) (omega arith)
+params_fit s (a ∷ args) names h = omega (arith, list_fits s a names h)
+
+selected_fits : (piece : Option Piece) (names : List Template) → strings_extent (params_of (selected_by piece names)) ≤ strings_extent names
+selected_fits None names = omega arith
+selected_fits (Some Main) names = omega arith
+selected_fits (Some Sub) names = omega arith
+selected_fits (Some ContentType) names = omega arith
+selected_fits (Some Params) names = omega arith
+
+header_fits : (s : Context) (read : Read) (f : TestForm) → header_of s read ≡ Some f → test_extent f ≤ 1 + arguments_extent read.params + arguments_extent read.positional
+header_fits s read f h =
+    let names = step_some (params_in s read.params) _ f h in
+    let selected = selected_by read.tags.piece names.0 in
+    omega (
+      arith,
+      two_lists_fit s (1 + strings_extent (params_of selected)) (header (match_of read.tags) (scope_of read.tags) selected) (λ k l. omega arith) read.positional f names.2,
+      selected_fits read.tags.piece names.0,
+      params_fit s read.params names.0 names.1,
+    )
 
 -- arguments by which a size was read
 size_args : (args : List ArgumentTree) (read : Read) (order : Order) (n : ℕ) → reading (test_signature Size) args ≡ Some read → read.tags.order ≡ Some order → number_in read.positional ≡ Some n → 2 ≤ arguments_extent args
 size_args args read order n h is number =
-    let r = step_some (tags_read (test_signature Size) no_tag None args) _ read h in
-    let same = same_Some r.0 read (if_some (is_complete (test_signature Size) r.0) r.0 read r.2).1 in
-    let fits = tags_fit (test_signature Size) no_tag None args read (r.1 ∙ ap Some same) in
-    let some : given read.tags.order ≡ 1 = ap given is in
-    omega (arith, fits, some, positional read.positional n number)
+    let some : given_order read.tags.order ≡ 1 = ap given_order is in
+    omega (arith, read_fits (test_signature Size) args read h, some, positional read.positional n number)
   where
     positional : (xs : List ArgumentTree) (n : ℕ) → number_in xs ≡ Some n → 1 ≤ arguments_extent xs
     positional [] n h = absurd (cc)
@@ -171,9 +191,9 @@ test_of_fits s Size args read none f h is =
     let order = step_some read.tags.order _ f is in
     let n = step_some (number_in read.positional) _ f order.2 in
     subst (λ x. test_extent x ≤ 1 + arguments_extent args + 0) (same_Some (size order.0 n.0) f n.2) (omega (arith, size_args args read order.0 n.0 h order.1 n.1))
-test_of_fits s Header args read none f h is = omega (arith, two_lists_fit s (header (match_of read.tags)) (λ k l. refl) read.positional f is, positional_fits (test_signature Header) args read h)
-test_of_fits s String args read none f h is = omega (arith, two_lists_fit s (string (match_of read.tags)) (λ k l. refl) read.positional f is, positional_fits (test_signature String) args read h)
-test_of_fits s Exists args read none f h is = omega (arith, one_list_fits s exists (λ l. refl) read.positional f is, positional_fits (test_signature Exists) args read h)
+test_of_fits s Header args read none f h is = omega (arith, header_fits s read f is, read_fits (test_signature Header) args read h)
+test_of_fits s String args read none f h is = omega (arith, two_lists_fit s 1 (string (match_of read.tags)) (λ k l. refl) read.positional f is, read_fits (test_signature String) args read h)
+test_of_fits s Exists args read none f h is = omega (arith, one_list_fits s (exists (scope_of read.tags)) (λ l. refl) read.positional f is, read_fits (test_signature Exists) args read h)
 test_of_fits s (Constant b) args read (one t) f h is = absurd (cc)
 test_of_fits s (Constant b) args read (bracketed t ts) f h is = absurd (cc)
 test_of_fits s Not args read none f h is = absurd (cc)
@@ -249,11 +269,11 @@ simple_fits s Discard args read none p r h = subst (λ x. part_extent x ≤ 2 + 
 simple_fits s FileInto args read none p r h =
     let folder = map_some (text_in read.positional) (λ folder. action (file_into (template_of s folder))) p h in
     subst (λ x. part_extent x ≤ 2 + arguments_extent args) (same_Some (action (file_into (template_of s folder.0))) p folder.2)
-    (omega (arith, text_fits read.positional folder.0 folder.1, template_fits (has_capability Variables s.required) folder.0, positional_fits (command_signature FileInto) args read r))
+    (omega (arith, text_fits read.positional folder.0 folder.1, template_fits (has_capability Variables s.required) folder.0, read_fits (command_signature FileInto) args read r))
 simple_fits s Set args read none p r h =
     let c = map_some (setting_in s read.tags.modifiers read.positional) action p h in
     subst (λ x. part_extent x ≤ 2 + arguments_extent args) (same_Some (action c.0) p c.2)
-    (omega (arith, setting_fits s read.tags.modifiers read.positional c.0 c.1, positional_fits (command_signature Set) args read r))
+    (omega (arith, setting_fits s read.tags.modifiers read.positional c.0 c.1, read_fits (command_signature Set) args read r))
 simple_fits s Require args read (one f) p r h = absurd (cc)
 simple_fits s Require args read (bracketed f fs) p r h = absurd (cc)
 simple_fits s If args read none p r h = absurd (cc)

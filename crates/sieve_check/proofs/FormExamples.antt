@@ -2,17 +2,19 @@
 use Rattle.std.proofs.Common.{◌≡◌, ℕ, true, false, List, [], ◌∷◌, Some, None, refl}
 use Rattle.std.specs.Prelude.{codes}
 use Rattle.bytecode_format.specs.declared.modifiers.Case.TheVariants.{Lower, Upper}
-use Rattle.bytecode_format.specs.Modifiers.{no_modifiers}
 use Rattle.glob_match.specs.declared.comparator.Comparator.TheVariants.{Octet, Casemap}
 use Rattle.glob_match.specs.declared.match_type.MatchType.TheVariants.{Is, Contains, Matches}
 use Rattle.sieve_parser.specs.Tree.{ArgumentTree, text, text_list, amount, label, InvocationTree, invocation, no_test, one_test, CommandsTree, simple, block, no_command, command}
 use Rattle.sieve_check.specs.declared.names.CommandName.TheVariants.{Set}
+use Rattle.sieve_check.specs.declared.names.TestName.TheVariants.{Header}
 use Rattle.sieve_check.specs.declared.typed.Order.TheVariants.{Over}
+use Rattle.sieve_check.specs.declared.typed.Scope.TheVariants.{Message, Part, PartAndBelow}
 use Rattle.sieve_check.specs.declared.typed.Segment.TheVariants.{Text, Variable, Capture}
 use Rattle.sieve_check.specs.FormOf.{IsFormOf, form_of, template_of, test_form_of}
+use Rattle.sieve_check.specs.Rules.{names_mentioned, test_mentions}
 use Rattle.sieve_check.specs.Signatures.{Read, no_tag, reading, command_signature}
 use Rattle.sieve_check.specs.Surroundings.{Context, at_start, in_block}
-use Rattle.sieve_check.specs.Typed.{Template, constant, header, exists, size, string, CommandForms, keep, file_into, set, stop, choice, no_branch, otherwise, branch}
+use Rattle.sieve_check.specs.Typed.{Template, Selected, whole, main, sub, content_type, params, TestForm, constant, header, exists, size, string, CommandForms, keep, file_into, set, stop, choice, no_branch, otherwise, branch}
 use Rattle.sieve_check.specs.Typed as typed
 use Rattle.sieve_check.specs.Variables.{commands_variables}
 
@@ -51,21 +53,52 @@ one_test_form = refl
 
 -- header "a" ["b", "c"]
 plain_header : test_form_of at_start (invocation 1 (codes "header") (text (codes "a") ∷ text_list (codes "b") (codes "c" ∷ []) ∷ []) no_test)
-    ≡ Some (header (record { kind = Is; comparator = Casemap }) (as_written (codes "a") ∷ []) (as_written (codes "b") ∷ as_written (codes "c") ∷ []))
+    ≡ Some (header (record { kind = Is; comparator = Casemap }) Message whole (as_written (codes "a") ∷ []) (as_written (codes "b") ∷ as_written (codes "c") ∷ []))
 plain_header = refl
 
 -- header :Comparator "i;octet" :contains ["a"] "b", and with its tags the other way round
 tagged_header : test_form_of at_start (invocation 1 (codes "header") (label (codes "Comparator") ∷ text (codes "i;octet") ∷ label (codes "contains") ∷ text_list (codes "a") [] ∷ text (codes "b") ∷ []) no_test)
-    ≡ Some (header (record { kind = Contains; comparator = Octet }) (as_written (codes "a") ∷ []) (as_written (codes "b") ∷ []))
+    ≡ Some (header (record { kind = Contains; comparator = Octet }) Message whole (as_written (codes "a") ∷ []) (as_written (codes "b") ∷ []))
 tagged_header = refl
 
 turned_header : test_form_of at_start (invocation 1 (codes "header") (label (codes "contains") ∷ label (codes "comparator") ∷ text (codes "i;octet") ∷ text (codes "a") ∷ text (codes "b") ∷ []) no_test)
-    ≡ Some (header (record { kind = Contains; comparator = Octet }) (as_written (codes "a") ∷ []) (as_written (codes "b") ∷ []))
+    ≡ Some (header (record { kind = Contains; comparator = Octet }) Message whole (as_written (codes "a") ∷ []) (as_written (codes "b") ∷ []))
 turned_header = refl
 
 -- exists ["a", "b"]
-two_exist : test_form_of at_start (invocation 1 (codes "exists") (text_list (codes "a") (codes "b" ∷ []) ∷ []) no_test) ≡ Some (exists (as_written (codes "a") ∷ as_written (codes "b") ∷ []))
+two_exist : test_form_of at_start (invocation 1 (codes "exists") (text_list (codes "a") (codes "b" ∷ []) ∷ []) no_test) ≡ Some (exists Message (as_written (codes "a") ∷ as_written (codes "b") ∷ []))
 two_exist = refl
+
+-- header :mime :param ["a", "b"] :anychild "X" "y"
+abbrev mime_header : InvocationTree
+mime_header = invocation 4 (codes "header") (label (codes "mime") ∷ label (codes "param") ∷ text_list (codes "a") (codes "b" ∷ []) ∷ label (codes "AnyChild") ∷ text (codes "X") ∷ text (codes "y") ∷ []) no_test
+
+params_form : test_form_of at_start mime_header
+    ≡ Some (header (record { kind = Is; comparator = Casemap }) PartAndBelow (params (as_written (codes "a") ∷ as_written (codes "b") ∷ [])) (as_written (codes "X") ∷ []) (as_written (codes "y") ∷ []))
+params_form = refl
+
+-- header with one more tag behind :mime
+abbrev piece_header : List ℕ → InvocationTree
+piece_header tag = invocation 4 (codes "header") (label tag ∷ label (codes "mime") ∷ text (codes "X") ∷ text (codes "y") ∷ []) no_test
+
+abbrev piece_form : Selected → TestForm
+piece_form selected = header (record { kind = Is; comparator = Casemap }) Part selected (as_written (codes "X") ∷ []) (as_written (codes "y") ∷ [])
+
+type_form : test_form_of at_start (piece_header (codes "type")) ≡ Some (piece_form main)
+type_form = refl
+
+subtype_form : test_form_of at_start (piece_header (codes "subtype")) ≡ Some (piece_form sub)
+subtype_form = refl
+
+content_type_form : test_form_of at_start (piece_header (codes "contenttype")) ≡ Some (piece_form content_type)
+content_type_form = refl
+
+plain_mime_form : test_form_of at_start (piece_header (codes "is")) ≡ Some (piece_form whole)
+plain_mime_form = refl
+
+-- exists :mime :anychild "X"
+mime_exists : test_form_of at_start (invocation 1 (codes "exists") (label (codes "mime") ∷ label (codes "anychild") ∷ text (codes "X") ∷ []) no_test) ≡ Some (exists PartAndBelow (as_written (codes "X") ∷ []))
+mime_exists = refl
 
 -- ---- strings with references
 
@@ -96,8 +129,19 @@ plain_string = refl
 inside_too : template_of (in_block [] with_variables) (codes "${1}") ≡ Capture 1 ∷ []
 inside_too = refl
 
-expanded_exists : test_form_of with_variables (invocation 1 (codes "exists") (text (codes "x-${a}") ∷ []) no_test) ≡ Some (exists ((Text (codes "x-") ∷ Variable (codes "a") ∷ []) ∷ []))
+expanded_exists : test_form_of with_variables (invocation 1 (codes "exists") (text (codes "x-${a}") ∷ []) no_test) ≡ Some (exists Message ((Text (codes "x-") ∷ Variable (codes "a") ∷ []) ∷ []))
 expanded_exists = refl
+
+-- names of parameters are expanded, and come between those of fields and the keys
+abbrev expanded_params : List ArgumentTree
+expanded_params = label (codes "mime") ∷ label (codes "param") ∷ text (codes "${b}") ∷ text (codes "${a}") ∷ text (codes "${C}") ∷ []
+
+params_between : test_form_of with_variables (invocation 1 (codes "header") expanded_params no_test)
+    ≡ Some (header (record { kind = Is; comparator = Casemap }) Part (params ((Variable (codes "b") ∷ []) ∷ [])) ((Variable (codes "a") ∷ []) ∷ []) ((Variable (codes "c") ∷ []) ∷ []))
+params_between = refl
+
+names_between : names_mentioned (test_mentions with_variables Header expanded_params) ≡ codes "a" ∷ codes "b" ∷ codes "c" ∷ []
+names_between = refl
 
 -- ---- set
 
@@ -120,12 +164,12 @@ in_order = refl
 abbrev two_texts : List ArgumentTree
 two_texts = text (codes "a") ∷ text (codes "b") ∷ []
 
-no_modifier : reading (command_signature Set) two_texts ≡ Some (let r : Read = record { tags = no_tag; positional = two_texts } in r)
+no_modifier : reading (command_signature Set) two_texts ≡ Some (let r : Read = record { tags = no_tag; params = []; positional = two_texts } in r)
 no_modifier = refl
 
 -- of each precedence at most one, in any order
 all_four : reading (command_signature Set) (label (codes "length") ∷ label (codes "quotewildcard") ∷ label (codes "lowerfirst") ∷ label (codes "upper") ∷ two_texts)
-    ≡ Some (let r : Read = record { tags = record no_tag { modifiers = record { letters = Some Upper; first = Some Lower; quote_wildcard = true; length = true } }; positional = two_texts } in r)
+    ≡ Some (let r : Read = record { tags = record no_tag { modifiers = record { letters = Some Upper; first = Some Lower; quote_wildcard = true; length = true } }; params = []; positional = two_texts } in r)
 all_four = refl
 
 two_cases : reading (command_signature Set) (label (codes "lower") ∷ label (codes "upper") ∷ two_texts) ≡ None

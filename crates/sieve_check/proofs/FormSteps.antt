@@ -13,12 +13,12 @@ use Rattle.sieve_check.specs.declared.names.CommandName.TheVariants.{Require, If
 use Rattle.sieve_check.specs.declared.sequence.Part.{Part}
 use Rattle.sieve_check.specs.declared.sequence.Sequence.{Sequence}
 use Rattle.sieve_check.specs.declared.typed.Test.{Test}
-use Rattle.sieve_check.specs.FormOf.{one, bracketed, PartForm, block_of, block_part, Forms, put, test_form_of, more_forms_of, part_of, forms_of}
-use Rattle.sieve_check.specs.Forming.{head_block, head_test}
+use Rattle.sieve_check.specs.FormOf.{InnerForms, one, bracketed, PartForm, simple_of, simple_part, block_of, block_part, Forms, put, test_form_of, more_forms_of, part_of, forms_of}
+use Rattle.sieve_check.specs.Forming.{head_block, head_simple, head_test, test_with_list, test_with_one}
 use Rattle.sieve_check.specs.Names.{command_named}
 use Rattle.sieve_check.specs.Rules.{after_invocation, arguments_of, invocation_of}
 use Rattle.sieve_check.specs.Sequences.{part_form, finished_by, Pushed}
-use Rattle.sieve_check.specs.Signatures.{◌>>=◌, reading, command_signature}
+use Rattle.sieve_check.specs.Signatures.{◌>>=◌, Read, reading, command_signature}
 use Rattle.sieve_check.specs.Surroundings.{Context}
 use Rattle.sieve_check.specs.Typed.{TestForm, TestForms, test, CommandForms}
 use Rattle.sieve_check.specs.TypedView.{test_form}
@@ -26,16 +26,17 @@ use Rattle.sieve_check.proofs.TestLists.{tests_onto, onto-append}
 use Rattle.sieve_check.proofs.FromIndex.{others_of, split_at}
 use Rattle.sieve_check.proofs.Options.{step_none}
 
--- a test with the tests behind it, which have forms
-module _ (s : Context) (i : Invocation) (h : Head) (t : Box Invocation) (f : TestForm) (formed : test_form_of s (invocation_tree t.value) ≡ Some f) where
-  pub form_with_test : i ≡ WithTest h t → test_form_of s (invocation_tree i) ≡ head_test s h (one f)
+-- a test with the tests behind it, which have these forms, if they have any
+module _ (s : Context) (i : Invocation) (h : Head) (t : Box Invocation) (first : Option TestForm) (formed : test_form_of s (invocation_tree t.value) ≡ first) where
+  pub form_with_test : i ≡ WithTest h t → test_form_of s (invocation_tree i) ≡ test_with_one s h first
   form_with_test is = ap (test_form_of s) (ap invocation_tree is ∙ tree_test h t) ∙ ap (λ o. option_map one o >>= λ inner. head_test s h inner) formed
 
-  pub form_with_tests : (ts : Vec Invocation) (fs : TestForms) → more_forms_of s (others_of ts.items) ≡ Some fs → i ≡ WithTests h t ts → test_form_of s (invocation_tree i) ≡ head_test s h (bracketed f fs)
-  form_with_tests ts fs others is =
+  pub form_with_tests : (ts : Vec Invocation) (others : Option TestForms) → more_forms_of s (others_of ts.items) ≡ others → i ≡ WithTests h t ts
+      → test_form_of s (invocation_tree i) ≡ test_with_list s h first others
+  form_with_tests ts others formed_others is =
       ap (test_form_of s) (ap invocation_tree is ∙ tree_tests h t ts)
       ∙ ap (λ o. (o >>= λ f. option_map (bracketed f) (more_forms_of s (others_of ts.items))) >>= λ inner. head_test s h inner) formed
-      ∙ ap (λ o. option_map (bracketed f) o >>= λ inner. head_test s h inner) others
+      ∙ ap (λ o. (first >>= λ f. option_map (bracketed f) o) >>= λ inner. head_test s h inner) formed_others
 
 -- one more test of a list
 module _ (s : Context) (list : List Invocation) (i : ℕ) (x : Invocation) (lt : i < length list) (is : x ≡ get_or list i x) (done : List Test) (t : Test) (formed : test_form_of s (invocation_tree x) ≡ Some (test_form t)) where
@@ -70,6 +71,45 @@ no_block_part s i h t ts body is = ap (λ x. block_part s x body) (ap invocation
   inside None b = refl
   inside (Some f) None = refl
   inside (Some f) (Some fs) = no_head h f fs body
+
+-- a command with tests and no block is none
+no_simple_test : (s : Context) (name : CommandName) (read : Read) (f : TestForm) → simple_of s name read (one f) ≡ None
+no_simple_test s Require read f = refl
+no_simple_test s If read f = refl
+no_simple_test s Elsif read f = refl
+no_simple_test s Else read f = refl
+no_simple_test s Stop read f = refl
+no_simple_test s Keep read f = refl
+no_simple_test s Discard read f = refl
+no_simple_test s FileInto read f = refl
+no_simple_test s Set read f = refl
+
+no_simple_tests : (s : Context) (name : CommandName) (read : Read) (f : TestForm) (fs : TestForms) → simple_of s name read (bracketed f fs) ≡ None
+no_simple_tests s Require read f fs = refl
+no_simple_tests s If read f fs = refl
+no_simple_tests s Elsif read f fs = refl
+no_simple_tests s Else read f fs = refl
+no_simple_tests s Stop read f fs = refl
+no_simple_tests s Keep read f fs = refl
+no_simple_tests s Discard read f fs = refl
+no_simple_tests s FileInto read f fs = refl
+no_simple_tests s Set read f fs = refl
+
+no_simple_part : (s : Context) (h : Head) (inner : InnerForms) → ((name : CommandName) (read : Read) → simple_of s name read inner ≡ None) → head_simple s h inner ≡ None
+no_simple_part s h inner none = step_none (command_named h.name) _ (λ name. step_none (reading (command_signature name) (arguments_of h)) _ (none name))
+
+pub no_part_with_test : (s : Context) (i : Invocation) (h : Head) (t : Box Invocation) → i ≡ WithTest h t → simple_part s (invocation_tree i) ≡ None
+no_part_with_test s i h t is = ap (simple_part s) (ap invocation_tree is ∙ tree_test h t) ∙ inside (test_form_of s (invocation_tree t.value)) where
+  inside : (o : Option TestForm) → (option_map one o >>= λ inner. head_simple s h inner) ≡ None
+  inside None = refl
+  inside (Some f) = no_simple_part s h (one f) (λ name read. no_simple_test s name read f)
+
+pub no_part_with_tests : (s : Context) (i : Invocation) (h : Head) (t : Box Invocation) (ts : Vec Invocation) → i ≡ WithTests h t ts → simple_part s (invocation_tree i) ≡ None
+no_part_with_tests s i h t ts is = ap (simple_part s) (ap invocation_tree is ∙ tree_tests h t ts) ∙ inside (test_form_of s (invocation_tree t.value)) (more_forms_of s (others_of ts.items)) where
+  inside : (a : Option TestForm) (b : Option TestForms) → ((a >>= λ f. option_map (bracketed f) b) >>= λ inner. head_simple s h inner) ≡ None
+  inside None b = refl
+  inside (Some f) None = refl
+  inside (Some f) (Some fs) = no_simple_part s h (bracketed f fs) (λ name read. no_simple_tests s name read f fs)
 
 -- what is added before commands that are still to come
 module _ (s : Context) (list : List Tree) (i : ℕ) (x : Tree) (lt : i < length list) (is : x ≡ get_or list i x) (old : Sequence) where

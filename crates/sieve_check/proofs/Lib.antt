@@ -8,6 +8,7 @@ pub mod FormSteps
 pub mod Requiring
 pub mod Options
 pub mod Faultless
+pub mod TagSteps
 pub mod Templates
 pub mod Extent
 pub mod Lists

@@ -1,31 +1,31 @@
 -- Strings and lists of arguments, of which nothing is wrong.
-use Rattle.std.proofs.Common.{◌≡◌, ℕ, ◌+◌, ◌<◌, ◌≤◌, Bool, true, false, ◌||◌, nat_lt, List, [], ◌∷◌, ◌++◌, length, drop, map, All, Option, Some, None, option_map, refl, sym, ap, subst, ◌∙◌, arith, length-append}
+use Rattle.std.proofs.Common.{◌≡◌, ℕ, ◌+◌, ◌<◌, ◌≤◌, Bool, true, false, ◌||◌, nat_lt, List, [], ◌∷◌, ◌++◌, length, take, drop, map, All, Option, Some, None, option_map, refl, sym, ap, subst, ◌∙◌, arith, length-append, inl, inr}
 use Rattle.std.specs.Prelude.{flat_map}
 use Rattle.std.specs.List.{list_any}
 use Rattle.std.proofs.lemmas.Bool.{ltb-false}
 use Rattle.std.proofs.lemmas.Grind.{flat_map-append}
-use Rattle.std.proofs.lemmas.List.{append-nil, length-map}
+use Rattle.std.proofs.lemmas.List.{append-nil, append_assoc, length-map}
 use Rattle.std.proofs.lemmas.List.Elements.{All-nil, All-cons, All-head, All-tail}
 use Rattle.std.proofs.lemmas.List.Folds.{list_any-append}
-use Rattle.std.proofs.lemmas.Option.{same_Some}
 use Rattle.octets.specs.Limits.{max_segments, max_string, max_test_strings}
 use Rattle.sieve_references.specs.References.{segments}
 use Rattle.sieve_parser.specs.Tree.{ArgumentTree, text, text_list, amount, label}
 use Rattle.sieve_check.specs.declared.names.Capability.TheVariants.{Variables}
+use Rattle.sieve_check.specs.declared.names.Piece.{Piece}
+use Rattle.sieve_check.specs.declared.names.Piece.TheVariants.{Main, Sub, ContentType, Params}
 use Rattle.sieve_check.specs.declared.names.Tag.{Tag}
 use Rattle.sieve_check.specs.declared.rules.StringFault.TheVariants.{Long}
 use Rattle.sieve_check.specs.declared.signature.Positional.TheVariants as positional
 use Rattle.sieve_check.specs.declared.signature.Signature.{Signature}
-use Rattle.sieve_check.specs.declared.signature.Tags.{Tags}
-use Rattle.sieve_check.specs.Bounded.{IsBoundedString, IsBoundedList, AreBoundedLists}
-use Rattle.sieve_check.specs.FormOf.{text_in, list_in, template_of, of_list, of_lists}
-use Rattle.sieve_check.specs.Names.{tag_named}
-use Rattle.sieve_check.specs.Rules.{is_long, string_has, strings_in, strings_of, has_long_string}
-use Rattle.sieve_check.specs.Signatures.{◌>>=◌, Read, no_tag, add_tag, awaited, with_argument, tags_read, is_list, is_positional, is_complete, reading}
+use Rattle.sieve_check.specs.Bounded.{IsBoundedString, IsBoundedList, AreBoundedLists, HasParams, IsBoundedHeader}
+use Rattle.sieve_check.specs.FormOf.{list_in, template_of, of_list, of_lists, selected_by, params_in}
+use Rattle.sieve_check.specs.Rules.{is_long, string_has, strings_in, strings_of, has_long_string, lists_read}
+use Rattle.sieve_check.specs.Signatures.{◌>>=◌, Read, Given, with_argument, is_list, is_positional, reading}
 use Rattle.sieve_check.specs.Surroundings.{Context, has_capability}
-use Rattle.sieve_check.specs.Typed.{Template, TestForm}
+use Rattle.sieve_check.specs.Typed.{Template, Selected, params_of, TestForm}
 use Rattle.sieve_check.specs.Variables.{strings_variables}
-use Rattle.sieve_check.proofs.Options.{step_some, if_some, both_true, either_false}
+use Rattle.sieve_check.proofs.Options.{both_true, either_false}
+use Rattle.sieve_check.proofs.TagSteps.{argument_taken, IsKept, kept_by_reading, HasArgument}
 use Rattle.sieve_check.proofs.Templates.{template_at, names_at, IsSound, templates_bounded, templates_names}
 
 -- ---- the strings behind the tags
@@ -33,26 +33,35 @@ use Rattle.sieve_check.proofs.Templates.{template_at, names_at, IsSound, templat
 both_short : (ss ts : List (List ℕ)) → list_any (string_has Long) (ss ++ ts) ≡ false → (list_any (string_has Long) ss ≡ false) × (list_any (string_has Long) ts ≡ false)
 both_short ss ts h = either_false (list_any (string_has Long) ss) (list_any (string_has Long) ts) (sym (list_any-append (string_has Long) ss ts) ∙ h)
 
--- they are some of all
-behind : (signature : Signature) (tags : Tags) (last : Option Tag) (args : List ArgumentTree) (read : Read) → tags_read signature tags last args ≡ Some read → has_long_string args ≡ false → has_long_string read.positional ≡ false
-behind signature tags None [] read h fits = subst (λ (r : Read). has_long_string r.positional ≡ false) (same_Some _ read h) fits
-behind signature tags None (text s ∷ args) read h fits = subst (λ (r : Read). has_long_string r.positional ≡ false) (same_Some _ read h) fits
-behind signature tags None (text_list s ss ∷ args) read h fits = subst (λ (r : Read). has_long_string r.positional ≡ false) (same_Some _ read h) fits
-behind signature tags None (amount n ∷ args) read h fits = subst (λ (r : Read). has_long_string r.positional ≡ false) (same_Some _ read h) fits
-behind signature tags None (label name ∷ args) read h fits =
-    let tag = step_some (tag_named name) _ read h in
-    let more = step_some (add_tag signature tag.0 tags) _ read tag.2 in
-    behind signature more.0 (awaited tag.0) args read more.2 fits
-behind signature tags (Some tag) [] read h fits = absurd (cc)
-behind signature tags (Some tag) (a ∷ args) read h fits =
-    let more = step_some (with_argument tag a tags) _ read h in
-    behind signature more.0 None args read more.2 (both_short (strings_in a) (strings_of args) fits).1
+-- they are some of all, as are those of `:param`
+abbrev AreShort : Option Tag → Given → List ArgumentTree → Type 0
+AreShort last given args = (has_long_string args ≡ false) × (has_long_string given.params ≡ false)
 
-pub read_short : (signature : Signature) (args : List ArgumentTree) (read : Read) → reading signature args ≡ Some read → has_long_string args ≡ false → has_long_string read.positional ≡ false
+argument_short : (tag : Tag) (a : ArgumentTree) (given more : Given) (args : List ArgumentTree) → with_argument tag a given ≡ Some more → AreShort (Some tag) given (a ∷ args) → AreShort None more args
+argument_short tag a given more args h short =
+    let parts = both_short (strings_in a) (strings_of args) short.0 in
+    elim (argument_taken tag a given more h) [
+      | inl c ↦ (parts.1, ap has_long_string c.1 ∙ short.1)
+      | inr c ↦ (parts.1, ap (λ (g : Given). has_long_string g.params) (sym c.2) ∙ ap (list_any (string_has Long)) (append-nil (strings_in a)) ∙ parts.0)
+    ]
+
+both_pass : (xs ys : List ArgumentTree) → has_long_string xs ≡ false → has_long_string ys ≡ false → has_long_string (xs ++ ys) ≡ false
+both_pass xs ys h k =
+    ap (list_any (string_has Long)) (flat_map-append strings_in xs ys) ∙ list_any-append (string_has Long) (strings_of xs) (strings_of ys)
+    ∙ ap (λ b. b || has_long_string ys) h ∙ k
+
+first_and_others : (xs : List ArgumentTree) → has_long_string xs ≡ false → (has_long_string (take 1 xs) ≡ false) × (has_long_string (drop 1 xs) ≡ false)
+first_and_others [] h = (refl, refl)
+first_and_others (x ∷ xs) h =
+    let parts = both_short (strings_in x) (strings_of xs) h in
+    (ap (list_any (string_has Long)) (append-nil (strings_in x)) ∙ parts.0, parts.1)
+
+pub read_short : (signature : Signature) (args : List ArgumentTree) (read : Read) → reading signature args ≡ Some read → has_long_string args ≡ false → has_long_string (lists_read read) ≡ false
 read_short signature args read h fits =
-    let r = step_some (tags_read signature no_tag None args) _ read h in
-    let same = same_Some r.0 read (if_some (is_complete signature r.0) r.0 read r.2).1 in
-    behind signature no_tag None args read (r.1 ∙ ap Some same) fits
+    let kept : IsKept signature AreShort = record { tag = λ tag name given args h short. short; argument = argument_short } in
+    let short = kept_by_reading signature AreShort kept args read h (fits, refl) in
+    let parts = first_and_others read.positional short.0 in
+    both_pass (take 1 read.positional ++ read.params) (drop 1 read.positional) (both_pass (take 1 read.positional) read.params parts.0 short.1) parts.1
 
 -- ---- strings within the limits, where b says whether they are expanded
 
@@ -155,6 +164,90 @@ two_listed s make (a ∷ c ∷ []) h few all =
           ∙ sym (flat_map-append (names_at b) xs (ys ++ []));
     }
 two_listed s make (a ∷ b ∷ c ∷ xs) h few all = absurd (cc)
+
+-- what a test takes of a field
+record Selecting (s : Context) (piece : Option Piece) (params : List ArgumentTree) : Type 0 where
+  names : List Template
+  is : params_in s params ≡ Some names
+  some : HasParams (selected_by piece names)
+  same : params_of (selected_by piece names) ≡ map (template_of s) (strings_of params)
+
+selecting : (s : Context) (piece : Option Piece) (params : List ArgumentTree) → HasArgument piece params → Selecting s piece params
+selecting s None params none = subst (Selecting s None) (sym none) (record { names = []; is = refl; some = tt; same = refl })
+selecting s (Some Main) params none = subst (Selecting s (Some Main)) (sym none) (record { names = []; is = refl; some = tt; same = refl })
+selecting s (Some Sub) params none = subst (Selecting s (Some Sub)) (sym none) (record { names = []; is = refl; some = tt; same = refl })
+selecting s (Some ContentType) params none = subst (Selecting s (Some ContentType)) (sym none) (record { names = []; is = refl; some = tt; same = refl })
+selecting s (Some Params) params one =
+    let list = listed s one.0 one.2 in
+    let strings = strings_in one.0 in
+    subst (Selecting s (Some Params)) (sym one.1) (record {
+      names = map (template_of s) strings;
+      is = list.0;
+      some = omega (arith, list.1, length-map strings (template_of s));
+      same = ap (map (template_of s)) (sym (append-nil strings));
+    })
+
+-- two lists and, with `:param`, one between
+pub record ThreeListed (s : Context) (make : Selected → List Template → List Template → TestForm) (piece : Option Piece) (params xs : List ArgumentTree) : Type 0 where
+  pub selected : Selected
+  pub first : List Template
+  pub second : List Template
+  pub is : (params_in s params >>= λ names. of_lists s (make (selected_by piece names)) xs) ≡ Some (make selected first second)
+  pub bounded : IsBoundedHeader selected first second
+  pub names : strings_variables first ++ strings_variables (params_of selected) ++ strings_variables second ≡ flat_map (names_at (expands s)) (strings_of (take 1 xs ++ params ++ drop 1 xs))
+
+pub three_listed : (s : Context) (make : Selected → List Template → List Template → TestForm) (piece : Option Piece) (params xs : List ArgumentTree) → is_positional positional.TwoLists xs ≡ true → HasArgument piece params
+    → length (strings_of (take 1 xs ++ params ++ drop 1 xs)) ≤ max_test_strings → All (IsSound (expands s)) (strings_of (take 1 xs ++ params ++ drop 1 xs)) → ThreeListed s make piece params xs
+three_listed s make piece params [] h has few all = absurd (cc)
+three_listed s make piece params (a ∷ []) h has few all = absurd (cc)
+three_listed s make piece params (a ∷ c ∷ []) h has few all =
+    let b = expands s in
+    let lists = both_true (is_list a) (is_list c) h in
+    let left = listed s a lists.0 in
+    let right = listed s c lists.1 in
+    let between = selecting s piece params has in
+    let selected = selected_by piece between.names in
+    let xs = strings_in a in
+    let ys = strings_of params in
+    let zs = strings_in c in
+    let first = map (template_at b) xs in
+    let second = map (template_at b) zs in
+    let strings : strings_of (a ∷ (params ++ c ∷ [])) ≡ xs ++ (ys ++ (zs ++ [])) = ap (λ l. xs ++ l) (flat_map-append strings_in params (c ∷ [])) in
+    let sounds = both_sound b xs (ys ++ (zs ++ [])) (subst (All (IsSound b)) strings all) in
+    let others = both_sound b ys (zs ++ []) sounds.1 in
+    let counts : length (strings_of (a ∷ (params ++ c ∷ []))) ≡ length xs + (length ys + (length zs + 0)) =
+    ap length strings ∙ length-append xs (ys ++ (zs ++ [])) ∙ ap (λ n. length xs + n) (length-append ys (zs ++ [])) ∙ ap (λ n. length xs + (length ys + n)) (length-append zs []) in
+    let xs_count = length-map xs (template_at b) in
+    let ys_count : length (params_of selected) ≡ length ys = ap length between.same ∙ length-map ys (template_at b) in
+    let zs_count = length-map zs (template_at b) in
+    record {
+      selected = selected;
+      first = first;
+      second = second;
+      is = ap (λ o. o >>= λ names. of_lists s (make (selected_by piece names)) (a ∷ c ∷ [])) between.is
+          ∙ ap (λ o. o >>= λ first. option_map (make selected first) (list_in s c)) left.0
+          ∙ ap (option_map (make selected first)) right.0;
+      bounded = record {
+        lists = record {
+          some_first = omega (arith, left.1, xs_count);
+          some_second = omega (arith, right.1, zs_count);
+          few = omega (arith, few, counts, xs_count, zs_count);
+          bounded_first = templates_bounded b xs sounds.0;
+          bounded_second = templates_bounded b zs (both_sound b zs [] others.1).0;
+        };
+        some_params = between.some;
+        few = omega (arith, few, counts, xs_count, ys_count, zs_count);
+        bounded_params = subst (All IsBoundedString) (sym between.same) (templates_bounded b ys others.0);
+      };
+      names = ap (λ names. names ++ strings_variables (params_of selected) ++ strings_variables second) (templates_names b xs)
+          ∙ ap (λ names. flat_map (names_at b) xs ++ names ++ strings_variables second) (ap strings_variables between.same ∙ templates_names b ys)
+          ∙ ap (λ names. flat_map (names_at b) xs ++ flat_map (names_at b) ys ++ names) (templates_names b zs ∙ ap (flat_map (names_at b)) (sym (append-nil zs)))
+          ∙ append_assoc (flat_map (names_at b) xs) (flat_map (names_at b) ys) (flat_map (names_at b) (zs ++ []))
+          ∙ ap (λ names. flat_map (names_at b) xs ++ names) (sym (flat_map-append (names_at b) ys (zs ++ [])))
+          ∙ sym (flat_map-append (names_at b) xs (ys ++ (zs ++ [])))
+          ∙ ap (flat_map (names_at b)) (sym strings);
+    }
+three_listed s make piece params (a ∷ b ∷ c ∷ xs) h has few all = absurd (cc)
 
 -- ---- strings without brackets
 

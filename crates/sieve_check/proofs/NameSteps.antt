@@ -1,9 +1,7 @@
 -- The names of variables, as they are met.
-use Rattle.std.proofs.Common.{◌≡◌, ℕ, ◌+◌, ◌<◌, ◌≤◌, Bool, true, false, ◌||◌, bytes_eq, List, [], ◌∷◌, ◌++◌, length, map, flat_map, drop, get_or, refl, sym, ap, subst, ◌∙◌, arith, length-append, add-one, inl, inr}
+use Rattle.std.proofs.Common.{◌≡◌, ℕ, ◌+◌, ◌<◌, ◌≤◌, true, false, ◌||◌, bytes_eq, List, [], ◌∷◌, ◌++◌, length, map, flat_map, drop, get_or, refl, sym, ap, subst, ◌∙◌, arith, length-append, add-one, inl, inr}
 use Rattle.std.proofs.Math.Seq.{drop-cons}
-use Rattle.std.specs.Bool.{IsTrue, ◌==◌}
-use Rattle.std.specs.Prelude.{Result, Ok, Err, MatchResult}
-use Rattle.std.specs.List.{list_any}
+use Rattle.std.specs.Prelude.{Result, Ok, Err}
 use Rattle.std.specs.Borrow.{Bor}
 use Rattle.std.specs.Global.{Vec}
 use Rattle.std.proofs.lemmas.Grind.{flat_map-append}
@@ -18,7 +16,8 @@ use Rattle.sieve_parser.specs.View.{argument_tree}
 use Rattle.sieve_parser.specs.declared.tree.Argument.{Argument}
 use Rattle.sieve_parser.specs.declared.tree.Argument.TheVariants.{TextList}
 use Rattle.sieve_check.specs.declared.error.Fault.{Fault}
-use Rattle.sieve_check.specs.declared.error.Fault.TheVariants.{Limit}
+use Rattle.sieve_check.specs.declared.signature.Lists.{Lists}
+use Rattle.sieve_check.specs.Reading.{all_lists}
 use Rattle.sieve_check.specs.Refusing.{Adds, shown}
 use Rattle.sieve_check.specs.Rules.{strings_in, strings_of}
 use Rattle.sieve_check.proofs.FromIndex.{split_at}
@@ -101,3 +100,36 @@ arguments_names list i x lt is =
 pub list_names : (argument : Argument) (first : List ℕ) (others : Vec (List ℕ)) (y : List ℕ) (ys : List (List ℕ)) → argument ≡ TextList first others → y ≡ first → ys ≡ others.items
     → names_in y ++ flat_map names_in ys ≡ flat_map names_in (strings_in (argument_tree argument))
 list_names argument first others y ys is same same_others = ap (λ s. names_in s ++ flat_map names_in ys) same ∙ ap (λ l. names_in first ++ flat_map names_in l) same_others ∙ sym (ap (λ a. flat_map names_in (strings_in (argument_tree a))) is)
+
+-- ---- those of lists, one after the other
+
+abbrev pub names_of : List Argument → List (List ℕ)
+names_of list = flat_map names_in (strings_of (map argument_tree list))
+
+module _ (lists : Lists) where
+  pub lists_names : flat_map names_in (strings_of (all_lists lists)) ≡ names_of lists.first.now ++ names_of lists.params.now ++ names_of lists.others.now
+  lists_names =
+      ap (flat_map names_in) (flat_map-append strings_in (map argument_tree lists.first.now ++ map argument_tree lists.params.now) (map argument_tree lists.others.now))
+      ∙ flat_map-append names_in (strings_of (map argument_tree lists.first.now ++ map argument_tree lists.params.now)) (strings_of (map argument_tree lists.others.now))
+      ∙ ap (λ names. flat_map names_in names ++ names_of lists.others.now) (flat_map-append strings_in (map argument_tree lists.first.now) (map argument_tree lists.params.now))
+      ∙ ap (λ names. names ++ names_of lists.others.now) (flat_map-append names_in (strings_of (map argument_tree lists.first.now)) (strings_of (map argument_tree lists.params.now)))
+
+  pub many_first : (names : List (List ℕ)) → max_variables < length (with_more bytes_eq names (names_of lists.first.now)) → max_variables < length (with_more bytes_eq names (flat_map names_in (strings_of (all_lists lists))))
+  many_first names many =
+      subst (λ (more : List (List ℕ)). max_variables < length (with_more bytes_eq names more)) (sym lists_names)
+      (many_with_more names (names_of lists.first.now ++ names_of lists.params.now) (names_of lists.others.now) (many_with_more names (names_of lists.first.now) (names_of lists.params.now) many))
+
+  module _ (names between : List (List ℕ)) (first : between ≡ with_more bytes_eq names (names_of lists.first.now)) where
+    both : with_more bytes_eq between (names_of lists.params.now) ≡ with_more bytes_eq names (names_of lists.first.now ++ names_of lists.params.now)
+    both = ap (λ l. with_more bytes_eq l (names_of lists.params.now)) first ∙ sym (more_after bytes_eq names (names_of lists.first.now) (names_of lists.params.now))
+
+    pub many_second : max_variables < length (with_more bytes_eq between (names_of lists.params.now)) → max_variables < length (with_more bytes_eq names (flat_map names_in (strings_of (all_lists lists))))
+    many_second many =
+        subst (λ (more : List (List ℕ)). max_variables < length (with_more bytes_eq names more)) (sym lists_names)
+        (many_with_more names (names_of lists.first.now ++ names_of lists.params.now) (names_of lists.others.now) (omega (arith, many, ap length both)))
+
+    module _ {A : Type 0} (later : List (List ℕ)) (result : Result A Fault) (after : List (List ℕ)) (second : later ≡ with_more bytes_eq between (names_of lists.params.now)) where
+      pub adds_lists : Adds later (names_of lists.others.now) result after → Adds names (flat_map names_in (strings_of (all_lists lists))) result after
+      adds_lists adds =
+          subst (λ (more : List (List ℕ)). Adds names more result after) (sym lists_names)
+          (adds_both names (names_of lists.first.now ++ names_of lists.params.now) (names_of lists.others.now) later result after (second ∙ both) adds)

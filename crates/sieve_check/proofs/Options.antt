@@ -53,3 +53,7 @@ some_of (Some x) h = (x, refl)
 pub if_some : {A : Type 0} (b : Bool) (x y : A) → (if b then Some x else None) ≡ Some y → (b ≡ true) × (Some x ≡ Some y)
 if_some true x y h = (refl, h)
 if_some false x y h = absurd (cc)
+
+pub not_both : (b : Bool) → b ≡ true → b ≡ false → ⊥
+not_both true h k = absurd (cc)
+not_both false h k = absurd (cc)

@@ -1,5 +1,5 @@
 -- A test of which nothing is wrong has a typed form, which is within the limits and has the variables that its visits bring.
-use Rattle.std.proofs.Common.{◌≡◌, ℕ, ◌≤◌, length, Bool, true, false, ◌&&◌, ◌||◌, not, if◌then◌else◌, List, [], ◌∷◌, ◌++◌, All, Option, Some, None, option_map, refl, sym, ap, ◌∙◌}
+use Rattle.std.proofs.Common.{◌≡◌, ℕ, ◌≤◌, length, Bool, true, false, ◌&&◌, ◌||◌, not, if◌then◌else◌, List, [], ◌∷◌, ◌++◌, All, Option, Some, None, option_map, refl, sym, ap, subst, ◌∙◌}
 use Rattle.std.specs.Prelude.{is_some, flat_map}
 use Rattle.std.specs.List.{list_any}
 use Rattle.std.proofs.lemmas.Bool.{ltb-false}
@@ -17,16 +17,17 @@ use Rattle.sieve_check.specs.declared.signature.Signature.{Signature}
 use Rattle.sieve_check.specs.declared.signature.Tests.{Tests}
 use Rattle.sieve_check.specs.declared.signature.Tests.TheVariants.{Nothing, One, Bracketed}
 use Rattle.sieve_check.specs.Bounded.{IsBoundedTest, AreBoundedTests}
-use Rattle.sieve_check.specs.FormOf.{InnerForms, none, one, bracketed, number_in, match_of, test_of, test_form_of, inner_forms_of, more_forms_of}
+use Rattle.sieve_check.specs.FormOf.{InnerForms, none, one, bracketed, number_in, match_of, scope_of, test_of, test_form_of, inner_forms_of, more_forms_of}
 use Rattle.sieve_check.specs.Names.{test_named}
-use Rattle.sieve_check.specs.Rules.{Visit, where_required, names_by, fault_by_name, known_test_fault, test_needs, has_long_string, has_many_strings, Mentions, no_mention, strings_read, test_mentions, has_wrong_mention, has_large_mention, names_mentioned, same_tests, is_well_formed, kind_of, strings_of, test_visit, test_visits, tests_visits, more_visits}
-use Rattle.sieve_check.specs.Signatures.{◌>>=◌, Read, no_tag, tags_read, is_positional, is_complete, reading, test_signature}
+use Rattle.sieve_check.specs.Rules.{Visit, where_required, names_by, fault_by_name, known_test_fault, test_needs, has_long_string, has_many_strings, Mentions, no_mention, strings_read, lists_read, test_mentions, has_wrong_mention, has_large_mention, names_mentioned, same_tests, is_well_formed, kind_of, strings_of, test_visits, tests_visits, more_visits}
+use Rattle.sieve_check.specs.Signatures.{◌>>=◌, Read, nothing_given, tags_read, asks_for_mime, is_positional, is_complete, reading, test_signature}
 use Rattle.sieve_check.specs.Surroundings.{Context, lacks}
 use Rattle.sieve_check.specs.Typed.{TestForm, constant, negation, all_of, any_of, header, exists, size, string, TestForms, no_test as no_other, test}
 use Rattle.sieve_check.specs.Variables.{test_variables, tests_variables}
 use Rattle.sieve_check.proofs.Faultless.{AreFaultless, faultless_both, names_brought}
-use Rattle.sieve_check.proofs.Lists.{expands, is_large, read_short, all_sound, one_listed, two_listed}
+use Rattle.sieve_check.proofs.Lists.{expands, is_large, read_short, all_sound, one_listed, two_listed, three_listed}
 use Rattle.sieve_check.proofs.Options.{step_some, all_taken, if_some, if_none, not_false, both_true, either_false, some_of}
+use Rattle.sieve_check.proofs.TagSteps.{HasArgument, selecting_read, only_behind}
 use Rattle.sieve_check.proofs.Templates.{IsSound, names_at, mentioned_at, expanding, expanding_names}
 
 -- ---- what follows from there being no fault
@@ -41,15 +42,28 @@ pub record WellFormed (signature : Signature) (args : List ArgumentTree) (tests 
   pub read : Read
   pub is : reading signature args ≡ Some read
   pub complete : is_complete signature read ≡ true
+  pub alone : signature.selecting ≡ false → lists_read read ≡ read.positional
   pub same : same_tests signature.tests tests ≡ true
 
 pub well_formed : (signature : Signature) (args : List ArgumentTree) (tests : Tests) → is_well_formed signature args tests ≡ true → WellFormed signature args tests
 well_formed signature args tests h =
     let parts = both_true (same_tests signature.tests tests) (is_some (reading signature args)) h in
     let read = some_of (reading signature args) parts.1 in
-    let r = step_some (tags_read signature no_tag None args) _ read.0 read.1 in
+    let r = step_some (tags_read signature nothing_given None args) _ read.0 read.1 in
     let done = if_some (is_complete signature r.0) r.0 read.0 r.2 in
-    record { read = read.0; is = read.1; complete = ap (is_complete signature) (sym (same_Some r.0 read.0 done.1)) ∙ done.0; same = parts.0 }
+    record {
+      read = read.0;
+      is = read.1;
+      complete = ap (is_complete signature) (sym (same_Some r.0 read.0 done.1)) ∙ done.0;
+      alone = λ plain. only_behind signature args read.0 plain read.1;
+      same = parts.0;
+    }
+
+-- what is complete has the order that it has to have, and the right arguments behind the tags
+pub complete_parts : (signature : Signature) (read : Read) → is_complete signature read ≡ true → ((not signature.order || is_some read.tags.order) ≡ true) × (is_positional signature.positional read.positional ≡ true)
+complete_parts signature read h =
+    let outer = both_true ((not signature.order || is_some read.tags.order) && (not (asks_for_mime read.tags) || read.tags.mime)) (is_positional signature.positional read.positional) h in
+    ((both_true (not signature.order || is_some read.tags.order) _ outer.0).0, outer.1)
 
 -- no string that is expanded has too many segments
 pub none_large : (b : Bool) (mentions : Mentions) → has_large_mention (if b then mentions else no_mention) ≡ false → b ≡ true → list_any is_large mentions.expanded ≡ false
@@ -59,12 +73,13 @@ none_large false mentions h expands = absurd (cc)
 -- the same of a test, whose strings are within the limits
 pub record TestWellFormed (s : Context) (name : TestName) (args : List ArgumentTree) (tests : Tests) : Type 0 where
   pub form : WellFormed (test_signature name) args tests
-  pub few : length (strings_of form.read.positional) ≤ max_test_strings
-  pub sound : All (IsSound (expands s)) (strings_of form.read.positional)
+  pub params : HasArgument form.read.tags.piece form.read.params
+  pub few : length (strings_of (lists_read form.read)) ≤ max_test_strings
+  pub sound : All (IsSound (expands s)) (strings_of (lists_read form.read))
 
 test_well_formed : (s : Context) (name : TestName) (args : List ArgumentTree) (tests : Tests) → known_test_fault s name args tests ≡ None → TestWellFormed s name args tests
 test_well_formed s name args tests h =
-    let a = if_none (lacks s (test_needs name)) MissingCapability _ h in
+    let a = if_none (lacks s (test_needs name args)) MissingCapability _ h in
     let b = if_none (not (is_well_formed (test_signature name) args tests)) BadArguments _ a.1 in
     let c = if_none (has_wrong_mention (test_mentions s name args)) BadArguments _ b.1 in
     let d = if_none (has_long_string args || has_many_strings (reading (test_signature name) args) || has_large_mention (test_mentions s name args)) Limit _ c.1 in
@@ -74,8 +89,9 @@ test_well_formed s name args tests h =
     let mentions = expanding (strings_read (reading (test_signature name) args)) in
     record {
       form = form;
-      few = ltb-false max_test_strings (length (strings_of form.read.positional)) (ap has_many_strings (sym form.is) ∙ f.1);
-      sound = all_sound (expands s) (strings_of form.read.positional) (read_short (test_signature name) args form.read form.is f.0)
+      params = (selecting_read (test_signature name) args form.read form.is).params;
+      few = ltb-false max_test_strings (length (strings_of (lists_read form.read))) (ap has_many_strings (sym form.is) ∙ f.1);
+      sound = all_sound (expands s) (strings_of (lists_read form.read)) (read_short (test_signature name) args form.read form.is f.0)
           (λ yes. ap (λ o. list_any is_large (strings_read o)) (sym form.is) ∙ none_large (expands s) mentions e.1 yes);
     }
 
@@ -121,56 +137,80 @@ numbered b (amount n ∷ x ∷ xs) h = absurd (cc)
 
 -- the names that a test brings by its own arguments
 abbrev own_names : Context → Read → List (List ℕ)
-own_names s read = mentioned_at (expands s) (expanding (strings_of read.positional))
+own_names s read = mentioned_at (expands s) (expanding (strings_of (lists_read read)))
 
-sized : (s : Context) (read : Read) → is_complete (test_signature Size) read ≡ true → Made (own_names s read ++ []) (test_of s Size read none)
-sized s read h =
-    let parts = both_true (is_some read.tags.order) _ h in
+-- those of what takes no argument
+none_own : (s : Context) (signature : Signature) (read : Read) → signature.positional ≡ positional.Nothing → is_complete signature read ≡ true → lists_read read ≡ read.positional → [] ≡ own_names s read
+none_own s signature read nothing h alone =
+    unnamed (expands s) read.positional (ap (λ p. is_positional p read.positional) (sym nothing) ∙ (complete_parts signature read h).1)
+    ∙ ap (λ xs. mentioned_at (expands s) (expanding (strings_of xs))) (sym alone)
+
+sized : (s : Context) (read : Read) → is_complete (test_signature Size) read ≡ true → lists_read read ≡ read.positional → Made (own_names s read ++ []) (test_of s Size read none)
+sized s read h alone =
+    let parts = complete_parts (test_signature Size) read h in
     let order = some_of read.tags.order parts.0 in
     let n = numbered (expands s) read.positional parts.1 in
     record {
       form = size order.0 n.0;
       is = ap (λ o. o >>= λ order. number_in read.positional >>= λ n. Some (size order n)) order.1 ∙ ap (λ o. o >>= λ n. Some (size order.0 n)) n.1;
       bounded = tt;
-      variables = n.2 ∙ sym (append-nil (own_names s read));
+      variables = n.2 ∙ ap (λ xs. mentioned_at (expands s) (expanding (strings_of xs))) (sym alone) ∙ sym (append-nil (own_names s read));
     }
 
 -- names that lists bring
-listed_names : (s : Context) (read : Read) (names : List (List ℕ)) → names ≡ flat_map (names_at (expands s)) (strings_of read.positional) → names ≡ own_names s read ++ []
-listed_names s read names h = h ∙ sym (expanding_names (expands s) (strings_of read.positional)) ∙ sym (append-nil (own_names s read))
+listed_names : (s : Context) (read : Read) (names : List (List ℕ)) → names ≡ flat_map (names_at (expands s)) (strings_of (lists_read read)) → names ≡ own_names s read ++ []
+listed_names s read names h = h ∙ sym (expanding_names (expands s) (strings_of (lists_read read))) ∙ sym (append-nil (own_names s read))
 
-made : (s : Context) (name : TestName) (read : Read) (inner : InnerForms) → is_complete (test_signature name) read ≡ true → same_tests (test_signature name).tests (inner_kind inner) ≡ true → length (strings_of read.positional) ≤ max_test_strings
-    → All (IsSound (expands s)) (strings_of read.positional) → IsBoundedInner inner → Made (own_names s read ++ inner_variables inner) (test_of s name read inner)
-made s (Constant b) read none complete same few sound inside = record { form = constant b; is = refl; bounded = tt; variables = ap (λ names. names ++ []) (unnamed (expands s) read.positional complete) }
-made s Not read (one f) complete same few sound inside = record { form = negation f; is = refl; bounded = inside; variables = ap (λ names. names ++ test_variables f) (unnamed (expands s) read.positional complete) }
-made s AllOf read (bracketed f fs) complete same few sound inside = record { form = all_of f fs; is = refl; bounded = inside; variables = ap (λ names. names ++ (test_variables f ++ tests_variables fs)) (unnamed (expands s) read.positional complete) }
-made s AnyOf read (bracketed f fs) complete same few sound inside = record { form = any_of f fs; is = refl; bounded = inside; variables = ap (λ names. names ++ (test_variables f ++ tests_variables fs)) (unnamed (expands s) read.positional complete) }
-made s Size read none complete same few sound inside = sized s read complete
-made s Header read none complete same few sound inside =
-    let lists = two_listed s (header (match_of read.tags)) read.positional complete few sound in
-    record { form = header (match_of read.tags) lists.first lists.second; is = lists.is; bounded = lists.bounded; variables = listed_names s read _ lists.names }
-made s Exists read none complete same few sound inside =
-    let list = one_listed s exists read.positional complete few sound in
-    record { form = exists list.list; is = list.is; bounded = list.bounded; variables = listed_names s read _ list.names }
-made s String read none complete same few sound inside =
-    let lists = two_listed s (string (match_of read.tags)) read.positional complete few sound in
-    record { form = string (match_of read.tags) lists.first lists.second; is = lists.is; bounded = lists.bounded; variables = listed_names s read _ lists.names }
-made s (Constant b) read (one f) complete same few sound inside = absurd (cc)
-made s (Constant b) read (bracketed f fs) complete same few sound inside = absurd (cc)
-made s Not read none complete same few sound inside = absurd (cc)
-made s Not read (bracketed f fs) complete same few sound inside = absurd (cc)
-made s AllOf read none complete same few sound inside = absurd (cc)
-made s AllOf read (one f) complete same few sound inside = absurd (cc)
-made s AnyOf read none complete same few sound inside = absurd (cc)
-made s AnyOf read (one f) complete same few sound inside = absurd (cc)
-made s Header read (one f) complete same few sound inside = absurd (cc)
-made s Header read (bracketed f fs) complete same few sound inside = absurd (cc)
-made s Exists read (one f) complete same few sound inside = absurd (cc)
-made s Exists read (bracketed f fs) complete same few sound inside = absurd (cc)
-made s Size read (one f) complete same few sound inside = absurd (cc)
-made s Size read (bracketed f fs) complete same few sound inside = absurd (cc)
-made s String read (one f) complete same few sound inside = absurd (cc)
-made s String read (bracketed f fs) complete same few sound inside = absurd (cc)
+-- those that stand behind the tags alone
+positional_names : (s : Context) (read : Read) (names : List (List ℕ)) → lists_read read ≡ read.positional → names ≡ flat_map (names_at (expands s)) (strings_of read.positional) → names ≡ own_names s read ++ []
+positional_names s read names alone h = listed_names s read names (h ∙ ap (λ xs. flat_map (names_at (expands s)) (strings_of xs)) (sym alone))
+
+-- and are within the limits
+record BehindTags (s : Context) (read : Read) : Type 0 where
+  few : length (strings_of read.positional) ≤ max_test_strings
+  sound : All (IsSound (expands s)) (strings_of read.positional)
+
+behind_tags : (s : Context) (read : Read) → lists_read read ≡ read.positional → length (strings_of (lists_read read)) ≤ max_test_strings → All (IsSound (expands s)) (strings_of (lists_read read)) → BehindTags s read
+behind_tags s read alone few sound = record {
+  few = subst (λ (xs : List ArgumentTree). length (strings_of xs) ≤ max_test_strings) alone few;
+  sound = subst (λ (xs : List ArgumentTree). All (IsSound (expands s)) (strings_of xs)) alone sound;
+}
+
+made : (s : Context) (name : TestName) (read : Read) (inner : InnerForms) → is_complete (test_signature name) read ≡ true → ((test_signature name).selecting ≡ false → lists_read read ≡ read.positional)
+    → same_tests (test_signature name).tests (inner_kind inner) ≡ true → HasArgument read.tags.piece read.params → length (strings_of (lists_read read)) ≤ max_test_strings → All (IsSound (expands s)) (strings_of (lists_read read)) → IsBoundedInner inner
+    → Made (own_names s read ++ inner_variables inner) (test_of s name read inner)
+made s (Constant b) read none complete alone same params few sound inside = record { form = constant b; is = refl; bounded = tt; variables = ap (λ names. names ++ []) (none_own s (test_signature (Constant b)) read refl complete (alone refl)) }
+made s Not read (one f) complete alone same params few sound inside = record { form = negation f; is = refl; bounded = inside; variables = ap (λ names. names ++ test_variables f) (none_own s (test_signature Not) read refl complete (alone refl)) }
+made s AllOf read (bracketed f fs) complete alone same params few sound inside = record { form = all_of f fs; is = refl; bounded = inside; variables = ap (λ names. names ++ (test_variables f ++ tests_variables fs)) (none_own s (test_signature AllOf) read refl complete (alone refl)) }
+made s AnyOf read (bracketed f fs) complete alone same params few sound inside = record { form = any_of f fs; is = refl; bounded = inside; variables = ap (λ names. names ++ (test_variables f ++ tests_variables fs)) (none_own s (test_signature AnyOf) read refl complete (alone refl)) }
+made s Size read none complete alone same params few sound inside = sized s read complete (alone refl)
+made s Header read none complete alone same params few sound inside =
+    let lists = three_listed s (header (match_of read.tags) (scope_of read.tags)) read.tags.piece read.params read.positional (complete_parts (test_signature Header) read complete).1 params few sound in
+    record { form = header (match_of read.tags) (scope_of read.tags) lists.selected lists.first lists.second; is = lists.is; bounded = lists.bounded; variables = listed_names s read _ lists.names }
+made s Exists read none complete alone same params few sound inside =
+    let behind = behind_tags s read (alone refl) few sound in
+    let list = one_listed s (exists (scope_of read.tags)) read.positional (complete_parts (test_signature Exists) read complete).1 behind.few behind.sound in
+    record { form = exists (scope_of read.tags) list.list; is = list.is; bounded = list.bounded; variables = positional_names s read _ (alone refl) list.names }
+made s String read none complete alone same params few sound inside =
+    let behind = behind_tags s read (alone refl) few sound in
+    let lists = two_listed s (string (match_of read.tags)) read.positional (complete_parts (test_signature String) read complete).1 behind.few behind.sound in
+    record { form = string (match_of read.tags) lists.first lists.second; is = lists.is; bounded = lists.bounded; variables = positional_names s read _ (alone refl) lists.names }
+made s (Constant b) read (one f) complete alone same params few sound inside = absurd (cc)
+made s (Constant b) read (bracketed f fs) complete alone same params few sound inside = absurd (cc)
+made s Not read none complete alone same params few sound inside = absurd (cc)
+made s Not read (bracketed f fs) complete alone same params few sound inside = absurd (cc)
+made s AllOf read none complete alone same params few sound inside = absurd (cc)
+made s AllOf read (one f) complete alone same params few sound inside = absurd (cc)
+made s AnyOf read none complete alone same params few sound inside = absurd (cc)
+made s AnyOf read (one f) complete alone same params few sound inside = absurd (cc)
+made s Header read (one f) complete alone same params few sound inside = absurd (cc)
+made s Header read (bracketed f fs) complete alone same params few sound inside = absurd (cc)
+made s Exists read (one f) complete alone same params few sound inside = absurd (cc)
+made s Exists read (bracketed f fs) complete alone same params few sound inside = absurd (cc)
+made s Size read (one f) complete alone same params few sound inside = absurd (cc)
+made s Size read (bracketed f fs) complete alone same params few sound inside = absurd (cc)
+made s String read (one f) complete alone same params few sound inside = absurd (cc)
+made s String read (bracketed f fs) complete alone same params few sound inside = absurd (cc)
 
 -- ---- any test
 
@@ -199,7 +239,7 @@ mutual
       let well = test_well_formed s name.0 args (kind_of tests) name.2 in
       let read = well.form.read in
       let inner = inner_exists s tests h.1 in
-      let f = made s name.0 read inner.inner well.form.complete (ap (same_tests (test_signature name.0).tests) inner.kind ∙ well.form.same) well.few well.sound inner.bounded in
+      let f = made s name.0 read inner.inner well.form.complete well.form.alone (ap (same_tests (test_signature name.0).tests) inner.kind ∙ well.form.same) well.params well.few well.sound inner.bounded in
       record {
         form = f.form;
         is = all_taken (inner_forms_of s tests) inner.inner (test_named word) name.0 (λ name. reading (test_signature name) args) read (λ inner name read. test_of s name read inner) inner.is name.1 well.form.is

@@ -1,11 +1,11 @@
 -- What a script's limits say of its typed form.
-use Rattle.std.specs.Prelude.{ℕ, ◌+◌, ◌<◌, ◌≤◌, List, length, All, bytes_eq}
+use Rattle.std.specs.Prelude.{◌+◌, ◌<◌, ◌≤◌, List, length, All, bytes_eq}
 use Rattle.octets.specs.Limits.{max_script, max_segments, max_string, max_test_strings, max_variables}
 use Rattle.octets.specs.Once.{each_once}
 use Rattle.sieve_references.specs.References.{last_capture}
 use Rattle.sieve_check.specs.declared.typed.Segment.{Segment}
 use Rattle.sieve_check.specs.declared.typed.Segment.TheVariants.{Text, Variable, Capture}
-use Rattle.sieve_check.specs.Typed.{Template, TestForm, constant, negation, all_of, any_of, header, exists, size, string, TestForms, no_test, test, CommandForm, keep, discard, file_into, set, stop, choice, CommandForms, no_command, command, BranchForms, no_branch, otherwise, branch}
+use Rattle.sieve_check.specs.Typed.{Template, Selected, whole, main, sub, content_type, params, params_of, TestForm, constant, negation, all_of, any_of, header, exists, size, string, TestForms, no_test, test, CommandForm, keep, discard, file_into, set, stop, choice, CommandForms, no_command, command, BranchForms, no_branch, otherwise, branch}
 use Rattle.sieve_check.specs.Extent.{commands_extent, string_extent}
 use Rattle.sieve_check.specs.Variables.{commands_variables}
 
@@ -35,14 +35,29 @@ pub record AreBoundedLists (first second : List Template) : Type 0 where
   pub bounded_first : All IsBoundedString first
   pub bounded_second : All IsBoundedString second
 
+-- where a test takes parameters, there are names of some
+abbrev pub HasParams : Selected → Type 0
+HasParams whole = Unit {0}
+HasParams main = Unit {0}
+HasParams sub = Unit {0}
+HasParams content_type = Unit {0}
+HasParams (params names) = 0 < length names
+
+-- the names, parameters and keys of a test together
+pub record IsBoundedHeader (selected : Selected) (names keys : List Template) : Type 0 where
+  pub lists : AreBoundedLists names keys
+  pub some_params : HasParams selected
+  pub few : length names + length (params_of selected) + length keys ≤ max_test_strings
+  pub bounded_params : All IsBoundedString (params_of selected)
+
 abbrev mutual
   pub IsBoundedTest : TestForm → Type 0
   IsBoundedTest (constant b) = Unit {0}
   IsBoundedTest (negation t) = IsBoundedTest t
   IsBoundedTest (all_of t ts) = IsBoundedTest t × AreBoundedTests ts
   IsBoundedTest (any_of t ts) = IsBoundedTest t × AreBoundedTests ts
-  IsBoundedTest (header matching names keys) = AreBoundedLists names keys
-  IsBoundedTest (exists names) = IsBoundedList names
+  IsBoundedTest (header matching scope selected names keys) = IsBoundedHeader selected names keys
+  IsBoundedTest (exists scope names) = IsBoundedList names
   IsBoundedTest (size order number) = Unit {0}
   IsBoundedTest (string matching sources keys) = AreBoundedLists sources keys
 

@@ -2,7 +2,7 @@
 use Rattle.std.specs.Prelude.{ℕ, ◌+◌, List, length, sum_by}
 use Rattle.sieve_check.specs.declared.typed.Segment.{Segment}
 use Rattle.sieve_check.specs.declared.typed.Segment.TheVariants.{Text, Variable, Capture}
-use Rattle.sieve_check.specs.Typed.{Template, TestForm, constant, negation, all_of, any_of, header, exists, size, string, TestForms, no_test, test, CommandForm, keep, discard, file_into, set, stop, choice, CommandForms, no_command, command, BranchForms, no_branch, otherwise, branch}
+use Rattle.sieve_check.specs.Typed.{Template, params_of, TestForm, constant, negation, all_of, any_of, header, exists, size, string, TestForms, no_test, test, CommandForm, keep, discard, file_into, set, stop, choice, CommandForms, no_command, command, BranchForms, no_branch, otherwise, branch}
 
 -- a stretch of text, or a reference with its braces
 abbrev pub segment_extent : Segment → ℕ
@@ -25,8 +25,8 @@ abbrev mutual
   test_extent (negation t) = 1 + test_extent t
   test_extent (all_of t ts) = 3 + test_extent t + tests_extent ts
   test_extent (any_of t ts) = 3 + test_extent t + tests_extent ts
-  test_extent (header matching names keys) = 1 + strings_extent names + strings_extent keys
-  test_extent (exists names) = 1 + strings_extent names
+  test_extent (header matching scope selected names keys) = 1 + strings_extent names + strings_extent (params_of selected) + strings_extent keys
+  test_extent (exists scope names) = 1 + strings_extent names
   test_extent (size order number) = 3
   test_extent (string matching sources keys) = 1 + strings_extent sources + strings_extent keys
 

@@ -15,11 +15,15 @@ use Rattle.sieve_check.specs.declared.typed.Segment.{Segment}
 use Rattle.sieve_check.specs.declared.typed.Segment.TheVariants.{Text, Variable, Capture}
 use Rattle.bytecode_format.specs.declared.modifiers.Modifiers.{Modifiers}
 use Rattle.sieve_check.specs.declared.signature.Tags.{Tags}
+use Rattle.sieve_check.specs.declared.names.Piece.{Piece}
+use Rattle.sieve_check.specs.declared.names.Piece.TheVariants.{Main, Sub, ContentType, Params}
+use Rattle.sieve_check.specs.declared.typed.Scope.{Scope}
+use Rattle.sieve_check.specs.declared.typed.Scope.TheVariants.{Message, Part, PartAndBelow}
 use Rattle.sieve_check.specs.Names.{command_named, test_named}
 use Rattle.sieve_check.specs.Signatures.{◌>>=◌, Read, reading, command_signature, test_signature}
 use Rattle.sieve_check.specs.Rules.{after_invocation, invocation_of, loops_opened}
 use Rattle.sieve_check.specs.Surroundings.{Context, at_start, has_capability, in_block}
-use Rattle.sieve_check.specs.Typed.{Template, TestForm, constant, negation, all_of, any_of, header, exists, size, string, TestForms, no_test as no_other, test, CommandForm, keep, discard, file_into, set, stop, choice, CommandForms, no_command, command, BranchForms, no_branch, otherwise, branch}
+use Rattle.sieve_check.specs.Typed.{Template, Selected, whole, main, sub, content_type, params, TestForm, constant, negation, all_of, any_of, header, exists, size, string, TestForms, no_test as no_other, test, CommandForm, keep, discard, file_into, set, stop, choice, CommandForms, no_command, command, BranchForms, no_branch, otherwise, branch}
 
 -- the forms of the tests behind arguments: none, one, or a first and others in brackets
 pub data InnerForms : Type 0 where
@@ -72,6 +76,28 @@ of_lists s make _ = None
 abbrev pub match_of : Tags → Match
 match_of tags = record { kind = unwrap_or tags.kind Is; comparator = unwrap_or tags.comparator Casemap }
 
+-- where a test looks
+abbrev pub scope_of : Tags → Scope
+scope_of tags = if tags.mime then (if tags.any_child then PartAndBelow else Part) else Message
+
+-- what it takes of a field, with the names of the parameters
+abbrev pub selected_by : Option Piece → List Template → Selected
+selected_by None names = whole
+selected_by (Some Main) names = main
+selected_by (Some Sub) names = sub
+selected_by (Some ContentType) names = content_type
+selected_by (Some Params) names = params names
+
+-- the names of the parameters, if they are given
+abbrev pub params_in : Context → List ArgumentTree → Option (List Template)
+params_in s [] = Some []
+params_in s (a ∷ args) = list_in s a
+
+-- a test of fields, by what was read
+abbrev pub header_of : Context → Read → Option TestForm
+header_of s read =
+    params_in s read.params >>= λ names. of_lists s (header (match_of read.tags) (scope_of read.tags) (selected_by read.tags.piece names)) read.positional
+
 -- the comparison of a size
 abbrev pub size_of : Tags → List ArgumentTree → Option TestForm
 size_of tags args = tags.order >>= λ order. number_in args >>= λ n. Some (size order n)
@@ -82,8 +108,8 @@ test_of s (Constant b) read none = Some (constant b)
 test_of s Not read (one f) = Some (negation f)
 test_of s AllOf read (bracketed f fs) = Some (all_of f fs)
 test_of s AnyOf read (bracketed f fs) = Some (any_of f fs)
-test_of s Header read none = of_lists s (header (match_of read.tags)) read.positional
-test_of s Exists read none = of_list s exists read.positional
+test_of s Header read none = header_of s read
+test_of s Exists read none = of_list s (exists (scope_of read.tags)) read.positional
 test_of s Size read none = size_of read.tags read.positional
 test_of s String read none = of_lists s (string (match_of read.tags)) read.positional
 test_of s _ _ _ = None

@@ -11,7 +11,8 @@ use Rattle.sieve_check.specs.declared.names.CommandName.TheVariants.{Require, If
 use Rattle.sieve_check.specs.declared.names.TestName.{TestName}
 use Rattle.sieve_check.specs.declared.names.TestName.TheVariants.{Constant, Not, AllOf, AnyOf, Header, Exists, Size, String}
 use Rattle.sieve_check.specs.declared.names.Tag.{Tag}
-use Rattle.sieve_check.specs.declared.names.Tag.TheVariants.{Order, Kind, Comparator, Letters, First, QuoteWildcard, Length}
+use Rattle.sieve_check.specs.declared.names.Tag.TheVariants.{Order, Kind, Comparator, Letters, First, QuoteWildcard, Length, Mime as MimeTag, AnyChild, Select}
+use Rattle.sieve_check.specs.declared.names.Piece.TheVariants.{Main, Sub, ContentType, Params}
 use Rattle.sieve_check.specs.declared.names.Capability.{Capability}
 use Rattle.sieve_check.specs.declared.names.Capability.TheVariants.{FileInto as FileIntoCapability, Variables, Mime, ForEveryPart, Depot, OctetComparator, CasemapComparator}
 
@@ -62,6 +63,12 @@ tag_named name =
     if is_word name (codes "upperfirst") then Some (First Upper) else
     if is_word name (codes "quotewildcard") then Some QuoteWildcard else
     if is_word name (codes "length") then Some Length else
+    if is_word name (codes "mime") then Some MimeTag else
+    if is_word name (codes "anychild") then Some AnyChild else
+    if is_word name (codes "type") then Some (Select Main) else
+    if is_word name (codes "subtype") then Some (Select Sub) else
+    if is_word name (codes "contenttype") then Some (Select ContentType) else
+    if is_word name (codes "param") then Some (Select Params) else
     None
 
 -- the capability of that name, if it is known; capabilities are taken as they are written

@@ -1,5 +1,5 @@
 -- What the readers of arguments answer.
-use Rattle.std.specs.Prelude.{◌≡◌, ℕ, ◌≤◌, List, ◌∷◌, map, length, Option, Some, None, MatchOption}
+use Rattle.std.specs.Prelude.{◌≡◌, ℕ, ◌≤◌, true, List, [], ◌∷◌, ◌++◌, map, length, Option, Some, None, MatchOption}
 use Rattle.std.specs.Borrow.{Bor}
 use Rattle.sieve_parser.specs.Tree.{ArgumentTree, text, label}
 use Rattle.sieve_parser.specs.View.{argument_tree}
@@ -7,8 +7,8 @@ use Rattle.sieve_parser.specs.declared.tree.Argument.{Argument}
 use Rattle.sieve_check.specs.declared.signature.Reading.{Reading}
 use Rattle.sieve_check.specs.declared.names.Tag.{Tag}
 use Rattle.sieve_check.specs.declared.signature.Signature.{Signature}
-use Rattle.sieve_check.specs.declared.signature.Tags.{Tags}
-use Rattle.sieve_check.specs.Signatures.{Read, tags_read}
+use Rattle.sieve_check.specs.declared.signature.Lists.{Lists}
+use Rattle.sieve_check.specs.Signatures.{Read, Given, is_list, tags_read}
 
 -- the name of the first argument and the arguments after it, if that is a tag
 abbrev pub FirstTag : List ArgumentTree → Option (Bor (List ℕ) × Bor (List Argument)) → Type 0
@@ -18,14 +18,31 @@ FirstTag args answer = MatchOption answer ((name : List ℕ) (rest : List Argume
 abbrev pub FirstText : List ArgumentTree → Option (Bor (List ℕ) × Bor (List Argument)) → Type 0
 FirstText args answer = MatchOption answer ((s : List ℕ) (rest : List ArgumentTree) → args ≡ text s ∷ rest → ⊥) (λ found. args ≡ text found.0.now ∷ map argument_tree found.1.now)
 
--- the tags with what the last awaited, and the arguments after that, if it is there
-abbrev pub Settles : Tags → Option Tag → List ArgumentTree → Option (Tags × Bor (List Argument)) → Type 0
-Settles tags last args answer = MatchOption answer ((signature : Signature) → tags_read signature tags last args ≡ None)
-    (λ after. (length after.1.now ≤ length args) × ((signature : Signature) → tags_read signature tags last args ≡ tags_read signature after.0 None (map argument_tree after.1.now)))
+-- the first argument alone and the arguments after it, if that is a list
+abbrev pub FirstList : List ArgumentTree → Option (Bor (List Argument) × Bor (List Argument)) → Type 0
+FirstList args answer =
+    MatchOption answer ((a : ArgumentTree) (rest : List ArgumentTree) → args ≡ a ∷ rest → is_list a ≡ true → ⊥)
+    (λ found. (a : ArgumentTree) × (map argument_tree found.0.now ≡ a ∷ []) × (is_list a ≡ true) × (args ≡ a ∷ map argument_tree found.1.now))
+
+-- what was read so far, as a definition sees it, and the arguments that are left
+abbrev pub given_of : Reading → Given
+given_of reading = record { tags = reading.tags; params = map argument_tree reading.params.now }
+
+abbrev pub left_of : Reading → List ArgumentTree
+left_of reading = map argument_tree reading.positional.now
+
+-- what was read, with what the last tag awaited, if it is there
+abbrev pub Settles : Reading → Option Tag → Option Reading → Type 0
+Settles before last answer = MatchOption answer ((signature : Signature) → tags_read signature (given_of before) last (left_of before) ≡ None)
+    (λ after. (length after.positional.now ≤ length before.positional.now) × ((signature : Signature) → tags_read signature (given_of before) last (left_of before) ≡ tags_read signature (given_of after) None (left_of after)))
 
 -- the arguments as they were read, as a definition sees them
 abbrev pub read_of : Reading → Read
-read_of reading = record { tags = reading.tags; positional = map argument_tree reading.positional.now }
+read_of reading = record { tags = reading.tags; params = map argument_tree reading.params.now; positional = left_of reading }
+
+-- the lists, one after the other
+abbrev pub all_lists : Lists → List ArgumentTree
+all_lists lists = map argument_tree lists.first.now ++ map argument_tree lists.params.now ++ map argument_tree lists.others.now
 
 abbrev pub Reads : Option Read → Option Reading → Type 0
 Reads read answer = MatchOption answer (read ≡ None) (λ found. read ≡ Some (read_of found))

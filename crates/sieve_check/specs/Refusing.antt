@@ -1,11 +1,10 @@
 -- What the functions answer that look for faults.
-use Rattle.std.specs.Prelude.{◌≡◌, ℕ, ◌<◌, List, [], ◌∷◌, length, map, bytes_eq, Option, Some, None, option_map, Result, MatchResult}
+use Rattle.std.specs.Prelude.{◌≡◌, ℕ, ◌<◌, List, [], ◌∷◌, length, map, bytes_eq, Option, Some, None, Result, MatchResult}
 use Rattle.std.specs.Borrow.{Bor}
 use Rattle.octets.specs.Ascii.{lowercase_of}
 use Rattle.octets.specs.Limits.{max_variables}
 use Rattle.octets.specs.Once.{with_more}
 use Rattle.sieve_parser.specs.Tree.{ArgumentTree}
-use Rattle.sieve_parser.specs.View.{argument_tree}
 use Rattle.sieve_check.specs.declared.error.CheckError.{CheckError}
 use Rattle.sieve_check.specs.declared.error.Fault.{Fault}
 use Rattle.sieve_check.specs.declared.error.Fault.TheVariants.{Limit}
@@ -16,6 +15,7 @@ use Rattle.sieve_check.specs.declared.signature.Ending.{Ending}
 use Rattle.sieve_check.specs.declared.signature.Tests.{Tests}
 use Rattle.sieve_check.specs.declared.surroundings.Surroundings.{Surroundings}
 use Rattle.sieve_check.specs.declared.variable_names.VariableNames.{VariableNames}
+use Rattle.sieve_check.specs.Reading.{all_lists}
 use Rattle.sieve_check.specs.Rules as rules
 use Rattle.sieve_check.specs.Rules.{Visit, command_mentions, first_fault, known_command_fault, known_test_fault, names_mentioned, names_with, strings_of, test_mentions, visit_fault}
 use Rattle.sieve_check.specs.Surroundings.{Context}
@@ -38,7 +38,7 @@ set_in (Some name) = name.now ∷ []
 
 -- the code's mentions, as a definition sees them
 abbrev pub mentions_in : Mentions → rules.Mentions
-mentions_in m = record { expanded = strings_of (map argument_tree m.expanded.now); set = set_in m.set }
+mentions_in m = record { expanded = strings_of (all_lists m.expanded); set = set_in m.set }
 
 -- the refusal, where there is one
 abbrev pub Refuses : {A : Type 0} → Option CheckError → Result A CheckError → Type 0

@@ -26,7 +26,9 @@ use Rattle.sieve_check.specs.declared.signature.Tests.TheVariants.{Nothing, One,
 use Rattle.sieve_check.specs.declared.signature.Ending.{Ending}
 use Rattle.sieve_check.specs.declared.signature.Ending.TheVariants.{Semicolon, Block}
 use Rattle.sieve_check.specs.declared.signature.Signature.{Signature}
-use Rattle.sieve_check.specs.Names.{capability_named, command_named, test_named}
+use Rattle.sieve_check.specs.declared.names.Tag.{Tag}
+use Rattle.sieve_check.specs.declared.names.Tag.TheVariants.{Mime}
+use Rattle.sieve_check.specs.Names.{capability_named, command_named, tag_named, test_named}
 use Rattle.sieve_check.specs.Signatures.{Read, command_signature, ending_of, test_signature, reading}
 use Rattle.sieve_check.specs.Surroundings.{Context, at_start, following, has_capability, in_block, lacks}
 
@@ -55,15 +57,28 @@ command_needs Discard = None
 command_needs FileInto = Some capability.FileInto
 command_needs Set = Some capability.Variables
 
-abbrev pub test_needs : TestName → Option Capability
-test_needs (Constant b) = None
-test_needs Not = None
-test_needs AllOf = None
-test_needs AnyOf = None
-test_needs Header = None
-test_needs Exists = None
-test_needs Size = None
-test_needs String = Some capability.Variables
+abbrev pub is_mime : Option Tag → Bool
+is_mime (Some Mime) = true
+is_mime _ = false
+
+-- the argument is `:mime`
+abbrev pub is_mime_tag : ArgumentTree → Bool
+is_mime_tag (label name) = is_mime (tag_named name)
+is_mime_tag _ = false
+
+-- `:mime` stands somewhere among the arguments
+abbrev pub mime_where_given : List ArgumentTree → Option Capability
+mime_where_given args = if list_any is_mime_tag args then Some capability.Mime else None
+
+abbrev pub test_needs : TestName → List ArgumentTree → Option Capability
+test_needs (Constant b) args = None
+test_needs Not args = None
+test_needs AllOf args = None
+test_needs AnyOf args = None
+test_needs Header args = mime_where_given args
+test_needs Exists args = mime_where_given args
+test_needs Size args = None
+test_needs String args = Some capability.Variables
 
 -- where each command may stand: a require at the top level after nothing else, an elsif and an else directly after an if or elsif
 abbrev pub may_stand : Context → CommandName → Bool
@@ -108,10 +123,18 @@ has_unknown_capability _ args = false
 abbrev pub has_long_string : List ArgumentTree → Bool
 has_long_string args = list_any (string_has Long) (strings_of args)
 
--- arguments that were read have more strings behind the tags than one test may have
+-- what was read behind the tags, with the list of `:param`, if it stands there, after the first: in the order of the typed form
+abbrev pub lists_read : Read → List ArgumentTree
+lists_read read = take 1 read.positional ++ read.params ++ drop 1 read.positional
+
+-- the strings of the lists, where the arguments could be read
+abbrev pub strings_read : Option Read → List (List ℕ)
+strings_read None = []
+strings_read (Some read) = strings_of (lists_read read)
+
+-- arguments that were read have more strings in their lists than one test may have
 abbrev pub has_many_strings : Option Read → Bool
-has_many_strings None = false
-has_many_strings (Some read) = nat_lt max_test_strings (length (strings_of read.positional))
+has_many_strings read = nat_lt max_test_strings (length (strings_read read))
 
 abbrev pub same_tests : Tests → Tests → Bool
 same_tests Nothing Nothing = true
@@ -136,16 +159,11 @@ pub record Mentions : Type 0 where
 abbrev pub no_mention : Mentions
 no_mention = record { expanded = []; set = [] }
 
--- those of a command, of the strings behind its tags: a `set` sets its first string, which is taken as it is written
+-- those of a command, of the strings of its lists: a `set` sets its first string, which is taken as it is written
 abbrev pub mentions_of : CommandName → List (List ℕ) → Mentions
 mentions_of Require strings = no_mention
 mentions_of Set strings = record { expanded = drop 1 strings; set = take 1 strings }
 mentions_of _ strings = record { expanded = strings; set = [] }
-
--- the strings behind the tags, where the arguments could be read
-abbrev pub strings_read : Option Read → List (List ℕ)
-strings_read None = []
-strings_read (Some read) = strings_of read.positional
 
 -- variables are there only where they were required
 abbrev pub where_required : Context → Mentions → Mentions
@@ -182,7 +200,7 @@ known_command_fault s name args tests ending =
 -- the fault of least number of a test that is known by that name
 abbrev pub known_test_fault : Context → TestName → List ArgumentTree → Tests → Option Fault
 known_test_fault s name args tests =
-    if lacks s (test_needs name) then Some MissingCapability
+    if lacks s (test_needs name args) then Some MissingCapability
     else if not (is_well_formed (test_signature name) args tests) then Some BadArguments
     else if has_wrong_mention (test_mentions s name args) then Some BadArguments
     else if has_long_string args || has_many_strings (reading (test_signature name) args) || has_large_mention (test_mentions s name args) then Some Limit

@@ -7,7 +7,8 @@ use Rattle.sieve_check.specs.declared.names.CommandName.TheVariants.{Require, If
 use Rattle.sieve_check.specs.declared.names.TestName.{TestName}
 use Rattle.sieve_check.specs.declared.names.TestName.TheVariants.{Constant, Not, AllOf, AnyOf, Header, Exists, Size, String}
 use Rattle.sieve_check.specs.declared.names.Tag.{Tag}
-use Rattle.sieve_check.specs.declared.names.Tag.TheVariants.{Order, Kind, Comparator, Letters, First, QuoteWildcard, Length}
+use Rattle.sieve_check.specs.declared.names.Tag.TheVariants.{Order, Kind, Comparator, Letters, First, QuoteWildcard, Length, Mime, AnyChild, Select}
+use Rattle.sieve_check.specs.declared.names.Piece.TheVariants.{Main, Sub, ContentType, Params}
 use Rattle.sieve_check.specs.declared.signature.Positional.{Positional}
 use Rattle.sieve_check.specs.declared.signature.Positional.TheVariants as positional
 use Rattle.sieve_check.specs.declared.signature.Tests.{Tests}
@@ -25,7 +26,7 @@ None >>= f = None
 
 -- no argument, and these tests
 abbrev pub bare : Tests → Signature
-bare after = record { order = false; matching = false; modifying = false; positional = positional.Nothing; tests = after }
+bare after = record { order = false; matching = false; modifying = false; scoped = false; selecting = false; positional = positional.Nothing; tests = after }
 
 -- what each command takes, and how it ends
 abbrev pub command_signature : CommandName → Signature
@@ -56,18 +57,28 @@ test_signature (Constant b) = bare tests.Nothing
 test_signature Not = bare tests.One
 test_signature AllOf = bare tests.Bracketed
 test_signature AnyOf = bare tests.Bracketed
-test_signature Header = record (bare tests.Nothing) { matching = true; positional = positional.TwoLists }
-test_signature Exists = record (bare tests.Nothing) { positional = positional.OneList }
+test_signature Header = record (bare tests.Nothing) { matching = true; scoped = true; selecting = true; positional = positional.TwoLists }
+test_signature Exists = record (bare tests.Nothing) { scoped = true; positional = positional.OneList }
 test_signature Size = record (bare tests.Nothing) { order = true; positional = positional.Number }
 test_signature String = record (bare tests.Nothing) { matching = true; positional = positional.TwoLists }
 
--- arguments that were read: the tags, one of each group at most, and those behind them
+-- arguments that were read: the tags, one of each group at most, the argument of `:param`, if it stands there, and those behind
+-- the tags
 pub record Read : Type 0 where
   pub tags : Tags
+  pub params : List ArgumentTree
   pub positional : List ArgumentTree
 
 abbrev pub no_tag : Tags
-no_tag = record { order = None; kind = None; comparator = None; modifiers = no_modifiers }
+no_tag = record { order = None; kind = None; comparator = None; modifiers = no_modifiers; mime = false; any_child = false; piece = None }
+
+-- what was read of the tags
+pub record Given : Type 0 where
+  pub tags : Tags
+  pub params : List ArgumentTree
+
+abbrev pub nothing_given : Given
+nothing_given = record { tags = no_tag; params = [] }
 
 -- the signature takes the tag, and none of its group was given
 abbrev pub takes_tag : Signature → Tag → Tags → Bool
@@ -78,6 +89,9 @@ takes_tag signature (Letters case) tags = signature.modifying && not (is_some ta
 takes_tag signature (First case) tags = signature.modifying && not (is_some tags.modifiers.first)
 takes_tag signature QuoteWildcard tags = signature.modifying && not tags.modifiers.quote_wildcard
 takes_tag signature Length tags = signature.modifying && not tags.modifiers.length
+takes_tag signature Mime tags = signature.scoped && not tags.mime
+takes_tag signature AnyChild tags = signature.scoped && not tags.any_child
+takes_tag signature (Select piece) tags = signature.selecting && not (is_some tags.piece)
 
 -- with one more tag; what one with an argument says comes with that
 abbrev pub with_tag : Tag → Tags → Tags
@@ -88,9 +102,15 @@ with_tag (Letters case) tags = record tags { modifiers = record tags.modifiers {
 with_tag (First case) tags = record tags { modifiers = record tags.modifiers { first = Some case } }
 with_tag QuoteWildcard tags = record tags { modifiers = record tags.modifiers { quote_wildcard = true } }
 with_tag Length tags = record tags { modifiers = record tags.modifiers { length = true } }
+with_tag Mime tags = record tags { mime = true }
+with_tag AnyChild tags = record tags { any_child = true }
+with_tag (Select piece) tags = record tags { piece = Some piece }
 
-abbrev pub add_tag : Signature → Tag → Tags → Option Tags
-add_tag signature tag tags = if takes_tag signature tag tags then Some (with_tag tag tags) else None
+abbrev pub tags_with : Signature → Tag → Tags → Option Tags
+tags_with signature tag tags = if takes_tag signature tag tags then Some (with_tag tag tags) else None
+
+abbrev pub add_tag : Signature → Tag → Given → Option Given
+add_tag signature tag given = option_map (λ tags. record given { tags = tags }) (tags_with signature tag given.tags)
 
 -- the tag, if it takes an argument
 abbrev pub awaited : Tag → Option Tag
@@ -101,18 +121,12 @@ awaited (Letters case) = None
 awaited (First case) = None
 awaited QuoteWildcard = None
 awaited Length = None
-
--- a tag's argument: of a comparator one string, its name
-abbrev pub with_argument : Tag → ArgumentTree → Tags → Option Tags
-with_argument Comparator (text s) tags = option_map (λ comparator. record tags { comparator = Some comparator }) (comparator_named s)
-with_argument _ _ tags = None
-
--- after these tags, of which the last may await its argument: those that are still to come, and the arguments behind them
-abbrev pub tags_read : Signature → Tags → Option Tag → List ArgumentTree → Option Read
-tags_read signature tags None (label name ∷ args) = tag_named name >>= λ tag. add_tag signature tag tags >>= λ more. tags_read signature more (awaited tag) args
-tags_read signature tags None args = Some (record { tags = tags; positional = args })
-tags_read signature tags (Some tag) (a ∷ args) = with_argument tag a tags >>= λ more. tags_read signature more None args
-tags_read signature tags (Some tag) [] = None
+awaited Mime = None
+awaited AnyChild = None
+awaited (Select Main) = None
+awaited (Select Sub) = None
+awaited (Select ContentType) = None
+awaited (Select Params) = Some (Select Params)
 
 -- one string, or one list of strings in square brackets
 abbrev pub is_list : ArgumentTree → Bool
@@ -120,6 +134,19 @@ is_list (text s) = true
 is_list (text_list s ss) = true
 is_list (amount n) = false
 is_list (label name) = false
+
+-- a tag's argument: of a comparator one string, its name; of `:param` a list
+abbrev pub with_argument : Tag → ArgumentTree → Given → Option Given
+with_argument Comparator (text s) given = option_map (λ comparator. record given { tags = record given.tags { comparator = Some comparator } }) (comparator_named s)
+with_argument (Select Params) a given = if is_list a then Some (record given { params = a ∷ [] }) else None
+with_argument _ _ given = None
+
+-- after these tags, of which the last may await its argument: those that are still to come, and the arguments behind them
+abbrev pub tags_read : Signature → Given → Option Tag → List ArgumentTree → Option Read
+tags_read signature given None (label name ∷ args) = tag_named name >>= λ tag. add_tag signature tag given >>= λ more. tags_read signature more (awaited tag) args
+tags_read signature given None args = Some (record { tags = given.tags; params = given.params; positional = args })
+tags_read signature given (Some tag) (a ∷ args) = with_argument tag a given >>= λ more. tags_read signature more None args
+tags_read signature given (Some tag) [] = None
 
 -- the arguments are those that have to stand behind the tags
 abbrev pub is_positional : Positional → List ArgumentTree → Bool
@@ -131,10 +158,15 @@ is_positional positional.OneList (a ∷ []) = is_list a
 is_positional positional.TwoLists (a ∷ b ∷ []) = is_list a && is_list b
 is_positional _ _ = false
 
--- of each group that needs one a tag was given, and the arguments behind them are right
+-- tags that stand only with `:mime`
+abbrev pub asks_for_mime : Tags → Bool
+asks_for_mime tags = tags.any_child || is_some tags.piece
+
+-- of each group that needs one a tag was given, none stands without what it needs, and the arguments behind them are right
 abbrev pub is_complete : Signature → Read → Bool
-is_complete signature read = (not signature.order || is_some read.tags.order) && is_positional signature.positional read.positional
+is_complete signature read =
+    (not signature.order || is_some read.tags.order) && (not (asks_for_mime read.tags) || read.tags.mime) && is_positional signature.positional read.positional
 
 -- the arguments, read by a signature: tags in any order, then the others
 abbrev pub reading : Signature → List ArgumentTree → Option Read
-reading signature args = tags_read signature no_tag None args >>= λ read. if is_complete signature read then Some read else None
+reading signature args = tags_read signature nothing_given None args >>= λ read. if is_complete signature read then Some read else None

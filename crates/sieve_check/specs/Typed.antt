@@ -1,13 +1,30 @@
 -- The typed form of scripts.
-use Rattle.std.specs.Prelude.{ℕ, Bool, List}
+use Rattle.std.specs.Prelude.{ℕ, Bool, List, []}
 use Rattle.glob_match.specs.declared.match_type.Match.{Match}
 use Rattle.bytecode_format.specs.declared.modifiers.Modifiers.{Modifiers}
 use Rattle.sieve_check.specs.declared.typed.Order.{Order}
+use Rattle.sieve_check.specs.declared.typed.Scope.{Scope}
 use Rattle.sieve_check.specs.declared.typed.Segment.{Segment}
 
 -- a string as it is meant: stretches of text and references, which are put in their places one after the other
 abbrev pub Template : Type 0
 Template = List Segment
+
+-- what a test takes of a field: its value, its type, its subtype, both, or the values of the parameters of these names
+pub data Selected : Type 0 where
+  whole : Selected
+  main : Selected
+  sub : Selected
+  content_type : Selected
+  params : List Template → Selected
+
+-- the names of the parameters
+abbrev pub params_of : Selected → List Template
+params_of whole = []
+params_of main = []
+params_of sub = []
+params_of content_type = []
+params_of (params names) = names
 
 -- a test: the lists of tests by their first and the others, a header's names and then its keys; tests in order
 mutual
@@ -16,8 +33,8 @@ mutual
     negation : TestForm → TestForm
     all_of : TestForm → TestForms → TestForm
     any_of : TestForm → TestForms → TestForm
-    header : Match → List Template → List Template → TestForm
-    exists : List Template → TestForm
+    header : Match → Scope → Selected → List Template → List Template → TestForm
+    exists : Scope → List Template → TestForm
     size : Order → ℕ → TestForm
     -- sources, and then keys
     string : Match → List Template → List Template → TestForm

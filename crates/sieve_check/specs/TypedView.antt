@@ -2,7 +2,9 @@
 use Rattle.std.specs.Prelude.{List, [], ◌∷◌, map, Option, Some, None}
 use Rattle.std.specs.Global.{Vec}
 use Rattle.sieve_check.specs.declared.typed.Segment.{Segment}
-use Rattle.sieve_check.specs.Typed.{Template, TestForm, constant, negation, all_of, any_of, header, exists, size, string, TestForms, no_test, test, CommandForm, keep, discard, file_into, set, stop, choice, CommandForms, no_command, command, BranchForms, no_branch, otherwise, branch}
+use Rattle.sieve_check.specs.declared.typed.Selection.{Selection}
+use Rattle.sieve_check.specs.declared.typed.Selection.TheVariants.{Value, Main, Sub, ContentType, Params}
+use Rattle.sieve_check.specs.Typed.{Template, Selected, whole, main, sub, content_type, params, TestForm, constant, negation, all_of, any_of, header, exists, size, string, TestForms, no_test, test, CommandForm, keep, discard, file_into, set, stop, choice, CommandForms, no_command, command, BranchForms, no_branch, otherwise, branch}
 use Rattle.sieve_check.specs.declared.typed.Test.{Test}
 use Rattle.sieve_check.specs.declared.typed.Test.TheOpen.{Test-F, Constant, Not, AllOf, AnyOf, Header, Exists, Size, String}
 use Rattle.sieve_check.specs.declared.typed.Test.TheFolds.{fold-Test}
@@ -20,13 +22,21 @@ tests_of (t ∷ ts) = test t (tests_of ts)
 abbrev pub templates_of : List (Vec Segment) → List Template
 templates_of strings = map (λ (string : Vec Segment). string.items) strings
 
+-- what is taken of a field
+abbrev pub selected_form : Selection → Selected
+selected_form Value = whole
+selected_form Main = main
+selected_form Sub = sub
+selected_form ContentType = content_type
+selected_form (Params names) = params (templates_of names.items)
+
 abbrev pub test_step : Test-F TestForm → TestForm
 test_step (Constant b) = constant b
 test_step (Not t) = negation t.value
 test_step (AllOf t ts) = all_of t.value (tests_of ts.items)
 test_step (AnyOf t ts) = any_of t.value (tests_of ts.items)
-test_step (Header matching names keys) = header matching (templates_of names.items) (templates_of keys.items)
-test_step (Exists names) = exists (templates_of names.items)
+test_step (Header matching scope selection names keys) = header matching scope (selected_form selection) (templates_of names.items) (templates_of keys.items)
+test_step (Exists scope names) = exists scope (templates_of names.items)
 test_step (Size order number) = size order number
 test_step (String matching sources keys) = string matching (templates_of sources.items) (templates_of keys.items)
 

@@ -2,7 +2,7 @@
 use Rattle.std.specs.Prelude.{ℕ, List, [], ◌∷◌, ◌++◌, flat_map}
 use Rattle.sieve_check.specs.declared.typed.Segment.{Segment}
 use Rattle.sieve_check.specs.declared.typed.Segment.TheVariants.{Text, Variable, Capture}
-use Rattle.sieve_check.specs.Typed.{Template, TestForm, constant, negation, all_of, any_of, header, exists, size, string, TestForms, no_test, test, CommandForm, keep, discard, file_into, set, stop, choice, CommandForms, no_command, command, BranchForms, no_branch, otherwise, branch}
+use Rattle.sieve_check.specs.Typed.{Template, params_of, TestForm, constant, negation, all_of, any_of, header, exists, size, string, TestForms, no_test, test, CommandForm, keep, discard, file_into, set, stop, choice, CommandForms, no_command, command, BranchForms, no_branch, otherwise, branch}
 
 abbrev pub segment_variables : Segment → List (List ℕ)
 segment_variables (Text octets) = []
@@ -22,8 +22,8 @@ abbrev mutual
   test_variables (negation t) = test_variables t
   test_variables (all_of t ts) = test_variables t ++ tests_variables ts
   test_variables (any_of t ts) = test_variables t ++ tests_variables ts
-  test_variables (header matching names keys) = strings_variables names ++ strings_variables keys
-  test_variables (exists names) = strings_variables names
+  test_variables (header matching scope selected names keys) = strings_variables names ++ strings_variables (params_of selected) ++ strings_variables keys
+  test_variables (exists scope names) = strings_variables names
   test_variables (size order number) = []
   test_variables (string matching sources keys) = strings_variables sources ++ strings_variables keys
 

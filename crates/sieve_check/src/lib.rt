@@ -28,4 +28,4 @@ mod variable_names;
 pub use checked::Checked;
 pub use checker::check;
 pub use error::CheckError;
-pub use typed::{Branch, Command, Order, Segment, Test};
+pub use typed::{Branch, Command, Order, Scope, Segment, Selection, Test};

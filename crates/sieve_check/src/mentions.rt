@@ -2,26 +2,27 @@
 ghost use Rattle.std.specs.Prelude.{◌≡◌, map, true};
 ghost use Rattle.sieve_parser.specs.View.{argument_tree};
 ghost use Rattle.sieve_check.specs.declared.signature.Positional.TheVariants.{TwoTexts};
+ghost use Rattle.sieve_check.specs.Reading.{read_of};
 ghost use Rattle.sieve_check.specs.Refusing.{Adds, context_of, listed, mentions_in};
-ghost use Rattle.sieve_check.specs.Rules.{arguments_of, command_mentions, has_large_mention, has_wrong_mention, mentions_of, names_mentioned, no_mention, strings_of, test_mentions};
+ghost use Rattle.sieve_check.specs.Rules.{arguments_of, command_mentions, has_large_mention, has_wrong_mention, lists_read, mentions_of, names_mentioned, no_mention, strings_of, test_mentions};
 ghost use Rattle.sieve_check.specs.Signatures.{is_positional};
 
 use crate::error::Fault;
 use crate::names::{Capability, CommandName, TestName};
 use crate::references::is_long_name;
 use crate::rules::StringFault;
-use crate::signature::{command_signature, first_text, test_signature};
+use crate::signature::{Lists, Reading, command_signature, first_text, test_signature};
 use crate::surroundings::Surroundings;
 use crate::variable_names::VariableNames;
 use octets::Octets;
-use sieve_parser::{Argument, Head};
+use sieve_parser::Head;
 use sieve_references::is_identifier;
 
 /// The strings of a command or test that variables have to do with.
 #[derive(Clone, Copy, Debug)]
 pub struct Mentions<'t> {
-    /// The arguments whose strings are expanded.
-    pub expanded: &'t [Argument],
+    /// The lists whose strings are expanded.
+    pub expanded: Lists<'t>,
     /// The name that is set.
     pub set: Option<&'t Octets>,
 }
@@ -32,19 +33,23 @@ impl<'t> Mentions<'t> {
         ensures { mentions_in result ≡ no_mention }
     {
         Mentions {
-            expanded: &[],
+            expanded: Lists::none(),
             set: None,
         }
     }
 
     // Those of a `set`, by its arguments: the first is the name, which is taken as it is written.
-    fn of_set(arguments: &'t [Argument]) -> Mentions<'t>
-        requires { is_positional TwoTexts (map argument_tree arguments.now) ≡ true }
-        ensures { mentions_in result ≡ mentions_of CommandName.Set (strings_of (map argument_tree arguments.now)) }
+    fn of_set(reading: Reading<'t>) -> Mentions<'t>
+        requires { is_positional TwoTexts (map argument_tree reading.positional.now) ≡ true }
+        ensures { mentions_in result ≡ mentions_of CommandName.Set (strings_of (lists_read (read_of reading.entry))) }
     {
-        match first_text(arguments) {
+        match first_text(reading.positional) {
             Some((name, value)) => Mentions {
-                expanded: value,
+                expanded: Lists {
+                    first: &[],
+                    params: reading.params,
+                    others: value,
+                },
                 set: Some(name),
             },
             None => unreachable!(),
@@ -64,7 +69,7 @@ impl<'t> Mentions<'t> {
         };
         match name {
             CommandName::Require => Mentions::none(),
-            CommandName::Set => Mentions::of_set(reading.positional),
+            CommandName::Set => Mentions::of_set(reading),
             CommandName::If
             | CommandName::Elsif
             | CommandName::Else
@@ -72,7 +77,7 @@ impl<'t> Mentions<'t> {
             | CommandName::Keep
             | CommandName::Discard
             | CommandName::FileInto => Mentions {
-                expanded: reading.positional,
+                expanded: reading.lists(),
                 set: None,
             },
         }
@@ -87,7 +92,7 @@ impl<'t> Mentions<'t> {
         }
         match test_signature(name).read(&head.arguments) {
             Some(reading) => Mentions {
-                expanded: reading.positional,
+                expanded: reading.lists(),
                 set: None,
             },
             None => Mentions::none(),
@@ -98,7 +103,7 @@ impl<'t> Mentions<'t> {
     pub fn are_wrong(self) -> bool
         ensures { result ≡ has_wrong_mention (mentions_in self.entry) }
     {
-        if StringFault::Wrong.is_in_some(self.expanded) {
+        if StringFault::Wrong.is_in_lists(self.expanded) {
             return true;
         }
         match self.set {
@@ -111,7 +116,7 @@ impl<'t> Mentions<'t> {
     pub fn are_large(self) -> bool
         ensures { result ≡ has_large_mention (mentions_in self.entry) }
     {
-        if StringFault::Large.is_in_some(self.expanded) {
+        if StringFault::Large.is_in_lists(self.expanded) {
             return true;
         }
         match self.set {
@@ -124,7 +129,7 @@ impl<'t> Mentions<'t> {
     pub fn add_to(self, names: &mut VariableNames<'t>) -> Result<(), Fault>
         ensures { Adds (listed names.old) (names_mentioned (mentions_in self.entry)) result (listed names.new) }
     {
-        names.add_arguments(self.expanded)?;
+        names.add_lists(self.expanded)?;
         match self.set {
             Some(name) => names.add(name.as_slice()),
             None => Ok(()),

@@ -68,6 +68,25 @@ pub enum Tag {
     QuoteWildcard,
     /// `:length` (RFC 5229, section 4.1.4).
     Length,
+    /// `:mime` (RFC 5703, section 4.1).
+    Mime,
+    /// `:anychild` (RFC 5703, section 4.1).
+    AnyChild,
+    /// `:type`, `:subtype`, `:contenttype`, and `:param`, which takes the parameters' names (RFC 5703, section 4.2).
+    Select(Piece),
+}
+
+/// What a test may take of a field in place of its value.
+#[derive(Clone, Copy, Debug, PartialEq, Eq)]
+pub enum Piece {
+    /// Its media type without the subtype, or its disposition.
+    Main,
+    /// Its subtype.
+    Sub,
+    /// Its media type with the subtype, or its disposition.
+    ContentType,
+    /// The values of parameters.
+    Params,
 }
 
 /// The capabilities that can be required.
@@ -178,6 +197,18 @@ pub fn tag_named(name: &[u8]) -> Option<Tag>
         Some(Tag::QuoteWildcard)
     } else if is_word(name, b"length") {
         Some(Tag::Length)
+    } else if is_word(name, b"mime") {
+        Some(Tag::Mime)
+    } else if is_word(name, b"anychild") {
+        Some(Tag::AnyChild)
+    } else if is_word(name, b"type") {
+        Some(Tag::Select(Piece::Main))
+    } else if is_word(name, b"subtype") {
+        Some(Tag::Select(Piece::Sub))
+    } else if is_word(name, b"contenttype") {
+        Some(Tag::Select(Piece::ContentType))
+    } else if is_word(name, b"param") {
+        Some(Tag::Select(Piece::Params))
     } else {
         None
     }

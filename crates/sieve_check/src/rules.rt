@@ -1,18 +1,20 @@
 // The static rules: what is wrong with commands and tests (RFC 5228, section 8.2, and each command's own section).
-ghost use Rattle.std.specs.Prelude.{◌≡◌, ◌&&◌, ◌||◌, [], ◌∷◌, map, length, nat_lt, IsOk, MatchResult};
-ghost use Rattle.octets.specs.Limits.{max_test_strings};
+ghost use Rattle.std.specs.Prelude.{◌≡◌, ◌+◌, ◌<◌, ◌&&◌, ◌||◌, not, [], ◌∷◌, map, length, nat_lt, is_some, IsOk, MatchOption, MatchResult};
 ghost use Rattle.sieve_parser.specs.View.{argument_tree, command_tree, commands_tree, invocation_tree, more_tests_of};
-ghost use Rattle.sieve_check.specs.Rules.{arguments_of, command_needs, command_visit, command_visits, commands_visits, fault_of, has_large_mention, has_long_string, has_many_strings, head_visits, is_well_formed, known_command_fault, known_test_fault, may_stand, more_visits, refusal, same_ending, strings_in, strings_of, test_needs, test_visit, test_visits};
+ghost use Rattle.sieve_check.specs.Rules.{arguments_of, command_needs, command_visit, command_visits, commands_visits, fault_of, has_large_mention, has_long_string, has_many_strings, head_visits, is_well_formed, is_mime_tag, known_command_fault, known_test_fault, may_stand, mime_where_given, more_visits, refusal, same_ending, strings_in, strings_of, test_needs, test_visit, test_visits};
 ghost use Rattle.sieve_check.specs.Signatures.{command_signature, ending_of, reading};
+ghost use Rattle.sieve_check.specs.Reading.{all_lists};
 ghost use Rattle.sieve_check.specs.Refusing.{Judges, Passes, Refuses, context_of, listed, mentions_in, known_command_visit, known_test_visit};
 
 use crate::error::{CheckError, Fault};
 use crate::mentions::Mentions;
 use crate::names::{
-    Capability, CommandName, TestName, capability_named, command_named, test_named,
+    Capability, CommandName, Tag, TestName, capability_named, command_named, tag_named, test_named,
 };
 use crate::references::{has_large_references, has_wrong_reference};
-use crate::signature::{Ending, Signature, Tests, command_signature, ending_of, test_signature};
+use crate::signature::{
+    Ending, Lists, Signature, Tests, command_signature, ending_of, test_signature,
+};
 use crate::surroundings::Surroundings;
 use crate::variable_names::VariableNames;
 use octets::Octets;
@@ -41,18 +43,39 @@ fn command_needs(name: CommandName) -> Option<Capability>
     }
 }
 
-// The capability that a test needs, if it needs one.
-fn test_needs(name: TestName) -> Option<Capability>
-    ensures { result ≡ test_needs name }
+// Whether the argument is `:mime`.
+fn is_mime_tag(argument: &Argument) -> bool
+    ensures { result ≡ is_mime_tag (argument_tree argument.now) }
+{
+    match argument {
+        Argument::Tag(name) => tag_named(name.as_slice()) == Some(Tag::Mime),
+        Argument::Text(_) | Argument::TextList(_, _) | Argument::Number(_) => false,
+    }
+}
+
+// The capability of `:mime`, where that stands somewhere among the arguments.
+fn mime_where_given(arguments: &[Argument]) -> Option<Capability>
+    ensures { result ≡ mime_where_given (map argument_tree arguments.now) }
+{
+    for argument in arguments {
+        if is_mime_tag(argument) {
+            return Some(Capability::Mime);
+        }
+    }
+    None
+}
+
+// The capability that a test with these arguments needs, if it needs one.
+fn test_needs(name: TestName, head: &Head) -> Option<Capability>
+    ensures { result ≡ test_needs name (arguments_of head.now) }
 {
     match name {
         TestName::Constant(_)
         | TestName::Not
         | TestName::AllOf
         | TestName::AnyOf
-        | TestName::Header
-        | TestName::Exists
         | TestName::Size => None,
+        TestName::Header | TestName::Exists => mime_where_given(&head.arguments),
         TestName::String => Some(Capability::Variables),
     }
 }
@@ -74,6 +97,7 @@ impl StringFault {
     ghost use Rattle.std.specs.Prelude.{◌≡◌, map};
     ghost use Rattle.std.specs.List.{list_any};
     ghost use Rattle.sieve_parser.specs.View.{argument_tree};
+    ghost use Rattle.sieve_check.specs.Reading.{all_lists};
     ghost use Rattle.sieve_check.specs.Rules.{string_has, strings_in, strings_of};
 
     // Whether this is wrong with the string.
@@ -122,6 +146,15 @@ impl StringFault {
         }
         false
     }
+
+    /// Whether this is wrong with a string of the lists.
+    pub fn is_in_lists(self, lists: Lists<'_>) -> bool
+        ensures { result ≡ list_any (string_has self) (strings_of (all_lists lists.entry)) }
+    {
+        self.is_in_some(lists.first)
+            || self.is_in_some(lists.params)
+            || self.is_in_some(lists.others)
+    }
 }
 
 // How many strings the argument has.
@@ -135,19 +168,24 @@ fn string_count(argument: &Argument) -> usize
     }
 }
 
-// Whether the arguments have more strings than one test may have.
-fn are_many(arguments: &[Argument]) -> bool
-    ensures { result ≡ nat_lt max_test_strings (length (strings_of (map argument_tree arguments.now))) }
+// How many strings may still come after those of the arguments, where so many may come with them.
+fn left_after(most: usize, arguments: &[Argument]) -> Option<usize>
+    ensures { MatchOption result (most < length (strings_of (map argument_tree arguments.now))) (λ left. left + length (strings_of (map argument_tree arguments.now)) ≡ most) }
 {
-    let mut left = MAX_TEST_STRINGS;
+    let mut left = most;
     for argument in arguments {
-        let count = string_count(argument);
-        if count > left {
-            return true;
-        }
-        left -= count;
+        left = left.checked_sub(string_count(argument))?;
     }
-    false
+    Some(left)
+}
+
+// How many strings may still come after those of the lists, where so many may come with them.
+fn left_after_lists(most: usize, lists: Lists<'_>) -> Option<usize>
+    ensures { is_some result ≡ not (nat_lt most (length (strings_of (all_lists lists.entry)))) }
+{
+    let left = left_after(most, lists.first)?;
+    let left = left_after(left, lists.params)?;
+    left_after(left, lists.others)
 }
 
 // Whether the arguments, as the signature reads them, have more strings than one test may have.
@@ -155,7 +193,7 @@ fn has_many_strings(signature: Signature, head: &Head) -> bool
     ensures { result ≡ has_many_strings (reading signature (arguments_of head.now)) }
 {
     match signature.read(&head.arguments) {
-        Some(reading) => are_many(reading.positional),
+        Some(reading) => left_after_lists(MAX_TEST_STRINGS, reading.lists()).is_none(),
         None => false,
     }
 }
@@ -249,7 +287,7 @@ fn known_test_fault(
 {
     let signature = test_signature(name);
     let mentions = Mentions::of_test(surroundings, name, head);
-    if surroundings.lacks(test_needs(name)) {
+    if surroundings.lacks(test_needs(name, head)) {
         Some(Fault::MissingCapability)
     } else if !is_well_formed(signature, head, tests) || mentions.are_wrong() {
         Some(Fault::BadArguments)

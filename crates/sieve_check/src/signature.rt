@@ -2,9 +2,9 @@
 ghost use Rattle.std.specs.Prelude.{◌≡◌, map, Some};
 ghost use Rattle.sieve_parser.specs.View.{argument_tree};
 ghost use Rattle.sieve_check.specs.Signatures.{awaited, bare, command_signature, ending_of, is_list, test_signature};
-ghost use Rattle.sieve_check.specs.Reading.{FirstTag, FirstText, Settles};
+ghost use Rattle.sieve_check.specs.Reading.{FirstList, FirstTag, FirstText, Settles};
 
-use crate::names::{CommandName, Tag, TestName, comparator_named, tag_named};
+use crate::names::{CommandName, Piece, Tag, TestName, comparator_named, tag_named};
 use crate::typed::Order;
 use bytecode_format::Modifiers;
 use glob_match::{Comparator, MatchType};
@@ -53,6 +53,10 @@ pub struct Signature {
     pub matching: bool,
     /// Takes the modifiers of a value, at most one of each precedence.
     pub modifying: bool,
+    /// Takes `:mime`, and with it `:anychild`.
+    pub scoped: bool,
+    /// Takes, with `:mime`, at most one of `:type`, `:subtype`, `:contenttype` and `:param`.
+    pub selecting: bool,
     pub positional: Positional,
     pub tests: Tests,
 }
@@ -64,14 +68,91 @@ pub struct Tags {
     pub kind: Option<MatchType>,
     pub comparator: Option<Comparator>,
     pub modifiers: Modifiers,
+    pub mime: bool,
+    pub any_child: bool,
+    pub piece: Option<Piece>,
+}
+
+impl Tags {
+    ghost use Rattle.std.specs.Prelude.{◌≡◌};
+    ghost use Rattle.sieve_check.specs.Signatures.{asks_for_mime, no_tag};
+
+    // None.
+    fn none() -> Tags
+        ensures { result ≡ no_tag }
+    {
+        Tags {
+            order: None,
+            kind: None,
+            comparator: None,
+            modifiers: Modifiers::none(),
+            mime: false,
+            any_child: false,
+            piece: None,
+        }
+    }
+
+    // Whether one of them stands only with `:mime`.
+    fn ask_for_mime(self) -> bool
+        ensures { result ≡ asks_for_mime self }
+    {
+        self.any_child || self.piece.is_some()
+    }
 }
 
 /// Arguments that were read by a signature.
 #[derive(Clone, Copy, Debug)]
 pub struct Reading<'a> {
     pub tags: Tags,
+    /// That of `:param`, if it stands there.
+    pub params: &'a [Argument],
     /// Those behind the tags.
     pub positional: &'a [Argument],
+}
+
+/// The lists that were read, in the order of the typed form.
+#[derive(Clone, Copy, Debug)]
+pub struct Lists<'a> {
+    /// The first behind the tags.
+    pub first: &'a [Argument],
+    /// That of `:param`, if it stands there.
+    pub params: &'a [Argument],
+    /// The others behind the tags.
+    pub others: &'a [Argument],
+}
+
+impl<'a> Lists<'a> {
+    ghost use Rattle.std.specs.Prelude.{◌≡◌, []};
+    ghost use Rattle.sieve_check.specs.Reading.{all_lists};
+
+    /// None.
+    pub fn none() -> Lists<'a>
+        ensures { all_lists result ≡ [] }
+    {
+        Lists {
+            first: &[],
+            params: &[],
+            others: &[],
+        }
+    }
+}
+
+impl<'a> Reading<'a> {
+    ghost use Rattle.std.specs.Prelude.{◌≡◌};
+    ghost use Rattle.sieve_check.specs.Reading.{all_lists, read_of};
+    ghost use Rattle.sieve_check.specs.Rules.{lists_read};
+
+    /// The lists.
+    pub fn lists(self) -> Lists<'a>
+        ensures { all_lists result ≡ lists_read (read_of self.entry) }
+    {
+        let (first, others) = self.positional.split_at(self.positional.len().min(1));
+        Lists {
+            first,
+            params: self.params,
+            others,
+        }
+    }
 }
 
 // What takes tests alone.
@@ -82,6 +163,8 @@ fn bare(tests: Tests) -> Signature
         order: false,
         matching: false,
         modifying: false,
+        scoped: false,
+        selecting: false,
         positional: Positional::Nothing,
         tests,
     }
@@ -135,12 +218,20 @@ pub fn test_signature(name: TestName) -> Signature
         TestName::Constant(_) => bare(Tests::Nothing),
         TestName::Not => bare(Tests::One),
         TestName::AllOf | TestName::AnyOf => bare(Tests::Bracketed),
-        TestName::Header | TestName::String => Signature {
+        TestName::Header => Signature {
+            matching: true,
+            scoped: true,
+            selecting: true,
+            positional: Positional::TwoLists,
+            ..bare(Tests::Nothing)
+        },
+        TestName::String => Signature {
             matching: true,
             positional: Positional::TwoLists,
             ..bare(Tests::Nothing)
         },
         TestName::Exists => Signature {
+            scoped: true,
             positional: Positional::OneList,
             ..bare(Tests::Nothing)
         },
@@ -172,29 +263,6 @@ pub fn first_text(arguments: &[Argument]) -> Option<(&Octets, &[Argument])>
     }
 }
 
-// The tags with the argument that the last one takes, and the arguments after that.
-fn settle(tag: Tag, tags: Tags, arguments: &[Argument]) -> Option<(Tags, &[Argument])>
-    ensures { Settles tags (awaited tag) (map argument_tree arguments.now) result }
-{
-    match tag {
-        Tag::Order(_)
-        | Tag::Kind(_)
-        | Tag::Letters(_)
-        | Tag::First(_)
-        | Tag::QuoteWildcard
-        | Tag::Length => Some((tags, arguments)),
-        Tag::Comparator => {
-            let (name, rest) = first_text(arguments)?;
-            let comparator = comparator_named(name.as_slice())?;
-            let tags = Tags {
-                comparator: Some(comparator),
-                ..tags
-            };
-            Some((tags, rest))
-        }
-    }
-}
-
 // Whether the argument is a list.
 fn is_list(argument: &Argument) -> bool
     ensures { result ≡ is_list (argument_tree argument.now) }
@@ -202,11 +270,72 @@ fn is_list(argument: &Argument) -> bool
     matches!(argument, Argument::Text(_) | Argument::TextList(_, _))
 }
 
+// The first argument alone and the arguments after it, where it is a list.
+fn first_list(arguments: &[Argument]) -> Option<(&[Argument], &[Argument])>
+    ensures { FirstList (map argument_tree arguments.now) result }
+{
+    let (list, rest) = arguments.split_at(arguments.len().min(1));
+    match list {
+        [argument] if is_list(argument) => Some((list, rest)),
+        _ => None,
+    }
+}
+
+// What was read so far, with the comparator that is named next.
+fn with_comparator(reading: Reading<'_>) -> Option<Reading<'_>>
+    ensures { Settles reading.entry (Some Tag.Comparator) result }
+{
+    let (name, rest) = first_text(reading.positional)?;
+    let comparator = comparator_named(name.as_slice())?;
+    let tags = Tags {
+        comparator: Some(comparator),
+        ..reading.tags
+    };
+    Some(Reading {
+        tags,
+        params: reading.params,
+        positional: rest,
+    })
+}
+
+// What was read so far, with the list of `:param`, which comes next.
+fn with_params(reading: Reading<'_>) -> Option<Reading<'_>>
+    ensures { Settles reading.entry (Some (Tag.Select Piece.Params)) result }
+{
+    let (params, rest) = first_list(reading.positional)?;
+    Some(Reading {
+        tags: reading.tags,
+        params,
+        positional: rest,
+    })
+}
+
+// What was read so far, with the argument that the last tag takes.
+fn settle(tag: Tag, reading: Reading<'_>) -> Option<Reading<'_>>
+    ensures { Settles reading.entry (awaited tag) result }
+{
+    match tag {
+        Tag::Order(_)
+        | Tag::Kind(_)
+        | Tag::Letters(_)
+        | Tag::First(_)
+        | Tag::QuoteWildcard
+        | Tag::Length
+        | Tag::Mime
+        | Tag::AnyChild => Some(reading),
+        Tag::Comparator => with_comparator(reading),
+        Tag::Select(piece) => match piece {
+            Piece::Main | Piece::Sub | Piece::ContentType => Some(reading),
+            Piece::Params => with_params(reading),
+        },
+    }
+}
+
 impl Signature {
     ghost use Rattle.std.specs.Prelude.{◌≡◌, map};
     ghost use Rattle.sieve_parser.specs.View.{argument_tree};
-    ghost use Rattle.sieve_check.specs.Signatures.{add_tag, is_complete, is_positional, reading, takes_tag};
-    ghost use Rattle.sieve_check.specs.Reading.{Reads};
+    ghost use Rattle.sieve_check.specs.Signatures.{is_complete, is_positional, reading, tags_with, takes_tag};
+    ghost use Rattle.sieve_check.specs.Reading.{Reads, read_of};
 
     // Whether the tag is taken, and none of its group was given.
     fn takes(self, tag: Tag, tags: Tags) -> bool
@@ -220,12 +349,15 @@ impl Signature {
             Tag::First(_) => self.modifying && tags.modifiers.first.is_none(),
             Tag::QuoteWildcard => self.modifying && !tags.modifiers.quote_wildcard,
             Tag::Length => self.modifying && !tags.modifiers.length,
+            Tag::Mime => self.scoped && !tags.mime,
+            Tag::AnyChild => self.scoped && !tags.any_child,
+            Tag::Select(_) => self.selecting && tags.piece.is_none(),
         }
     }
 
     // One more tag, where it is taken and none of its group was given.
     fn add(self, tag: Tag, tags: Tags) -> Option<Tags>
-        ensures { result ≡ add_tag self tag tags }
+        ensures { result ≡ tags_with self tag tags }
     {
         if !self.takes(tag, tags) {
             return None;
@@ -239,6 +371,9 @@ impl Signature {
             Tag::First(case) => tags.modifiers.first = Some(case),
             Tag::QuoteWildcard => tags.modifiers.quote_wildcard = true,
             Tag::Length => tags.modifiers.length = true,
+            Tag::Mime => tags.mime = true,
+            Tag::AnyChild => tags.any_child = true,
+            Tag::Select(piece) => tags.piece = Some(piece),
         }
         Some(tags)
     }
@@ -263,36 +398,40 @@ impl Signature {
         }
     }
 
-    // Whether of each group that needs one a tag was given, and the arguments behind them are right.
-    fn is_complete(self, tags: Tags, positional: &[Argument]) -> bool
-        ensures { result ≡ is_complete self (record { tags = tags; positional = map argument_tree positional.now }) }
+    // Whether of each group that needs one a tag was given, none stands without what it needs, and the arguments behind them are
+    // right.
+    fn is_complete(self, reading: Reading<'_>) -> bool
+        ensures { result ≡ is_complete self (read_of reading.entry) }
     {
-        (!self.order || tags.order.is_some()) && self.is_positional(positional)
+        let tags = reading.tags;
+        (!self.order || tags.order.is_some())
+            && (!tags.ask_for_mime() || tags.mime)
+            && self.is_positional(reading.positional)
     }
 
     /// The arguments, read: tags in any order, then the others. Nothing where they aren't those that are taken.
     pub fn read(self, arguments: &[Argument]) -> Option<Reading>
         ensures { Reads (reading self (map argument_tree arguments.now)) result }
     {
-        let mut tags = Tags {
-            order: None,
-            kind: None,
-            comparator: None,
-            modifiers: Modifiers::none(),
+        let mut reading = Reading {
+            tags: Tags::none(),
+            params: &[],
+            positional: arguments,
         };
-        let mut rest = arguments;
-        'tags: while let Some((name, more)) = first_tag(rest) {
+        'tags: while let Some((name, rest)) = first_tag(reading.positional) {
             let tag = tag_named(name)?;
-            let added = self.add(tag, tags)?;
-            let (settled, after) = settle(tag, added, more)?;
-            tags = settled;
-            rest = after;
+            let tags = self.add(tag, reading.tags)?;
+            reading = settle(
+                tag,
+                Reading {
+                    tags,
+                    params: reading.params,
+                    positional: rest,
+                },
+            )?;
         }
-        if self.is_complete(tags, rest) {
-            Some(Reading {
-                tags,
-                positional: rest,
-            })
+        if self.is_complete(reading) {
+            Some(reading)
         } else {
             None
         }

@@ -1,18 +1,19 @@
 // The typed form of tests. Nothing is answered where one isn't written as it has to be.
 ghost use Rattle.std.specs.Prelude.{◌≡◌, IfOk, map, option_map, Some, None, if◌then◌else◌};
 ghost use Rattle.sieve_parser.specs.View.{argument_tree, invocation_tree, more_tests_of};
-ghost use Rattle.sieve_check.specs.FormOf.{none, one, bracketed, match_of, more_forms_of, number_in, of_list, of_lists, size_of, test_form_of};
-ghost use Rattle.sieve_check.specs.Forming.{head_test, joined_by};
+ghost use Rattle.sieve_check.specs.FormOf.{none, one, bracketed, header_of, match_of, more_forms_of, number_in, of_list, of_lists, params_in, scope_of, selected_by, size_of, test_form_of};
+ghost use Rattle.sieve_check.specs.Forming.{head_test, joined_by, test_with_list, test_with_one};
+ghost use Rattle.sieve_check.specs.Reading.{read_of};
 ghost use Rattle.sieve_check.specs.Refusing.{context_of};
 ghost use Rattle.sieve_check.specs.Surroundings.{Context};
-ghost use Rattle.sieve_check.specs.Typed.{TestForm, TestForms, exists, header, negation, string};
-ghost use Rattle.sieve_check.specs.TypedView.{test_form, tests_of};
+ghost use Rattle.sieve_check.specs.Typed.{TestForm, TestForms, exists, negation, string};
+ghost use Rattle.sieve_check.specs.TypedView.{selected_form, templates_of, test_form, tests_of};
 
-use crate::names::{TestName, test_named};
-use crate::signature::{Tags, test_signature};
+use crate::names::{Piece, TestName, test_named};
+use crate::signature::{Reading, Tags, test_signature};
 use crate::strings::{list_in, lists_in};
 use crate::surroundings::Surroundings;
-use crate::typed::Test;
+use crate::typed::{Scope, Segment, Selection, Test};
 use glob_match::{Comparator, Match, MatchType};
 use sieve_parser::{Argument, Head, Invocation};
 use std::alloc::{AllocError, Global};
@@ -37,21 +38,67 @@ fn match_of(tags: Tags) -> Match
     }
 }
 
-// The test of a header's names and keys, which the arguments are.
+// Which parts' headers a test looks at.
+fn scope_of(tags: Tags) -> Scope
+    ensures { result ≡ scope_of tags }
+{
+    if !tags.mime {
+        Scope::Message
+    } else if tags.any_child {
+        Scope::PartAndBelow
+    } else {
+        Scope::Part
+    }
+}
+
+// What a test takes of a field, with the names of the parameters.
+fn selected_by(piece: Option<Piece>, names: Vec<Vec<Segment>>) -> Selection
+    ensures { selected_form result ≡ selected_by piece (templates_of names.items) }
+{
+    match piece {
+        None => Selection::Value,
+        Some(Piece::Main) => Selection::Main,
+        Some(Piece::Sub) => Selection::Sub,
+        Some(Piece::ContentType) => Selection::ContentType,
+        Some(Piece::Params) => Selection::Params(names),
+    }
+}
+
+// The names of the parameters, which the argument is, if there is one.
+fn params_in(
+    alloc: Global,
+    surroundings: Surroundings,
+    arguments: &[Argument],
+) -> Result<Option<Vec<Vec<Segment>>>, AllocError>
+    ensures { IfOk result (λ names. option_map (λ all. templates_of all.items) names ≡ params_in (context_of surroundings) (map argument_tree arguments.now)) }
+{
+    match arguments {
+        [] => Ok(Some(Vec::new(alloc))),
+        [list, ..] => list_in(alloc, surroundings, list),
+    }
+}
+
+// The test of a header's names and keys.
 fn header(
     alloc: Global,
     surroundings: Surroundings,
-    tags: Tags,
-    arguments: &[Argument],
+    reading: Reading<'_>,
 ) -> Result<Option<Test>, AllocError>
-    ensures { IfOk result (λ t. option_map test_form t ≡ of_lists (context_of surroundings) (header (match_of tags)) (map argument_tree arguments.now)) }
+    ensures { IfOk result (λ t. option_map test_form t ≡ header_of (context_of surroundings) (read_of reading.entry)) }
 {
-    let Some((names, keys)) = lists_in(alloc, surroundings, arguments)? else {
+    let Some(params) = params_in(alloc, surroundings, reading.params)? else {
         return Ok(None);
     };
-    let matching = match_of(tags);
+    let selection = selected_by(reading.tags.piece, params);
+    let Some((names, keys)) = lists_in(alloc, surroundings, reading.positional)? else {
+        return Ok(None);
+    };
+    let matching = match_of(reading.tags);
+    let scope = scope_of(reading.tags);
     Ok(Some(Test::Header {
         matching,
+        scope,
+        selection,
         names,
         keys,
     }))
@@ -81,15 +128,16 @@ fn string(
 fn exists(
     alloc: Global,
     surroundings: Surroundings,
+    scope: Scope,
     arguments: &[Argument],
 ) -> Result<Option<Test>, AllocError>
-    ensures { IfOk result (λ t. option_map test_form t ≡ of_list (context_of surroundings) exists (map argument_tree arguments.now)) }
+    ensures { IfOk result (λ t. option_map test_form t ≡ of_list (context_of surroundings) (exists scope) (map argument_tree arguments.now)) }
 {
     let [names] = arguments else {
         return Ok(None);
     };
     match list_in(alloc, surroundings, names)? {
-        Some(names) => Ok(Some(Test::Exists(names))),
+        Some(names) => Ok(Some(Test::Exists(scope, names))),
         None => Ok(None),
     }
 }
@@ -118,8 +166,11 @@ fn plain_test(
     };
     match name {
         TestName::Constant(value) => Ok(Some(Test::Constant(value))),
-        TestName::Header => header(alloc, surroundings, reading.tags, reading.positional),
-        TestName::Exists => exists(alloc, surroundings, reading.positional),
+        TestName::Header => header(alloc, surroundings, reading),
+        TestName::Exists => {
+            let scope = scope_of(reading.tags);
+            exists(alloc, surroundings, scope, reading.positional)
+        }
         TestName::Size => Ok(size(reading.tags, reading.positional)),
         TestName::String => string(alloc, surroundings, reading.tags, reading.positional),
         TestName::Not | TestName::AllOf | TestName::AnyOf => Ok(None),
@@ -163,10 +214,13 @@ fn combining(head: &Head) -> Option<Junction>
     }
 }
 
-// The test that turns around the one behind it.
-fn negated(alloc: Global, head: &Head, inner: Test) -> Result<Option<Test>, AllocError>
-    ensures { IfOk result (λ t. (s : Context) → option_map test_form t ≡ head_test s head.now (one (test_form inner))) }
+// The test that turns around the one behind it, if that has a form.
+fn negated(alloc: Global, head: &Head, inner: Option<Test>) -> Result<Option<Test>, AllocError>
+    ensures { IfOk result (λ t. (s : Context) → option_map test_form t ≡ test_with_one s head.now (option_map test_form inner)) }
 {
+    let Some(inner) = inner else {
+        return Ok(None);
+    };
     if negates(head) {
         Ok(Some(Test::Not(Box::new(alloc, inner)?)))
     } else {
@@ -174,15 +228,22 @@ fn negated(alloc: Global, head: &Head, inner: Test) -> Result<Option<Test>, Allo
     }
 }
 
-// The test of the tests in round brackets behind it.
+// The test of the tests in round brackets behind it, if they have forms.
 fn combined(
     alloc: Global,
     head: &Head,
-    first: Test,
-    others: Vec<Test>,
+    first: Option<Test>,
+    others: Option<Vec<Test>>,
 ) -> Result<Option<Test>, AllocError>
-    ensures { IfOk result (λ t. (s : Context) → option_map test_form t ≡ head_test s head.now (bracketed (test_form first) (tests_of (map test_form others.items)))) }
+    ensures { IfOk result (λ t. (s : Context) → option_map test_form t ≡
+        test_with_list s head.now (option_map test_form first) (option_map (λ ts. tests_of (map test_form ts.items)) others)) }
 {
+    let Some(first) = first else {
+        return Ok(None);
+    };
+    let Some(others) = others else {
+        return Ok(None);
+    };
     let first = Box::new(alloc, first)?;
     match combining(head) {
         Some(Junction::All) => Ok(Some(Test::AllOf(first, others))),
@@ -202,18 +263,14 @@ pub fn test(
 {
     match invocation {
         Invocation::Plain(head) => plain_test(alloc, surroundings, head),
-        Invocation::WithTest(head, inner) => match test(alloc, surroundings, inner)? {
-            Some(inner) => negated(alloc, head, inner),
-            None => Ok(None),
-        },
+        Invocation::WithTest(head, inner) => {
+            let inner = test(alloc, surroundings, inner)?;
+            negated(alloc, head, inner)
+        }
         Invocation::WithTests(head, first, others) => {
-            let Some(first) = test(alloc, surroundings, first)? else {
-                return Ok(None);
-            };
-            match tests(alloc, surroundings, others)? {
-                Some(others) => combined(alloc, head, first, others),
-                None => Ok(None),
-            }
+            let first = test(alloc, surroundings, first)?;
+            let others = tests(alloc, surroundings, others)?;
+            combined(alloc, head, first, others)
         }
     }
 }

@@ -12,6 +12,17 @@ pub enum Order {
     Under,
 }
 
+/// Which parts' headers a test looks at (RFC 5703, section 4.1).
+#[derive(Clone, Copy, Debug, PartialEq, Eq)]
+pub enum Scope {
+    /// That of the message itself.
+    Message,
+    /// `:mime`: that of the current part, or of the message itself outside all loops.
+    Part,
+    /// `:mime` and `:anychild`: that one, and those of all parts below it.
+    PartAndBelow,
+}
+
 /// A piece of a string: text as it stands, or a reference (RFC 5229, section 3).
 #[derive(Debug, Drop)]
 pub enum Segment {
@@ -21,6 +32,37 @@ pub enum Segment {
     Variable(Octets),
     /// What a wildcard of the last match stands for; 0 is the whole value that was matched.
     Capture(u8),
+}
+
+/// What a test takes of a field (RFC 5703, section 4.2).
+#[derive(Debug, Drop)]
+pub enum Selection {
+    /// Its value.
+    Value,
+    /// `:type`: its media type without the subtype, or its disposition.
+    Main,
+    /// `:subtype`: its subtype.
+    Sub,
+    /// `:contenttype`: its media type with the subtype, or its disposition.
+    ContentType,
+    /// `:param`: the values of the parameters of these names.
+    Params(Vec<Vec<Segment>>),
+}
+
+impl Selection {
+    ghost use Rattle.std.specs.Prelude.{◌≡◌};
+    ghost use Rattle.sieve_check.specs.Typed.{params_of};
+    ghost use Rattle.sieve_check.specs.TypedView.{selected_form, templates_of};
+
+    /// The names of the parameters that it takes; none, where it takes something else.
+    pub fn params(&self) -> &[Vec<Segment>]
+        ensures { templates_of result.now ≡ params_of (selected_form self.now) }
+    {
+        match self {
+            Selection::Params(names) => names,
+            Selection::Value | Selection::Main | Selection::Sub | Selection::ContentType => &[],
+        }
+    }
 }
 
 /// A test. A string is its segments, one after the other.
@@ -34,14 +76,16 @@ pub enum Test {
     AllOf(Box<Test>, Vec<Test>),
     /// `anyof`: the first test, and those after it.
     AnyOf(Box<Test>, Vec<Test>),
-    /// `header`: whether a field of one of the names has a value that matches one of the keys.
+    /// `header`: whether what is selected of a field of one of the names matches one of the keys.
     Header {
         matching: Match,
+        scope: Scope,
+        selection: Selection,
         names: Vec<Vec<Segment>>,
         keys: Vec<Vec<Segment>>,
     },
     /// `exists`: whether there is a field of each of the names.
-    Exists(Vec<Vec<Segment>>),
+    Exists(Scope, Vec<Vec<Segment>>),
     /// `size`.
     Size(Order, u64),
     /// `string`: whether one of the sources matches one of the keys (RFC 5229, section 5).

@@ -4,6 +4,7 @@ ghost use Rattle.octets.specs.Ascii.{lowercase_of};
 ghost use Rattle.octets.specs.Limits.{max_variables};
 
 use crate::error::Fault;
+use crate::signature::Lists;
 use arrayvec::ArrayVec;
 use octets::{Octets, equal_ignoring_case};
 use sieve_parser::Argument;
@@ -34,6 +35,7 @@ impl<'t> VariableNames<'t> {
     ghost use Rattle.octets.specs.Once.{is_listed};
     ghost use Rattle.sieve_references.specs.References.{names_in};
     ghost use Rattle.sieve_parser.specs.View.{argument_tree};
+    ghost use Rattle.sieve_check.specs.Reading.{all_lists};
     ghost use Rattle.sieve_check.specs.Refusing.{Adds, listed};
     ghost use Rattle.sieve_check.specs.Rules.{strings_in, strings_of};
 
@@ -110,13 +112,21 @@ impl<'t> VariableNames<'t> {
         }
     }
 
-    /// Adds the names in the strings of arguments. Where there would be too many, that is [`Fault::Limit`].
-    pub fn add_arguments(&mut self, arguments: &'t [Argument]) -> Result<(), Fault>
+    // Adds the names in the strings of arguments.
+    fn add_arguments(&mut self, arguments: &'t [Argument]) -> Result<(), Fault>
         ensures { Adds (listed self.old) (flat_map names_in (strings_of (map argument_tree arguments.now))) result (listed self.new) }
     {
         for argument in arguments {
             self.add_argument(argument)?;
         }
         Ok(())
+    }
+    /// Adds the names in the strings of lists. Where there would be too many, that is [`Fault::Limit`].
+    pub fn add_lists(&mut self, lists: Lists<'t>) -> Result<(), Fault>
+        ensures { Adds (listed self.old) (flat_map names_in (strings_of (all_lists lists.entry))) result (listed self.new) }
+    {
+        self.add_arguments(lists.first)?;
+        self.add_arguments(lists.params)?;
+        self.add_arguments(lists.others)
     }
 }

@@ -2,7 +2,7 @@
 use Rattle.std.proofs.Common.{◌≡◌, ℕ, ◌+◌, Bool, false, List, [], ◌∷◌, ◌++◌, refl, sym, ◌∙◌, arith, length, map}
 use Rattle.std.proofs.lemmas.List.{length-append, length-map}
 use Rattle.std.proofs.lemmas.List.Sums.{sum_by-cons}
-use Rattle.sieve_check.specs.Typed.{Template, TestForm, constant, negation, all_of, any_of, size, header, exists, string, TestForms, no_test, test, CommandForm, keep, discard, file_into, set, stop, choice, CommandForms, no_command, command, BranchForms, no_branch, otherwise, branch}
+use Rattle.sieve_check.specs.Typed.{Template, Selected, params_of, TestForm, constant, negation, all_of, any_of, size, header, exists, string, TestForms, no_test, test, CommandForm, keep, discard, file_into, set, stop, choice, CommandForms, no_command, command, BranchForms, no_branch, otherwise, branch}
 use Rattle.sieve_compiler.specs.Tables.{Tables}
 use Rattle.sieve_compiler.specs.Lengths.{string_length, strings_length, test_length, tests_length, leave_length, command_length, commands_length, branches_length}
 use Rattle.sieve_compiler.specs.Coding.{join_texts, push_segment, string_code, strings_code, test_code, tests_code, leave_code, command_code, commands_code, branches_code}
@@ -27,9 +27,12 @@ module _ (tables : Tables) where
     test_code_length (all_of t ts) place asked target = length_two _ _ _ _ (test_code_length t place _ _) (tests_code_length ts (place + test_length t) _ _ _ target)
     test_code_length (any_of t ts) place asked target = length_two _ _ _ _ (test_code_length t place _ _) (tests_code_length ts (place + test_length t) _ _ _ target)
     test_code_length (size order number) place asked target = refl
-    test_code_length (header how names keys) place asked target =
-        length_two (strings_code tables names ++ strings_code tables keys) _ (strings_length names + strings_length keys) 2 (length_two (strings_code tables names) (strings_code tables keys) _ _ (strings_code_length names) (strings_code_length keys)) refl
-    test_code_length (exists names) place asked target = length_two (strings_code tables names) _ (strings_length names) 2 (strings_code_length names) refl
+    test_code_length (header how scope selected names keys) place asked target =
+        let given = params_of selected in
+        let two = length_two (strings_code tables names) (strings_code tables given) _ _ (strings_code_length names) (strings_code_length given) in
+        let three = length_two (strings_code tables names ++ strings_code tables given) (strings_code tables keys) (strings_length names + strings_length given) _ two (strings_code_length keys) in
+        length_two (strings_code tables names ++ strings_code tables given ++ strings_code tables keys) _ (strings_length names + strings_length given + strings_length keys) 2 three refl
+    test_code_length (exists scope names) place asked target = length_two (strings_code tables names) _ (strings_length names) 2 (strings_code_length names) refl
     test_code_length (string how sources keys) place asked target =
         length_two (strings_code tables sources ++ strings_code tables keys) _ (strings_length sources + strings_length keys) 2 (length_two (strings_code tables sources) (strings_code tables keys) _ _ (strings_code_length sources) (strings_code_length keys)) refl
 

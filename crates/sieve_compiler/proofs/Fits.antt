@@ -19,7 +19,9 @@ use Rattle.sieve_check.specs.declared.typed.Order.TheVariants.{Over, Under}
 use Rattle.sieve_check.specs.declared.typed.Segment.{Segment}
 use Rattle.sieve_check.specs.declared.typed.Segment.TheVariants.{Text, Variable, Capture}
 use Rattle.sieve_check.specs.Variables.{commands_variables}
-use Rattle.sieve_check.specs.Typed.{Template, TestForm, constant, negation, all_of, any_of, size, header, exists, string, TestForms, no_test, test, CommandForm, keep, discard, file_into, set, stop, choice, CommandForms, no_command, command, BranchForms, no_branch, otherwise, branch}
+use Rattle.sieve_compiler.proofs.Selecting as selecting
+use Rattle.sieve_check.specs.declared.typed.Scope.{Scope}
+use Rattle.sieve_check.specs.Typed.{Template, Selected, params_of, TestForm, constant, negation, all_of, any_of, size, header, exists, string, TestForms, no_test, test, CommandForm, keep, discard, file_into, set, stop, choice, CommandForms, no_command, command, BranchForms, no_branch, otherwise, branch}
 use Rattle.glob_match.specs.declared.comparator.Comparator.{Comparator}
 use Rattle.glob_match.specs.declared.comparator.Comparator.TheVariants.{Octet, Casemap}
 use Rattle.glob_match.specs.declared.match_type.Match.{Match}
@@ -27,7 +29,7 @@ use Rattle.glob_match.specs.declared.match_type.MatchType.{MatchType}
 use Rattle.glob_match.specs.declared.match_type.MatchType.TheVariants.{Is, Contains, Matches}
 use Rattle.octets.specs.Once.{each_once}
 use Rattle.octets.specs.Limits.{max_segments, max_string, max_variables}
-use Rattle.sieve_check.specs.Bounded.{IsBoundedSegment, IsBoundedString, IsBoundedTest, AreBoundedTests, IsBoundedCommand, AreBoundedCommands, AreBoundedBranches, IsBounded}
+use Rattle.sieve_check.specs.Bounded.{IsBoundedSegment, IsBoundedString, IsBoundedHeader, IsBoundedTest, AreBoundedTests, IsBoundedCommand, AreBoundedCommands, AreBoundedBranches, IsBounded}
 use Rattle.sieve_compiler.specs.Strings.{segment_strings, string_strings, strings_of, test_strings, tests_strings, command_strings, commands_strings, branches_strings}
 use Rattle.sieve_check.specs.Extent.{segment_extent, string_extent, strings_extent, test_extent, tests_extent, command_extent, commands_extent, branches_extent}
 use Rattle.sieve_compiler.specs.Tables.{Tables, tables_of, place_of_number, place_of_string, place_of_variable}
@@ -61,8 +63,9 @@ mutual
   test_within (all_of t ts) b = omega (arith, test_within t b.0, tests_within ts b.1)
   test_within (any_of t ts) b = omega (arith, test_within t b.0, tests_within ts b.1)
   test_within (size order number) b = omega arith
-  test_within (header how names keys) b = omega (arith, strings_within names b.bounded_first, strings_within keys b.bounded_second)
-  test_within (exists names) b = omega (arith, strings_within names b.bounded)
+  test_within (header how scope selected names keys) b =
+      omega (arith, strings_within names b.lists.bounded_first, strings_within (params_of selected) b.bounded_params, strings_within keys b.lists.bounded_second)
+  test_within (exists scope names) b = omega (arith, strings_within names b.bounded)
   test_within (string how sources keys) b = omega (arith, strings_within sources b.bounded_first, strings_within keys b.bounded_second)
 
   pub tests_within : (ts : TestForms) → AreBoundedTests ts → tests_length ts ≤ tests_extent ts
@@ -102,8 +105,8 @@ mutual
   test_uses (all_of t ts) = omega (arith, length-append (test_numbers t) (tests_numbers ts), test_uses t, tests_use ts)
   test_uses (any_of t ts) = omega (arith, length-append (test_numbers t) (tests_numbers ts), test_uses t, tests_use ts)
   test_uses (size order number) = omega arith
-  test_uses (header how names keys) = omega arith
-  test_uses (exists names) = omega arith
+  test_uses (header how scope selected names keys) = omega arith
+  test_uses (exists scope names) = omega arith
   test_uses (string how sources keys) = omega arith
 
   tests_use : (ts : TestForms) → length (tests_numbers ts) ≤ tests_length ts
@@ -188,8 +191,10 @@ mutual
   test_spells (all_of t ts) = omega (arith, both_octets (test_strings t) (tests_strings ts), test_spells t, tests_spell ts)
   test_spells (any_of t ts) = omega (arith, both_octets (test_strings t) (tests_strings ts), test_spells t, tests_spell ts)
   test_spells (size order number) = omega arith
-  test_spells (header how names keys) = omega (arith, both_octets (strings_of names) (strings_of keys), strings_spell names, strings_spell keys)
-  test_spells (exists names) = omega (arith, strings_spell names)
+  test_spells (header how scope selected names keys) =
+      let given = params_of selected in
+      omega (arith, both_octets (strings_of names ++ strings_of given) (strings_of keys), both_octets (strings_of names) (strings_of given), strings_spell names, strings_spell given, strings_spell keys)
+  test_spells (exists scope names) = omega (arith, strings_spell names)
   test_spells (string how sources keys) = omega (arith, both_octets (strings_of sources) (strings_of keys), strings_spell sources, strings_spell keys)
 
   tests_spell : (ts : TestForms) → octets_of (tests_strings ts) ≤ tests_extent ts
@@ -239,8 +244,10 @@ mutual
   test_pushes (all_of t ts) = omega (arith, length-append (test_strings t) (tests_strings ts), test_pushes t, tests_push ts)
   test_pushes (any_of t ts) = omega (arith, length-append (test_strings t) (tests_strings ts), test_pushes t, tests_push ts)
   test_pushes (size order number) = omega arith
-  test_pushes (header how names keys) = omega (arith, length-append (strings_of names) (strings_of keys), strings_push names, strings_push keys)
-  test_pushes (exists names) = omega (arith, strings_push names)
+  test_pushes (header how scope selected names keys) =
+      let given = params_of selected in
+      omega (arith, length-append (strings_of names ++ strings_of given) (strings_of keys), length-append (strings_of names) (strings_of given), strings_push names, strings_push given, strings_push keys)
+  test_pushes (exists scope names) = omega (arith, strings_push names)
   test_pushes (string how sources keys) = omega (arith, length-append (strings_of sources) (strings_of keys), strings_push sources, strings_push keys)
 
   tests_push : (ts : TestForms) → length (tests_strings ts) ≤ tests_length ts
@@ -293,8 +300,9 @@ mutual
   test_short (all_of t ts) b = All-append IsShort _ _ (test_short t b.0) (tests_short ts b.1)
   test_short (any_of t ts) b = All-append IsShort _ _ (test_short t b.0) (tests_short ts b.1)
   test_short (size order number) b = All-nil IsShort
-  test_short (header how names keys) b = All-append IsShort _ _ (strings_short names b.bounded_first) (strings_short keys b.bounded_second)
-  test_short (exists names) b = strings_short names b.bounded
+  test_short (header how scope selected names keys) b =
+      All-append IsShort _ _ (All-append IsShort _ _ (strings_short names b.lists.bounded_first) (strings_short (params_of selected) b.bounded_params)) (strings_short keys b.lists.bounded_second)
+  test_short (exists scope names) b = strings_short names b.bounded
   test_short (string how sources keys) b = All-append IsShort _ _ (strings_short sources b.bounded_first) (strings_short keys b.bounded_second)
 
   tests_short : (ts : TestForms) → AreBoundedTests ts → All IsShort (tests_strings ts)
@@ -392,22 +400,19 @@ fits_strings tables (s ∷ ss) few b = All-append Fits (string_code tables s) (s
 fits_set : (tables : Tables) (modifiers : Modifiers) (name : List ℕ) → AreFew tables → Fits (set_variable tables modifiers name)
 fits_set tables modifiers name few = fits_instruction Set (modifiers_number modifiers) (place_of_variable tables name) (omega arith) (omega (arith, number_small modifiers)) (omega (arith, place_within bytes_eq tables.variables name, few.2))
 
-match_small : (kind : MatchType) (comparator : Comparator) → kind_number kind + comparator_number comparator < 2 ^ 8
-match_small Is Casemap = omega arith
-match_small Is Octet = omega arith
-match_small Contains Casemap = omega arith
-match_small Contains Octet = omega arith
-match_small Matches Casemap = omega arith
-match_small Matches Octet = omega arith
-
-fits_fields : (how : Match) (names keys : ℕ) → names + keys ≤ 512 → Fits (match_fields how names keys)
-fits_fields how names keys few = record { op = omega arith; a = match_small how.kind how.comparator; b = omega (arith, few); c = omega (arith, few) }
+fits_fields : (how : Match) (scope : Scope) (selected : Selected) (names keys : List Template) → IsBoundedHeader selected names keys → Fits (match_fields how scope selected (length names) (length keys))
+fits_fields how scope selected names keys b = record {
+  op = omega arith;
+  a = omega (arith, selecting.match_small how, selecting.scope_small scope, selecting.selector_small selected);
+  b = omega (arith, b.few);
+  c = omega (arith, b.few);
+}
 
 fits_texts : (how : Match) (sources keys : ℕ) → sources + keys ≤ 512 → Fits (match_texts how sources keys)
-fits_texts how sources keys few = record { op = omega arith; a = match_small how.kind how.comparator; b = omega (arith, few); c = omega (arith, few) }
+fits_texts how sources keys few = record { op = omega arith; a = omega (arith, selecting.match_small how); b = omega (arith, few); c = omega (arith, few) }
 
-fits_names : (names : ℕ) → names ≤ 512 → Fits (find_fields names)
-fits_names names few = record { op = omega arith; a = omega arith; b = omega (arith, few); c = omega arith }
+fits_names : (scope : Scope) (names : ℕ) → names ≤ 512 → Fits (find_fields scope names)
+fits_names scope names few = record { op = omega arith; a = omega (arith, selecting.scope_small scope); b = omega (arith, few); c = omega arith }
 
 mutual
   fits_test : (tables : Tables) (place : ℕ) (t : TestForm) (asked : Bool) (target : ℕ) → AreFew tables → IsBoundedTest t → place + test_length t < 2 ^ 32 → target < 2 ^ 32 → All Fits (test_code tables place t asked target)
@@ -421,11 +426,12 @@ mutual
       let following : ℕ = place + (test_length t + tests_length ts) in
       All-append Fits _ _ (fits_test tables place t (asked_of true asked ts) (aim_of true asked ts following target) few b.0 (omega (arith, room)) (aim_within true asked ts following target room small))
       (fits_tests tables (place + test_length t) ts true asked following target few b.1 (omega (arith, room)) room small)
-  fits_test tables place (header how names keys) asked target few b room small =
-      All-append Fits _ _ (All-append Fits _ _ (fits_strings tables names few b.bounded_first) (fits_strings tables keys few b.bounded_second))
-      (fits_simple (match_fields how (length names) (length keys)) asked target (fits_fields how (length names) (length keys) b.few) small)
-  fits_test tables place (exists names) asked target few b room small =
-      All-append Fits _ _ (fits_strings tables names few b.bounded) (fits_simple (find_fields (length names)) asked target (fits_names (length names) b.few) small)
+  fits_test tables place (header how scope selected names keys) asked target few b room small =
+      let two = All-append Fits _ _ (fits_strings tables names few b.lists.bounded_first) (fits_strings tables (params_of selected) few b.bounded_params) in
+      All-append Fits _ _ (All-append Fits _ _ two (fits_strings tables keys few b.lists.bounded_second))
+      (fits_simple (match_fields how scope selected (length names) (length keys)) asked target (fits_fields how scope selected names keys b) small)
+  fits_test tables place (exists scope names) asked target few b room small =
+      All-append Fits _ _ (fits_strings tables names few b.bounded) (fits_simple (find_fields scope (length names)) asked target (fits_names scope (length names) b.few) small)
   fits_test tables place (string how sources keys) asked target few b room small =
       All-append Fits _ _ (All-append Fits _ _ (fits_strings tables sources few b.bounded_first) (fits_strings tables keys few b.bounded_second))
       (fits_simple (match_texts how (length sources) (length keys)) asked target (fits_texts how (length sources) (length keys) b.few) small)

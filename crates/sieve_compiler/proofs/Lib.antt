@@ -2,6 +2,7 @@ pub mod Standing
 pub mod CodeLengths
 pub mod Known
 pub mod Loopless
+pub mod Selecting
 pub mod Sound
 pub mod Accepted
 pub mod Values

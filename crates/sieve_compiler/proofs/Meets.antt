@@ -21,23 +21,24 @@ use Rattle.glob_match.specs.declared.comparator.Comparator.TheVariants.{Octet, C
 use Rattle.glob_match.specs.declared.match_type.Match.{Match}
 use Rattle.glob_match.specs.declared.match_type.MatchType.{MatchType}
 use Rattle.glob_match.specs.declared.match_type.MatchType.TheVariants.{Is, Contains, Matches}
-use Rattle.mime_decode.specs.Scope.{Root, Value as WholeValue}
 use Rattle.mail_matching.specs.Costs.{values_cost}
 use Rattle.mail_matching.specs.FirstMatch.{first_match}
 use Rattle.mail_matching.specs.HeaderTests.{exists_in, header_match, header_cost}
-use Rattle.octets.specs.Limits.{max_stack, max_string, max_value}
+use Rattle.octets.specs.Limits.{max_stack, max_string, max_test_strings, max_value}
 use Rattle.octets.specs.Once.{is_listed}
-use Rattle.sieve_check.specs.Bounded.{IsBoundedSegment, IsBoundedString, IsBoundedList, AreBoundedLists, IsBoundedTest, AreBoundedTests, IsBoundedCommand, AreBoundedCommands, AreBoundedBranches}
+use Rattle.sieve_check.specs.Bounded.{IsBoundedSegment, IsBoundedString, IsBoundedList, AreBoundedLists, IsBoundedHeader, IsBoundedTest, AreBoundedTests, IsBoundedCommand, AreBoundedCommands, AreBoundedBranches}
 use Rattle.sieve_check.specs.declared.typed.Order.{Order}
 use Rattle.sieve_check.specs.declared.typed.Order.TheVariants.{Over, Under}
 use Rattle.sieve_check.specs.declared.typed.Segment.{Segment}
 use Rattle.sieve_check.specs.declared.typed.Segment.TheVariants.{Text, Variable, Capture}
-use Rattle.sieve_check.specs.Typed.{Template, TestForm, constant, negation, all_of, any_of, size, header, exists, string, TestForms, no_test, test, CommandForm, keep, discard, file_into, set, stop, choice, CommandForms, no_command, command, BranchForms, no_branch, otherwise, branch}
+use Rattle.sieve_check.specs.declared.typed.Scope.{Scope}
+use Rattle.sieve_check.specs.declared.typed.Scope.TheVariants.{Message, Part, PartAndBelow}
+use Rattle.sieve_check.specs.Typed.{Template, Selected, whole, main, sub, content_type, params, params_of, TestForm, constant, negation, all_of, any_of, size, header, exists, string, TestForms, no_test, test, CommandForm, keep, discard, file_into, set, stop, choice, CommandForms, no_command, command, BranchForms, no_branch, otherwise, branch}
 use Rattle.sieve_check.specs.Variables.{string_variables, commands_variables}
-use Rattle.sieve_meaning.specs.Meaning.{Effects, no_effects, value_of, expanded, all_expanded, with_value, Verdict, verdict, matched, Ending, normal, stopped, broken, effects_of, followed_by, is_size, test_does, all_do, any_do, command_does, commands_do, choice_does, meaning}
+use Rattle.sieve_meaning.specs.Meaning.{scope_of, selector_of, Effects, no_effects, value_of, expanded, all_expanded, with_value, Verdict, verdict, matched, Ending, normal, stopped, broken, effects_of, followed_by, is_size, test_does, all_do, any_do, command_does, commands_do, choice_does, meaning}
 use Rattle.sieve_vm.specs.State.{Value, truth, text, State, Turn, goes, ends, start}
 use Rattle.sieve_vm.specs.Machine.{is_sound_jump, tested, turn, step, turn_at}
-use Rattle.sieve_vm.specs.MatchNumbers.{match_numbered}
+use Rattle.sieve_vm.specs.MatchNumbers.{match_numbered, scope_numbered, selector_numbered}
 use Rattle.sieve_vm.specs.Stack.{OnTop, with_last, texts_on_top, lists_on_top}
 use Rattle.sieve_vm.specs.Charge.{charge_of}
 use Rattle.sieve_vm.specs.Runs.{Run}
@@ -46,11 +47,12 @@ use Rattle.sieve_compiler.specs.Growing.{Uses, uses_with, joined, segment_uses, 
 use Rattle.sieve_compiler.specs.Tables.{Tables, tables_of, place_of_number, place_of_string, place_of_variable}
 use Rattle.sieve_compiler.specs.Lengths.{string_length, strings_length, test_length, tests_length, leave_length, command_length, commands_length, branches_length}
 use Rattle.sieve_compiler.specs.Strings.{segment_strings, string_strings}
-use Rattle.sieve_compiler.specs.Coding.{plain, instruction, jump_if, push_bool, push_size, push_text, push_segment, join_texts, string_code, strings_code, set_variable, kind_number, comparator_number, match_number, match_fields, match_texts, find_fields, asked_of, aim_of, test_code, tests_code, leave_code, command_code, commands_code, branches_code, code_of}
+use Rattle.sieve_compiler.specs.Coding.{plain, instruction, jump_if, push_bool, push_size, push_text, push_segment, join_texts, string_code, strings_code, set_variable, kind_number, comparator_number, match_number, scope_number, selector_number, match_fields, match_texts, find_fields, asked_of, aim_of, test_code, tests_code, leave_code, command_code, commands_code, branches_code, code_of}
 use Rattle.sieve_compiler.proofs.Standing.{Stands, stands_first, stands_next, stands_left, stands_right}
 use Rattle.sieve_compiler.proofs.CodeLengths.{length_two, string_code_length, strings_code_length, test_code_length, command_code_length}
 use Rattle.sieve_compiler.proofs.Known.{Has, has_left, has_right, found, found_string, found_variable, tables_have}
-use Rattle.sieve_compiler.proofs.Sound.{match_fits, selection_fits, asks_no_params, match_again as whole_again, first_scope, first_selector, keys_alone, no_params, branch_parts_of}
+use Rattle.sieve_compiler.proofs.Sound.{branch_parts_of}
+use Rattle.sieve_compiler.proofs.Selecting.{match_fits, match_is, scope_is, selector_is, scope_fits, selection_fits, counts_fit, keys_are, params_are}
 use Rattle.sieve_compiler.proofs.Accepted.{halt_at, sound, loopless}
 use Rattle.sieve_compiler.proofs.Values.{AreShort, capture_short, none_short, test_short, command_short, variable_set, all_empty, name_itself}
 
@@ -103,6 +105,23 @@ onto_number (s ∷ ss) stack = omega (arith, onto_number ss (text s ∷ stack))
 -- names, and keys above them, are found again
 lists_again : (n k : ℕ) (names keys : List (List ℕ)) → length names ≡ n → length keys ≡ k → lists_on_top n 0 k (onto keys (onto names [])) ≡ Some (record { names = names; params = []; keys = keys; below = [] })
 lists_again n k names keys e f = rw (on_top k keys (onto names []) f, on_top n names [] e) refl
+
+-- and so are names, parameters above them, and keys above these
+three_again : (n m k : ℕ) (names given keys : List (List ℕ)) → length names ≡ n → length given ≡ m → length keys ≡ k → lists_on_top n m k (onto keys (onto given (onto names []))) ≡ Some (record { names = names; params = given; keys = keys; below = [] })
+three_again n m k names given keys e g f = rw (on_top k keys (onto given (onto names [])) f, on_top m given (onto names []) g, on_top n names [] e) refl
+
+-- where a test looks, and what it takes, by their numbers
+scope_again : (scope : Scope) → scope_numbered (scope_number scope) ≡ scope_of scope
+scope_again Message = refl
+scope_again Part = refl
+scope_again PartAndBelow = refl
+
+selector_again : (e : Effects) (selected : Selected) → selector_numbered (selector_number selected) (all_expanded e (params_of selected)) ≡ selector_of e selected
+selector_again e whole = refl
+selector_again e main = refl
+selector_again e sub = refl
+selector_again e content_type = refl
+selector_again e (params names) = refl
 
 -- ---- strings as they are expanded
 
@@ -312,16 +331,16 @@ module _ (script : CommandForms) (mail : Mail) (no_loop : loops (code_of script)
   abbrev both : Effects → List Template → List Template → List Value
   both e names keys = onto (all_expanded e keys) (onto (all_expanded e names) [])
 
-  lists_run : (names keys : List Template) (p c : ℕ) (e : Effects) → AreShort e → AreBoundedLists names keys → Stands all p (strings_code tables names ++ strings_code tables keys) → Has tables (joined (strings_uses names) (strings_uses keys))
+  lists_run : (names keys : List Template) (p c : ℕ) (e : Effects) → AreShort e → All IsBoundedString names → All IsBoundedString keys → length names + length keys ≤ max_test_strings → Stands all p (strings_code tables names ++ strings_code tables keys) → Has tables (joined (strings_uses names) (strings_uses keys))
       → (d : ℕ) × Reaches (at p e c) (with_stack (both e names keys) (p + (strings_length names + strings_length keys)) e d)
-  lists_run names keys p c e short b h known =
-      let first = strings_run names p c [] e short b.bounded_first (stands_left all p (strings_code tables names) (strings_code tables keys) h) (has_left tables (strings_uses names) (strings_uses keys) known) (omega (arith, b.few)) in
+  lists_run names keys p c e short b_names b_keys few h known =
+      let first = strings_run names p c [] e short b_names (stands_left all p (strings_code tables names) (strings_code tables keys) h) (has_left tables (strings_uses names) (strings_uses keys) known) (omega (arith, few)) in
       let there = stands_right all p (strings_length names) (strings_code tables names) (strings_code tables keys) (strings_code_length tables names) h in
       let below : List Value = onto (all_expanded e names) [] in
       let q : ℕ = p + strings_length names in
       let size = onto_number (all_expanded e names) [] in
       let own = length-map names (expanded e) in
-      let second = strings_run keys q first.0 below e short b.bounded_second there (has_right tables (strings_uses names) (strings_uses keys) known) (omega (arith, size, own, b.few)) in
+      let second = strings_run keys q first.0 below e short b_keys there (has_right tables (strings_uses names) (strings_uses keys) known) (omega (arith, size, own, few)) in
       let same : q + strings_length keys ≡ p + (strings_length names + strings_length keys) = omega arith in
       let end : ℕ → State = (λ (n : ℕ). with_stack (both e names keys) n e second.0) in
       let others = subst (λ n. Reaches (with_stack below q e first.0) (end n)) same second.1 in
@@ -334,35 +353,66 @@ module _ (script : CommandForms) (mail : Mail) (no_loop : loops (code_of script)
   tested_turn None stack p c cost e = refl
   tested_turn (Some captures) stack p c cost e = refl
 
-  abbrev fields_charge : Match → List Template → List Template → ℕ → Effects → ℕ → ℕ
-  fields_charge how names keys p e c = charge_of code mail Header (match_fields how (length names) (length keys)) (with_stack (both e names keys) p e c)
+  -- three lists of strings on the stack
+  abbrev three : Effects → List Template → List Template → List Template → List Value
+  three e names given keys = onto (all_expanded e keys) (both e names given)
+
+  three_run : (selected : Selected) (names keys : List Template) (p c : ℕ) (e : Effects) → AreShort e → IsBoundedHeader selected names keys → Stands all p (strings_code tables names ++ strings_code tables (params_of selected) ++ strings_code tables keys)
+      → Has tables (joined (joined (strings_uses names) (strings_uses (params_of selected))) (strings_uses keys))
+      → (d : ℕ) × Reaches (at p e c) (with_stack (three e names (params_of selected) keys) (p + (strings_length names + strings_length (params_of selected) + strings_length keys)) e d)
+  three_run selected names keys p c e short b h known =
+      let given = params_of selected in
+      let two = strings_code tables names ++ strings_code tables given in
+      let number = length_two (strings_code tables names) (strings_code tables given) _ _ (strings_code_length tables names) (strings_code_length tables given) in
+      let of_two = has_left tables (joined (strings_uses names) (strings_uses given)) (strings_uses keys) known in
+      let first = lists_run names given p c e short b.lists.bounded_first b.bounded_params (omega (arith, b.few)) (stands_left all p two (strings_code tables keys) h) of_two in
+      let n : ℕ = strings_length names + strings_length given in
+      let there = stands_right all p n two (strings_code tables keys) number h in
+      let below : List Value = both e names given in
+      let q : ℕ = p + n in
+      let on_names = onto_number (all_expanded e names) [] in
+      let on_given = onto_number (all_expanded e given) (onto (all_expanded e names) []) in
+      let own_names = length-map names (expanded e) in
+      let own_given = length-map given (expanded e) in
+      let second = strings_run keys q first.0 below e short b.lists.bounded_second there (has_right tables (joined (strings_uses names) (strings_uses given)) (strings_uses keys) known) (omega (arith, on_names, on_given, own_names, own_given, b.few)) in
+      let same : q + strings_length keys ≡ p + (n + strings_length keys) = omega arith in
+      let end : ℕ → State = (λ (m : ℕ). with_stack (three e names given keys) m e second.0) in
+      let others = subst (λ m. Reaches (with_stack below q e first.0) (end m)) same second.1 in
+      (second.0, after_steps first.1.0 (at p e c) (with_stack below q e first.0) (end (p + (n + strings_length keys))) first.1.1 others)
+
+  abbrev fields_charge : Match → Scope → Selected → List Template → List Template → ℕ → Effects → ℕ → ℕ
+  fields_charge how scope selected names keys p e c = charge_of code mail Header (match_fields how scope selected (length names) (length keys)) (with_stack (three e names (params_of selected) keys) p e c)
 
   both_again : (e : Effects) (names keys : List Template) → lists_on_top (length names) 0 (length keys) (both e names keys) ≡ Some (record { names = all_expanded e names; params = []; keys = all_expanded e keys; below = [] })
   both_again e names keys = lists_again (length names) (length keys) (all_expanded e names) (all_expanded e keys) (length-map names (expanded e)) (length-map keys (expanded e))
 
-  fields_step : (p c : ℕ) (how : Match) (names keys : List Template) (e : Effects) → AreBoundedLists names keys → slice_get all p ≡ Some (match_fields how (length names) (length keys))
-      → let v = test_does mail None (header how names keys) e in Goes (with_stack (both e names keys) p e c) (holding v.value (suc p) v.effects (c + fields_charge how names keys p e c))
-  fields_step p c how names keys e b here =
-      let s = with_stack (both e names keys) p e c in
-      let i = match_fields how (length names) (length keys) in
-      let o = header_match how Root None WholeValue (all_expanded e names) (all_expanded e keys) mail e.captures in
+  all_again : (e : Effects) (names given keys : List Template) → lists_on_top (length names) (length given) (length keys) (three e names given keys) ≡ Some (record { names = all_expanded e names; params = all_expanded e given; keys = all_expanded e keys; below = [] })
+  all_again e names given keys =
+      three_again (length names) (length given) (length keys) (all_expanded e names) (all_expanded e given) (all_expanded e keys) (length-map names (expanded e)) (length-map given (expanded e)) (length-map keys (expanded e))
+
+  fields_step : (p c : ℕ) (how : Match) (scope : Scope) (selected : Selected) (names keys : List Template) (e : Effects) → IsBoundedHeader selected names keys → slice_get all p ≡ Some (match_fields how scope selected (length names) (length keys))
+      → let v = test_does mail None (header how scope selected names keys) e in Goes (with_stack (three e names (params_of selected) keys) p e c) (holding v.value (suc p) v.effects (c + fields_charge how scope selected names keys p e c))
+  fields_step p c how scope selected names keys e b here =
+      let s = with_stack (three e names (params_of selected) keys) p e c in
+      let i = match_fields how scope selected (length names) (length keys) in
+      let o = header_match how (scope_of scope) None (selector_of e selected) (all_expanded e names) (all_expanded e keys) mail e.captures in
       step_at s i _ here
       (rw (
-        selection_fits how.kind how.comparator,
-        le-leb 1 (length names) b.some_first,
+        selection_fits how scope selected,
+        le-leb 1 (length names) b.lists.some_first,
         le-leb (length names) 512 (omega (arith, b.few)),
-        keys_alone (length keys) (omega (arith, b.few)),
-        no_params (length keys) (omega (arith, b.few)),
-        asks_no_params how.kind how.comparator,
-        le-leb 1 (length keys) b.some_second,
-        le-leb (length keys) 512 (omega (arith, b.few)),
-        both_again e names keys,
-        whole_again how.kind how.comparator,
-        first_scope how.kind how.comparator,
-        first_selector how.kind how.comparator,
+        counts_fit how scope selected names keys b,
+        keys_are (length (params_of selected)) (length keys) (omega (arith, b.few)),
+        params_are (length (params_of selected)) (length keys) (omega (arith, b.few)),
+        all_again e names (params_of selected) keys,
+        match_is how scope selected,
+        scope_is how scope selected,
+        selector_is how scope selected,
+        scope_again scope,
+        selector_again e selected,
         how_again how,
       )
-      (tested_turn o (both e names keys) p c (1 + header_cost Root None WholeValue (all_expanded e names) (all_expanded e keys) mail) e))
+      (tested_turn o (three e names (params_of selected) keys) p c (1 + header_cost (scope_of scope) None (selector_of e selected) (all_expanded e names) (all_expanded e keys) mail) e))
 
   abbrev texts_charge : Match → List Template → List Template → ℕ → Effects → ℕ → ℕ
   texts_charge how sources keys p e c = charge_of code mail String (match_texts how (length sources) (length keys)) (with_stack (both e sources keys) p e c)
@@ -377,15 +427,15 @@ module _ (script : CommandForms) (mail : Mail) (no_loop : loops (code_of script)
       (rw (match_fits how.kind how.comparator, le-leb 1 (length sources) b.some_first, le-leb (length sources) 512 (omega (arith, b.few)), le-leb 1 (length keys) b.some_second, le-leb (length keys) 512 (omega (arith, b.few)), both_again e sources keys, how_again how)
       (tested_turn o (both e sources keys) p c (1 + values_cost (all_expanded e sources) (all_expanded e keys)) e))
 
-  abbrev names_charge : List Template → ℕ → Effects → ℕ → ℕ
-  names_charge names p e c = charge_of code mail Exists (find_fields (length names)) (with_stack (onto (all_expanded e names) []) p e c)
+  abbrev names_charge : Scope → List Template → ℕ → Effects → ℕ → ℕ
+  names_charge scope names p e c = charge_of code mail Exists (find_fields scope (length names)) (with_stack (onto (all_expanded e names) []) p e c)
 
-  names_step : (p c : ℕ) (names : List Template) (e : Effects) → IsBoundedList names → slice_get all p ≡ Some (find_fields (length names))
-      → Goes (with_stack (onto (all_expanded e names) []) p e c) (holding (exists_in Root None (all_expanded e names) mail) (suc p) e (c + names_charge names p e c))
-  names_step p c names e b here =
+  names_step : (p c : ℕ) (scope : Scope) (names : List Template) (e : Effects) → IsBoundedList names → slice_get all p ≡ Some (find_fields scope (length names))
+      → Goes (with_stack (onto (all_expanded e names) []) p e c) (holding (exists_in (scope_of scope) None (all_expanded e names) mail) (suc p) e (c + names_charge scope names p e c))
+  names_step p c scope names e b here =
       let s = with_stack (onto (all_expanded e names) []) p e c in
-      let i = find_fields (length names) in
-      step_at s i _ here (rw (le-leb 1 (length names) b.some, le-leb (length names) 512 (omega (arith, b.few)), on_top (length names) (all_expanded e names) [] (length-map names (expanded e))) refl)
+      let i = find_fields scope (length names) in
+      step_at s i _ here (rw (scope_fits scope, le-leb 1 (length names) b.some, le-leb (length names) 512 (omega (arith, b.few)), on_top (length names) (all_expanded e names) [] (length-map names (expanded e)), scope_again scope) refl)
 
   -- a test of two lists: they are pushed, and then its instruction leaves its truth value
   two_lists_run : (names keys : List Template) (p : ℕ) (i : Instruction) (v : Verdict) (cost : ℕ → ℕ) (asked : Bool) (target : ℕ) (e : Effects) → AreShort e → AreBoundedLists names keys
@@ -396,7 +446,7 @@ module _ (script : CommandForms) (mail : Mail) (no_loop : loops (code_of script)
       let pushes = strings_code tables names ++ strings_code tables keys in
       let n : ℕ = strings_length names + strings_length keys in
       let number = length_two (strings_code tables names) (strings_code tables keys) _ _ (strings_code_length tables names) (strings_code_length tables keys) in
-      let first = lists_run names keys p c e short b (stands_left all p pushes _ h) known in
+      let first = lists_run names keys p c e short b.bounded_first b.bounded_second b.few (stands_left all p pushes _ h) known in
       let q : ℕ = p + n in
       let rest = stands_right all p n pushes (i ∷ jump_if asked target ∷ []) number h in
       let middle = with_stack (both e names keys) q e first.0 in
@@ -413,22 +463,34 @@ module _ (script : CommandForms) (mail : Mail) (no_loop : loops (code_of script)
         simple_run p c (push_bool v) v asked target e h (bool_step p c v e (stands_first all p (push_bool v) (jump_if asked target ∷ []) h))
     test_run (size order n) p asked target e h known b short = λ c.
         simple_run p c (push_size order (place_of_number tables n)) (is_size order n (size_of mail)) asked target e h (size_step p c order n e known (stands_first all p (push_size order (place_of_number tables n)) (jump_if asked target ∷ []) h))
-    test_run (header how names keys) p asked target e h known b short =
-        let v = test_does mail None (header how names keys) e in
-        let q : ℕ = p + (strings_length names + strings_length keys) in
-        two_lists_run names keys p (match_fields how (length names) (length keys)) v (λ c. fields_charge how names keys q e c) asked target e short b h known (λ c here. fields_step q c how names keys e b here)
+    test_run (header how scope selected names keys) p asked target e h known b short = λ c.
+        let v = test_does mail None (header how scope selected names keys) e in
+        let given = params_of selected in
+        let pushes = strings_code tables names ++ strings_code tables given ++ strings_code tables keys in
+        let n : ℕ = strings_length names + strings_length given + strings_length keys in
+        let two = length_two (strings_code tables names) (strings_code tables given) _ _ (strings_code_length tables names) (strings_code_length tables given) in
+        let number = length_two (strings_code tables names ++ strings_code tables given) (strings_code tables keys) _ _ two (strings_code_length tables keys) in
+        let first = three_run selected names keys p c e short b (stands_left all p pushes _ h) known in
+        let q : ℕ = p + n in
+        let i = match_fields how scope selected (length names) (length keys) in
+        let rest = stands_right all p n pushes (i ∷ jump_if asked target ∷ []) number h in
+        let middle = with_stack (three e names given keys) q e first.0 in
+        let second = tail_run q (first.0 + fields_charge how scope selected names keys q e first.0) i v.value asked target middle v.effects rest (fields_step q first.0 how scope selected names keys e b (stands_first all q i (jump_if asked target ∷ []) rest)) in
+        let done : q + 2 ≡ p + (n + 2) = omega arith in
+        let last = subst (λ m. Reaches middle (at (lands v.value asked target m) v.effects second.0)) done second.1 in
+        (second.0, after_steps first.1.0 (at p e c) middle _ first.1.1 last)
     test_run (string how sources keys) p asked target e h known b short =
         let v = test_does mail None (string how sources keys) e in
         let q : ℕ = p + (strings_length sources + strings_length keys) in
         two_lists_run sources keys p (match_texts how (length sources) (length keys)) v (λ c. texts_charge how sources keys q e c) asked target e short b h known (λ c here. texts_step q c how sources keys e b here)
-    test_run (exists names) p asked target e h known b short = λ c.
+    test_run (exists scope names) p asked target e h known b short = λ c.
         let first = strings_run names p c [] e short b.bounded (stands_left all p (strings_code tables names) _ h) known (omega (arith, b.few)) in
         let q : ℕ = p + strings_length names in
-        let i = find_fields (length names) in
+        let i = find_fields scope (length names) in
         let rest = stands_right all p (strings_length names) (strings_code tables names) (i ∷ jump_if asked target ∷ []) (strings_code_length tables names) h in
-        let v = exists_in Root None (all_expanded e names) mail in
+        let v = exists_in (scope_of scope) None (all_expanded e names) mail in
         let middle = with_stack (onto (all_expanded e names) []) q e first.0 in
-        let second = tail_run q (first.0 + names_charge names q e first.0) i v asked target middle e rest (names_step q first.0 names e b (stands_first all q i (jump_if asked target ∷ []) rest)) in
+        let second = tail_run q (first.0 + names_charge scope names q e first.0) i v asked target middle e rest (names_step q first.0 scope names e b (stands_first all q i (jump_if asked target ∷ []) rest)) in
         let done : q + 2 ≡ p + (strings_length names + 2) = omega arith in
         let last = subst (λ n. Reaches middle (at (lands v asked target n) e second.0)) done second.1 in
         (second.0, after_steps first.1.0 (at p e c) middle _ first.1.1 last)

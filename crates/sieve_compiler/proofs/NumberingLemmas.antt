@@ -18,9 +18,11 @@ use Rattle.bytecode_format.specs.declared.modifiers.Modifiers.{Modifiers}
 use Rattle.octets.specs.declared.owned.Octets.{Octets}
 use Rattle.sieve_check.specs.Variables.{string_variables}
 use Rattle.sieve_compiler.specs.Strings.{string_strings}
+use Rattle.sieve_check.specs.declared.typed.Scope.{Scope}
+use Rattle.sieve_check.specs.declared.typed.Selection.{Selection}
 use Rattle.sieve_check.specs.declared.typed.Segment.{Segment}
-use Rattle.sieve_check.specs.Typed.{TestForm, CommandForm, set, BranchForms}
-use Rattle.sieve_check.specs.TypedView.{GuardedForm, branch_step, command_step, templates_of, test_step, test_form, tests_of, command_form, commands_form, branch_forms, else_form}
+use Rattle.sieve_check.specs.Typed.{Template, params_of, TestForm, CommandForm, set, BranchForms}
+use Rattle.sieve_check.specs.TypedView.{selected_form, GuardedForm, branch_step, command_step, templates_of, test_step, test_form, tests_of, command_form, commands_form, branch_forms, else_form}
 use Rattle.sieve_compiler.specs.Growing.{Uses, uses_with, joined, segment_uses, segments_uses, string_uses, strings_uses, test_uses, tests_uses, command_uses, commands_uses, branches_uses, with_uses}
 use Rattle.sieve_compiler.specs.Tables.{Tables}
 use Rattle.sieve_compiler.proofs.Walks.{all_form, any_form, first_test, first_command, first_branch, no_branch_left, if_form}
@@ -58,8 +60,20 @@ both_added r table middle new uses first second ns ks f g same e h =
     let all : joined (strings_uses (templates_of ns)) (strings_uses (templates_of ks)) ≡ uses = rw (f, g) same in
     subst (λ (l : Uses). OnOk r (new ≡ with_uses table l)) all (added_after r table middle new (strings_uses (templates_of ns)) (strings_uses (templates_of ks)) e h)
 
-pub header_uses : (t : Test) (how : Match) (names keys : Vec (Vec Segment)) → t ≡ Header how names keys → joined (strings_uses (templates_of names.items)) (strings_uses (templates_of keys.items)) ≡ test_uses (test_form t)
-header_uses t how names keys is = sym (ap test_uses (ap test_form (is ∙ sym (rolls-Header how names keys)) ∙ fold-roll-Test TestForm test_step (test_layer.Header how names keys)))
+pub header_uses : (t : Test) (how : Match) (scope : Scope) (selection : Selection) (names keys : Vec (Vec Segment)) → t ≡ Header how scope selection names keys
+    → joined (joined (strings_uses (templates_of names.items)) (strings_uses (params_of (selected_form selection)))) (strings_uses (templates_of keys.items)) ≡ test_uses (test_form t)
+header_uses t how scope selection names keys is =
+    sym (ap test_uses (ap test_form (is ∙ sym (rolls-Header how scope selection names keys)) ∙ fold-roll-Test TestForm test_step (test_layer.Header how scope selection names keys)))
+
+-- the three lists of strings of a test
+pub three_added : {T E : Type 0} (r : Result T E) (table first second new : Tables) (uses : Uses) (names keys : Vec (Vec Segment)) (given : List Template) (ns ps ks : List (Vec Segment)) → ns ≡ names.items → templates_of ps ≡ given → ks ≡ keys.items
+    → joined (joined (strings_uses (templates_of names.items)) (strings_uses given)) (strings_uses (templates_of keys.items)) ≡ uses
+    → first ≡ with_uses table (strings_uses (templates_of ns)) → second ≡ with_uses first (strings_uses (templates_of ps)) → OnOk r (new ≡ with_uses second (strings_uses (templates_of ks))) → OnOk r (new ≡ with_uses table uses)
+three_added r table first second new uses names keys given ns ps ks f p g same a b h =
+    let two : Uses = joined (strings_uses (templates_of ns)) (strings_uses (templates_of ps)) in
+    let both : second ≡ with_uses table two = b ∙ then_left table first (strings_uses (templates_of ns)) (strings_uses (templates_of ps)) two a refl in
+    let all : joined two (strings_uses (templates_of ks)) ≡ uses = rw (f, p, g) same in
+    subst (λ (l : Uses). OnOk r (new ≡ with_uses table l)) all (added_after r table second new two (strings_uses (templates_of ks)) both h)
 
 pub string_test_uses : (t : Test) (how : Match) (sources keys : Vec (Vec Segment)) → t ≡ String how sources keys → joined (strings_uses (templates_of sources.items)) (strings_uses (templates_of keys.items)) ≡ test_uses (test_form t)
 string_test_uses t how sources keys is = sym (ap test_uses (ap test_form (is ∙ sym (rolls-String how sources keys)) ∙ fold-roll-Test TestForm test_step (test_layer.String how sources keys)))

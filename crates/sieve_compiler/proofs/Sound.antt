@@ -12,12 +12,12 @@ use Rattle.std.proofs.lemmas.List.Sums.{sum_by-cons}
 use Rattle.bytecode_format.specs.Code.{Code}
 use Rattle.bytecode_format.specs.declared.modifiers.Modifiers.{Modifiers}
 use Rattle.bytecode_format.proofs.ModifierLemmas.{number_again}
-use Rattle.std.proofs.Math.Nat.{mod-eq_of_lt, div-eq_of_lt}
-use Rattle.bytecode_verifier.specs.Rows.{row_named, is_well_formed, is_match_number, is_selection, selects_params, match_in, scope_in, selector_in, keys_in, params_in, is_jump}
+use Rattle.sieve_compiler.proofs.Selecting.{match_fits, selection_fits, counts_fit, keys_are, params_are, scope_fits}
+use Rattle.bytecode_verifier.specs.Rows.{row_named, is_well_formed, is_match_number, is_jump}
 use Rattle.bytecode_verifier.specs.Shape.{Entries, Texts, with_text, take_texts, entries_after}
 use Rattle.bytecode_verifier.specs.declared.shape.Entry.TheVariants.{Truth, Text}
-use Rattle.octets.specs.Limits.{max_string, max_segments, max_value, max_stack}
-use Rattle.sieve_check.specs.Bounded.{IsBoundedSegment, IsBoundedString, IsBoundedList, AreBoundedLists, IsBoundedTest, AreBoundedTests, IsBoundedCommand, AreBoundedCommands, AreBoundedBranches}
+use Rattle.octets.specs.Limits.{max_string, max_segments, max_test_strings, max_value, max_stack}
+use Rattle.sieve_check.specs.Bounded.{IsBoundedSegment, IsBoundedString, IsBoundedList, AreBoundedLists, IsBoundedHeader, IsBoundedTest, AreBoundedTests, IsBoundedCommand, AreBoundedCommands, AreBoundedBranches}
 use Rattle.glob_match.specs.declared.comparator.Comparator.{Comparator}
 use Rattle.glob_match.specs.declared.comparator.Comparator.TheVariants.{Octet, Casemap}
 use Rattle.glob_match.specs.declared.match_type.Match.{Match}
@@ -28,7 +28,8 @@ use Rattle.sieve_check.specs.declared.typed.Order.TheVariants.{Over, Under}
 use Rattle.sieve_check.specs.declared.typed.Segment.{Segment}
 use Rattle.sieve_check.specs.declared.typed.Segment.TheVariants.{Text as Stretch, Variable, Capture}
 use Rattle.sieve_check.specs.Variables.{segment_variables, string_variables}
-use Rattle.sieve_check.specs.Typed.{Template, TestForm, constant, negation, all_of, any_of, size, header, exists, string, TestForms, no_test, test, CommandForm, keep, discard, file_into, set, stop, choice, CommandForms, no_command, command, BranchForms, no_branch, otherwise, branch}
+use Rattle.sieve_check.specs.declared.typed.Scope.{Scope}
+use Rattle.sieve_check.specs.Typed.{Template, Selected, params_of, TestForm, constant, negation, all_of, any_of, size, header, exists, string, TestForms, no_test, test, CommandForm, keep, discard, file_into, set, stop, choice, CommandForms, no_command, command, BranchForms, no_branch, otherwise, branch}
 use Rattle.sieve_compiler.specs.Tables.{Tables, place_of_number, place_of_string, place_of_variable}
 use Rattle.sieve_compiler.specs.Lengths.{string_length, strings_length, test_length, tests_length, leave_length, command_length, commands_length, branches_length}
 use Rattle.sieve_compiler.specs.Strings.{segment_strings, string_strings}
@@ -142,63 +143,6 @@ taken_back bound xs entries =
     let own : List ℕ = map bound xs in
     let number : length (bounds_onto own []) ≡ length xs = omega (arith, bounds_number own [], length-map xs bound) in
     ap (take_texts (length xs)) (pushed_are own [] entries) ∙ ap (λ n. take_texts n (map Text (bounds_onto own []) ++ entries)) (sym number) ∙ taken (bounds_onto own []) entries
-
--- the number of a match is one
-pub match_fits : (kind : MatchType) (comparator : Comparator) → is_match_number (kind_number kind + comparator_number comparator) ≡ true
-match_fits Is Casemap = refl
-match_fits Is Octet = refl
-match_fits Contains Casemap = refl
-match_fits Contains Octet = refl
-match_fits Matches Casemap = refl
-match_fits Matches Octet = refl
-
--- the number of a match is that of a test of values in the message's own header
-pub selection_fits : (kind : MatchType) (comparator : Comparator) → is_selection (kind_number kind + comparator_number comparator) ≡ true
-selection_fits Is Casemap = refl
-selection_fits Is Octet = refl
-selection_fits Contains Casemap = refl
-selection_fits Contains Octet = refl
-selection_fits Matches Casemap = refl
-selection_fits Matches Octet = refl
-
-pub asks_no_params : (kind : MatchType) (comparator : Comparator) → selects_params (kind_number kind + comparator_number comparator) ≡ false
-asks_no_params Is Casemap = refl
-asks_no_params Is Octet = refl
-asks_no_params Contains Casemap = refl
-asks_no_params Contains Octet = refl
-asks_no_params Matches Casemap = refl
-asks_no_params Matches Octet = refl
-
-pub match_again : (kind : MatchType) (comparator : Comparator) → match_in (kind_number kind + comparator_number comparator) ≡ kind_number kind + comparator_number comparator
-match_again Is Casemap = refl
-match_again Is Octet = refl
-match_again Contains Casemap = refl
-match_again Contains Octet = refl
-match_again Matches Casemap = refl
-match_again Matches Octet = refl
-
-pub first_scope : (kind : MatchType) (comparator : Comparator) → scope_in (kind_number kind + comparator_number comparator) ≡ 0
-first_scope Is Casemap = refl
-first_scope Is Octet = refl
-first_scope Contains Casemap = refl
-first_scope Contains Octet = refl
-first_scope Matches Casemap = refl
-first_scope Matches Octet = refl
-
-pub first_selector : (kind : MatchType) (comparator : Comparator) → selector_in (kind_number kind + comparator_number comparator) ≡ 0
-first_selector Is Casemap = refl
-first_selector Is Octet = refl
-first_selector Contains Casemap = refl
-first_selector Contains Octet = refl
-first_selector Matches Casemap = refl
-first_selector Matches Octet = refl
-
--- so few keys are all that c holds
-pub keys_alone : (keys : ℕ) → keys ≤ 512 → keys_in keys ≡ keys
-keys_alone keys few = mod-eq_of_lt (omega (arith, few))
-
-pub no_params : (keys : ℕ) → keys ≤ 512 → params_in keys ≡ 0
-no_params keys few = div-eq_of_lt (omega (arith, few))
 
 -- where the parts of a branch's code stand
 pub record BranchParts (all : List Instruction) (tables : Tables) (t : TestForm) (cs : CommandForms) (bs : BranchForms) (place end : ℕ) : Type 0 where
@@ -417,24 +361,34 @@ module _ (all : List Instruction) (tables : Tables) (last : ℕ) where
   abbrev pub two_pushed : List Template → List Template → Entries
   two_pushed names keys = pushed (map bound_of keys) (pushed (map bound_of names) [])
 
-  fields_sound : (place : ℕ) (how : Match) (names keys : List Template) → AreBoundedLists names keys → standing tables all place ≡ two_pushed names keys → IsSound all tables last place (match_fields how (length names) (length keys))
-  fields_sound place how names keys b h = record {
+  -- and three of them
+  abbrev pub three_pushed : List Template → List Template → List Template → Entries
+  three_pushed names given keys = pushed (map bound_of keys) (two_pushed names given)
+
+  fields_sound : (place : ℕ) (how : Match) (scope : Scope) (selected : Selected) (names keys : List Template) → IsBoundedHeader selected names keys → standing tables all place ≡ three_pushed names (params_of selected) keys
+      → IsSound all tables last place (match_fields how scope selected (length names) (length keys))
+  fields_sound place how scope selected names keys b h = record {
     form =
         rw (
-          selection_fits how.kind how.comparator,
-          le-leb 1 (length names) b.some_first,
+          selection_fits how scope selected,
+          le-leb 1 (length names) b.lists.some_first,
           le-leb (length names) 512 (omega (arith, b.few)),
-          keys_alone (length keys) (omega (arith, b.few)),
-          no_params (length keys) (omega (arith, b.few)),
-          asks_no_params how.kind how.comparator,
-          le-leb 1 (length keys) b.some_second,
-          le-leb (length keys) 512 (omega (arith, b.few)),
+          counts_fit how scope selected names keys b,
         )
         refl;
     loopless = refl;
     index = tt;
     jump = λ e. absurd (cc);
-    stack = λ code same. rw (h, keys_alone (length keys) (omega (arith, b.few)), no_params (length keys) (omega (arith, b.few)), taken_back bound_of keys (pushed (map bound_of names) []), taken_back bound_of names []) refl;
+    stack = λ code same.
+        rw (
+          h,
+          keys_are (length (params_of selected)) (length keys) (omega (arith, b.few)),
+          params_are (length (params_of selected)) (length keys) (omega (arith, b.few)),
+          taken_back bound_of keys (two_pushed names (params_of selected)),
+          taken_back bound_of (params_of selected) (pushed (map bound_of names) []),
+          taken_back bound_of names [],
+        )
+        refl;
   }
 
   texts_sound : (place : ℕ) (how : Match) (sources keys : List Template) → AreBoundedLists sources keys → standing tables all place ≡ two_pushed sources keys → IsSound all tables last place (match_texts how (length sources) (length keys))
@@ -454,9 +408,9 @@ module _ (all : List Instruction) (tables : Tables) (last : ℕ) where
     stack = λ code same. rw (h, taken_back bound_of keys (pushed (map bound_of sources) []), taken_back bound_of sources []) refl;
   }
 
-  names_sound : (place : ℕ) (names : List Template) → IsBoundedList names → standing tables all place ≡ pushed (map bound_of names) [] → IsSound all tables last place (find_fields (length names))
-  names_sound place names b h = record {
-    form = rw (le-leb 1 (length names) b.some, le-leb (length names) 512 (omega (arith, b.few))) refl;
+  names_sound : (place : ℕ) (scope : Scope) (names : List Template) → IsBoundedList names → standing tables all place ≡ pushed (map bound_of names) [] → IsSound all tables last place (find_fields scope (length names))
+  names_sound place scope names b h = record {
+    form = rw (scope_fits scope, le-leb 1 (length names) b.some, le-leb (length names) 512 (omega (arith, b.few))) refl;
     loopless = refl;
     index = tt;
     jump = λ e. absurd (cc);
@@ -493,17 +447,55 @@ module _ (all : List Instruction) (tables : Tables) (last : ℕ) where
       let same : place + strings_length first + strings_length second ≡ place + (strings_length first + strings_length second) = omega arith in
       subst (λ p. standing tables all p ≡ two_pushed first second) same above
 
-  both_sound : (first second : List Template) (place : ℕ) → Stands all place (strings_code tables first ++ strings_code tables second) → Has tables (joined (strings_uses first) (strings_uses second)) → AreBoundedLists first second → standing tables all place ≡ []
-      → AreSound place (strings_code tables first ++ strings_code tables second)
-  both_sound first second place h known b start =
+  both_sound : (first second : List Template) (place : ℕ) → Stands all place (strings_code tables first ++ strings_code tables second) → Has tables (joined (strings_uses first) (strings_uses second)) → All IsBoundedString first → All IsBoundedString second
+      → length first + length second ≤ max_test_strings → standing tables all place ≡ [] → AreSound place (strings_code tables first ++ strings_code tables second)
+  both_sound first second place h known b_first b_second few start =
       let here = stands_left all place (strings_code tables first) (strings_code tables second) h in
       let there = stands_right all place (strings_length first) (strings_code tables first) (strings_code tables second) (strings_code_length tables first) h in
       let of_first = has_left tables (strings_uses first) (strings_uses second) known in
       let below = following_strings first place [] here of_first start in
       let bounds = pushed_number bound_of first [] in
       sound_both (strings_code tables first) (strings_code tables second) place (strings_length first) (strings_code_length tables first)
-      (strings_sound first place [] here of_first b.bounded_first start (omega (arith, b.few)))
-      (strings_sound second (place + strings_length first) (pushed (map bound_of first) []) there (has_right tables (strings_uses first) (strings_uses second) known) b.bounded_second below (omega (arith, bounds, b.few)))
+      (strings_sound first place [] here of_first b_first start (omega (arith, few)))
+      (strings_sound second (place + strings_length first) (pushed (map bound_of first) []) there (has_right tables (strings_uses first) (strings_uses second) known) b_second below (omega (arith, bounds, few)))
+
+  -- three lists of strings
+  abbrev three_code : List Template → List Template → List Template → List Instruction
+  three_code names given keys = strings_code tables names ++ strings_code tables given ++ strings_code tables keys
+
+  abbrev three_uses : List Template → List Template → List Template → Uses
+  three_uses names given keys = joined (joined (strings_uses names) (strings_uses given)) (strings_uses keys)
+
+  three_length : (names given keys : List Template) → length (three_code names given keys) ≡ strings_length names + strings_length given + strings_length keys
+  three_length names given keys = length_two (strings_code tables names ++ strings_code tables given) (strings_code tables keys) _ _ (both_length names given) (strings_code_length tables keys)
+
+  following_three : (names given keys : List Template) (place : ℕ) → Stands all place (three_code names given keys) → Has tables (three_uses names given keys) → standing tables all place ≡ []
+      → standing tables all (place + (strings_length names + strings_length given + strings_length keys)) ≡ three_pushed names given keys
+  following_three names given keys place h known start =
+      let two = strings_code tables names ++ strings_code tables given in
+      let n : ℕ = strings_length names + strings_length given in
+      let of_two = has_left tables (joined (strings_uses names) (strings_uses given)) (strings_uses keys) known in
+      let below = following_both names given place (stands_left all place two (strings_code tables keys) h) of_two start in
+      let there = stands_right all place n two (strings_code tables keys) (both_length names given) h in
+      let above = following_strings keys (place + n) (two_pushed names given) there (has_right tables (joined (strings_uses names) (strings_uses given)) (strings_uses keys) known) below in
+      let same : place + n + strings_length keys ≡ place + (n + strings_length keys) = omega arith in
+      subst (λ p. standing tables all p ≡ three_pushed names given keys) same above
+
+  three_sound : (selected : Selected) (names keys : List Template) (place : ℕ) → Stands all place (three_code names (params_of selected) keys) → Has tables (three_uses names (params_of selected) keys) → IsBoundedHeader selected names keys → standing tables all place ≡ []
+      → AreSound place (three_code names (params_of selected) keys)
+  three_sound selected names keys place h known b start =
+      let given = params_of selected in
+      let two = strings_code tables names ++ strings_code tables given in
+      let n : ℕ = strings_length names + strings_length given in
+      let of_two = has_left tables (joined (strings_uses names) (strings_uses given)) (strings_uses keys) known in
+      let here = stands_left all place two (strings_code tables keys) h in
+      let below = following_both names given place here of_two start in
+      let there = stands_right all place n two (strings_code tables keys) (both_length names given) h in
+      let few : length names + length given ≤ max_test_strings = omega (arith, b.few) in
+      let on_names = pushed_number bound_of names [] in
+      let on_given = pushed_number bound_of given (pushed (map bound_of names) []) in
+      sound_both two (strings_code tables keys) place n (both_length names given) (both_sound names given place here of_two b.lists.bounded_first b.bounded_params few start)
+      (strings_sound keys (place + n) (two_pushed names given) there (has_right tables (joined (strings_uses names) (strings_uses given)) (strings_uses keys) known) b.lists.bounded_second below (omega (arith, on_names, on_given, b.few)))
 
   -- what a target has to be for code that ends at a place
   abbrev pub IsTarget : ℕ → ℕ → Type 0
@@ -525,9 +517,9 @@ module _ (all : List Instruction) (tables : Tables) (last : ℕ) where
     test_ends (size order n) place asked target h =
         let same : suc (suc place) ≡ place + 2 = omega arith in
         subst (λ p. standing tables all p ≡ []) same (following_jump (suc place) asked target (stands_first all (suc place) _ [] (stands_next all place _ (jump_if asked target ∷ []) h)))
-    test_ends (header how names keys) place asked target h =
-        tail_ends place (strings_length names + strings_length keys) _ _ asked target (both_length names keys) h
-    test_ends (exists names) place asked target h = tail_ends place (strings_length names) _ _ asked target (strings_code_length tables names) h
+    test_ends (header how scope selected names keys) place asked target h =
+        tail_ends place (strings_length names + strings_length (params_of selected) + strings_length keys) _ _ asked target (three_length names (params_of selected) keys) h
+    test_ends (exists scope names) place asked target h = tail_ends place (strings_length names) _ _ asked target (strings_code_length tables names) h
     test_ends (string how sources keys) place asked target h =
         tail_ends place (strings_length sources + strings_length keys) _ _ asked target (both_length sources keys) h
     test_ends (negation t) place asked target h = test_ends t place _ target h
@@ -553,22 +545,24 @@ module _ (all : List Instruction) (tables : Tables) (last : ℕ) where
         simple_sound place asked target (push_bool v) (bool_sound place v start) (following_bool place v (stands_first all place _ (jump_if asked target ∷ []) h)) (record { forward = omega (arith, aim.0); within = aim.1; between = aim.2 })
     test_sound (size order n) place asked target h known b start aim =
         simple_sound place asked target (push_size order (place_of_number tables n)) (size_sound place order n known start) (following_size place order (place_of_number tables n) (stands_first all place _ (jump_if asked target ∷ []) h)) (record { forward = omega (arith, aim.0); within = aim.1; between = aim.2 })
-    test_sound (header how names keys) place asked target h known b start aim =
-        let lists = stands_left all place (strings_code tables names ++ strings_code tables keys) _ h in
-        let after = following_both names keys place lists known start in
-        tail_sound place (strings_length names + strings_length keys) _ _ asked target (both_length names keys) h (both_sound names keys place lists known b start)
-        (fields_sound (place + (strings_length names + strings_length keys)) how names keys b after) (λ entries. refl)
+    test_sound (header how scope selected names keys) place asked target h known b start aim =
+        let given = params_of selected in
+        let n : ℕ = strings_length names + strings_length given + strings_length keys in
+        let lists = stands_left all place (three_code names given keys) _ h in
+        let after = following_three names given keys place lists known start in
+        tail_sound place n _ _ asked target (three_length names given keys) h (three_sound selected names keys place lists known b start)
+        (fields_sound (place + n) how scope selected names keys b after) (λ entries. refl)
         (record { forward = omega (arith, aim.0); within = aim.1; between = aim.2 })
-    test_sound (exists names) place asked target h known b start aim =
+    test_sound (exists scope names) place asked target h known b start aim =
         let list = stands_left all place (strings_code tables names) _ h in
         let after = following_strings names place [] list known start in
         tail_sound place (strings_length names) _ _ asked target (strings_code_length tables names) h (strings_sound names place [] list known b.bounded start (omega (arith, b.few)))
-        (names_sound (place + strings_length names) names b after) (λ entries. refl)
+        (names_sound (place + strings_length names) scope names b after) (λ entries. refl)
         (record { forward = omega (arith, aim.0); within = aim.1; between = aim.2 })
     test_sound (string how sources keys) place asked target h known b start aim =
         let lists = stands_left all place (strings_code tables sources ++ strings_code tables keys) _ h in
         let after = following_both sources keys place lists known start in
-        tail_sound place (strings_length sources + strings_length keys) _ _ asked target (both_length sources keys) h (both_sound sources keys place lists known b start)
+        tail_sound place (strings_length sources + strings_length keys) _ _ asked target (both_length sources keys) h (both_sound sources keys place lists known b.bounded_first b.bounded_second b.few start)
         (texts_sound (place + (strings_length sources + strings_length keys)) how sources keys b after) (λ entries. refl)
         (record { forward = omega (arith, aim.0); within = aim.1; between = aim.2 })
     test_sound (negation t) place asked target h known b start aim = test_sound t place _ target h known b start aim

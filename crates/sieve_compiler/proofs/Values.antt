@@ -20,9 +20,9 @@ use Rattle.glob_match.specs.declared.match_type.MatchType.{MatchType}
 use Rattle.glob_match.specs.declared.match_type.MatchType.TheVariants.{Is, Contains, Matches}
 use Rattle.mail_matching.specs.FirstMatch.{after_comparison, first_key, first_match, ten_of}
 use Rattle.mime_decode.specs.Mail.{Mail}
-use Rattle.mime_decode.specs.Scope.{Root, Value, selected_values}
+use Rattle.mime_decode.specs.Scope.{selected_values}
 use Rattle.sieve_check.specs.Typed.{TestForm, constant, negation, all_of, any_of, size, header, exists, string, TestForms, no_test, test, CommandForm, keep, discard, file_into, set, stop, choice, CommandForms, no_command, command, BranchForms, no_branch, otherwise, branch}
-use Rattle.sieve_meaning.specs.Meaning.{Effects, no_effects, all_expanded, expanded, with_value, Verdict, verdict, matched, and_then, or_else, Ending, normal, stopped, broken, effects_of, followed_by, test_does, all_do, any_do, command_does, commands_do, choice_does}
+use Rattle.sieve_meaning.specs.Meaning.{scope_of, selector_of, Effects, no_effects, all_expanded, expanded, with_value, Verdict, verdict, matched, and_then, or_else, Ending, normal, stopped, broken, effects_of, followed_by, test_does, all_do, any_do, command_does, commands_do, choice_does}
 
 -- ---- short values
 
@@ -126,9 +126,9 @@ module _ (mail : Mail) where
     test_short (all_of t ts) e short = let v = test_does mail None t e in and_short v.value v.effects (λ f. all_do mail None ts f) (test_short t e short) (λ f h. all_short ts f h)
     test_short (any_of t ts) e short = let v = test_does mail None t e in or_short v.value v.effects (λ f. any_do mail None ts f) (test_short t e short) (λ f h. any_short ts f h)
     test_short (size order number) e short = short
-    test_short (header how names keys) e short =
-        matched_short _ e short (after_values how (selected_values Root None Value (all_expanded e names) mail) (all_expanded e keys) e.captures short.captures)
-    test_short (exists names) e short = short
+    test_short (header how scope selected names keys) e short =
+        matched_short _ e short (after_values how (selected_values (scope_of scope) None (selector_of e selected) (all_expanded e names) mail) (all_expanded e keys) e.captures short.captures)
+    test_short (exists scope names) e short = short
     test_short (string how sources keys) e short = matched_short _ e short (after_values how (all_expanded e sources) (all_expanded e keys) e.captures short.captures)
 
     all_short : (ts : TestForms) (e : Effects) → AreShort e → AreShort (all_do mail None ts e).effects

@@ -1,5 +1,5 @@
 -- The code of a script: of each piece the instructions, from the place on where the piece begins.
-use Rattle.std.specs.Prelude.{ℕ, ◌+◌, Bool, true, false, not, List, [], ◌∷◌, ◌++◌, flat_map, length, map}
+use Rattle.std.specs.Prelude.{ℕ, ◌+◌, ◌*◌, Bool, true, false, not, List, [], ◌∷◌, ◌++◌, flat_map, length, map}
 use Rattle.bytecode_format.specs.declared.instruction.Instruction.{Instruction}
 use Rattle.bytecode_format.specs.declared.operation.Operation.{Operation}
 use Rattle.bytecode_format.specs.declared.operation.Operation.TheVariants.{Halt, Literal, Variable as VariableOp, Capture as CaptureOp, Join, Set, String, Bool as BoolOp, Jump, JumpIfTrue, JumpIfFalse, Header, Exists, Size, Keep, Discard, File}
@@ -16,7 +16,9 @@ use Rattle.sieve_check.specs.declared.typed.Order.{Order}
 use Rattle.sieve_check.specs.declared.typed.Order.TheVariants.{Over, Under}
 use Rattle.sieve_check.specs.declared.typed.Segment.{Segment}
 use Rattle.sieve_check.specs.declared.typed.Segment.TheVariants.{Text, Variable, Capture}
-use Rattle.sieve_check.specs.Typed.{Template, TestForm, constant, negation, all_of, any_of, size, header, exists, string, TestForms, no_test, test, CommandForm, keep, discard, file_into, set, stop, choice, CommandForms, no_command, command, BranchForms, no_branch, otherwise, branch}
+use Rattle.sieve_check.specs.declared.typed.Scope.{Scope}
+use Rattle.sieve_check.specs.declared.typed.Scope.TheVariants.{Message, Part, PartAndBelow}
+use Rattle.sieve_check.specs.Typed.{Template, Selected, whole, main, sub, content_type, params, params_of, TestForm, constant, negation, all_of, any_of, size, header, exists, string, TestForms, no_test, test, CommandForm, keep, discard, file_into, set, stop, choice, CommandForms, no_command, command, BranchForms, no_branch, otherwise, branch}
 use Rattle.sieve_compiler.specs.Lengths.{test_length, tests_length, commands_length, command_length, leave_length, branches_length}
 use Rattle.sieve_compiler.specs.Tables.{Tables, tables_of, place_of_number, place_of_string, place_of_variable}
 
@@ -84,17 +86,36 @@ comparator_number Octet = 4
 abbrev pub match_number : Match → ℕ
 match_number how = kind_number how.kind + comparator_number how.comparator
 
--- the values of the message's fields of so many names, against so many keys
-abbrev pub match_fields : Match → ℕ → ℕ → Instruction
-match_fields how names keys = record { op = octet_of Header; a = match_number how; b = names; c = keys }
+-- where a test looks, as a number
+abbrev pub scope_number : Scope → ℕ
+scope_number Message = 0
+scope_number Part = 1
+scope_number PartAndBelow = 2
+
+-- what it takes of a field, as a number
+abbrev pub selector_number : Selected → ℕ
+selector_number whole = 0
+selector_number main = 1
+selector_number sub = 2
+selector_number content_type = 3
+selector_number (params names) = 4
+
+-- what is selected of the fields of so many names in scope, against so many keys
+abbrev pub match_fields : Match → Scope → Selected → ℕ → ℕ → Instruction
+match_fields how scope selected names keys = record {
+  op = octet_of Header;
+  a = match_number how + 8 * scope_number scope + 32 * selector_number selected;
+  b = names;
+  c = 65536 * length (params_of selected) + keys;
+}
 
 -- so many sources against so many keys
 abbrev pub match_texts : Match → ℕ → ℕ → Instruction
 match_texts how sources keys = record { op = octet_of String; a = match_number how; b = sources; c = keys }
 
--- whether the message has fields of so many names
-abbrev pub find_fields : ℕ → Instruction
-find_fields names = record { op = octet_of Exists; a = 0; b = names; c = 0 }
+-- whether there are fields of so many names in scope
+abbrev pub find_fields : Scope → ℕ → Instruction
+find_fields scope names = record { op = octet_of Exists; a = scope_number scope; b = names; c = 0 }
 
 -- a test of a list jumps where it decides the list alone, as a false one does of allof and a true one of anyof;
 -- the last one, after which nothing stands, jumps where the list has the value that is asked for
@@ -122,9 +143,10 @@ abbrev mutual
       let following = place + (test_length t + tests_length ts) in
       test_code tables place t (asked_of true asked ts) (aim_of true asked ts following target) ++ tests_code tables (place + test_length t) ts true asked following target
   test_code tables place (size order number) asked target = push_size order (place_of_number tables number) ∷ jump_if asked target ∷ []
-  test_code tables place (header how names keys) asked target =
-      strings_code tables names ++ strings_code tables keys ++ match_fields how (length names) (length keys) ∷ jump_if asked target ∷ []
-  test_code tables place (exists names) asked target = strings_code tables names ++ find_fields (length names) ∷ jump_if asked target ∷ []
+  test_code tables place (header how scope selected names keys) asked target =
+      strings_code tables names ++ strings_code tables (params_of selected) ++ strings_code tables keys
+      ++ match_fields how scope selected (length names) (length keys) ∷ jump_if asked target ∷ []
+  test_code tables place (exists scope names) asked target = strings_code tables names ++ find_fields scope (length names) ∷ jump_if asked target ∷ []
   test_code tables place (string how sources keys) asked target =
       strings_code tables sources ++ strings_code tables keys ++ match_texts how (length sources) (length keys) ∷ jump_if asked target ∷ []
 

@@ -1,6 +1,6 @@
 -- How many instructions the code of each piece has.
 use Rattle.std.specs.Prelude.{ℕ, ◌+◌, List, [], ◌∷◌, length, sum_by}
-use Rattle.sieve_check.specs.Typed.{Template, TestForm, constant, negation, all_of, any_of, size, header, exists, string, TestForms, no_test, test, CommandForm, keep, discard, file_into, set, stop, choice, CommandForms, no_command, command, BranchForms, no_branch, otherwise, branch}
+use Rattle.sieve_check.specs.Typed.{Template, Selected, params_of, TestForm, constant, negation, all_of, any_of, size, header, exists, string, TestForms, no_test, test, CommandForm, keep, discard, file_into, set, stop, choice, CommandForms, no_command, command, BranchForms, no_branch, otherwise, branch}
 
 -- a string is one instruction where it is one text or one reference; else its segments, and then they are joined
 abbrev pub string_length : Template → ℕ
@@ -19,8 +19,8 @@ abbrev mutual
   test_length (all_of t ts) = test_length t + tests_length ts
   test_length (any_of t ts) = test_length t + tests_length ts
   test_length (size order number) = 2
-  test_length (header how names keys) = strings_length names + strings_length keys + 2
-  test_length (exists names) = strings_length names + 2
+  test_length (header how scope selected names keys) = strings_length names + strings_length (params_of selected) + strings_length keys + 2
+  test_length (exists scope names) = strings_length names + 2
   test_length (string how sources keys) = strings_length sources + strings_length keys + 2
 
   pub tests_length : TestForms → ℕ

@@ -10,8 +10,8 @@ abbrev mutual
   test_numbers (all_of t ts) = test_numbers t ++ tests_numbers ts
   test_numbers (any_of t ts) = test_numbers t ++ tests_numbers ts
   test_numbers (size order number) = number ∷ []
-  test_numbers (header how names keys) = []
-  test_numbers (exists names) = []
+  test_numbers (header how scope selected names keys) = []
+  test_numbers (exists scope names) = []
   test_numbers (string how sources keys) = []
 
   pub tests_numbers : TestForms → List ℕ

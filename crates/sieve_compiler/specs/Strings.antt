@@ -2,7 +2,7 @@
 use Rattle.std.specs.Prelude.{ℕ, List, [], ◌∷◌, ◌++◌, flat_map}
 use Rattle.sieve_check.specs.declared.typed.Segment.{Segment}
 use Rattle.sieve_check.specs.declared.typed.Segment.TheVariants.{Text, Variable, Capture}
-use Rattle.sieve_check.specs.Typed.{Template, TestForm, constant, negation, all_of, any_of, size, header, exists, string, TestForms, no_test, test, CommandForm, keep, discard, file_into, set, stop, choice, CommandForms, no_command, command, BranchForms, no_branch, otherwise, branch}
+use Rattle.sieve_check.specs.Typed.{Template, Selected, params_of, TestForm, constant, negation, all_of, any_of, size, header, exists, string, TestForms, no_test, test, CommandForm, keep, discard, file_into, set, stop, choice, CommandForms, no_command, command, BranchForms, no_branch, otherwise, branch}
 
 abbrev pub segment_strings : Segment → List (List ℕ)
 segment_strings (Text octets) = octets ∷ []
@@ -25,8 +25,8 @@ abbrev mutual
   test_strings (all_of t ts) = test_strings t ++ tests_strings ts
   test_strings (any_of t ts) = test_strings t ++ tests_strings ts
   test_strings (size order number) = []
-  test_strings (header how names keys) = strings_of names ++ strings_of keys
-  test_strings (exists names) = strings_of names
+  test_strings (header how scope selected names keys) = strings_of names ++ strings_of (params_of selected) ++ strings_of keys
+  test_strings (exists scope names) = strings_of names
   test_strings (string how sources keys) = strings_of sources ++ strings_of keys
 
   pub tests_strings : TestForms → List (List ℕ)

@@ -164,17 +164,23 @@ impl<'t, 's> Coder<'t, 's> {
             }
             Test::Header {
                 matching,
+                scope,
+                selection,
                 names,
                 keys,
             } => {
                 self.put_strings(names)?;
+                self.put_strings(selection.params())?;
                 self.put_strings(keys)?;
-                let test = match_fields(*matching, names.len() as u16, keys.len() as u32);
-                self.put_simple(test, exit)
+                let (names, keys) = (names.len() as u16, keys.len() as u32);
+                self.put_simple(
+                    match_fields(*matching, *scope, selection, names, keys),
+                    exit,
+                )
             }
-            Test::Exists(names) => {
+            Test::Exists(scope, names) => {
                 self.put_strings(names)?;
-                self.put_simple(find_fields(names.len() as u16), exit)
+                self.put_simple(find_fields(*scope, names.len() as u16), exit)
             }
             Test::String {
                 matching,

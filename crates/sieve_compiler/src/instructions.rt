@@ -1,11 +1,14 @@
 // The instructions of which code is made.
-ghost use Rattle.std.specs.Prelude.{◌≡◌};
-ghost use Rattle.sieve_compiler.specs.Coding.{comparator_number, find_fields, instruction, jump_if, kind_number, match_fields, join_texts, match_texts, match_number, push_bool, push_size};
+ghost use Rattle.std.specs.Prelude.{◌≡◌, ◌≤◌, length};
+ghost use Rattle.octets.specs.Limits.{max_test_strings};
+ghost use Rattle.sieve_check.specs.Typed.{params_of};
+ghost use Rattle.sieve_check.specs.TypedView.{selected_form};
+ghost use Rattle.sieve_compiler.specs.Coding.{comparator_number, find_fields, instruction, jump_if, kind_number, match_fields, join_texts, match_texts, match_number, push_bool, push_size, scope_number, selector_number};
 
 use crate::exits::Exit;
 use bytecode_format::{Instruction, Operation};
 use glob_match::{Comparator, Match, MatchType};
-use sieve_check::Order;
+use sieve_check::{Order, Scope, Selection};
 
 /// An instruction with its fields a and c.
 pub fn instruction(operation: Operation, a: u8, c: u32) -> Instruction
@@ -48,15 +51,23 @@ pub fn push_size(order: Order, place: u32) -> Instruction
     }
 }
 
-/// Compares the values of the message's fields of so many names with so many keys.
-pub fn match_fields(how: Match, names: u16, keys: u32) -> Instruction
-    ensures { result ≡ match_fields how names keys }
+/// Compares what is selected of the fields of so many names in scope with so many keys.
+pub fn match_fields(
+    how: Match,
+    scope: Scope,
+    selection: &Selection,
+    names: u16,
+    keys: u32,
+) -> Instruction
+    requires params { length (params_of (selected_form selection.now)) ≤ max_test_strings }
+    requires keys { keys ≤ max_test_strings }
+    ensures { result ≡ match_fields how scope (selected_form selection.now) names keys }
 {
     Instruction {
         op: Operation::Header.octet(),
-        a: match_number(how),
+        a: match_number(how) + 8 * scope_number(scope) + 32 * selector_number(selection),
         b: names,
-        c: keys,
+        c: 65_536 * selection.params().len() as u32 + keys,
     }
 }
 
@@ -84,21 +95,48 @@ pub fn join_texts(texts: u16) -> Instruction
     }
 }
 
-/// Says whether the message has fields of so many names.
-pub fn find_fields(names: u16) -> Instruction
-    ensures { result ≡ find_fields names }
+/// Says whether there are fields of so many names in scope.
+pub fn find_fields(scope: Scope, names: u16) -> Instruction
+    ensures { result ≡ find_fields scope names }
 {
     Instruction {
         op: Operation::Exists.octet(),
-        a: 0,
+        a: scope_number(scope),
         b: names,
         c: 0,
     }
 }
 
+// Where a test looks, in bits 3 and 4.
+fn scope_number(scope: Scope) -> u8
+    ensures number { result ≡ scope_number scope }
+    ensures bound { result ≤ 2 }
+{
+    match scope {
+        Scope::Message => 0,
+        Scope::Part => 1,
+        Scope::PartAndBelow => 2,
+    }
+}
+
+// What it takes of a field, in the bits above.
+fn selector_number(selection: &Selection) -> u8
+    ensures number { result ≡ selector_number (selected_form selection.now) }
+    ensures bound { result ≤ 4 }
+{
+    match selection {
+        Selection::Value => 0,
+        Selection::Main => 1,
+        Selection::Sub => 2,
+        Selection::ContentType => 3,
+        Selection::Params(_) => 4,
+    }
+}
+
 // The number of a match.
 fn match_number(how: Match) -> u8
-    ensures { result ≡ match_number how }
+    ensures number { result ≡ match_number how }
+    ensures bound { result ≤ 6 }
 {
     kind_number(how.kind) + comparator_number(how.comparator)
 }

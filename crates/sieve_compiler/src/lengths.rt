@@ -39,8 +39,13 @@ pub fn test_length(test: &Test) -> u32
 {
     match test {
         Test::Constant(_) | Test::Size(_, _) => 2,
-        Test::Header { names, keys, .. } => strings_length(names) + strings_length(keys) + 2,
-        Test::Exists(names) => strings_length(names) + 2,
+        Test::Header {
+            selection,
+            names,
+            keys,
+            ..
+        } => strings_length(names) + strings_length(selection.params()) + strings_length(keys) + 2,
+        Test::Exists(_, names) => strings_length(names) + 2,
         Test::String { sources, keys, .. } => strings_length(sources) + strings_length(keys) + 2,
         Test::Not(inner) => test_length(inner),
         Test::AllOf(first, others) | Test::AnyOf(first, others) => {

@@ -82,15 +82,21 @@ impl<'a> Tables<'a> {
                 self.add_test(first)?;
                 self.add_tests(others)
             }
-            Test::Header { names, keys, .. } => {
+            Test::Header {
+                selection,
+                names,
+                keys,
+                ..
+            } => {
                 self.add_strings(names)?;
+                self.add_strings(selection.params())?;
                 self.add_strings(keys)
             }
             Test::String { sources, keys, .. } => {
                 self.add_strings(sources)?;
                 self.add_strings(keys)
             }
-            Test::Exists(names) => self.add_strings(names),
+            Test::Exists(_, names) => self.add_strings(names),
             Test::Size(_, number) => self.numbers.add(*number),
         }
     }

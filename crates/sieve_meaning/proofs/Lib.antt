@@ -1,3 +1,4 @@
 pub mod Joining
 pub mod MeaningLemmas
 pub mod Shapes
+pub mod HeaderAgain

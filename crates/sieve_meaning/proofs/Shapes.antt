@@ -4,6 +4,8 @@ use Rattle.std.specs.Global.{Vec}
 use Rattle.octets.specs.declared.owned.Octets.{Octets}
 use Rattle.glob_match.specs.declared.match_type.Match.{Match}
 use Rattle.bytecode_format.specs.declared.modifiers.Modifiers.{Modifiers}
+use Rattle.sieve_check.specs.declared.typed.Scope.{Scope}
+use Rattle.sieve_check.specs.declared.typed.Selection.{Selection}
 use Rattle.sieve_check.specs.declared.typed.Segment.{Segment}
 use Rattle.sieve_check.specs.declared.typed.Command.{Command}
 use Rattle.sieve_check.specs.declared.typed.Command.TheVariants.{FileInto, Set, rolls-FileInto, rolls-Set}
@@ -14,10 +16,11 @@ use Rattle.sieve_check.specs.declared.typed.Test.TheVariants.{Header, rolls-Head
 use Rattle.sieve_check.specs.declared.typed.Test.TheOpen as test_layer
 use Rattle.sieve_check.specs.declared.typed.Test.TheFolds.{fold-roll-Test}
 use Rattle.sieve_check.specs.Typed.{TestForm, header, CommandForm, file_into, set}
-use Rattle.sieve_check.specs.TypedView.{GuardedForm, branch_step, command_form, command_step, templates_of, test_form, test_step}
+use Rattle.sieve_check.specs.TypedView.{GuardedForm, branch_step, command_form, command_step, selected_form, templates_of, test_form, test_step}
 
-pub form_header : (how : Match) (names keys : Vec (Vec Segment)) → test_form (Header how names keys) ≡ header how (templates_of names.items) (templates_of keys.items)
-form_header how names keys = ap test_form (sym (rolls-Header how names keys)) ∙ fold-roll-Test TestForm test_step (test_layer.Header how names keys)
+pub form_header : (how : Match) (scope : Scope) (selection : Selection) (names keys : Vec (Vec Segment)) → test_form (Header how scope selection names keys) ≡ header how scope (selected_form selection) (templates_of names.items) (templates_of keys.items)
+form_header how scope selection names keys =
+    ap test_form (sym (rolls-Header how scope selection names keys)) ∙ fold-roll-Test TestForm test_step (test_layer.Header how scope selection names keys)
 
 pub form_file_into : (folder : Vec Segment) → command_form (FileInto folder) ≡ file_into folder.items
 form_file_into folder = ap command_form (sym (rolls-FileInto folder)) ∙ fold-roll-Command CommandForm GuardedForm command_step branch_step (open_layer.FileInto folder)

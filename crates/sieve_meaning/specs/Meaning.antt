@@ -8,12 +8,14 @@ use Rattle.bytecode_format.specs.Modifiers.{modified}
 use Rattle.mail_matching.specs.FirstMatch.{first_match, no_captures}
 use Rattle.mail_matching.specs.HeaderTests.{exists_in, header_match}
 use Rattle.mime_decode.specs.Mail.{Mail, size_of}
-use Rattle.mime_decode.specs.Scope.{Root, Value}
+use Rattle.mime_decode.specs.Scope as scopes
 use Rattle.sieve_check.specs.declared.typed.Order.{Order}
 use Rattle.sieve_check.specs.declared.typed.Order.TheVariants.{Over, Under}
+use Rattle.sieve_check.specs.declared.typed.Scope.{Scope}
+use Rattle.sieve_check.specs.declared.typed.Scope.TheVariants.{Message, Part, PartAndBelow}
 use Rattle.sieve_check.specs.declared.typed.Segment.{Segment}
 use Rattle.sieve_check.specs.declared.typed.Segment.TheVariants.{Text, Variable, Capture}
-use Rattle.sieve_check.specs.Typed.{Template, TestForm, constant, negation, all_of, any_of, header, exists, size, string, TestForms, no_test, test, CommandForm, keep, discard, file_into, set, stop, choice, CommandForms, no_command, command, BranchForms, no_branch, otherwise, branch}
+use Rattle.sieve_check.specs.Typed.{Template, Selected, whole, main, sub, content_type, params, TestForm, constant, negation, all_of, any_of, header, exists, size, string, TestForms, no_test, test, CommandForm, keep, discard, file_into, set, stop, choice, CommandForms, no_command, command, BranchForms, no_branch, otherwise, branch}
 
 -- what a script has done so far: the values of variables by their names in lower case, the captures of the last match that set
 -- them, the actions, and whether the implicit keep stands
@@ -40,6 +42,20 @@ expanded effects template = take max_string (flat_map (value_of effects) templat
 -- strings, each expanded
 abbrev pub all_expanded : Effects → List Template → List (List ℕ)
 all_expanded effects templates = map (expanded effects) templates
+
+-- where a test looks (RFC 5703, section 4.1)
+abbrev pub scope_of : Scope → scopes.Scope
+scope_of Message = scopes.Root
+scope_of Part = scopes.Current
+scope_of PartAndBelow = scopes.CurrentAndBelow
+
+-- what it takes of a field, its parameters by their names (RFC 5703, section 4.2)
+abbrev pub selector_of : Effects → Selected → scopes.Selector
+selector_of effects whole = scopes.Value
+selector_of effects main = scopes.Main
+selector_of effects sub = scopes.Sub
+selector_of effects content_type = scopes.ContentType
+selector_of effects (params names) = scopes.Param (all_expanded effects names)
 
 -- the values of variables, of which one is new
 abbrev pub with_value : List ℕ → List ℕ → (List ℕ → List ℕ) → List ℕ → List ℕ
@@ -100,9 +116,9 @@ abbrev mutual
   test_does mail part (negation t) effects = turned (test_does mail part t effects)
   test_does mail part (all_of t ts) effects = and_then (test_does mail part t effects) (λ e. all_do mail part ts e)
   test_does mail part (any_of t ts) effects = or_else (test_does mail part t effects) (λ e. any_do mail part ts e)
-  -- without `:mime` these two look at the message's own header alone
-  test_does mail part (header how names keys) effects = matched (header_match how Root part Value (all_expanded effects names) (all_expanded effects keys) mail effects.captures) effects
-  test_does mail part (exists names) effects = verdict (exists_in Root part (all_expanded effects names) mail) effects
+  test_does mail part (header how scope selected names keys) effects =
+      matched (header_match how (scope_of scope) part (selector_of effects selected) (all_expanded effects names) (all_expanded effects keys) mail effects.captures) effects
+  test_does mail part (exists scope names) effects = verdict (exists_in (scope_of scope) part (all_expanded effects names) mail) effects
   test_does mail part (size order number) effects = verdict (is_size order number (size_of mail)) effects
   -- the values are those of its sources (RFC 5229, section 5)
   test_does mail part (string how sources keys) effects = matched (first_match how (all_expanded effects sources) (all_expanded effects keys) effects.captures) effects

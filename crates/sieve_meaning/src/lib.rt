@@ -6,6 +6,7 @@
 
 mod evaluator;
 mod expansion;
+mod selection;
 mod tests_hold;
 mod variables;
 

@@ -3,22 +3,17 @@ ghost use Rattle.std.specs.Prelude.{◌≡◌};
 ghost use Rattle.sieve_meaning.specs.Meaning.{is_size};
 
 use crate::evaluator::Evaluator;
+use crate::selection::{reach_of, selector_of};
 use glob_match::Match;
-use mail_matching::{Answer, HeaderTest, Outcome, Reach, Scope, Selector, exists, header, string};
+use mail_matching::{Answer, HeaderTest, Outcome, exists, header, string};
 use mime_decode::Message;
-use octets::Octets;
 use sieve_check::{Order, Segment, Test};
 use std::alloc::{AllocError, Global};
 
-/// The message itself, outside all loops.
-const MESSAGE: Reach = Reach {
-    scope: Scope::Root,
-    current: None,
-};
-
 impl<'s, 'm> Evaluator<'s, 'm> {
-    ghost use Rattle.std.specs.Prelude.{IfOk, None, map};
-    ghost use Rattle.mime_decode.specs.Scope.{Root, Value};
+    ghost use Rattle.std.specs.Prelude.{◌≡◌, ◌≤◌, IfOk, None, length, map};
+    ghost use Rattle.octets.specs.Limits.{max_test_strings};
+    ghost use Rattle.mail_matching.specs.Selection.{scope_of, selector_of};
     ghost use Rattle.mail_matching.specs.HeaderTests.{header_match};
     ghost use Rattle.mail_matching.specs.FirstMatch.{first_match};
     ghost use Rattle.mail_matching.specs.Outcomes.{after};
@@ -57,12 +52,21 @@ impl<'s, 'm> Evaluator<'s, 'm> {
             }
             Test::Header {
                 matching,
+                scope,
+                selection,
                 names,
                 keys,
-            } => self.matches(alloc, *matching, names, keys, message),
-            Test::Exists(names) => {
+            } => {
+                let test = HeaderTest {
+                    reach: reach_of(*scope),
+                    selector: selector_of(selection),
+                    how: *matching,
+                };
+                self.matches(alloc, test, names, selection.params(), keys, message)
+            }
+            Test::Exists(scope, names) => {
                 let names = self.all_expanded(alloc, names)?;
-                Ok(exists(message, MESSAGE, &names).0)
+                Ok(exists(message, reach_of(*scope), &names).0)
             }
             Test::Size(order, number) => Ok(is_size(*order, *number, message.size() as u64)),
             Test::String {
@@ -111,26 +115,24 @@ impl<'s, 'm> Evaluator<'s, 'm> {
         Ok(false)
     }
 
-    // Whether a value of the fields of these names matches a key. A match may set captures.
+    // Whether what is selected of the fields of these names matches a key. A match may set captures.
     fn matches(
         &mut self,
         alloc: Global,
-        how: Match,
+        test: HeaderTest,
         names: &[Vec<Segment>],
+        params: &[Vec<Segment>],
         keys: &[Vec<Segment>],
         message: &Message<'m>,
     ) -> Result<bool, AllocError>
-        requires { AreBoundedLists (templates_of names.now) (templates_of keys.now) }
-        ensures { (e : Effects) → StandsFor e self.old → IfOk result (λ value. Gives (matched (header_match how Root None Value (all_expanded e (templates_of names.now)) (all_expanded e (templates_of keys.now)) message.now e.captures) e) value self.new) }
+        requires lists { AreBoundedLists (templates_of names.now) (templates_of keys.now) }
+        requires params { length params.now ≤ max_test_strings }
+        requires outside { test.reach.current ≡ None }
+        ensures { (e : Effects) → StandsFor e self.old → IfOk result (λ value. Gives (matched (header_match test.how (scope_of test.reach.scope) None (selector_of test.selector (all_expanded e (templates_of params.now))) (all_expanded e (templates_of names.now)) (all_expanded e (templates_of keys.now)) message.now e.captures) e) value self.new) }
     {
         let names = self.all_expanded(alloc, names)?;
+        let params = self.all_expanded(alloc, params)?;
         let keys = self.all_expanded(alloc, keys)?;
-        let test = HeaderTest {
-            reach: MESSAGE,
-            selector: Selector::Value,
-            how,
-        };
-        let params = Vec::<Octets>::new(alloc);
         let Answer { outcome, .. } = header(alloc, message, test, &names, &params, &keys)?;
         Ok(self.settle(outcome))
     }

@@ -1,4 +1,4 @@
-use Rattle.std.proofs.Common.{◌≡◌, ◌+◌, [], List, sym, subst, drop}
+use Rattle.std.proofs.Common.{◌+◌, [], List, sym, subst, drop}
 use Rattle.std.proofs.lemmas.Result.{err_from_is_err_and}
 use Rattle.sieve_parser.specs.View.{command_tree, commands_tree, invocation_tree}
 use Rattle.sieve_parser.specs.declared.tree.Command.{Command as Tree}

@@ -23,19 +23,20 @@ tests-returns t c =
     ∙ sym (ap (λ xs. option_map (tests_onto (map test_form c.list.tests.items)) (more_forms_of (context_of c.args.surroundings) (others_of xs))) (drop_all c.list.invocation-index c.args.list.now c.list-test.false))
     ∙ c.list.invariant
 
-pub test-returns-in-Some : goal.test-returns-in-Some
-test-returns-in-Some t c =
+pub test-returns-in_ok-inner-in-WithTest : goal.test-returns-in_ok-inner-in-WithTest
+test-returns-in_ok-inner-in-WithTest t c =
     let w = c.in-WithTest in
     let s = context_of c.args.surroundings in
-    let formed = sym (c.in_ok-inner-in-WithTest.ensures ∙ ap (λ x. test_form_of s (invocation_tree x)) c.deref.ensures) ∙ ap (option_map test_form) c.in-Some.is in
-    IfOk-weaker c.negated.result _ _ (λ t' h. h s ∙ sym (form_with_test s c.args.invocation.now w.head w.inner (test_form c.in-Some.inner) formed w.is)) c.negated.ensures
+    let formed = sym (c.in_ok-inner-in-WithTest.ensures ∙ ap (λ x. test_form_of s (invocation_tree x)) c.deref.ensures) in
+    IfOk-weaker c.negated.result _ _ (λ t' h. h s ∙ sym (form_with_test s c.args.invocation.now w.head w.inner (option_map test_form c.in_ok-inner-in-WithTest.inner) formed w.is)) c.negated.ensures
 
-pub test-returns-in-Some-3 : goal.test-returns-in-Some-3
-test-returns-in-Some-3 t c =
+pub test-returns-in_ok-others-in-WithTests : goal.test-returns-in_ok-others-in-WithTests
+test-returns-in_ok-others-in-WithTests t c =
     let w = c.in-WithTests in
     let s = context_of c.args.surroundings in
-    let first = sym (c.in_ok-first-in-WithTests.ensures ∙ ap (λ x. test_form_of s (invocation_tree x)) c.deref-in-WithTests.ensures) ∙ ap (option_map test_form) c.in-Some-2.is in
-    let others = sym (c.in_ok-others-in-WithTests.ensures ∙ ap (λ xs. more_forms_of s (others_of xs)) c.deref-in-WithTests-2.ensures.value) ∙ ap (option_map (λ (ts : Vec Test). tests_of (map test_form ts.items))) c.in-Some-3.is in
+    let first = sym (c.in_ok-first-in-WithTests.ensures ∙ ap (λ x. test_form_of s (invocation_tree x)) c.deref-in-WithTests.ensures) in
+    let others = sym (c.in_ok-others-in-WithTests.ensures ∙ ap (λ xs. more_forms_of s (others_of xs)) c.deref-in-WithTests-2.ensures.value) in
     IfOk-weaker c.combined.result _ _
-    (λ t' h. h s ∙ sym (form_with_tests s c.args.invocation.now w.head w.first (test_form c.in-Some-2.first) first w.others (tests_of (map test_form c.in-Some-3.others.items)) others w.is))
+    (λ t' h. h s
+    ∙ sym (form_with_tests s c.args.invocation.now w.head w.first (option_map test_form c.in_ok-first-in-WithTests.first) first w.others (option_map (λ (ts : Vec Test). tests_of (map test_form ts.items)) c.in_ok-others-in-WithTests.others) others w.is))
     c.combined.ensures

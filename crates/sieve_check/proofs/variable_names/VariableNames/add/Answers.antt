@@ -1,5 +1,5 @@
-use Rattle.std.proofs.Common.{◌≡◌, ◌∙◌, ◌++◌, ◌∷◌, [], bytes_eq, sym, ap, length, length-append, arith, refl, false}
-use Rattle.std.proofs.lemmas.Bool.{eqb-true, eqb-false}
+use Rattle.std.proofs.Common.{◌≡◌, ◌∙◌, ◌∷◌, [], bytes_eq, sym, ap, length, length-append, arith, refl, false}
+use Rattle.std.proofs.lemmas.Bool.{eqb-true}
 use Rattle.octets.specs.Ascii.{lowercase_of}
 use Rattle.octets.specs.Once.{is_listed}
 use Rattle.sieve_check.specs.Refusing.{listed}

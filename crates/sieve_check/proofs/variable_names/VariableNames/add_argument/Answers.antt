@@ -1,11 +1,9 @@
-use Rattle.std.proofs.Common.{◌≡◌, ◌<◌, ◌∙◌, ◌++◌, ◌∷◌, bytes_eq, sym, ap, subst, flat_map, length, List, ℕ, refl}
+use Rattle.std.proofs.Common.{◌<◌, bytes_eq, subst, flat_map, length, List, ℕ, refl}
 use Rattle.std.proofs.lemmas.Result.{err_from_is_err_and}
 use Rattle.octets.specs.Limits.{max_variables}
 use Rattle.octets.specs.Once.{with_more}
 use Rattle.sieve_references.specs.References.{names_in}
-use Rattle.sieve_parser.specs.View.{argument_tree}
 use Rattle.sieve_check.specs.Refusing.{Adds, listed}
-use Rattle.sieve_check.specs.Rules.{strings_in}
 use Rattle.sieve_check.proofs.NameSteps.{adds_both, list_names, many_with_more}
 use Rattle.sieve_check.proofs.variable_names.VariableNames.add_argument.Goals as goal
 

@@ -1,4 +1,4 @@
-use Rattle.std.proofs.Common.{◌≡◌, bytes_eq, drop, flat_map, length, map}
+use Rattle.std.proofs.Common.{◌≡◌, bytes_eq, drop, flat_map, map}
 use Rattle.octets.specs.Once.{with_more}
 use Rattle.sieve_references.specs.References.{names_in}
 use Rattle.sieve_parser.specs.View.{argument_tree}

@@ -1,4 +1,4 @@
-use Rattle.std.proofs.Common.{◌≡◌, ◌+◌, ◌∙◌, ◌++◌, bytes_eq, sym, ap, drop, flat_map}
+use Rattle.std.proofs.Common.{◌+◌, ◌∙◌, bytes_eq, sym, ap, drop, flat_map}
 use Rattle.std.proofs.lemmas.Result.{err_from_is_err_and}
 use Rattle.octets.specs.Once.{with_more}
 use Rattle.sieve_references.specs.References.{names_in}

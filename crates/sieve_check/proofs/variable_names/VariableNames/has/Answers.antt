@@ -1,4 +1,4 @@
-use Rattle.std.proofs.Common.{◌≡◌, ◌∙◌, bytes_eq, sym, ap, refl}
+use Rattle.std.proofs.Common.{◌∙◌, bytes_eq, sym, ap}
 use Rattle.std.proofs.lemmas.List.{drop_all}
 use Rattle.octets.specs.Ascii.{lowercase_of}
 use Rattle.octets.specs.Once.{is_listed}

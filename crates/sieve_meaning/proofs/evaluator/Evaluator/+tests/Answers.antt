@@ -1,8 +1,10 @@
 use Rattle.std.proofs.Common.{◌≡◌, ◌∙◌, ap, sym, subst, IfOk, None}
 use Rattle.sieve_check.specs.Typed.{header}
-use Rattle.sieve_check.specs.TypedView.{templates_of, test_form}
+use Rattle.sieve_check.specs.TypedView.{selected_form, templates_of, test_form}
 use Rattle.sieve_meaning.specs.Evaluation.{Gives}
 use Rattle.sieve_meaning.specs.Meaning.{test_does}
+use Rattle.mail_matching.specs.Selection.{scope_of as place_of, selector_of as code_selector_of}
+use Rattle.sieve_meaning.proofs.HeaderAgain.{header_again}
 use Rattle.sieve_meaning.proofs.Shapes.{form_header}
 use Rattle.sieve_meaning.proofs.MeaningLemmas.{all_on, any_on, tests_bounded}
 use Rattle.sieve_meaning.proofs.evaluator.Evaluator.+tests.Goals as goal
@@ -29,8 +31,14 @@ pub is_true-returns-in-Header : goal.is_true-returns-in-Header
 is_true-returns-in-Header t c = λ e stands.
     let mail = c.args.message.now in
     let how = c.in-Header.matching in
-    let form : test_form c.args.test.now ≡ header how (templates_of c.in-Header.names.items) (templates_of c.in-Header.keys.items) =
-    ap test_form c.in-Header.is ∙ form_header how c.in-Header.names c.in-Header.keys in
-    let names = ap (λ ss. test_does mail None (header how (templates_of ss) (templates_of c.in-Header.keys.items)) e) (sym c.deref-in-Header.ensures.value) in
-    let keys = ap (λ ss. test_does mail None (header how (templates_of c.deref-in-Header.result.now) (templates_of ss)) e) (sym c.deref-in-Header-2.ensures.value) in
-    subst (λ v. IfOk c.matches.result (λ value. Gives v value c.matches.new.self)) (sym (ap (λ f. test_does mail None f e) form ∙ names ∙ keys)) (c.matches.ensures e stands)
+    let scope = c.in-Header.scope in
+    let selected = selected_form c.in-Header.selection in
+    let names = templates_of c.deref-in-Header.result.now in
+    let keys = templates_of c.deref-in-Header-2.result.now in
+    let form : test_form c.args.test.now ≡ header how scope selected (templates_of c.in-Header.names.items) (templates_of c.in-Header.keys.items) =
+    ap test_form c.in-Header.is ∙ form_header how scope c.in-Header.selection c.in-Header.names c.in-Header.keys in
+    let names_are = ap (λ ss. header how scope selected (templates_of ss) (templates_of c.in-Header.keys.items)) (sym c.deref-in-Header.ensures.value) in
+    let keys_are = ap (λ ss. header how scope selected names (templates_of ss)) (sym c.deref-in-Header-2.ensures.value) in
+    let same =
+    header_again mail e how scope selected names keys (templates_of c.params.result.now) (place_of c.reach_of.result.scope) (λ given. code_selector_of c.selector_of.result given) c.reach_of.ensures.scope c.params.ensures (c.selector_of.ensures e) in
+    subst (λ v. IfOk c.matches.result (λ value. Gives v value c.matches.new.self)) (same ∙ sym (ap (λ f. test_does mail None f e) (form ∙ names_are ∙ keys_are))) (c.matches.ensures e stands)

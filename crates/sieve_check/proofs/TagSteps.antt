@@ -1,0 +1,165 @@
+-- What holds while tags are read.
+use Rattle.std.proofs.Common.{◌≡◌, ◌∙◌, ◌⊎◌, ℕ, true, false, not, List, [], ◌∷◌, ◌++◌, take, drop, Option, Some, None, refl, sym, ap, subst, inl, inr}
+use Rattle.std.specs.Prelude.{is_some}
+use Rattle.std.proofs.lemmas.Option.{same_Some}
+use Rattle.sieve_parser.specs.Tree.{ArgumentTree, text, text_list, amount, label}
+use Rattle.sieve_check.specs.declared.names.Piece.{Piece}
+use Rattle.sieve_check.specs.declared.names.Piece.TheVariants.{Main, Sub, ContentType, Params}
+use Rattle.sieve_check.specs.declared.names.Tag.{Tag}
+use Rattle.sieve_check.specs.declared.names.Tag.TheVariants.{Order, Kind, Comparator, Letters, First, QuoteWildcard, Length, Mime, AnyChild, Select}
+use Rattle.sieve_check.specs.declared.signature.Signature.{Signature}
+use Rattle.sieve_check.specs.declared.signature.Tags.{Tags}
+use Rattle.sieve_check.specs.Names.{comparator_named, tag_named}
+use Rattle.sieve_check.specs.Rules.{lists_read}
+use Rattle.sieve_check.specs.Signatures.{Read, Given, nothing_given, takes_tag, with_tag, tags_with, add_tag, awaited, is_list, with_argument, tags_read, is_complete, reading}
+use Rattle.sieve_check.proofs.Options.{step_some, map_some, if_some, both_true, not_both}
+
+-- ---- one tag, and its argument
+
+abbrev pub with_more : Tag → Given → Given
+with_more tag given = record given { tags = with_tag tag given.tags }
+
+pub added : (signature : Signature) (tag : Tag) (given more : Given) → add_tag signature tag given ≡ Some more → (takes_tag signature tag given.tags ≡ true) × (with_more tag given ≡ more)
+added signature tag given more h =
+    let t = map_some (tags_with signature tag given.tags) _ more h in
+    let u = if_some (takes_tag signature tag given.tags) (with_tag tag given.tags) t.0 t.1 in
+    (u.0, ap (λ (tags : Tags). (let g : Given = record given { tags = tags } in g)) (same_Some (with_tag tag given.tags) t.0 u.1) ∙ same_Some _ more t.2)
+
+abbrev pub with_params : ArgumentTree → Given → Given
+with_params a given = record given { params = a ∷ [] }
+
+-- of a comparator, and of `:param`
+pub argument_taken : (tag : Tag) (a : ArgumentTree) (given more : Given) → with_argument tag a given ≡ Some more
+    → ((tag ≡ Comparator) × (more.params ≡ given.params) × (more.tags.piece ≡ given.tags.piece)) ⊎ ((tag ≡ Select Params) × (is_list a ≡ true) × (with_params a given ≡ more))
+argument_taken Comparator (text s) given more h =
+    let c = map_some (comparator_named s) _ more h in
+    let same = sym (same_Some _ more c.2) in
+    inl (refl, ap (λ (g : Given). g.params) same, ap (λ (g : Given). g.tags.piece) same)
+argument_taken (Select Params) a given more h =
+    let c = if_some (is_list a) (with_params a given) more h in
+    inr (refl, c.0, same_Some (with_params a given) more c.1)
+argument_taken Comparator (text_list s ss) given more h = absurd (cc)
+argument_taken Comparator (amount n) given more h = absurd (cc)
+argument_taken Comparator (label name) given more h = absurd (cc)
+argument_taken (Order order) a given more h = absurd (cc)
+argument_taken (Kind kind) a given more h = absurd (cc)
+argument_taken (Letters case) a given more h = absurd (cc)
+argument_taken (First case) a given more h = absurd (cc)
+argument_taken QuoteWildcard a given more h = absurd (cc)
+argument_taken Length a given more h = absurd (cc)
+argument_taken Mime a given more h = absurd (cc)
+argument_taken AnyChild a given more h = absurd (cc)
+argument_taken (Select Main) a given more h = absurd (cc)
+argument_taken (Select Sub) a given more h = absurd (cc)
+argument_taken (Select ContentType) a given more h = absurd (cc)
+
+-- ---- what each step keeps
+
+abbrev pub given_in : Read → Given
+given_in read = record { tags = read.tags; params = read.params }
+
+module _ (signature : Signature) (P : Option Tag → Given → List ArgumentTree → Type 0) where
+  pub record IsKept : Type 0 where
+    pub tag : (tag : Tag) (name : List ℕ) (given : Given) (args : List ArgumentTree) → takes_tag signature tag given.tags ≡ true → P None given (label name ∷ args) → P (awaited tag) (with_more tag given) args
+    pub argument : (tag : Tag) (a : ArgumentTree) (given more : Given) (args : List ArgumentTree) → with_argument tag a given ≡ Some more → P (Some tag) given (a ∷ args) → P None more args
+
+  module _ (kept : IsKept) where
+    pub kept_to_end : (given : Given) (last : Option Tag) (args : List ArgumentTree) (read : Read) → tags_read signature given last args ≡ Some read → P last given args → P None (given_in read) read.positional
+    kept_to_end given None [] read h p = subst (λ (r : Read). P None (given_in r) r.positional) (same_Some _ read h) p
+    kept_to_end given None (text s ∷ args) read h p = subst (λ (r : Read). P None (given_in r) r.positional) (same_Some _ read h) p
+    kept_to_end given None (text_list s ss ∷ args) read h p = subst (λ (r : Read). P None (given_in r) r.positional) (same_Some _ read h) p
+    kept_to_end given None (amount n ∷ args) read h p = subst (λ (r : Read). P None (given_in r) r.positional) (same_Some _ read h) p
+    kept_to_end given None (label name ∷ args) read h p =
+        let tag = step_some (tag_named name) _ read h in
+        let more = step_some (add_tag signature tag.0 given) _ read tag.2 in
+        let step = added signature tag.0 given more.0 more.1 in
+        kept_to_end more.0 (awaited tag.0) args read more.2 (subst (λ (g : Given). P (awaited tag.0) g args) step.1 (kept.tag tag.0 name given args step.0 p))
+    kept_to_end given (Some tag) [] read h p = absurd (cc)
+    kept_to_end given (Some tag) (a ∷ args) read h p =
+        let more = step_some (with_argument tag a given) _ read h in
+        kept_to_end more.0 None args read more.2 (kept.argument tag a given more.0 args more.1 p)
+
+    pub kept_by_reading : (args : List ArgumentTree) (read : Read) → reading signature args ≡ Some read → P None nothing_given args → P None (given_in read) read.positional
+    kept_by_reading args read h p =
+        let r = step_some (tags_read signature nothing_given None args) _ read h in
+        let same = same_Some r.0 read (if_some (is_complete signature r.0) r.0 read r.2).1 in
+        kept_to_end nothing_given None args read (r.1 ∙ ap Some same) p
+
+-- ---- the argument of `:param`
+
+-- it is there where that is
+abbrev pub HasArgument : Option Piece → List ArgumentTree → Type 0
+HasArgument None params = params ≡ []
+HasArgument (Some Main) params = params ≡ []
+HasArgument (Some Sub) params = params ≡ []
+HasArgument (Some ContentType) params = params ≡ []
+HasArgument (Some Params) params = (a : ArgumentTree) × (params ≡ a ∷ []) × (is_list a ≡ true)
+
+-- the same, where the last tag may still await its argument
+abbrev Awaits : Option Tag → Given → Type 0
+Awaits (Some (Select Params)) given = given.tags.piece ≡ Some Params
+Awaits _ given = HasArgument given.tags.piece given.params
+
+-- and nothing is selected where the signature doesn't say so
+pub record IsSelecting (signature : Signature) (last : Option Tag) (given : Given) (args : List ArgumentTree) : Type 0 where
+  pub params : Awaits last given
+  pub unselected : signature.selecting ≡ false → given.tags.piece ≡ None
+
+none_yet : (o : Option Piece) (params : List ArgumentTree) → not (is_some o) ≡ true → HasArgument o params → params ≡ []
+none_yet None params h has = has
+none_yet (Some piece) params h has = absurd (cc)
+
+tag_selecting : (signature : Signature) (tag : Tag) (name : List ℕ) (given : Given) (args : List ArgumentTree) → takes_tag signature tag given.tags ≡ true → IsSelecting signature None given (label name ∷ args) → IsSelecting signature (awaited tag) (with_more tag given) args
+tag_selecting signature (Order order) name given args h is = record { params = is.params; unselected = is.unselected }
+tag_selecting signature (Kind kind) name given args h is = record { params = is.params; unselected = is.unselected }
+tag_selecting signature Comparator name given args h is = record { params = is.params; unselected = is.unselected }
+tag_selecting signature (Letters case) name given args h is = record { params = is.params; unselected = is.unselected }
+tag_selecting signature (First case) name given args h is = record { params = is.params; unselected = is.unselected }
+tag_selecting signature QuoteWildcard name given args h is = record { params = is.params; unselected = is.unselected }
+tag_selecting signature Length name given args h is = record { params = is.params; unselected = is.unselected }
+tag_selecting signature Mime name given args h is = record { params = is.params; unselected = is.unselected }
+tag_selecting signature AnyChild name given args h is = record { params = is.params; unselected = is.unselected }
+tag_selecting signature (Select Main) name given args h is =
+    let taken = both_true signature.selecting _ h in
+    record { params = none_yet given.tags.piece given.params taken.1 is.params; unselected = λ plain. absurd (not_both signature.selecting taken.0 plain) }
+tag_selecting signature (Select Sub) name given args h is =
+    let taken = both_true signature.selecting _ h in
+    record { params = none_yet given.tags.piece given.params taken.1 is.params; unselected = λ plain. absurd (not_both signature.selecting taken.0 plain) }
+tag_selecting signature (Select ContentType) name given args h is =
+    let taken = both_true signature.selecting _ h in
+    record { params = none_yet given.tags.piece given.params taken.1 is.params; unselected = λ plain. absurd (not_both signature.selecting taken.0 plain) }
+tag_selecting signature (Select Params) name given args h is =
+    let taken = both_true signature.selecting _ h in
+    record { params = refl; unselected = λ plain. absurd (not_both signature.selecting taken.0 plain) }
+
+argument_selecting : (signature : Signature) (tag : Tag) (a : ArgumentTree) (given more : Given) (args : List ArgumentTree) → with_argument tag a given ≡ Some more → IsSelecting signature (Some tag) given (a ∷ args) → IsSelecting signature None more args
+argument_selecting signature tag a given more args h is =
+    elim (argument_taken tag a given more h) [
+      | inl c ↦
+          let params : HasArgument given.tags.piece given.params = subst (λ t. Awaits (Some t) given) c.0 is.params in
+          record {
+            params = subst (λ piece. HasArgument piece more.params) (sym c.2) (subst (HasArgument given.tags.piece) (sym c.1) params);
+            unselected = λ plain. c.2 ∙ is.unselected plain;
+          }
+      | inr c ↦
+          let piece : given.tags.piece ≡ Some Params = subst (λ t. Awaits (Some t) given) c.0 is.params in
+          subst (λ (g : Given). IsSelecting signature None g args) c.2 (record {
+            params = subst (λ piece. HasArgument piece (a ∷ [])) (sym piece) (a, refl, c.1);
+            unselected = is.unselected;
+          })
+    ]
+
+pub selecting_read : (signature : Signature) (args : List ArgumentTree) (read : Read) → reading signature args ≡ Some read → IsSelecting signature None (given_in read) read.positional
+selecting_read signature args read h =
+    kept_by_reading signature (IsSelecting signature) (record { tag = tag_selecting signature; argument = argument_selecting signature }) args read h (record { params = refl; unselected = λ plain. refl })
+
+-- where nothing is selected, the lists are those behind the tags
+none_between : (xs : List ArgumentTree) → take 1 xs ++ [] ++ drop 1 xs ≡ xs
+none_between [] = refl
+none_between (x ∷ xs) = refl
+
+pub only_behind : (signature : Signature) (args : List ArgumentTree) (read : Read) → signature.selecting ≡ false → reading signature args ≡ Some read → lists_read read ≡ read.positional
+only_behind signature args read plain h =
+    let is = selecting_read signature args read h in
+    let params : read.params ≡ [] = subst (λ piece. HasArgument piece read.params) (is.unselected plain) is.params in
+    ap (λ params. take 1 read.positional ++ params ++ drop 1 read.positional) params ∙ none_between read.positional

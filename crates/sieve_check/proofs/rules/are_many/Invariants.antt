@@ -1,8 +1,0 @@
-use Rattle.std.proofs.Common.{◌≡◌, ◌+◌, drop, map, length}
-use Rattle.sieve_parser.specs.View.{argument_tree}
-use Rattle.octets.specs.Limits.{max_test_strings}
-use Rattle.sieve_check.specs.Rules.{strings_of}
-use Rattle.sieve_check.proofs.rules.are_many.Given as goal
-
-abbrev pub invariant-loop-argument : goal.invariant-loop-argument
-invariant-loop-argument l = l.left + length (strings_of (map argument_tree l.arguments)) ≡ max_test_strings + length (strings_of (map argument_tree (drop l.argument-index l.arguments)))
