@@ -1,6 +1,7 @@
 pub mod Decoded
 pub mod Encoded
 mod Examples
+pub mod Extended
 pub mod Filling
 pub mod Heads
 pub mod Lengths
