@@ -4,5 +4,6 @@ mod Examples
 pub mod Extended
 pub mod Filling
 pub mod Heads
+pub mod Held
 pub mod Lengths
 pub mod ReadBack

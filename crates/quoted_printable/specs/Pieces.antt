@@ -1,5 +1,5 @@
 -- Quoted-printable texts read in pieces: the octets that are kept until it is known what they stand for.
-use Rattle.std.specs.Prelude.{ℕ, ◌≡◌, ◌==◌, ◌&&◌, ◌||◌, Bool, true, false, Unit, List, [], ◌∷◌, ◌++◌, length, take}
+use Rattle.std.specs.Prelude.{ℕ, ◌≡◌, ◌==◌, ◌&&◌, ◌||◌, Bool, true, false, List, [], ◌∷◌, ◌++◌, length, take}
 use Rattle.octets.specs.Blank.{is_blank}
 use Rattle.quoted_printable.specs.QuotedPrintable.{decoding_of, equals, is_hex}
 
@@ -7,9 +7,9 @@ use Rattle.quoted_printable.specs.QuotedPrintable.{decoding_of, equals, is_hex}
 abbrev pub begins : ℕ → Bool
 begins octet = (octet == equals) || is_blank octet
 
--- whether an octet is kept, too, after one that is kept: a digit, a blank or CR after `=`, a blank or CR after a blank
+-- whether an octet is kept, too, after one that is kept: a hexadecimal digit after `=`, and a blank or CR after `=` or a blank
 abbrev pub follows : ℕ → ℕ → Bool
-follows last octet = ((last == equals) && (is_hex octet || (is_blank octet || (octet == 13)))) || (is_blank last && (is_blank octet || (octet == 13)))
+follows last octet = ((last == equals) && is_hex octet) || (begins last && (is_blank octet || (octet == 13)))
 
 -- whether each octet may follow the one before it
 abbrev pub all_follow : ℕ → List ℕ → Bool

@@ -2,7 +2,7 @@
 ghost use Rattle.std.specs.Prelude.{◌≡◌, ◌++◌, ◌<◌, ◌≤◌, ℕ, [], false, true, List, IfOk, OnErr, OnOk, length, slice_index};
 ghost use Rattle.octets.specs.Blank.{is_blank};
 ghost use Rattle.quoted_printable.specs.QuotedPrintable.{decoding_of, is_hex};
-ghost use Rattle.quoted_printable.specs.Pieces.{Extends, HasFed, Reads, Stops, begins, goes_on, has_digit, is_held};
+ghost use Rattle.quoted_printable.specs.Pieces.{Extends, HasFed, Reads, Stops, begins, follows, goes_on, has_digit, is_held};
 
 use crate::decode::{EQUALS, append_decoding, hex_value, octet_of};
 use memchr::{memchr3, memrchr};
@@ -117,16 +117,29 @@ fn hold<'a>(held: &mut Vec<u8>, text: &'a [u8]) -> Result<&'a [u8], AllocError>
 }
 
 // Whether an octet is kept, too, after those that are kept.
+#[tactic(auto, using(crate::proofs::Held::goes_on_last))]
 #[inline]
 fn goes_on(held: &[u8], octet: u8) -> bool
     ensures { result ≡ goes_on held.now octet }
 {
-    if held.is_empty() {
-        return octet == EQUALS || is_blank(octet);
+    if held.len() == 0 {
+        return begins(octet);
     }
-    let last = held[held.len() - 1];
-    let may_end_line = is_blank(octet) || octet == b'\r';
-    (last == EQUALS && (is_hex(octet) || may_end_line)) || (is_blank(last) && may_end_line)
+    follows(held[held.len() - 1], octet)
+}
+
+#[inline]
+fn follows(last: u8, octet: u8) -> bool
+    ensures { result ≡ follows last octet }
+{
+    (last == EQUALS && is_hex(octet)) || (begins(last) && (is_blank(octet) || octet == b'\r'))
+}
+
+#[inline]
+fn begins(octet: u8) -> bool
+    ensures { result ≡ begins octet }
+{
+    octet == EQUALS || is_blank(octet)
 }
 
 #[inline]

@@ -5,8 +5,8 @@ use Rattle.quoted_printable.specs.QuotedPrintable.{unescaped}
 use Rattle.quoted_printable.proofs.Decoded.{ok_then, unescaped-past, unescaped-none}
 use Rattle.quoted_printable.proofs.decode.append_unescaped.Goals as goal
 
-pub escapes-preserved : goal.escapes-preserved
-escapes-preserved c =
+pub escapes-preserved-done : goal.escapes-preserved-done
+escapes-preserved-done c =
     let rest = c.escapes.rest.now in
     let out = c.escapes.out.items in
     let place = c.in-Some.place in
@@ -18,12 +18,12 @@ escapes-preserved c =
     ∙ (λ i. appended i ++ unescaped (c.split_at.ensures.back i))
     ∙ append_assoc out (take place rest) (unescaped (drop place rest))
     ∙ ap (λ l. out ++ l) (sym (unescaped-past place rest (omega arith) none))
-    ∙ c.escapes.invariant
+    ∙ c.escapes.invariant.done
 
-pub returns : goal.returns
-returns c =
+pub returns-clause-decoded : goal.returns-clause-decoded
+returns-clause-decoded c =
     let rest = c.escapes.rest.now in
     let out = c.escapes.out.items in
     let none : (k : ℕ) → k < length rest → get_or rest k 0 ≢ 61 = λ k lt e. c.in_default.ensures k (omega arith) lt (eq-eqb _ _ e) in
     ok_then c.extend_from_slice-2.result c.extend_from_slice-2.new.self.items out rest c.extend_from_slice-2.ensures.items (λ e.
-    e ∙ ap (λ l. out ++ l) (sym (unescaped-none rest none)) ∙ c.escapes.invariant)
+    e ∙ ap (λ l. out ++ l) (sym (unescaped-none rest none)) ∙ c.escapes.invariant.done)
