@@ -7,3 +7,4 @@ pub mod Heads
 pub mod Held
 pub mod Lengths
 pub mod ReadBack
+pub mod Stretches
