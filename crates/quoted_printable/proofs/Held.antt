@@ -123,7 +123,7 @@ and_both true false e = absurd (true≢false (sym e))
 and_both false b e = absurd (true≢false (sym e))
 
 -- blanks, and perhaps a CR after them
-abbrev IsGap : List ℕ → Type 0
+abbrev pub IsGap : List ℕ → Type 0
 IsGap [] = Unit {0}
 IsGap (x ∷ rest) = ((is_blank x ≡ true) × IsGap rest) ⊎ ((x ≡ 13) × (rest ≡ []))
 
@@ -148,7 +148,7 @@ gap_of last (x ∷ w) e all =
   none_after (x ∷ w) all = absurd (true≢false (sym all))
 
 -- the forms of what is kept
-abbrev HeldForm : List ℕ → Type 0
+abbrev pub HeldForm : List ℕ → Type 0
 HeldForm held =
     (held ≡ [])
     ⊎ (((digit : ℕ) × (held ≡ 61 ∷ digit ∷ []) × (is_hex digit ≡ true))
@@ -190,7 +190,7 @@ after_equals first (x ∷ rest) same all =
       | inr gap ↦ inr (inl (x ∷ rest, ap (λ n. n ∷ x ∷ rest) same, gap))
     ]
 
-held_form : (held : List ℕ) → is_held held ≡ true → HeldForm held
+pub held_form : (held : List ℕ) → is_held held ≡ true → HeldForm held
 held_form [] e = inl refl
 held_form (first ∷ rest) e =
     let (begin, all) = and_both (begins first) (all_follow first rest) e in
@@ -252,7 +252,7 @@ gap_ends (y ∷ rest) text (inr (cr, ended)) = rw (cr, ended) (record { content 
 
 -- ---- what is kept, and an octet that doesn't go on
 
-NotKept : List ℕ → ℕ → List ℕ → Type 0
+unfoldable pub NotKept : List ℕ → ℕ → List ℕ → Type 0
 NotKept held x text = decoding_of (held ++ x ∷ text) ≡ held ++ decoding_of (x ∷ text)
 
 opens_other : (x : ℕ) (text : List ℕ) → is_hex x ≡ false → opens (x ∷ text) ≡ false
@@ -270,12 +270,12 @@ gap_opens [] x text gap none = opens_other x text (equals_none x none).0
 gap_opens (y ∷ rest) x text (inl (blank, gap)) none = opens_other y (rest ++ x ∷ text) (blank_no_hex y blank)
 gap_opens (y ∷ rest) x text (inr (cr, ended)) none = opens_other y (rest ++ x ∷ text) (ap is_hex cr)
 
-gap_digit : (first : ℕ) (gap : List ℕ) → IsGap gap → has_digit (first ∷ gap) ≡ false
+pub gap_digit : (first : ℕ) (gap : List ℕ) → IsGap gap → has_digit (first ∷ gap) ≡ false
 gap_digit first [] gap = refl
 gap_digit first (y ∷ rest) (inl (blank, gap)) = blank_no_hex y blank
 gap_digit first (y ∷ rest) (inr (cr, ended)) = ap is_hex cr
 
-not_kept : (held : List ℕ) (x : ℕ) (text : List ℕ) → is_held held ≡ true → has_digit held ≡ false → goes_on held x ≡ false → x ≢ 10 → NotKept held x text
+pub not_kept : (held : List ℕ) (x : ℕ) (text : List ℕ) → is_held held ≡ true → has_digit held ≡ false → goes_on held x ≡ false → x ≢ 10 → NotKept held x text
 unfolding NotKept
 not_kept held x text is digit none other = elim (held_form held is) [
   | inl e ↦ subst (λ l. NotKept l x text) (sym e) refl
@@ -300,7 +300,7 @@ digit_form held is digit = elim (held_form held is) [
   | inr (inr (inr (blank, gap, e, is_blank, is_gap))) ↦ absurd (true≢false (sym digit ∙ ap has_digit e ∙ gap_digit blank gap is_gap))
 ]
 
-escape_literal : (held : List ℕ) (x : ℕ) (text : List ℕ) → is_held held ≡ true → has_digit held ≡ true → is_hex x ≡ false → NotKept held x text
+pub escape_literal : (held : List ℕ) (x : ℕ) (text : List ℕ) → is_held held ≡ true → has_digit held ≡ true → is_hex x ≡ false → NotKept held x text
 unfolding NotKept
 escape_literal held x text is has other =
     let (digit, e, hex) = digit_form held is has in
@@ -309,7 +309,7 @@ escape_literal held x text is has other =
     (decoded-literal (digit ∷ x ∷ text) (firm_here digit (x ∷ text) d.no_blank d.no_feed (no_break_of digit (x ∷ text) d.no_return)) (rw (hex, other) refl)
     ∙ ap (λ l. 61 ∷ l) (decoded-plain digit (x ∷ text) (record { no_equals = d.no_equals; no_blank = d.no_blank })))
 
-escape_read : (held : List ℕ) (x : ℕ) (text : List ℕ) → is_held held ≡ true → has_digit held ≡ true → is_hex x ≡ true
+pub escape_read : (held : List ℕ) (x : ℕ) (text : List ℕ) → is_held held ≡ true → has_digit held ≡ true → is_hex x ≡ true
     → decoding_of (held ++ x ∷ text) ≡ (digit_value (get_or held 1 0) * 16 + digit_value x) ∷ decoding_of text
 escape_read held x text is has low =
     let (digit, e, hex) = digit_form held is has in
@@ -317,7 +317,7 @@ escape_read held x text is has low =
 
 -- ---- what is kept, and LF
 
-line_soft : (held text : List ℕ) → is_held held ≡ true → has_digit held ≡ false → 0 < length held → get_or held 0 0 ≡ 61 → decoding_of (held ++ 10 ∷ text) ≡ decoding_of text
+pub line_soft : (held text : List ℕ) → is_held held ≡ true → has_digit held ≡ false → 0 < length held → get_or held 0 0 ≡ 61 → decoding_of (held ++ 10 ∷ text) ≡ decoding_of text
 line_soft held text is digit some first = elim (held_form held is) [
   | inl e ↦ absurd (let none = ap length e in omega arith)
   | inr (inl (d, e, hex)) ↦ absurd (true≢false (sym hex ∙ sym (ap has_digit e) ∙ digit))
@@ -326,7 +326,7 @@ line_soft held text is digit some first = elim (held_form held is) [
   | inr (inr (inr (blank, gap, e, is_blank, is_gap))) ↦ absurd ((blank_is blank is_blank).0 (sym (ap (λ l. get_or l 0 0) e) ∙ first))
 ]
 
-line_hard : (held text : List ℕ) → is_held held ≡ true → has_digit held ≡ false → (0 < length held → get_or held 0 0 ≢ 61)
+pub line_hard : (held text : List ℕ) → is_held held ≡ true → has_digit held ≡ false → (0 < length held → get_or held 0 0 ≢ 61)
     → decoding_of (held ++ 10 ∷ text) ≡ without_leading_blanks held ++ decoding_of (10 ∷ text)
 line_hard held text is digit first = elim (held_form held is) [
   | inl e ↦ subst (λ l. decoding_of (l ++ 10 ∷ text) ≡ without_leading_blanks l ++ decoding_of (10 ∷ text)) (sym e) refl

@@ -6,5 +6,6 @@ pub mod Filling
 pub mod Heads
 pub mod Held
 pub mod Lengths
+pub mod Pieced
 pub mod ReadBack
 pub mod Stretches
