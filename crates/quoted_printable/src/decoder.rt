@@ -71,10 +71,10 @@ impl QpDecoder {
         ensures finished { OnOk result (out.new.items ≡ out.old.items ++ decoding_of self) }
         ensures out { OnErr result (out.new.items ≡ out.old.items) }
     {
-        let out_len = out.len();
+        let start = out.len();
         let finished = append_decoding(&self.held, out);
         if finished.is_err() {
-            out.truncate(out_len);
+            out.truncate(start);
         }
         finished
     }
