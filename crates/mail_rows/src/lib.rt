@@ -18,6 +18,8 @@ mod media;
 #[cfg(test)]
 mod quoted;
 #[cfg(test)]
+mod quoted_pieces;
+#[cfg(test)]
 mod repeated;
 #[cfg(test)]
 mod tree;

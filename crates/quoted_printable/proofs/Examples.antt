@@ -1,6 +1,7 @@
 -- The definitions at small texts, by computation.
-use Rattle.std.proofs.Common.{◌≡◌, List, [], ◌∷◌, ◌++◌, ℕ, refl, replicate}
+use Rattle.std.proofs.Common.{◌≡◌, true, false, List, [], ◌∷◌, ◌++◌, ℕ, refl, replicate}
 use Rattle.std.specs.Prelude.{codes}
+use Rattle.quoted_printable.specs.Pieces.{goes_on, is_held}
 use Rattle.quoted_printable.specs.QuotedPrintable.{decoding_of, encoding_of, soft_break}
 
 crlf : List ℕ
@@ -104,3 +105,30 @@ token_for_the_next_line = refl
 nothing : encoding_of [] ≡ []
 unfolding encoding_of
 nothing = refl
+
+-- ---- pieces
+
+held_escape : is_held (codes "=3") ≡ true
+held_escape = refl
+
+held_soft_break : is_held (codes "= " ++ (9 ∷ 13 ∷ [])) ≡ true
+held_soft_break = refl
+
+held_blanks : is_held (32 ∷ 9 ∷ 13 ∷ []) ≡ true
+held_blanks = refl
+
+-- of these some octets are known: CR alone, a whole escape, octets before `=`, and what follows a CR or a digit
+known_return : is_held (13 ∷ []) ≡ false
+known_return = refl
+
+known_escape : is_held (codes "=3D") ≡ false
+known_escape = refl
+
+known_blank : is_held (codes " =") ≡ false
+known_blank = refl
+
+known_after_return : goes_on (32 ∷ 13 ∷ []) 13 ≡ false
+known_after_return = refl
+
+known_after_digit : goes_on (codes "=3") 32 ≡ false
+known_after_digit = refl

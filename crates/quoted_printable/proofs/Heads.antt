@@ -28,14 +28,14 @@ lead_some (y ∷ xs) x some = elim (cases_Bool (is_blank y)) [
   | inr other ↦ rw other refl
 ]
 
-lead_none : (xs : List ℕ) (x : ℕ) → without_leading_blanks xs ≡ [] → is_blank x ≡ true → without_leading_blanks (xs ++ x ∷ []) ≡ []
+pub lead_none : (xs : List ℕ) (x : ℕ) → without_leading_blanks xs ≡ [] → is_blank x ≡ true → without_leading_blanks (xs ++ x ∷ []) ≡ []
 lead_none [] x none e = rw e refl
 lead_none (y ∷ xs) x none e = elim (cases_Bool (is_blank y)) [
   | inl blank ↦ rw blank (lead_none xs x (rw blank at none) e)
   | inr other ↦ absurd (let some = rw other at none in cc)
 ]
 
-turned : (x : ℕ) (xs : List ℕ) → reverse (x ∷ xs) ≡ reverse xs ++ x ∷ []
+pub turned : (x : ℕ) (xs : List ℕ) → reverse (x ∷ xs) ≡ reverse xs ++ x ∷ []
 turned x xs = reverse-append (x ∷ []) xs
 
 pub trailing_kept : (x : ℕ) (xs : List ℕ) → is_blank x ≡ false → without_trailing_blanks (x ∷ xs) ≡ x ∷ without_trailing_blanks xs
@@ -64,7 +64,7 @@ ends_more : (x : ℕ) (xs : List ℕ) → x ≢ 61 → ends_in_equals (x ∷ xs)
 ends_more x [] ne = ne_eqb x 61 ne
 ends_more x (y ∷ xs) ne = refl
 
-last_more : (x : ℕ) (xs : List ℕ) → ends_in_equals xs ≡ true → without_last (x ∷ xs) ≡ x ∷ without_last xs
+pub last_more : (x : ℕ) (xs : List ℕ) → ends_in_equals xs ≡ true → without_last (x ∷ xs) ≡ x ∷ without_last xs
 last_more x [] e = absurd (true≢false (sym e))
 last_more x (y ∷ xs) e = let n : suc (suc (length xs)) - 1 ≡ suc (suc (length xs) - 1) = omega arith in rw n refl
 
@@ -110,7 +110,7 @@ pub record IsFirm (text : List ℕ) : Type 0 where
   pub first : lines_of text ≡ line ∷ lines
   pub some : without_trailing_blanks line.content ≢ []
 
-blank_is : (x : ℕ) → is_blank x ≡ true → (x ≢ 61) × (x ≢ 10) × (x ≢ 13)
+pub blank_is : (x : ℕ) → is_blank x ≡ true → (x ≢ 61) × (x ≢ 10) × (x ≢ 13)
 blank_is x e = (λ is. true≢false (sym e ∙ rw is refl), λ is. true≢false (sym e ∙ rw is refl), λ is. true≢false (sym e ∙ rw is refl))
 
 pub decoded-blank : (x : ℕ) (text : List ℕ) → is_blank x ≡ true → IsFirm text → decoding_of (x ∷ text) ≡ x ∷ decoding_of text

@@ -1,7 +1,11 @@
 pub mod Decoded
 pub mod Encoded
 mod Examples
+pub mod Extended
 pub mod Filling
 pub mod Heads
+pub mod Held
 pub mod Lengths
+pub mod Pieced
 pub mod ReadBack
+pub mod Stretches

@@ -2,14 +2,16 @@
 ghost use Rattle.std.specs.Prelude.{◌≡◌, ◌++◌, ◌*◌, ◌+◌, ◌<◌, ◌&&◌, true, IfOk, OnOk, IsTrue, SomeIff, length, slice_index};
 ghost use Rattle.std.specs.Char.{digit_value};
 ghost use Rattle.text_lines.specs.Lines.{text_line};
+ghost use Rattle.quoted_printable.specs.Pieces.{Extends};
 ghost use Rattle.quoted_printable.specs.QuotedPrintable.{decoded_line, decoding_of, ends_in_equals, is_hex, unescaped};
 
+use crate::decoder::QpDecoder;
 use memchr::memchr;
 use octets::trim_trailing_blanks;
 use std::alloc::{AllocError, Global};
 use text_lines::Lines;
 
-const EQUALS: u8 = b'=';
+pub(crate) const EQUALS: u8 = b'=';
 
 /// The octets of a quoted-printable text; any text is read.
 ///
@@ -24,14 +26,17 @@ pub fn decode_qp(alloc: Global, text: &[u8]) -> Result<Vec<u8>, AllocError>
     ensures { IfOk result (λ octets. octets.items ≡ decoding_of text.now) }
 {
     let mut out = Vec::with_capacity(alloc, text.len())?;
-    append_decoding(text, &mut out)?;
+    let mut decoder = QpDecoder::new(alloc);
+    decoder.feed(text, &mut out)?;
+    decoder.finish(&mut out)?;
     Ok(out)
 }
 
 // Appends the octets of a text.
 #[tactic(auto, unfolding(crate::specs::QuotedPrintable::decoding_of))]
-fn append_decoding(text: &[u8], out: &mut Vec<u8>) -> Result<(), AllocError>
-    ensures { OnOk result (out.new.items ≡ out.old.items ++ decoding_of text.now) }
+pub(crate) fn append_decoding(text: &[u8], out: &mut Vec<u8>) -> Result<(), AllocError>
+    ensures decoded { OnOk result (out.new.items ≡ out.old.items ++ decoding_of text.now) }
+    ensures more { Extends out.old.items out.new.items }
 {
     let mut lines = Lines::new(text);
     'lines: while let Some(line) = lines.next() {
@@ -43,7 +48,8 @@ fn append_decoding(text: &[u8], out: &mut Vec<u8>) -> Result<(), AllocError>
 // Appends what a line stands for.
 #[inline]
 fn append_line(content: &[u8], line_break: &[u8], out: &mut Vec<u8>) -> Result<(), AllocError>
-    ensures { OnOk result (out.new.items ≡ out.old.items ++ decoded_line record { content = content.now; break = line_break.now }) }
+    ensures decoded { OnOk result (out.new.items ≡ out.old.items ++ decoded_line record { content = content.now; break = line_break.now }) }
+    ensures more { Extends out.old.items out.new.items }
 {
     let kept = trim_trailing_blanks(content);
     if ends_in_equals(kept) {
@@ -67,7 +73,8 @@ fn ends_in_equals(text: &[u8]) -> bool
 // Appends octets whose escapes are decoded.
 #[inline]
 fn append_unescaped(text: &[u8], out: &mut Vec<u8>) -> Result<(), AllocError>
-    ensures { OnOk result (out.new.items ≡ out.old.items ++ unescaped text.now) }
+    ensures decoded { OnOk result (out.new.items ≡ out.old.items ++ unescaped text.now) }
+    ensures more { Extends out.old.items out.new.items }
 {
     let mut rest = text;
     'escapes: while let Some(place) = memchr(EQUALS, rest) {
@@ -85,6 +92,7 @@ fn append_escape<'a>(text: &'a [u8], out: &mut Vec<u8>) -> Result<&'a [u8], Allo
     requires equals { slice_index text.now 0 ≡ 61 }
     ensures octets { IfOk result (λ rest. out.new.items ++ unescaped rest.now ≡ out.old.items ++ unescaped text.now) }
     ensures shorter { IfOk result (λ rest. length rest.now < length text.now) }
+    ensures more { Extends out.old.items out.new.items }
 {
     if text.len() >= 3 {
         if let Some(octet) = octet_of(text[1], text[2]) {
@@ -100,7 +108,7 @@ fn append_escape<'a>(text: &'a [u8], out: &mut Vec<u8>) -> Result<&'a [u8], Allo
 
 // The octet whose value two hexadecimal digits write.
 #[inline]
-fn octet_of(high: u8, low: u8) -> Option<u8>
+pub(crate) fn octet_of(high: u8, low: u8) -> Option<u8>
     ensures { SomeIff result ((is_hex high && is_hex low) ≡ true) (digit_value high * 16 + digit_value low) }
 {
     let high = hex_value(high)?;
@@ -109,7 +117,7 @@ fn octet_of(high: u8, low: u8) -> Option<u8>
 }
 
 #[inline]
-fn hex_value(octet: u8) -> Option<u8>
+pub(crate) fn hex_value(octet: u8) -> Option<u8>
     ensures { SomeIff result (is_hex octet ≡ true) (digit_value octet) }
 {
     let digit = char::from(octet).to_digit(16)?;

@@ -1,6 +1,7 @@
 //! What holds of the definitions alone.
-ghost use Rattle.std.specs.Prelude.{◌≡◌, ◌++◌, ◌≤◌, ℕ, List, drop, length};
-ghost use Rattle.quoted_printable.specs.QuotedPrintable.{IsOctets, decoding_of, encoding_of, first_line, tokens_of, tokens_of_line};
+ghost use Rattle.std.specs.Prelude.{◌≡◌, ◌++◌, ◌≤◌, ℕ, [], List, drop, length};
+ghost use Rattle.quoted_printable.specs.QuotedPrintable.{IsOctets, decoding_of, encoding_of, first_line, joined, tokens_of, tokens_of_line};
+ghost use Rattle.quoted_printable.specs.Pieces.{HasFed, HaveFed};
 
 /// What was written is read back.
 pub fn reads_what_was_written()
@@ -15,4 +16,15 @@ pub fn text_is_its_first_line_and_the_rest()
 /// No text stands for more octets than it has.
 pub fn decoding_is_no_longer_than_the_text()
     ensures { (text : List ℕ) → length (decoding_of text) ≤ length text }
+{}
+
+/// Whatever pieces a text comes in, what they are read as and what the octets kept at its end stand for is what the text stands
+/// for.
+pub fn pieces_are_read_as_their_text()
+    ensures { (pieces : List (List ℕ)) (left was now : List ℕ) → HaveFed [] pieces left was now → now ++ decoding_of left ≡ was ++ decoding_of (joined pieces) }
+{}
+
+/// No reader may append more after a piece than what is appended, or keep fewer octets than are kept.
+pub fn reads_as_much_as_any()
+    ensures { (held piece left was now : List ℕ) → HasFed held piece left was now → (more others : List ℕ) → ((after : List ℕ) → decoding_of (held ++ piece ++ after) ≡ more ++ decoding_of (others ++ after)) → (length (was ++ more) ≤ length now) × (length left ≤ length others) }
 {}

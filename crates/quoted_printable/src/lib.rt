@@ -4,9 +4,11 @@
 #![tactic(auto)]
 
 mod decode;
+mod decoder;
 mod encode;
 mod lanes;
 pub mod laws;
 
 pub use decode::decode_qp;
+pub use decoder::QpDecoder;
 pub use encode::{encode_qp, encode_qp_line};

@@ -1,0 +1,139 @@
+-- Stretches of a text that are read at once: octets before a place, lines before a break, and one stretch after another.
+use Rattle.std.proofs.Common.{◌≡◌, ◌≢◌, ℕ, ◌+◌, ◌<◌, ◌≤◌, ◌==◌, ◌&&◌, Bool, true, false, List, [], ◌∷◌, ◌++◌, zero, suc, inl, inr, refl, sym, ◌∙◌, ap, arith, length, take, drop, get_or, subst}
+use Rattle.std.specs.List.{flat_map}
+use Rattle.std.specs.Prelude.{if◌then◌else◌, Result, Ok, Err, OnOk}
+use Rattle.std.proofs.lemmas.Bool.{eqb-false, cases_Bool}
+use Rattle.std.proofs.lemmas.Grind.{flat_map-append}
+use Rattle.std.proofs.lemmas.List.{append_assoc, append-nil, append_cancel_left, nil_from_length}
+use Rattle.memchr.specs.Find.{is_byte3}
+use Rattle.octets.specs.Blank.{is_blank}
+use Rattle.text_lines.specs.Lines.{TextLine, lines_of, octets_of, is_first_of_break, onto_break, onto_content}
+use Rattle.text_lines.proofs.Broken.{octets_of-lines_of}
+use Rattle.quoted_printable.specs.QuotedPrintable.{decoded_line, decoding_of}
+use Rattle.quoted_printable.specs.Pieces.{Extends, HasFed, Reads, begins, is_held}
+use Rattle.quoted_printable.proofs.Extended.{added_of}
+use Rattle.quoted_printable.proofs.Heads.{IsPlain, decoded-plain}
+
+-- ---- octets that stand as they are
+
+plain_of : (x : ℕ) → is_byte3 61 32 9 x ≢ true → IsPlain x
+plain_of x none = elim (cases_Bool (x == 61)) [
+  | inl e ↦ absurd (none (rw e refl))
+  | inr first ↦ elim (cases_Bool (x == 32)) [
+    | inl e ↦ absurd (none (rw (first, e) refl))
+    | inr second ↦ elim (cases_Bool (x == 9)) [
+      | inl e ↦ absurd (none (rw (first, second, e) refl))
+      | inr third ↦ record { no_equals = eqb-false x 61 first; no_blank = rw (second, third) refl }
+    ]
+  ]
+]
+
+pub begins_of : (x : ℕ) → is_byte3 61 32 9 x ≡ true → begins x ≡ true
+begins_of x some = elim (cases_Bool (x == 61)) [
+  | inl e ↦ rw e refl
+  | inr other ↦ rw other (rw other at some)
+]
+
+plain_past : (n : ℕ) (text after : List ℕ) → n ≤ length text → ((k : ℕ) → k < n → is_byte3 61 32 9 (get_or text k 0) ≢ true)
+    → decoding_of (text ++ after) ≡ take n text ++ decoding_of (drop n text ++ after)
+plain_past zero text after within none = refl
+plain_past (suc n) [] after within none = absurd (omega arith)
+plain_past (suc n) (x ∷ text) after within none =
+    decoded-plain x (text ++ after) (plain_of x (none 0 (omega arith)))
+    ∙ ap (λ l. x ∷ l) (plain_past n text after (omega arith) (λ k lt. none (suc k) (omega arith)))
+
+pub reads_plain : (was now text : List ℕ) (n : ℕ) → n ≤ length text → ((k : ℕ) → k < n → is_byte3 61 32 9 (get_or text k 0) ≢ true) → now ≡ was ++ take n text
+    → Reads was text now (drop n text)
+reads_plain was now text n within none e = λ after.
+    ap (λ l. l ++ decoding_of (drop n text ++ after)) e
+    ∙ append_assoc was (take n text) (decoding_of (drop n text ++ after))
+    ∙ ap (λ l. was ++ l) (sym (plain_past n text after within none))
+
+-- ---- lines that breaks end
+
+abbrev lines_by : Bool → Bool → ℕ → List TextLine → List TextLine
+lines_by feed first x lines =
+    if feed then record { content = []; break = 10 ∷ [] } ∷ lines
+    else (if first then onto_break x lines else onto_content x lines)
+
+lines_by-append : (feed first : Bool) (x : ℕ) (lines more : List TextLine) → lines ≢ [] → lines_by feed first x (lines ++ more) ≡ lines_by feed first x lines ++ more
+lines_by-append feed first x [] more some = absurd (some refl)
+lines_by-append true first x (line ∷ lines) more some = refl
+lines_by-append false true x (line ∷ lines) more some = refl
+lines_by-append false false x (line ∷ lines) more some = refl
+
+lines_some : (x : ℕ) (text : List ℕ) → lines_of (x ∷ text) ≢ []
+lines_some x text e = let none = sym (octets_of-lines_of (x ∷ text)) ∙ ap octets_of e in cc
+
+lines_past : (n : ℕ) (text after : List ℕ) → n < length text → get_or text n 0 ≡ 10
+    → lines_of (text ++ after) ≡ lines_of (take (suc n) text) ++ lines_of (drop (suc n) text ++ after)
+lines_past n [] after within e = absurd (omega arith)
+lines_past zero (x ∷ text) after within e = rw e refl
+lines_past (suc n) (x ∷ []) after within e = absurd (omega arith)
+lines_past (suc n) (x ∷ y ∷ text) after within e =
+    let feed = x == 10 in
+    let first = (x == 13) && (y == 10) in
+    ap (lines_by feed first x) (lines_past n (y ∷ text) after (omega arith) e)
+    ∙ lines_by-append feed first x (lines_of (take (suc n) (y ∷ text))) (lines_of (drop (suc n) (y ∷ text) ++ after)) (lines_some y (take n text))
+
+pub broken_past : (n : ℕ) (text after : List ℕ) → n < length text → get_or text n 0 ≡ 10
+    → decoding_of (text ++ after) ≡ decoding_of (take (suc n) text) ++ decoding_of (drop (suc n) text ++ after)
+unfolding decoding_of
+broken_past n text after within e =
+    ap (flat_map decoded_line) (lines_past n text after within e)
+    ∙ flat_map-append decoded_line (lines_of (take (suc n) text)) (lines_of (drop (suc n) text ++ after))
+
+-- ---- one stretch after another
+
+pub reads_then : (was mid now text left last : List ℕ) → Reads was text mid left → Reads mid left now last → Reads was text now last
+reads_then was mid now text left last first second = λ after. second after ∙ first after
+
+pub reads_same : (was now left text same : List ℕ) → text ≡ same → Reads was text now left → Reads was same now left
+reads_same was now left text same e reads = subst (λ l. Reads was l now left) e reads
+
+pub reads_left : (was now text left same : List ℕ) → left ≡ same → Reads was text now left → Reads was text now same
+reads_left was now text left same e reads = subst (λ l. Reads was text now l) e reads
+
+pub reads_none : (was text : List ℕ) → Reads was text was text
+reads_none was text = λ after. refl
+
+-- lines, and then what follows them
+pub reads_lines : (was mid now text lines tail left : List ℕ) → ((after : List ℕ) → decoding_of (text ++ after) ≡ decoding_of lines ++ decoding_of (tail ++ after))
+    → mid ≡ was ++ decoding_of lines → Reads mid tail now left → Reads was text now left
+reads_lines was mid now text lines tail left split e reads = λ after.
+    reads after
+    ∙ ap (λ l. l ++ decoding_of (tail ++ after)) e
+    ∙ append_assoc was (decoding_of lines) (decoding_of (tail ++ after))
+    ∙ ap (λ l. was ++ l) (sym (split after))
+
+-- everything is kept
+pub all_kept : (held text rest : List ℕ) → held ++ rest ≡ text → length rest ≡ 0 → text ≡ held
+all_kept held text rest e none = sym e ∙ ap (λ l. held ++ l) (nil_from_length rest none) ∙ append-nil held
+
+pub has_fed : (held piece left was now : List ℕ) → is_held left ≡ true → Extends was now → Reads was (held ++ piece) now left → HasFed held piece left was now
+has_fed held piece left was now kept extends reads =
+    let more = drop (length was) now in
+    let added = added_of was now extends in
+    record {
+      more = more;
+      appended = added;
+      stands = λ after. append_cancel_left was (decoding_of (held ++ piece ++ after)) (more ++ decoding_of (left ++ after))
+      (sym (reads after) ∙ ap (λ l. l ++ decoding_of (left ++ after)) added ∙ append_assoc was more (decoding_of (left ++ after)));
+      kept = kept;
+    }
+
+-- a text in one piece
+pub fed_whole : (held text left was now last : List ℕ) → held ≡ [] → was ≡ [] → HasFed held text left was now → last ≡ now ++ decoding_of left → last ≡ decoding_of text
+fed_whole held text left was now last start none fed e =
+    e
+    ∙ ap (λ l. l ++ decoding_of left) (fed.appended ∙ ap (λ l. l ++ fed.more) none)
+    ∙ ap (λ l. fed.more ++ decoding_of l) (sym (append-nil left))
+    ∙ sym (fed.stands [])
+    ∙ ap (λ l. decoding_of (l ++ text ++ [])) start
+    ∙ ap decoding_of (append-nil text)
+
+pub ok_fed : {T E : Type 0} (r : Result T E) (held kept piece left was now : List ℕ) → held ≡ kept → OnOk r (is_held left ≡ true) → Extends was now → OnOk r (Reads was (kept ++ piece) now left)
+    → OnOk r (HasFed held piece left was now)
+ok_fed (Ok x) held kept piece left was now same is extends reads =
+    has_fed held piece left was now is extends (reads_same was now left (kept ++ piece) (held ++ piece) (ap (λ l. l ++ piece) (sym same)) reads)
+ok_fed (Err x) held kept piece left was now same is extends reads = tt
