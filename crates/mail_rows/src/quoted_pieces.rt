@@ -36,7 +36,7 @@ fn read_by(alloc: Global, text: &[u8], size: usize) -> Result<Vec<u8>, AllocErro
 fn one_octet_at_a_time(rt: HostRuntime) -> Result<(), Fail> {
     let alloc = rt.alloc();
     let octets = read_by(alloc, b"a=3Db \t\r\nc=\r\nd=4", 1)?;
-    assert!(rt; octets.as_slice() == b"a=b\r\ncd=4");
+    assert!(rt; octets.as_slice() == b"a=b\r\ncd=4".as_slice());
     Ok(())
 }
 
@@ -63,7 +63,7 @@ fn nothing_known_is_kept(rt: HostRuntime) -> Result<(), Fail> {
         assert!(rt; out.as_slice() == want);
     }
     decoder.finish(&mut out)?;
-    assert!(rt; out.as_slice() == b"a=\r \r\r\n=4 =");
+    assert!(rt; out.as_slice() == b"a=\r \r\r\n=4 =".as_slice());
     Ok(())
 }
 
@@ -99,7 +99,10 @@ fn every_short_text_in_two(rt: HostRuntime) -> Result<(), Fail> {
             for place in 0..=text.len() {
                 let (first, second) = text.split_at(place);
                 let octets = read_pieces(alloc, &[first, second])?;
-                assert!(rt; octets.as_slice() == want.as_slice(), "{length} {number} {place}");
+                assert!(rt;
+                    octets.as_slice() == want.as_slice(),
+                    "{length} {number} {place}"
+                );
             }
         }
         texts = texts.wrapping_mul(7);
@@ -121,7 +124,10 @@ fn every_short_text_in_three(rt: HostRuntime) -> Result<(), Fail> {
                 for next in 0..=others.len() {
                     let (second, third) = others.split_at(next);
                     let octets = read_pieces(alloc, &[first, second, third])?;
-                    assert!(rt; octets.as_slice() == want.as_slice(), "{length} {number} {place} {next}");
+                    assert!(rt;
+                        octets.as_slice() == want.as_slice(),
+                        "{length} {number} {place} {next}"
+                    );
                 }
             }
         }
@@ -145,10 +151,19 @@ fn short_text(alloc: Global, length: u32, number: u32) -> Result<Vec<u8>, Fail> 
 #[test]
 fn large_texts(rt: HostRuntime) -> Result<(), Fail> {
     let alloc = rt.alloc();
-    let octets = repeated(alloc, b"", b"a line of text, gr\xc3\xbcn, \r\n", 20_000, b" ")?;
+    let octets = repeated(
+        alloc,
+        b"",
+        b"a line of text, gr\xc3\xbcn, \r\n",
+        20_000,
+        b" ",
+    )?;
     let text = encode_qp(alloc, &octets)?;
     for size in [1usize, 2, 77, 78, 4096, 1_000_000] {
-        assert!(rt; read_by(alloc, &text, size)?.as_slice() == octets.as_slice(), "{size}");
+        assert!(rt;
+            read_by(alloc, &text, size)?.as_slice() == octets.as_slice(),
+            "{size}"
+        );
     }
     Ok(())
 }
@@ -168,9 +183,9 @@ fn many_blanks(rt: HostRuntime) -> Result<(), Fail> {
         if stay {
             assert!(rt; octets.as_slice() == text.as_slice());
         } else if first.is_empty() {
-            assert!(rt; octets.as_slice() == b"\r\nb");
+            assert!(rt; octets.as_slice() == b"\r\nb".as_slice());
         } else {
-            assert!(rt; octets.as_slice() == b"b");
+            assert!(rt; octets.as_slice() == b"b".as_slice());
         }
     }
     Ok(())

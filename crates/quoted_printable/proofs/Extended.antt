@@ -1,5 +1,5 @@
 -- Octets and those appended to them.
-use Rattle.std.proofs.Common.{◌≡◌, ℕ, ◌+◌, ◌≤◌, List, [], ◌∷◌, ◌++◌, Bool, true, false, cond, refl, sym, ◌∙◌, ap, arith, length, take, drop}
+use Rattle.std.proofs.Common.{◌≡◌, ℕ, List, ◌++◌, Bool, true, false, cond, sym, ◌∙◌, ap, length, take, drop}
 use Rattle.std.proofs.Math.Seq.{take-append_seam, take-length}
 use Rattle.std.proofs.lemmas.List.{append_assoc, take-append-drop}
 use Rattle.quoted_printable.specs.Pieces.{Extends}

@@ -1,13 +1,12 @@
 -- What octets that are kept stand for once it is known what follows them.
-use Rattle.std.proofs.Common.{◌≡◌, ◌≢◌, ◌⊎◌, ℕ, ◌-◌, ◌+◌, ◌*◌, ◌<◌, ◌≤◌, ◌==◌, ◌&&◌, ◌||◌, Bool, true, false, List, [], ◌∷◌, ◌++◌, zero, suc, inl, inr, refl, sym, ◌∙◌, ap, arith, length, take, drop, get_or, reverse, subst}
+use Rattle.std.proofs.Common.{◌≡◌, ◌≢◌, ◌⊎◌, ℕ, ◌-◌, ◌+◌, ◌*◌, ◌<◌, ◌==◌, ◌&&◌, ◌||◌, Bool, true, false, List, [], ◌∷◌, ◌++◌, suc, inl, inr, refl, sym, ◌∙◌, ap, arith, length, take, drop, get_or, reverse, subst}
 use Rattle.std.specs.Char.{digit_value}
 use Rattle.std.specs.List.{flat_map}
-use Rattle.std.specs.Prelude.{if◌then◌else◌}
-use Rattle.std.proofs.lemmas.Bool.{ne_eqb, eq-eqb, eqb-true, eqb-false, cases_Bool, true≢false}
+use Rattle.std.proofs.lemmas.Bool.{ne_eqb, eqb-true, eqb-false, cases_Bool, true≢false}
 use Rattle.std.proofs.lemmas.List.{append_assoc, append-nil, length-append, length-reverse, nil_from_length, reverse-append, reverse-reverse, take-append-drop}
 use Rattle.octets.specs.Blank.{is_blank, without_leading_blanks, without_trailing_blanks}
-use Rattle.text_lines.specs.Lines.{TextLine, lines_of, line_octets, octets_of, is_first_of_break, onto_content}
-use Rattle.text_lines.proofs.FirstLine.{lines_feed, lines_other, no_break_of}
+use Rattle.text_lines.specs.Lines.{lines_of, line_octets, octets_of, onto_content}
+use Rattle.text_lines.proofs.FirstLine.{lines_other, no_break_of}
 use Rattle.text_lines.proofs.Broken.{octets_of-lines_of}
 use Rattle.quoted_printable.specs.QuotedPrintable.{unescaped, is_hex, ends_in_equals, without_last, decoded_line, decoding_of}
 use Rattle.quoted_printable.specs.Pieces.{Reads, Stops, all_follow, begins, follows, goes_on, has_digit, is_held, last_of}
@@ -143,9 +142,9 @@ gap_of last (x ∷ w) e all =
       | inl blank ↦ inl (blank, gap_of x w blank more)
       | inr cr ↦ let is = eqb-true x 13 cr in inr (is, none_after w (ap (λ n. all_follow n w) (sym is) ∙ more))
     ] where
-  none_after : (w : List ℕ) → all_follow 13 w ≡ true → w ≡ []
-  none_after [] all = refl
-  none_after (x ∷ w) all = absurd (true≢false (sym all))
+      none_after : (w : List ℕ) → all_follow 13 w ≡ true → w ≡ []
+      none_after [] all = refl
+      none_after (x ∷ w) all = absurd (true≢false (sym all))
 
 -- the forms of what is kept
 abbrev pub HeldForm : List ℕ → Type 0

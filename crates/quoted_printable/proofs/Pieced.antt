@@ -1,13 +1,13 @@
 -- Texts in pieces: all of them, and what no reader can do better.
-use Rattle.std.proofs.Common.{◌≡◌, ◌≢◌, ◌⊎◌, ℕ, ◌+◌, ◌*◌, ◌<◌, ◌≤◌, ◌||◌, ◌&&◌, ◌==◌, Bool, true, false, List, [], ◌∷◌, ◌++◌, zero, suc, inl, inr, refl, sym, ◌∙◌, ap, arith, length, get_or}
+use Rattle.std.proofs.Common.{◌≡◌, ◌≢◌, ℕ, ◌+◌, ◌*◌, ◌≤◌, ◌||◌, ◌&&◌, ◌==◌, true, false, List, [], ◌∷◌, ◌++◌, inl, inr, refl, sym, ◌∙◌, ap, arith, length, get_or}
 use Rattle.std.specs.Char.{digit_value}
 use Rattle.std.proofs.lemmas.Bool.{cases_Bool, true≢false}
 use Rattle.std.proofs.lemmas.List.{append_assoc, append-nil, length-append}
 use Rattle.octets.specs.Blank.{is_blank, without_leading_blanks}
 use Rattle.quoted_printable.specs.QuotedPrintable.{decoding_of, is_hex, joined}
 use Rattle.quoted_printable.specs.Pieces.{HasFed, HaveFed, follows, goes_on, has_digit, is_held, last_of}
-use Rattle.quoted_printable.proofs.Heads.{IsPlain, blank_is, decoded-none, decoded-plain}
-use Rattle.quoted_printable.proofs.Held.{IsGap, HeldForm, NotKept, escape_literal, escape_read, gap_digit, held_form, line_hard, line_soft, not_kept}
+use Rattle.quoted_printable.proofs.Heads.{blank_is, decoded-none, decoded-plain}
+use Rattle.quoted_printable.proofs.Held.{IsGap, NotKept, escape_literal, escape_read, gap_digit, held_form, line_hard, line_soft, not_kept}
 use Rattle.quoted_printable.proofs.Lengths.{no_longer}
 
 -- ---- all pieces

@@ -1,13 +1,12 @@
 -- Stretches of a text that are read at once: octets before a place, lines before a break, and one stretch after another.
-use Rattle.std.proofs.Common.{◌≡◌, ◌≢◌, ℕ, ◌+◌, ◌<◌, ◌≤◌, ◌==◌, ◌&&◌, Bool, true, false, List, [], ◌∷◌, ◌++◌, zero, suc, inl, inr, refl, sym, ◌∙◌, ap, arith, length, take, drop, get_or, subst}
+use Rattle.std.proofs.Common.{◌≡◌, ◌≢◌, ℕ, ◌<◌, ◌≤◌, ◌==◌, ◌&&◌, Bool, true, false, List, [], ◌∷◌, ◌++◌, zero, suc, inl, inr, refl, sym, ◌∙◌, ap, arith, length, take, drop, get_or, subst}
 use Rattle.std.specs.List.{flat_map}
 use Rattle.std.specs.Prelude.{if◌then◌else◌, Result, Ok, Err, OnOk}
 use Rattle.std.proofs.lemmas.Bool.{eqb-false, cases_Bool}
 use Rattle.std.proofs.lemmas.Grind.{flat_map-append}
 use Rattle.std.proofs.lemmas.List.{append_assoc, append-nil, append_cancel_left, nil_from_length}
 use Rattle.memchr.specs.Find.{is_byte3}
-use Rattle.octets.specs.Blank.{is_blank}
-use Rattle.text_lines.specs.Lines.{TextLine, lines_of, octets_of, is_first_of_break, onto_break, onto_content}
+use Rattle.text_lines.specs.Lines.{TextLine, lines_of, octets_of, onto_break, onto_content}
 use Rattle.text_lines.proofs.Broken.{octets_of-lines_of}
 use Rattle.quoted_printable.specs.QuotedPrintable.{decoded_line, decoding_of}
 use Rattle.quoted_printable.specs.Pieces.{Extends, HasFed, Reads, begins, is_held}
@@ -118,7 +117,7 @@ has_fed held piece left was now kept extends reads =
       more = more;
       appended = added;
       stands = λ after. append_cancel_left was (decoding_of (held ++ piece ++ after)) (more ++ decoding_of (left ++ after))
-      (sym (reads after) ∙ ap (λ l. l ++ decoding_of (left ++ after)) added ∙ append_assoc was more (decoding_of (left ++ after)));
+          (sym (reads after) ∙ ap (λ l. l ++ decoding_of (left ++ after)) added ∙ append_assoc was more (decoding_of (left ++ after)));
       kept = kept;
     }
 

@@ -81,7 +81,12 @@ impl QpDecoder {
 }
 
 // Reads a piece after the octets that are kept, and then keeps others.
-fn feed_held(alloc: Global, held: &mut Vec<u8>, piece: &[u8], out: &mut Vec<u8>) -> Result<(), AllocError>
+fn feed_held(
+    alloc: Global,
+    held: &mut Vec<u8>,
+    piece: &[u8],
+    out: &mut Vec<u8>,
+) -> Result<(), AllocError>
     requires { is_held held.old.items ≡ true }
     ensures read { OnOk result (Reads out.old.items (held.old.items ++ piece.now) out.new.items held.new.items) }
     ensures held { OnOk result (is_held held.new.items ≡ true) }
@@ -185,7 +190,11 @@ fn has_digit(held: &[u8]) -> bool
 
 // The same where `=` and a digit are kept: a second digit ends the escape, and with any other octet both are literal.
 #[inline]
-fn release_escape<'a>(held: &[u8], rest: &'a [u8], out: &mut Vec<u8>) -> Result<&'a [u8], AllocError>
+fn release_escape<'a>(
+    held: &[u8],
+    rest: &'a [u8],
+    out: &mut Vec<u8>,
+) -> Result<&'a [u8], AllocError>
     requires held { is_held held.now ≡ true }
     requires digit { has_digit held.now ≡ true }
     requires some { 0 < length rest.now }

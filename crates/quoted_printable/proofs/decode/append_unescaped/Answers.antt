@@ -17,10 +17,10 @@ escapes-preserved c =
     let appended = c.in_ok-extend_from_slice.ensures.items ∙ ap (λ l. out ++ l) c.split_at.ensures.front in
     record {
       done = c.in_ok-rest.ensures.octets
-      ∙ (λ i. appended i ++ unescaped (c.split_at.ensures.back i))
-      ∙ append_assoc out (take place rest) (unescaped (drop place rest))
-      ∙ ap (λ l. out ++ l) (sym (unescaped-past place rest (omega arith) none))
-      ∙ c.escapes.invariant.done;
+          ∙ (λ i. appended i ++ unescaped (c.split_at.ensures.back i))
+          ∙ append_assoc out (take place rest) (unescaped (drop place rest))
+          ∙ ap (λ l. out ++ l) (sym (unescaped-past place rest (omega arith) none))
+          ∙ c.escapes.invariant.done;
       more = extends_then _ _ _ (extends_then _ _ _ c.escapes.invariant.more (extends_more _ _ _ c.in_ok-extend_from_slice.ensures.items)) c.in_ok-rest.ensures.more;
     }
 

@@ -1,4 +1,4 @@
-use Rattle.std.proofs.Common.{◌≡◌, ◌≢◌, ◌<◌, ◌≤◌, ℕ, true, length, get_or, take, drop, ap, ◌∙◌, sym, arith, subst, ◌++◌}
+use Rattle.std.proofs.Common.{◌≢◌, ◌<◌, ◌≤◌, ℕ, true, length, get_or, ap, ◌∙◌, sym, arith, ◌++◌}
 use Rattle.memchr.specs.Find.{is_byte3}
 use Rattle.quoted_printable.proofs.Stretches.{reads_left, reads_plain}
 use Rattle.quoted_printable.proofs.decoder.append_plain.Goals as goal

@@ -15,8 +15,8 @@ octets-preserved c =
     record {
       held = ap is_held pushed ∙ held_more held octet c.octets.invariant.held on;
       octets = ap (λ l. l ++ after) pushed
-      ∙ append_assoc held (octet ∷ []) after
-      ∙ ap (λ l. held ++ l) (sym c.in-Some.ensures.cases.0)
-      ∙ c.octets.invariant.octets;
+          ∙ append_assoc held (octet ∷ []) after
+          ∙ ap (λ l. held ++ l) (sym c.in-Some.ensures.cases.0)
+          ∙ c.octets.invariant.octets;
       more = extends_then _ _ _ c.octets.invariant.more (extends_more _ _ _ pushed);
     }
