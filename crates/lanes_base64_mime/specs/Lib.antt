@@ -1,1 +1,2 @@
 pub mod MimeBase64
+pub mod Pieces

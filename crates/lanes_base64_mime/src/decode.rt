@@ -1,8 +1,60 @@
-ghost use Rattle.std.specs.Prelude.{◌≡◌, IfOk};
+ghost use Rattle.std.specs.Prelude.{◌≡◌, ◌%◌, ◌<◌, ◌++◌, IfOk, OnErr, OnOk, length};
+ghost use Rattle.octet_lanes.specs.Encoding.{octets_of};
 ghost use Rattle.lanes_base64_mime.specs.MimeBase64.{mime_decoding_of};
+ghost use Rattle.lanes_base64_mime.specs.Pieces.{bits_with, kept_with, nothing_kept};
 
-use octet_lanes::{Alphabet, decode};
+use octet_lanes::{Alphabet, Held};
 use std::alloc::{AllocError, Global};
+use std::marker::Model;
+
+/// A decoder of a MIME base64 text that comes in pieces. It keeps the bits that the pieces so far left after whole octets, and
+/// whether a `=` came, after which nothing counts.
+#[derive(Drop)]
+pub struct Decoder {
+    held: Held,
+}
+
+impl Model for Decoder {
+    ghost use Rattle.octet_lanes.specs.Held.{IsHeld, kept_bits};
+    ghost use Rattle.octet_lanes.specs.declared.alphabet.Alphabet.TheVariants.{Base64};
+    ghost use Rattle.lanes_base64_mime.specs.Pieces.{Kept};
+
+    ghost Value = { Kept };
+
+    ghost view = { λ d. record { bits = kept_bits Base64 d.held; ended = d.held.ended } };
+
+    ghost invariant = { λ d. IsHeld Base64 d.held };
+}
+
+impl Decoder {
+    /// A decoder that no piece came to.
+    pub fn new() -> Decoder
+        ensures { result ≡ nothing_kept }
+    {
+        Decoder { held: Held::new() }
+    }
+
+    /// Appends the whole octets of the bits that are kept and of those of the piece, and keeps the bits that are left over.
+    ///
+    /// # Errors
+    ///
+    /// Memory ran out; then decoder and `out` are as they were.
+    pub fn feed(&mut self, piece: &[u8], out: &mut Vec<u8>) -> Result<(), AllocError>
+        ensures octets { OnOk result (out.new.items ≡ out.old.items ++ octets_of (bits_with self.old piece.now)) }
+        ensures kept { OnOk result (self.new ≡ kept_with self.old piece.now) }
+        ensures refused { OnErr result ((self.new ≡ self.old) × (out.new.items ≡ out.old.items)) }
+    {
+        self.held.take_in(piece, Alphabet::Base64, out)
+    }
+
+    /// How many bits are left over: 0, 2, 4 or 6.
+    pub fn finish(self) -> u8
+        ensures number { result ≡ length self.bits }
+        ensures even { (result < 8) × (result % 2 ≡ 0) }
+    {
+        self.held.bits_left(Alphabet::Base64)
+    }
+}
 
 /// The octets of a MIME base64 text: the bits of the octets in the base64 alphabet before the first `=`, as whole
 /// octets. Everything else is passed over, and 2, 4 or 6 bits left over at the end are dropped; no text is refused.
@@ -13,5 +65,14 @@ use std::alloc::{AllocError, Global};
 pub fn decode_mime(alloc: Global, text: &[u8]) -> Result<Vec<u8>, AllocError>
     ensures { IfOk result (λ octets. octets.items ≡ mime_decoding_of text.now) }
 {
-    decode(alloc, text, Alphabet::Base64)
+    let mut out = Vec::with_capacity(alloc, octets_room(text))?;
+    let mut decoder = Decoder::new();
+    decoder.feed(text, &mut out)?;
+    decoder.finish();
+    Ok(out)
+}
+
+// Room for the octets of a text.
+fn octets_room(text: &[u8]) -> usize {
+    (text.len() / 8 + 1) * 6
 }

@@ -7,5 +7,5 @@ mod decode;
 mod encode;
 pub mod laws;
 
-pub use decode::decode_mime;
+pub use decode::{Decoder, decode_mime};
 pub use encode::encode_mime;

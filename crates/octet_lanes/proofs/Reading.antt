@@ -4,24 +4,24 @@ use Rattle.std.specs.declared.option.Option.TheVariants.{Some, None}
 use Rattle.std.specs.Option.{unwrap_or}
 use Rattle.std.specs.declared.result.Result.{Result}
 use Rattle.std.specs.declared.result.Result.TheVariants.{Ok, Err}
-use Rattle.std.specs.Result.{OnOk, is_ok}
+use Rattle.std.specs.Result.{IfOk, OnOk, is_ok}
 use Rattle.std.specs.Simd.Lanes.{Each1}
 use Rattle.std.specs.List.{All, list_any, position, position_or_len, prefix_len}
 use Rattle.std.proofs.lemmas.Bool.{false≢true, eqb-false, ne_eqb}
 use Rattle.std.proofs.lemmas.Simd.{Each1-from_get_or}
-use Rattle.std.proofs.lemmas.List.{take-map, take_at, drop-replicate, length-append, length-map, append_assoc, append-nil, length-take-le, take-append-le, take-append-drop, take-take, take_all, drop-append-le, drop_more, map-append, get_or-map}
+use Rattle.std.proofs.lemmas.List.{take-map, take_at, drop-replicate, length-append, length-drop, length-map, append_assoc, append-nil, append_cancel_left, length-take, length-take-le, take-append-le, take-append-drop, take-take, take_all, take_more, drop_all, drop_at, drop-append-le, drop-take, map-append, get_or-map}
 use Rattle.std.proofs.lemmas.List.Elements.{filter-append, All-nil, All-cons}
 use Rattle.std.proofs.lemmas.List.Concat.{flat_map-append}
-use Rattle.std.proofs.Math.Seq.{take-append-add}
+use Rattle.std.proofs.lemmas.List.Folds.{list_any-append}
+use Rattle.std.proofs.Math.Seq.{drop-append-add, drop-nil}
 use Rattle.std.proofs.Math.Nat.{mod-eq_of_lt}
 use Rattle.octet_lanes.specs.declared.alphabet.Alphabet.{Alphabet}
 use Rattle.octet_lanes.specs.declared.alphabet.Alphabet.TheVariants.{Base64, Base32, Base32Hex}
-use Rattle.octet_lanes.specs.Encoding.{width, quantum, table, class_of, stray, padding, bits_of, all_bits, groups_of, values_among, values_of, before_padding, whole, octets_of, decoding_of}
-use Rattle.octet_lanes.specs.declared.reader.Held.{Held}
-use Rattle.octet_lanes.specs.Held.{decoding_after, decoding_held}
-use Rattle.octet_lanes.proofs.Bits.{length-all_bits, take-all_bits, AreBits, AreBits-all_bits}
+use Rattle.octet_lanes.specs.Encoding.{width, quantum, table, class_of, stray, padding, bits_of, all_bits, groups_of, values_among, values_of, before_padding, contains_padding, text_bits, whole, left_over, octets_of}
+use Rattle.octet_lanes.specs.Held.{IsRead}
+use Rattle.octet_lanes.proofs.Bits.{length-bits_of, length-all_bits, take-all_bits}
 use Rattle.octet_lanes.proofs.Lanes.{all_values}
-use Rattle.octet_lanes.proofs.Pieces.{groups_of-all_bits, groups_of_bits, in_groups}
+use Rattle.octet_lanes.proofs.Pieces.{groups_of_bits}
 
 -- ---- classes that are values
 
@@ -82,16 +82,14 @@ padding_strays Base64 = refl
 padding_strays Base32 = refl
 padding_strays Base32Hex = refl
 
--- ---- octets of bits
+-- ---- bits that are given as octets
 
--- octets before bits
-pub octets_of-prefix : (octets bits : List ℕ) → Each1 (λ octet. octet < 2 ^ 8) octets → octets_of (all_bits 8 octets ++ bits) ≡ octets ++ octets_of bits
-octets_of-prefix octets bits small =
-    let n = length (all_bits 8 octets) in
-    let m = length bits / 8 * 8 in
-    let count : length (all_bits 8 octets ++ bits) / 8 * 8 ≡ n + m = omega (arith, length-append (all_bits 8 octets) bits, length-all_bits 8 octets) in
-    ap (groups_of 8) (ap (λ k. take k (all_bits 8 octets ++ bits)) count ∙ take-append-add (all_bits 8 octets) bits m)
-    ∙ groups_of-all_bits 8 octets (take m bits) (omega arith) small
+drop-all_bits : (k n : ℕ) (ns : List ℕ) → drop (n * k) (all_bits k ns) ≡ all_bits k (drop n ns)
+drop-all_bits k zero ns = let none : zero * k ≡ zero = omega arith in ap (λ i. drop i (all_bits k ns)) none
+drop-all_bits k (suc n) [] = drop-nil (suc n * k)
+drop-all_bits k (suc n) (x ∷ ns) =
+    let count : suc n * k ≡ length (bits_of k x) + n * k = omega (arith, length-bits_of k x) in
+    ap (λ i. drop i (bits_of k x ++ all_bits k ns)) count ∙ drop-append-add (bits_of k x) (all_bits k ns) (n * k) ∙ drop-all_bits k n ns
 
 -- the whole octets of the first values of a block
 bits_of-values : (w m : ℕ) (values filler octets : List ℕ) → m ≡ length values * w / 8 → m ≤ 4 * w
@@ -107,18 +105,59 @@ bits_of-values w m values filler octets is few same =
     ∙ take-all_bits 8 m (take (4 * w) octets)
     ∙ ap (all_bits 8) (take-take m (4 * w) octets few)
 
-pub octets_of-values : (w m : ℕ) (values filler octets : List ℕ) → m ≡ length values * w / 8 → Each1 (λ octet. octet < 2 ^ 8) (take m octets) → m ≤ 4 * w
-    → all_bits 8 (take (4 * w) octets) ≡ all_bits w (values ++ filler) → octets_of (all_bits w values) ≡ take m octets
-octets_of-values w m values filler octets is small few same =
-    ap (groups_of 8) (bits_of-values w m values filler octets is few same) ∙ groups_of_bits 8 (take m octets) (omega arith) small
+-- the same from an octet on
+pub values_given : (w m g : ℕ) (values filler octets : List ℕ) → m ≡ length values * w / 8 → m ≤ 4 * w → g ≤ m
+    → all_bits 8 (take (4 * w) octets) ≡ all_bits w (values ++ filler) → all_bits 8 (take (m - g) (drop g octets)) ≡ drop (g * 8) (whole 8 (all_bits w values))
+values_given w m g values filler octets is few le same =
+    let count : g + (m - g) ≡ m = omega arith in
+    ap (all_bits 8) (sym (drop-take g (m - g) octets) ∙ ap (λ n. drop g (take n octets)) count)
+    ∙ sym (drop-all_bits 8 g (take m octets))
+    ∙ ap (drop (g * 8)) (sym (bits_of-values w m values filler octets is few same))
 
--- whole octets' bits before bits
-octets_of-whole : (m : ℕ) (bits rest : List ℕ) → AreBits bits → length bits ≡ m * 8 → octets_of (bits ++ rest) ≡ octets_of bits ++ octets_of rest
-octets_of-whole m bits rest are long =
-    let g = in_groups 8 m bits (omega arith) long are in
-    let alone : octets_of bits ≡ g.numbers =
-    ap octets_of (sym g.same ∙ sym (append-nil (all_bits 8 g.numbers))) ∙ octets_of-prefix g.numbers [] g.small ∙ append-nil g.numbers in
-    ap (λ l. octets_of (l ++ rest)) (sym g.same) ∙ octets_of-prefix g.numbers rest g.small ∙ ap (λ l. l ++ octets_of rest) (sym alone)
+whole_all : (m : ℕ) (bits : List ℕ) → length bits ≡ m * 8 → whole 8 bits ≡ bits
+whole_all m bits long = take_all (length bits / 8 * 8) bits (omega arith)
+
+pub none_left : (m : ℕ) (bits : List ℕ) → length bits ≡ m * 8 → left_over 8 bits ≡ []
+none_left m bits long = drop_all (length bits / 8 * 8) bits (omega arith)
+
+pub few_left : (bits : List ℕ) → length (left_over 8 bits) < 8
+few_left bits = omega (arith, length-drop (length bits / 8 * 8) bits)
+
+-- what a quantum gives when values come to it
+pub quantum_given : (g : ℕ) (was now before after rest text : List ℕ) → g ≡ length before / 8 → length before ≤ length after → after ++ rest ≡ before ++ text
+    → now ≡ was ++ drop (g * 8) (whole 8 after) → now ++ (left_over 8 after ++ rest) ≡ was ++ (left_over 8 before ++ text)
+quantum_given g was now before after rest text is more same appended =
+    let edge = length after / 8 * 8 in
+    let from : g * 8 ≡ length before / 8 * 8 = ap (λ n. n * 8) is in
+    let given : length (whole 8 after) ≡ edge = length-take-le edge after (omega arith) in
+    let inside : g * 8 ≤ length (whole 8 after) = omega arith in
+    let within : g * 8 ≤ length after = omega arith in
+    let held : g * 8 ≤ length before = omega arith in
+    ap (λ l. l ++ (left_over 8 after ++ rest)) appended
+    ∙ append_assoc was (drop (g * 8) (whole 8 after)) (left_over 8 after ++ rest)
+    ∙ ap (λ l. was ++ l) (
+    sym (append_assoc (drop (g * 8) (whole 8 after)) (left_over 8 after) rest)
+    ∙ ap (λ l. l ++ rest) (sym (drop-append-le (g * 8) (whole 8 after) (left_over 8 after) inside) ∙ ap (drop (g * 8)) (take-append-drop edge after))
+    ∙ sym (drop-append-le (g * 8) after rest within)
+    ∙ ap (drop (g * 8)) same
+    ∙ drop-append-le (g * 8) before text held
+    ∙ ap (λ n. drop n before ++ text) from)
+
+-- what was appended are the whole octets, and what is kept is left over
+pub taken_in : (was now kept bits : List ℕ) → take (length was) now ≡ was → Each1 (λ octet. octet < 2 ^ 8) (drop (length was) now) → length kept < 8
+    → all_bits 8 now ++ kept ≡ all_bits 8 was ++ bits → (now ≡ was ++ octets_of bits) × (kept ≡ left_over 8 bits)
+taken_in was now kept bits grown small few same =
+    let more = drop (length was) now in
+    let all : now ≡ was ++ more = sym (take-append-drop (length was) now) ∙ ap (λ l. l ++ more) grown in
+    let after : all_bits 8 more ++ kept ≡ bits =
+    append_cancel_left (all_bits 8 was) (all_bits 8 more ++ kept) bits
+    (sym (append_assoc (all_bits 8 was) (all_bits 8 more) kept) ∙ ap (λ l. l ++ kept) (sym (flat_map-append (bits_of 8) was more) ∙ ap (all_bits 8) (sym all)) ∙ same) in
+    let long : length (all_bits 8 more ++ kept) ≡ length more * 8 + length kept = length-append (all_bits 8 more) kept ∙ ap (λ n. n + length kept) (length-all_bits 8 more) in
+    let bits_long : length bits ≡ length more * 8 + length kept = ap length (sym after) ∙ long in
+    let edge : length (all_bits 8 more) ≡ length bits / 8 * 8 = length-all_bits 8 more ∙ (omega arith) in
+    let given : whole 8 bits ≡ all_bits 8 more = ap (take (length bits / 8 * 8)) (sym after) ∙ take_at (all_bits 8 more) kept (length bits / 8 * 8) edge in
+    let left : left_over 8 bits ≡ kept = ap (drop (length bits / 8 * 8)) (sym after) ∙ drop_at (all_bits 8 more) kept (length bits / 8 * 8) edge in
+    (all ∙ ap (λ l. was ++ l) (sym (ap (groups_of 8) given ∙ groups_of_bits 8 more (omega arith) small)), sym left)
 
 -- what an `extend_from_slice` appended, and what follows from it
 pub ok_then : {T F Q : Type 0} (r : Result T F) (now was more : List ℕ) → now ≡ cond (is_ok r) (was ++ more) was → (now ≡ was ++ more → Q) → OnOk r Q
@@ -148,57 +187,111 @@ free_prefix (x ∷ xs) ys h = go (eqb x padding) h (free_prefix xs ys)
         let more : 1 + prefix_len (λ o. not (eqb o padding)) (xs ++ ys) ≡ suc (prefix_len (λ o. not (eqb o padding)) (xs ++ ys)) = omega arith in
         ap (λ n. take n (x ∷ (xs ++ ys))) more ∙ ap (λ l. x ∷ l) (rest e)
 
--- ---- an octet of a text, with values held
+-- two facts of a success
+pub ok_both : {T F : Type 0} {P Q R : T → Type 0} (r : Result T F) → IfOk r P → IfOk r Q → ((x : T) → P x → Q x → R x) → IfOk r R
+ok_both (Ok x) p q h = h x p q
+ok_both (Err x) p q h = tt
 
-pub after_none : (alphabet : Alphabet) (text : List ℕ) → decoding_after alphabet [] text ≡ decoding_of alphabet text
-unfolding decoding_of
-after_none alphabet text = refl
+pub grown_on : (was mid now : List ℕ) → take (length was) mid ≡ was → take (length mid) now ≡ mid → take (length was) now ≡ was
+grown_on was mid now first next =
+    let few : length was ≤ length mid = omega (arith, ap length first, length-take (length was) mid) in
+    sym (take-take (length was) (length mid) now few) ∙ ap (take (length was)) next ∙ first
 
--- values that are whole octets are given out
-pub after_whole : (alphabet : Alphabet) (m : ℕ) (held text : List ℕ) → length held * width alphabet ≡ m * 8
-    → decoding_after alphabet held text ≡ octets_of (all_bits (width alphabet) held) ++ decoding_of alphabet text
-unfolding decoding_of
-after_whole alphabet m held text is =
-    let w = width alphabet in
-    let rest = values_of alphabet (before_padding text) in
-    ap octets_of (flat_map-append (bits_of w) held rest)
-    ∙ octets_of-whole m (all_bits w held) (all_bits w rest) (AreBits-all_bits w held) (length-all_bits w held ∙ is)
+-- ---- an octet of a text
 
-before_next : (octet : ℕ) (text : List ℕ) → octet ≢ padding → before_padding (octet ∷ text) ≡ octet ∷ before_padding text
+pub before_next : (octet : ℕ) (text : List ℕ) → octet ≢ padding → before_padding (octet ∷ text) ≡ octet ∷ before_padding text
 before_next octet text ne =
     let n = prefix_len (λ o. not (eqb o padding)) text in
     let more : 1 + n ≡ suc n = omega arith in
     ap (λ b. take (cond (not b) (1 + n) 0) (octet ∷ text)) (ne_eqb _ _ ne) ∙ ap (λ k. take k (octet ∷ text)) more
 
-pub after_value : (alphabet : Alphabet) (held : List ℕ) (octet : ℕ) (text : List ℕ) → octet ≢ padding → class_of alphabet octet ≢ stray
-    → decoding_after alphabet held (octet ∷ text) ≡ decoding_after alphabet (held ++ class_of alphabet octet ∷ []) text
-after_value alphabet held octet text other value =
+pub value_taken : (alphabet : Alphabet) (held : List ℕ) (octet : ℕ) (text : List ℕ) → octet ≢ padding → class_of alphabet octet ≢ stray
+    → all_bits (width alphabet) (held ++ class_of alphabet octet ∷ []) ++ text_bits alphabet text ≡ all_bits (width alphabet) held ++ text_bits alphabet (octet ∷ text)
+value_taken alphabet held octet text other value =
     let w = width alphabet in
     let class = class_of alphabet octet in
     let rest = values_of alphabet (before_padding text) in
-    ap (λ l. octets_of (all_bits w (held ++ values_of alphabet l))) (before_next octet text other)
-    ∙ ap (λ b. octets_of (all_bits w (held ++ cond (not b) (class ∷ rest) rest))) (ne_eqb _ _ value)
-    ∙ ap (λ l. octets_of (all_bits w l)) (sym (append_assoc held (class ∷ []) rest))
+    let next : text_bits alphabet (octet ∷ text) ≡ bits_of w class ++ text_bits alphabet text =
+    ap (λ l. all_bits w (values_of alphabet l)) (before_next octet text other) ∙ ap (λ b. all_bits w (cond (not b) (class ∷ rest) rest)) (ne_eqb _ _ value) in
+    ap (λ l. l ++ text_bits alphabet text) (flat_map-append (bits_of w) held (class ∷ []))
+    ∙ append_assoc (all_bits w held) (bits_of w class ++ []) (text_bits alphabet text)
+    ∙ ap (λ l. all_bits w held ++ l) (ap (λ l. l ++ text_bits alphabet text) (append-nil (bits_of w class)) ∙ sym next)
 
-pub after_stray : (alphabet : Alphabet) (held : List ℕ) (octet : ℕ) (text : List ℕ) → octet ≢ padding → class_of alphabet octet ≡ stray
-    → decoding_after alphabet held (octet ∷ text) ≡ decoding_after alphabet held text
-after_stray alphabet held octet text other is =
+pub stray_passed : (alphabet : Alphabet) (octet : ℕ) (text : List ℕ) → octet ≢ padding → class_of alphabet octet ≡ stray → text_bits alphabet (octet ∷ text) ≡ text_bits alphabet text
+stray_passed alphabet octet text other is =
     let w = width alphabet in
     let class = class_of alphabet octet in
     let rest = values_of alphabet (before_padding text) in
-    ap (λ l. octets_of (all_bits w (held ++ values_of alphabet l))) (before_next octet text other)
-    ∙ ap (λ b. octets_of (all_bits w (held ++ cond (not b) (class ∷ rest) rest))) (eq-eqb class stray is)
+    ap (λ l. all_bits w (values_of alphabet l)) (before_next octet text other) ∙ ap (λ b. all_bits w (cond (not b) (class ∷ rest) rest)) (eq-eqb class stray is)
 
--- ---- what is held between pieces of a text
+pub no_padding_first : (octet : ℕ) (text : List ℕ) → octet ≢ padding → contains_padding (octet ∷ text) ≡ contains_padding text
+no_padding_first octet text other = ap (λ b. b || contains_padding text) (ne_eqb _ _ other)
 
-pub goes_on : (alphabet : Alphabet) (held : Held) (text : List ℕ) → held.ended ≡ false → decoding_held alphabet held text ≡ decoding_after alphabet (take held.n held.values) text
-goes_on alphabet held text e = ap (λ b. decoding_after alphabet (take held.n held.values) (cond b [] text)) e
+pub padding_first : (alphabet : Alphabet) (octet : ℕ) (text : List ℕ) → octet ≡ padding → (text_bits alphabet (octet ∷ text) ≡ []) × (contains_padding (octet ∷ text) ≡ true)
+padding_first alphabet octet text is =
+    let e = eq-eqb octet padding is in
+    (ap (λ b. all_bits (width alphabet) (values_of alphabet (take (cond (not b) (1 + prefix_len (λ o. not (eqb o padding)) text) 0) (octet ∷ text)))) e, ap (λ b. b || contains_padding text) e)
 
--- where no value is held, the text stands alone
-pub held_none : (alphabet : Alphabet) (held : Held) (text : List ℕ) → held.ended ≡ false → held.n ≡ 0 → decoding_held alphabet held text ≡ decoding_of alphabet text
-held_none alphabet held text e none = goes_on alphabet held text e ∙ ap (λ n. decoding_after alphabet (take n held.values) text) none ∙ after_none alphabet text
+-- a whole quantum's bits are whole octets
+pub quantum_bits : (alphabet : Alphabet) (n : ℕ) → n ≡ quantum alphabet → n * width alphabet ≡ n * width alphabet / 8 * 8
+quantum_bits Base64 n e = omega arith
+quantum_bits Base32 n e = omega arith
+quantum_bits Base32Hex n e = omega arith
 
--- ---- a run of symbols
+-- ---- a first part of a text
+
+-- what follows a first part
+pub read_on : (alphabet : Alphabet) (n : ℕ) (text was now : List ℕ) → IsRead alphabet (take n text) was now
+    → (all_bits 8 now ++ text_bits alphabet (drop n text) ≡ all_bits 8 was ++ text_bits alphabet text) × (contains_padding (drop n text) ≡ contains_padding text)
+read_on alphabet n text was now read =
+    let w = width alphabet in
+    let prefix = take n text in
+    let rest = drop n text in
+    let whole_text = take-append-drop n text in
+    let bits : text_bits alphabet text ≡ all_bits w (values_of alphabet prefix) ++ text_bits alphabet rest =
+    ap (text_bits alphabet) (sym whole_text)
+    ∙ ap (λ l. all_bits w (values_of alphabet l)) (free_prefix prefix rest read.free)
+    ∙ ap (all_bits w) (values_of-append alphabet prefix (before_padding rest))
+    ∙ flat_map-append (bits_of w) (values_of alphabet prefix) (values_of alphabet (before_padding rest)) in (
+      ap (λ l. l ++ text_bits alphabet rest) read.bits ∙ append_assoc (all_bits 8 was) (all_bits w (values_of alphabet prefix)) (text_bits alphabet rest) ∙ ap (λ l. all_bits 8 was ++ l) (sym bits),
+      sym (ap contains_padding (sym whole_text) ∙ list_any-append (λ octet. eqb octet padding) prefix rest ∙ ap (λ b. b || contains_padding rest) read.free),
+    )
+
+-- values that are those of a first part
+values_read : (alphabet : Alphabet) (n m : ℕ) (prefix values was now : List ℕ) → contains_padding prefix ≡ false → take n values ≡ values_of alphabet prefix
+    → length (values_of alphabet prefix) * width alphabet ≡ m * 8 → all_bits 8 now ≡ all_bits 8 was ++ whole 8 (all_bits (width alphabet) (take n values)) → IsRead alphabet prefix was now
+values_read alphabet n m prefix values was now free are is appended =
+    let w = width alphabet in
+    record {
+      free = free;
+      bits = appended
+          ∙ ap (λ l. all_bits 8 was ++ whole 8 (all_bits w l)) are
+          ∙ ap (λ l. all_bits 8 was ++ l) (whole_all m (all_bits w (values_of alphabet prefix)) (length-all_bits w (values_of alphabet prefix) ∙ is));
+    }
+
+-- nothing of what fills a block up is read
+pub within_text : (text : List ℕ) (k n : ℕ) → n ≤ length text + k → contains_padding (take n (text ++ replicate k padding)) ≡ false → n ≤ length text
+within_text text k zero le free = omega arith
+within_text [] zero (suc n) le free = absurd (omega arith)
+within_text [] (suc k) (suc n) le free = absurd (false≢true (sym free))
+within_text (x ∷ text) k (suc n) le free =
+    let here = within_text text k n (omega arith) (rest (eqb x padding) free) in
+    omega arith
+  where
+    rest : (b : Bool) → (b || contains_padding (take n (text ++ replicate k padding))) ≡ false → contains_padding (take n (text ++ replicate k padding)) ≡ false
+    rest true h = absurd (false≢true (sym h))
+    rest false h = h
+
+-- the first part of a block that is filled up
+pub padded_read : (alphabet : Alphabet) (text block was now : List ℕ) (end : ℕ) → length text ≤ 32 → block ≡ text ++ drop (length text) (replicate 32 padding) → end ≤ 32
+    → IsRead alphabet (take end block) was now → (end ≤ length text) × IsRead alphabet (take end text) was now
+padded_read alphabet text block was now end few is le read =
+    let k = 32 - length text in
+    let filled : block ≡ text ++ replicate k padding = is ∙ ap (λ l. text ++ l) (drop-replicate (length text) 32 padding) in
+    let free : contains_padding (take end (text ++ replicate k padding)) ≡ false = ap (λ l. contains_padding (take end l)) (sym filled) ∙ read.free in
+    let within : end ≤ length text = within_text text k end (omega arith) free in
+    let same : take end block ≡ take end text = ap (take end) filled ∙ take-append-le end text (replicate k padding) within in
+    (within, subst (λ l. IsRead alphabet l was now) same read)
 
 no_padding : (alphabet : Alphabet) (run : List ℕ) → list_any (λ class. eqb class stray) (map (class_of alphabet) run) ≡ false → list_any (λ octet. eqb octet padding) run ≡ false
 no_padding alphabet [] free = refl
@@ -213,16 +306,19 @@ no_padding alphabet (x ∷ run) free = go (eqb x padding) refl (eqb (class_of al
         let is : class_of alphabet x ≡ stray = ap (class_of alphabet) (eqb-true x padding e) ∙ padding_strays alphabet in
         absurd (eqb-false (class_of alphabet x) stray f is)
 
--- a first run of symbols that are whole octets
-pub run_read : (alphabet : Alphabet) (m : ℕ) (run rest : List ℕ) → list_any (λ class. eqb class stray) (map (class_of alphabet) run) ≡ false → length run * width alphabet ≡ m * 8
-    → decoding_of alphabet (run ++ rest) ≡ octets_of (all_bits (width alphabet) (map (class_of alphabet) run)) ++ decoding_of alphabet rest
-unfolding decoding_of
-run_read alphabet m run rest free is =
-    let w = width alphabet in
-    let values = map (class_of alphabet) run in
-    ap (λ l. octets_of (all_bits w (values_of alphabet l))) (free_prefix run rest (no_padding alphabet run free))
-    ∙ ap (λ l. octets_of (all_bits w l)) (values_of-append alphabet run (before_padding rest) ∙ ap (λ l. l ++ values_of alphabet (before_padding rest)) (all_values values free))
-    ∙ after_whole alphabet m values rest (ap (λ n. n * w) (length-map run (class_of alphabet)) ∙ is)
+-- a block of symbols
+pub block_read : (alphabet : Alphabet) (block classes was now : List ℕ) → length block ≡ 32 → classes ≡ map (class_of alphabet) block → list_any (λ class. eqb class stray) classes ≡ false
+    → all_bits 8 now ≡ all_bits 8 was ++ whole 8 (all_bits (width alphabet) (take 32 classes)) → IsRead alphabet (take 32 block) was now
+block_read alphabet block classes was now long is free appended =
+    let all : take 32 block ≡ block = take_all 32 block (omega arith) in
+    let symbols : list_any (λ class. eqb class stray) (map (class_of alphabet) block) ≡ false = ap (list_any (λ class. eqb class stray)) (sym is) ∙ free in
+    let values : values_of alphabet block ≡ map (class_of alphabet) block = all_values (map (class_of alphabet) block) symbols in
+    let many : length (map (class_of alphabet) block) ≡ 32 = length-map block (class_of alphabet) ∙ long in
+    values_read alphabet 32 (4 * width alphabet) (take 32 block) classes was now
+    (ap contains_padding all ∙ no_padding alphabet block symbols)
+    (take_all 32 classes (omega (arith, ap length is)) ∙ is ∙ sym values ∙ ap (values_of alphabet) (sym all))
+    (ap (λ l. length (values_of alphabet l) * width alphabet) all ∙ ap (λ l. length l * width alphabet) values ∙ ap (λ n. n * width alphabet) many ∙ (omega arith))
+    appended
 
 -- whole quanta are whole octets
 pub whole_quanta : (alphabet : Alphabet) (n : ℕ) → (n - n % quantum alphabet) * width alphabet ≡ (n - n % quantum alphabet) * width alphabet / 8 * 8
@@ -250,91 +346,55 @@ prefix_values alphabet (suc n) (x ∷ block) le = go (eqb (class_of alphabet x) 
         (ap (λ b. b || list_any (λ c. eqb c stray) (map (class_of alphabet) (take n block))) e ∙ r.0, λ i. mod-eq_of_lt (class_small alphabet x e) i ∷ r.1 i)
 
 -- stray characters are passed over
-pub strays_passed : (alphabet : Alphabet) (block rest : List ℕ) (start k : ℕ) → start + k ≤ length block
+pub strays_read : (alphabet : Alphabet) (block : List ℕ) (start k : ℕ) → start + k ≤ length block
     → ((i : ℕ) → start ≤ i → i < start + k → (get_or (map (class_of alphabet) block) i 0 ≡ stray) × (get_or block i 0 ≢ padding))
-    → decoding_of alphabet (drop start block ++ rest) ≡ decoding_of alphabet (drop (start + k) block ++ rest)
-strays_passed alphabet block rest start zero le strays =
-    let same : start ≡ start + zero = omega arith in
-    ap (λ n. decoding_of alphabet (drop n block ++ rest)) same
-strays_passed alphabet block rest start (suc k) le strays =
-    let within : start < length block = omega arith in
-    let here = strays start (omega arith) (omega arith) in
-    let octet = get_or block start 0 in
-    let is : class_of alphabet octet ≡ stray = sym (get_or-map (class_of alphabet) block start 0 0 within) ∙ here.0 in
-    let count : start + 1 + k ≡ start + suc k = omega arith in
-    ap (λ l. decoding_of alphabet (l ++ rest)) (drop_more block start 0 within)
-    ∙ sym (after_none alphabet (octet ∷ (drop (start + 1) block ++ rest)))
-    ∙ after_stray alphabet [] octet (drop (start + 1) block ++ rest) here.1 is
-    ∙ after_none alphabet (drop (start + 1) block ++ rest)
-    ∙ strays_passed alphabet block rest (start + 1) k (omega arith) (λ i l h. strays i (omega arith) (omega arith))
-    ∙ ap (λ n. decoding_of alphabet (drop n block ++ rest)) count
+    → (values_of alphabet (take (start + k) block) ≡ values_of alphabet (take start block)) × (contains_padding (take (start + k) block) ≡ contains_padding (take start block))
+strays_read alphabet block start zero le strays =
+    let same : start + zero ≡ start = omega arith in
+    (ap (λ n. values_of alphabet (take n block)) same, ap (λ n. contains_padding (take n block)) same)
+strays_read alphabet block start (suc k) le strays =
+    let at = start + k in
+    let octet = get_or block at 0 in
+    let within : at < length block = omega arith in
+    let here = strays at (omega arith) (omega arith) in
+    let is : class_of alphabet octet ≡ stray = sym (get_or-map (class_of alphabet) block at 0 0 within) ∙ here.0 in
+    let count : start + suc k ≡ at + 1 = omega arith in
+    let more : take (start + suc k) block ≡ take at block ++ octet ∷ [] = ap (λ n. take n block) count ∙ take_more block at 0 within in
+    let before = strays_read alphabet block start k (omega arith) (λ i l h. strays i l (omega arith)) in (
+      ap (values_of alphabet) more ∙ values_of-append alphabet (take at block) (octet ∷ [])
+          ∙ ap (λ b. values_of alphabet (take at block) ++ cond (not b) (class_of alphabet octet ∷ []) []) (eq-eqb _ stray is)
+          ∙ append-nil (values_of alphabet (take at block)) ∙ before.0,
+      ap contains_padding more ∙ list_any-append (λ o. eqb o padding) (take at block) (octet ∷ [])
+          ∙ ap (λ b. contains_padding (take at block) || (b || false)) (ne_eqb _ _ here.1)
+          ∙ or_none (contains_padding (take at block)) ∙ before.1,
+    )
+  where
+    or_none : (b : Bool) → (b || false) ≡ b
+    or_none true = refl
+    or_none false = refl
 
--- ---- steps
-
--- octets that are given out, and what the rest gives
-pub given : (now more octets rest whole all : List ℕ) → more ≡ now ++ octets → whole ≡ octets ++ rest → now ++ whole ≡ all → more ++ rest ≡ all
-given now more octets rest whole all e f g = ap (λ l. l ++ rest) e ∙ append_assoc now octets rest ∙ ap (λ l. now ++ l) (sym f) ∙ g
-
--- a block of symbols
-pub block_octets : (alphabet : Alphabet) (text block after classes more : List ℕ) → block ≡ take 32 text → after ≡ drop 32 text → length classes ≡ 32 → classes ≡ map (class_of alphabet) block
-    → list_any (λ class. eqb class stray) classes ≡ false → decoding_of alphabet (text ++ more) ≡ octets_of (all_bits (width alphabet) (take 32 classes)) ++ decoding_of alphabet (after ++ more)
-block_octets alphabet text block after classes more prefix back long is free =
-    let w = width alphabet in
-    let many : length block ≡ 32 = sym (length-map block (class_of alphabet)) ∙ ap length (sym is) ∙ long in
-    let count : length block * w ≡ 4 * w * 8 = ap (λ n. n * w) many ∙ (omega arith) in
-    let all : take 32 classes ≡ map (class_of alphabet) block = take_all 32 classes (omega arith) ∙ is in
-    ap (λ l. decoding_of alphabet (l ++ more)) (sym (take-append-drop 32 text) ∙ (λ i. sym prefix i ++ sym back i))
-    ∙ ap (decoding_of alphabet) (append_assoc block after more)
-    ∙ run_read alphabet (4 * w) block (after ++ more) (ap (list_any (λ class. eqb class stray)) (sym is) ∙ free) count
-    ∙ ap (λ l. octets_of (all_bits w l) ++ decoding_of alphabet (after ++ more)) (sym all)
-
--- the whole quanta before a stray character
-pub run_octets : (alphabet : Alphabet) (run n : ℕ) (block classes values rest : List ℕ) → classes ≡ map (class_of alphabet) block
+-- the whole quanta before a stray character, and the stray characters after them
+pub run_read : (alphabet : Alphabet) (run n end : ℕ) (block classes values was now : List ℕ) → classes ≡ map (class_of alphabet) block
     → run ≡ position_or_len (λ class. eqb class stray) classes → n ≡ run - run % quantum alphabet → values ≡ map (λ class. class % 2 ^ width alphabet) classes
-    → decoding_of alphabet (block ++ rest) ≡ octets_of (all_bits (width alphabet) (take n values)) ++ decoding_of alphabet (drop n block ++ rest)
-run_octets alphabet run n block classes values rest is found quanta from =
+    → (values_of alphabet (take end block) ≡ values_of alphabet (take n block)) × (contains_padding (take end block) ≡ contains_padding (take n block))
+    → all_bits 8 now ≡ all_bits 8 was ++ whole 8 (all_bits (width alphabet) (take n values)) → IsRead alphabet (take end block) was now
+run_read alphabet run n end block classes values was now is found quanta from passed appended =
     let w = width alphabet in
     let p : ℕ → Bool = λ class. eqb class stray in
     let place : run ≡ position_or_len p (map (class_of alphabet) block) = found ∙ ap (position_or_len p) is in
     let before : n ≤ position_or_len p (map (class_of alphabet) block) = omega arith in
     let v = prefix_values alphabet n block before in
     let within : n ≤ length block = omega (arith, prefix_le (λ class. not (eqb class stray)) (map (class_of alphabet) block), length-map block (class_of alphabet)) in
-    let count : length (take n block) * w ≡ n * w / 8 * 8 = ap (λ k. k * w) (length-take-le n block within ∙ quanta) ∙ whole_quanta alphabet run ∙ ap (λ k. k * w / 8 * 8) (sym quanta) in
-    let values_are : take n values ≡ map (class_of alphabet) (take n block) = ap (take n) (from ∙ ap (map (λ class. class % 2 ^ w)) is) ∙ v.1 in
-    ap (λ l. decoding_of alphabet (l ++ rest)) (sym (take-append-drop n block))
-    ∙ ap (decoding_of alphabet) (append_assoc (take n block) (drop n block) rest)
-    ∙ run_read alphabet (n * w / 8) (take n block) (drop n block ++ rest) v.0 count
-    ∙ ap (λ l. octets_of (all_bits w l) ++ decoding_of alphabet (drop n block ++ rest)) (sym values_are)
+    let values_are : values_of alphabet (take n block) ≡ map (class_of alphabet) (take n block) = all_values (map (class_of alphabet) (take n block)) v.0 in
+    let many : length (values_of alphabet (take n block)) ≡ n = ap length values_are ∙ length-map (take n block) (class_of alphabet) ∙ length-take-le n block within in
+    values_read alphabet n (n * w / 8) (take end block) values was now
+    (passed.1 ∙ no_padding alphabet (take n block) v.0)
+    (ap (take n) (from ∙ ap (map (λ class. class % 2 ^ w)) is) ∙ v.1 ∙ sym values_are ∙ sym passed.0)
+    (ap (λ l. length l * w) passed.0 ∙ ap (λ k. k * w) (many ∙ quanta) ∙ whole_quanta alphabet run ∙ ap (λ k. k * w / 8 * 8) (sym quanta))
+    appended
 
 pub run_within : (classes : List ℕ) (run q : ℕ) → length classes ≡ 32 → run ≡ position_or_len (λ class. eqb class stray) classes → run - run % q ≤ 32
 run_within classes run q long found = omega (arith, prefix_le (λ class. not (eqb class stray)) classes)
-
--- a whole quantum
-pub quantum_octets : (alphabet : Alphabet) (n : ℕ) (values text : List ℕ) → length values ≡ 32 → n ≡ quantum alphabet
-    → decoding_after alphabet (take n values) text ≡ octets_of (all_bits (width alphabet) (take n values)) ++ decoding_of alphabet text
-quantum_octets alphabet n values text long e =
-    let b = bits alphabet n e in
-    let many : length (take n values) ≡ n = length-take-le n values (omega (arith, b.1)) in
-    after_whole alphabet (n * width alphabet / 8) (take n values) text (ap (λ k. k * width alphabet) many ∙ b.0)
-  where
-    bits : (alphabet : Alphabet) (k : ℕ) → k ≡ quantum alphabet → (k * width alphabet ≡ k * width alphabet / 8 * 8) × (k ≤ 32)
-    bits Base64 k e = (omega arith, omega arith)
-    bits Base32 k e = (omega arith, omega arith)
-    bits Base32Hex k e = (omega arith, omega arith)
-
--- a text from its first block on
-pub block_and_rest : (text block more : List ℕ) → block ≡ take 32 text → block ++ (drop 32 text ++ more) ≡ text ++ more
-block_and_rest text block more prefix =
-    sym (append_assoc block (drop 32 text) more) ∙ ap (λ l. l ++ more) (ap (λ l. l ++ drop 32 text) prefix ∙ take-append-drop 32 text)
-
--- what is left of a text where a part of its first block was read
-pub rest_of_block : (text block : List ℕ) (n : ℕ) → block ≡ take 32 text → n ≤ length block → drop n block ++ drop 32 text ≡ drop n text
-rest_of_block text block n prefix le =
-    sym (drop-append-le n block (drop 32 text) le) ∙ ap (drop n) (ap (λ l. l ++ drop 32 text) prefix ∙ take-append-drop 32 text)
-
-pub decoding_of-none : (alphabet : Alphabet) → decoding_of alphabet [] ≡ []
-unfolding decoding_of
-decoding_of-none alphabet = refl
 
 -- ---- at most a block
 
@@ -383,15 +443,6 @@ closed_octets alphabet m kept filler octets small few is same =
 
 -- ---- values with stray characters between them
 
--- a first part without padding, whose values are whole octets
-prefix_read : (alphabet : Alphabet) (m : ℕ) (prefix rest : List ℕ) → list_any (λ octet. eqb octet padding) prefix ≡ false → length (values_of alphabet prefix) * width alphabet ≡ m * 8
-    → decoding_of alphabet (prefix ++ rest) ≡ octets_of (all_bits (width alphabet) (values_of alphabet prefix)) ++ decoding_of alphabet rest
-unfolding decoding_of
-prefix_read alphabet m prefix rest free is =
-    ap (λ l. octets_of (all_bits (width alphabet) (values_of alphabet l))) (free_prefix prefix rest free)
-    ∙ ap (λ l. octets_of (all_bits (width alphabet) l)) (values_of-append alphabet prefix (before_padding rest))
-    ∙ after_whole alphabet m (values_of alphabet prefix) rest is
-
 free_part : (n : ℕ) (block : List ℕ) → list_any (λ octet. eqb octet padding) block ≡ false → list_any (λ octet. eqb octet padding) (take n block) ≡ false
 free_part zero block free = refl
 free_part (suc n) [] free = refl
@@ -404,11 +455,11 @@ free_part (suc n) (x ∷ block) free = go (eqb x padding) free (free_part n bloc
     go false h rest = rest h
 
 -- the whole quanta of a block, where stray characters stand between its values
-pub closed_read : (alphabet : Alphabet) (n last end : ℕ) (block classes closed values rest : List ℕ) → classes ≡ map (class_of alphabet) block → list_any (λ octet. eqb octet padding) block ≡ false
+pub closed_read : (alphabet : Alphabet) (n last end : ℕ) (block classes closed values was now : List ℕ) → classes ≡ map (class_of alphabet) block → contains_padding block ≡ false
     → n ≡ length (values_among classes) → closed ≡ values_among classes ++ replicate (32 - length (values_among classes)) stray → values ≡ map (λ value. value % 2 ^ width alphabet) closed
     → last ≡ n % quantum alphabet → length (values_among (drop end classes)) ≡ last
-    → decoding_of alphabet (block ++ rest) ≡ octets_of (all_bits (width alphabet) (take (n - last) values)) ++ decoding_of alphabet (drop end block ++ rest)
-closed_read alphabet n last end block classes closed values rest is free count closed_is values_are last_is following =
+    → all_bits 8 now ≡ all_bits 8 was ++ whole 8 (all_bits (width alphabet) (take (n - last) values)) → IsRead alphabet (take end block) was now
+closed_read alphabet n last end block classes closed values was now is free count closed_is values_are last_is following appended =
     let w = width alphabet in
     let low : ℕ → ℕ = λ value. value % 2 ^ w in
     let kept = values_among classes in
@@ -425,7 +476,4 @@ closed_read alphabet n last end block classes closed values rest is free count c
     let prefix_is : values_of alphabet (take end block) ≡ prefix = ap values_among (sym (take-map (class_of alphabet) end block) ∙ ap (take end) (sym is)) in
     let octets : length (values_of alphabet (take end block)) * w ≡ (n - last) * w / 8 * 8 =
     ap (λ l. length l * w) prefix_is ∙ ap (λ k. k * w) (many ∙ ap (λ k. n - k) last_is) ∙ whole_quanta alphabet n ∙ ap (λ k. (n - k) * w / 8 * 8) (sym last_is) in
-    ap (λ l. decoding_of alphabet (l ++ rest)) (sym (take-append-drop end block))
-    ∙ ap (decoding_of alphabet) (append_assoc (take end block) (drop end block) rest)
-    ∙ prefix_read alphabet ((n - last) * w / 8) (take end block) (drop end block ++ rest) (free_part end block free) octets
-    ∙ ap (λ l. octets_of (all_bits w l) ++ decoding_of alphabet (drop end block ++ rest)) (prefix_is ∙ sym taken)
+    values_read alphabet (n - last) ((n - last) * w / 8) (take end block) values was now (free_part end block free) (taken ∙ sym prefix_is) octets appended

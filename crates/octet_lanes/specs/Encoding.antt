@@ -1,6 +1,6 @@
 -- Texts of octets in the alphabets of RFC 4648, by their bits.
-use Rattle.std.specs.Prelude.{codes, ◌≡◌, ℕ, zero, suc, ◌+◌, ◌-◌, ◌*◌, ◌/◌, ◌%◌, ◌^◌, ◌<◌, ◌==◌, ◌&&◌, nat_le, not, if◌then◌else◌, List, [], ◌∷◌, ◌++◌, map, length, take, drop, replicate, slice_index}
-use Rattle.std.specs.List.{All, filter, flat_map, position_or_len, before_first}
+use Rattle.std.specs.Prelude.{codes, ◌≡◌, Bool, ℕ, zero, suc, ◌+◌, ◌-◌, ◌*◌, ◌/◌, ◌%◌, ◌^◌, ◌<◌, ◌==◌, ◌&&◌, nat_le, not, if◌then◌else◌, List, [], ◌∷◌, ◌++◌, map, length, take, drop, replicate, slice_index}
+use Rattle.std.specs.List.{All, filter, flat_map, list_any, position_or_len, before_first}
 use Rattle.octet_lanes.specs.declared.alphabet.Alphabet.{Alphabet}
 use Rattle.octet_lanes.specs.declared.alphabet.Alphabet.TheVariants.{Base64, Base32, Base32Hex}
 
@@ -54,6 +54,10 @@ padding = 61
 abbrev pub before_padding : List ℕ → List ℕ
 before_padding = before_first (λ octet. octet == padding)
 
+-- whether a `=` stands in a text
+abbrev pub contains_padding : List ℕ → Bool
+contains_padding = list_any (λ octet. octet == padding)
+
 -- an ASCII letter in upper case, and another octet as it is
 abbrev pub upper_of : ℕ → ℕ
 upper_of octet = if nat_le 97 octet && nat_le octet 122 then octet - 32 else octet
@@ -101,6 +105,10 @@ groups_of k bits = map number_of (cut k bits)
 abbrev pub whole : ℕ → List ℕ → List ℕ
 whole k xs = take (length xs / k * k) xs
 
+-- what the whole pieces of k leave over
+abbrev pub left_over : ℕ → List ℕ → List ℕ
+left_over k xs = drop (length xs / k * k) xs
+
 -- the whole octets that bits write, from the prefix
 abbrev pub octets_of : List ℕ → List ℕ
 octets_of bits = groups_of 8 (whole 8 bits)
@@ -121,6 +129,10 @@ IsOctets = All (λ octet. octet < 256)
 -- a text spells octets where it is their encoding
 abbrev pub Spells : Alphabet → List ℕ → List ℕ → Type 0
 Spells alphabet text octets = text ≡ encoding_of alphabet octets
+
+-- the bits of a text that any octets may interrupt: those of the values before the first `=`
+abbrev pub text_bits : Alphabet → List ℕ → List ℕ
+text_bits alphabet text = all_bits (width alphabet) (values_of alphabet (before_padding text))
 
 -- The octets of a text that any octets may interrupt: the bits of the values before the first `=`, as whole octets.
 unfoldable pub decoding_of : Alphabet → List ℕ → List ℕ

@@ -1,20 +1,33 @@
--- How the reader goes.
-use Rattle.std.specs.Prelude.{◌≡◌, ℕ, ◌<◌, ◌^◌, List, [], ◌++◌, length, take, if◌then◌else◌}
+-- What a reader keeps of a text between its pieces.
+use Rattle.std.specs.Prelude.{◌≡◌, Bool, false, ℕ, ◌<◌, ◌^◌, List, [], ◌++◌, length, take, if◌then◌else◌}
 use Rattle.std.specs.List.{All}
 use Rattle.octet_lanes.specs.declared.alphabet.Alphabet.{Alphabet}
 use Rattle.octet_lanes.specs.declared.reader.Held.{Held}
-use Rattle.octet_lanes.specs.Encoding.{all_bits, before_padding, octets_of, quantum, values_of, width}
+use Rattle.octet_lanes.specs.Encoding.{all_bits, contains_padding, left_over, quantum, text_bits, values_of, width}
 
--- the octets of a text, where values of what came before it are held
-abbrev pub decoding_after : Alphabet → List ℕ → List ℕ → List ℕ
-decoding_after alphabet held text = octets_of (all_bits (width alphabet) (held ++ values_of alphabet (before_padding text)))
+-- the bits of the values that are held
+abbrev pub held_bits : Alphabet → Held → List ℕ
+held_bits alphabet held = all_bits (width alphabet) (take held.n held.values)
 
--- the octets of a text after what is held: where a `=` came, nothing of the text counts
-abbrev pub decoding_held : Alphabet → Held → List ℕ → List ℕ
-decoding_held alphabet held text = decoding_after alphabet (take held.n held.values) (if held.ended then [] else text)
+-- those that no octet was given of: the whole octets of the others were
+abbrev pub kept_bits : Alphabet → Held → List ℕ
+kept_bits alphabet held = left_over 8 (held_bits alphabet held)
+
+-- the bits that are taken from a text: none once a `=` came
+abbrev pub taken_bits : Alphabet → Bool → List ℕ → List ℕ
+taken_bits alphabet ended text = if ended then [] else text_bits alphabet text
 
 -- What is held between pieces are values of the alphabet, fewer than a quantum's.
 pub record IsHeld (alphabet : Alphabet) (held : Held) : Type 0 where
   pub long : length held.values ≡ 32
   pub few : held.n < quantum alphabet
   pub small : All (λ value. value < 2 ^ width alphabet) held.values
+
+-- What was appended are the bits of a first part of a text, in which no `=` stands.
+pub record IsRead (alphabet : Alphabet) (prefix was now : List ℕ) : Type 0 where
+  pub free : contains_padding prefix ≡ false
+  pub bits : all_bits 8 now ≡ all_bits 8 was ++ all_bits (width alphabet) (values_of alphabet prefix)
+
+-- what was appended to stands as it was
+abbrev pub IsGrown : List ℕ → List ℕ → Type 0
+IsGrown was now = take (length was) now ≡ was

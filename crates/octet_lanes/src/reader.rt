@@ -1,58 +1,35 @@
-// Texts that any octets may interrupt.
-ghost use Rattle.std.specs.Prelude.{◌≡◌, ◌≢◌, ◌==◌, false, true, ℕ, ◌+◌, ◌-◌, ◌*◌, ◌++◌, ◌<◌, ◌≤◌, ◌^◌, ◌⊎◌, List, [], IfOk, OnOk, drop, length, map, slice_index, take};
+// Texts that any octets may interrupt, in pieces.
+ghost use Rattle.std.specs.Prelude.{◌≡◌, ◌≢◌, ◌==◌, ◌||◌, false, ℕ, ◌+◌, ◌-◌, ◌*◌, ◌/◌, ◌++◌, ◌<◌, ◌≤◌, ◌^◌, List, [], IfOk, OnErr, OnOk, drop, length, map, replicate, slice_index, take};
 ghost use Rattle.std.specs.List.{All, list_any, position};
-ghost use Rattle.octet_lanes.specs.Encoding.{all_bits, before_padding, class_of, decoding_of, octets_of, padding, quantum, stray, values_among, values_of, whole, width};
-ghost use Rattle.octet_lanes.specs.Held.{IsHeld, decoding_held};
+ghost use Rattle.octet_lanes.specs.Encoding.{all_bits, before_padding, class_of, contains_padding, left_over, octets_of, padding, quantum, stray, text_bits, values_among, values_of, whole, width};
+ghost use Rattle.octet_lanes.specs.Held.{IsGrown, IsHeld, IsRead, held_bits, kept_bits, taken_bits};
 ghost use Rattle.octet_lanes.specs.declared.alphabet.Alphabet.{Alphabet};
 
 use crate::alphabet::{Alphabet, PADDING, STRAY};
 use crate::classes::{class, classify, has_many_strays, has_stray, run_len, some_values};
 use crate::close::close_up;
 use crate::groups::join;
-use std::alloc::{AllocError, Global};
+use std::alloc::AllocError;
 use std::simd::prelude::*;
 
-/// The octets of `text`: the bits of its symbols before the first `=`, as whole octets. Octets that are no symbols are
-/// passed over, and bits that are left over at the end are dropped.
-///
-/// # Errors
-///
-/// Memory ran out.
-#[inline(always)]
-pub fn decode(alloc: Global, text: &[u8], alphabet: Alphabet) -> Result<Vec<u8>, AllocError>
-    ensures { IfOk result (λ octets. octets.items ≡ decoding_of alphabet text.now) }
-{
-    let mut out = Vec::with_capacity(alloc, octets_room(text, alphabet))?;
-    let mut held = Held::new();
-    held.take_in(text, alphabet, &mut out)?;
-    held.end(alphabet, &mut out)?;
-    Ok(out)
-}
-
-// Room for the octets of a text, which are no more than its own.
-fn octets_room(text: &[u8], alphabet: Alphabet) -> usize
-    ensures { result ≤ length text.now + 6 }
-{
-    match alphabet {
-        Alphabet::Base64 => (text.len() / 8 + 1) * 6,
-        Alphabet::Base32 | Alphabet::Base32Hex => (text.len() / 8 + 1) * 5,
-    }
-}
-
-// What is kept of a text between its pieces: the values of an open quantum, in the prefix of a block, as `join` takes
-// one; their number; and whether a `=` came, after which nothing counts.
-#[derive(Drop)]
-struct Held {
-    values: [u8; 32],
-    n: usize,
-    ended: bool,
+/// What is kept of a text between its pieces: the bits of an open quantum that no octet was given of, and whether a `=` came,
+/// after which nothing counts.
+#[derive(Clone, Copy, Drop)]
+pub struct Held {
+    /// The values of the open quantum, in the prefix of a block, as [`join`] takes one.
+    pub values: [u8; 32],
+    /// The number of these values. Their whole octets have been given.
+    pub n: usize,
+    /// Whether a `=` came.
+    pub ended: bool,
 }
 
 impl Held {
-    // What is kept before a text.
-    fn new() -> Held
+    /// What is kept before a text.
+    pub fn new() -> Held
         ensures held { (alphabet : Alphabet) → IsHeld alphabet result }
-        ensures nothing { (alphabet : Alphabet) (text : List ℕ) → decoding_held alphabet result text ≡ decoding_of alphabet text }
+        ensures nothing { (alphabet : Alphabet) → kept_bits alphabet result ≡ [] }
+        ensures goes_on { result.ended ≡ false }
     {
         Held {
             values: [0; 32],
@@ -61,10 +38,47 @@ impl Held {
         }
     }
 
-    // Takes in a piece of a text: completes the open quantum, appends the octets of whole quanta, and holds the values
-    // that are left over.
+    /// How many bits are kept.
+    pub fn bits_left(&self, alphabet: Alphabet) -> u8
+        requires { IsHeld alphabet self.now }
+        ensures { result ≡ length (kept_bits alphabet self.now) }
+    {
+        (self.n * alphabet.width() % 8) as u8
+    }
+
+    /// Takes in a piece of a text: appends the whole octets of what is kept and of the piece's bits, and keeps the bits that they
+    /// leave over.
+    ///
+    /// # Errors
+    ///
+    /// Memory ran out; then nothing was taken in.
     #[inline(always)]
-    fn take_in(
+    pub fn take_in(
+        &mut self,
+        piece: &[u8],
+        alphabet: Alphabet,
+        out: &mut Vec<u8>,
+    ) -> Result<(), AllocError>
+        requires { IsHeld alphabet self.old }
+        ensures held { IsHeld alphabet self.new }
+        ensures octets { OnOk result (out.new.items ≡ out.old.items ++ octets_of (kept_bits alphabet self.old ++ taken_bits alphabet self.old.ended piece.now)) }
+        ensures kept { OnOk result (kept_bits alphabet self.new ≡ left_over 8 (kept_bits alphabet self.old ++ taken_bits alphabet self.old.ended piece.now)) }
+        ensures ended { OnOk result (self.new.ended ≡ (self.old.ended || contains_padding piece.now)) }
+        ensures refused { OnErr result ((out.new.items ≡ out.old.items) × (self.new ≡ self.old)) }
+    {
+        let before = out.len();
+        let mut held = *self;
+        if let Err(refused) = held.read(piece, alphabet, out) {
+            out.truncate(before);
+            return Err(refused);
+        }
+        *self = held;
+        Ok(())
+    }
+
+    // Reads a piece; where memory runs out, a part of it.
+    #[inline(always)]
+    fn read(
         &mut self,
         piece: &[u8],
         alphabet: Alphabet,
@@ -72,7 +86,9 @@ impl Held {
     ) -> Result<(), AllocError>
         requires { IsHeld alphabet self.old }
         ensures held { OnOk result (IsHeld alphabet self.new) }
-        ensures octets { OnOk result ((more : List ℕ) → out.new.items ++ decoding_held alphabet self.new more ≡ out.old.items ++ decoding_held alphabet self.old (piece.now ++ more)) }
+        ensures bits { OnOk result (all_bits 8 out.new.items ++ kept_bits alphabet self.new ≡ all_bits 8 out.old.items ++ (kept_bits alphabet self.old ++ taken_bits alphabet self.old.ended piece.now)) }
+        ensures ended { OnOk result (self.new.ended ≡ (self.old.ended || contains_padding piece.now)) }
+        ensures grown { IsGrown out.old.items out.new.items }
     {
         let mut rest = piece;
         'quanta: while !self.ended && !rest.is_empty() {
@@ -85,8 +101,8 @@ impl Held {
         Ok(())
     }
 
-    // Appends the octets of the open quantum where the text completes it, whatever stray characters interrupt it, and gives what
-    // follows it.
+    // Takes values into the open quantum, whatever stray characters interrupt it, appends the octets that they complete, and gives
+    // what follows them.
     #[inline(always)]
     fn append_quantum<'a>(
         &mut self,
@@ -97,12 +113,15 @@ impl Held {
         requires held { IsHeld alphabet self.old }
         requires goes_on { self.old.ended ≡ false }
         ensures held { OnOk result (IsHeld alphabet self.new) }
-        ensures octets { IfOk result (λ rest. (more : List ℕ) → out.new.items ++ decoding_held alphabet self.new (rest.now ++ more) ≡ out.old.items ++ decoding_held alphabet self.old (text.now ++ more)) }
+        ensures bits { IfOk result (λ rest. all_bits 8 out.new.items ++ (kept_bits alphabet self.new ++ taken_bits alphabet self.new.ended rest.now) ≡ all_bits 8 out.old.items ++ (kept_bits alphabet self.old ++ text_bits alphabet text.now)) }
+        ensures ended { IfOk result (λ rest. (self.new.ended || contains_padding rest.now) ≡ contains_padding text.now) }
         ensures shorter { IfOk result (λ rest. length rest.now ≤ length text.now - 1) }
+        ensures grown { IsGrown out.old.items out.new.items }
     {
+        let given = self.n * alphabet.width() / 8;
         let rest = self.next_quantum(text, alphabet);
+        append_values(&self.values, given, self.n, alphabet, out)?;
         if self.n == alphabet.quantum_characters() {
-            append_values(&self.values, self.n, alphabet, out)?;
             self.n = 0;
         }
         Ok(rest)
@@ -113,10 +132,10 @@ impl Held {
     fn next_quantum<'a>(&mut self, text: &'a [u8], alphabet: Alphabet) -> &'a [u8]
         requires held { IsHeld alphabet self.old }
         requires goes_on { self.old.ended ≡ false }
-        ensures few { (length self.new.values ≡ 32) × (self.new.n ≤ quantum alphabet) }
+        ensures few { (length self.new.values ≡ 32) × (self.new.n ≤ quantum alphabet) × (self.old.n ≤ self.new.n) }
         ensures small { All (λ value. value < 2 ^ width alphabet) self.new.values }
-        ensures same { (more : List ℕ) → decoding_held alphabet self.new (result.now ++ more) ≡ decoding_held alphabet self.old (text.now ++ more) }
-        ensures whole { self.new.n ≡ quantum alphabet → self.new.ended ≡ false }
+        ensures bits { held_bits alphabet self.new ++ taken_bits alphabet self.new.ended result.now ≡ held_bits alphabet self.old ++ text_bits alphabet text.now }
+        ensures ended { (self.new.ended || contains_padding result.now) ≡ contains_padding text.now }
         ensures shorter { length result.now ≤ length text.now - 1 }
     {
         let mut rest = text;
@@ -137,37 +156,24 @@ impl Held {
         }
         rest
     }
-
-    // Appends the whole octets of the values that are left at the end of a text.
-    #[inline(always)]
-    fn end(&self, alphabet: Alphabet, out: &mut Vec<u8>) -> Result<(), AllocError>
-        requires { IsHeld alphabet self.now }
-        ensures { OnOk result (out.new.items ≡ out.old.items ++ decoding_held alphabet self.now []) }
-    {
-        append_values(&self.values, self.n, alphabet, out)
-    }
 }
 
-// Appends the octets of whole quanta from the start, a block at a time, and gives what follows them: fewer than 32 octets, or
-// a quantum that stray characters interrupt.
+// Appends the octets of whole quanta from the start, a block at a time, and gives what follows them: a quantum that the end, a
+// `=` or stray characters interrupt.
 #[inline(always)]
 fn append_runs<'a>(
     text: &'a [u8],
     alphabet: Alphabet,
     out: &mut Vec<u8>,
 ) -> Result<&'a [u8], AllocError>
-    ensures octets { IfOk result (λ rest. (more : List ℕ) → out.new.items ++ decoding_of alphabet (rest.now ++ more) ≡ out.old.items ++ decoding_of alphabet (text.now ++ more)) }
+    ensures bits { IfOk result (λ rest. all_bits 8 out.new.items ++ text_bits alphabet rest.now ≡ all_bits 8 out.old.items ++ text_bits alphabet text.now) }
+    ensures ended { IfOk result (λ rest. contains_padding rest.now ≡ contains_padding text.now) }
     ensures shorter { IfOk result (λ rest. length rest.now ≤ length text.now) }
+    ensures grown { IsGrown out.old.items out.new.items }
 {
     let mut rest = text;
-    'runs: while let Some((block, after)) = rest.split_first_chunk::<32>() {
-        let classes = classify(block, alphabet);
-        if !has_stray(&classes) {
-            append_values(&classes, 32, alphabet, out)?;
-            rest = after;
-            continue;
-        }
-        let read = append_prefix(block, &classes, alphabet, out)?;
+    'runs: while !rest.is_empty() {
+        let read = append_first(rest, alphabet, out)?;
         if read == 0 {
             return Ok(rest);
         }
@@ -175,6 +181,49 @@ fn append_runs<'a>(
         rest = after;
     }
     Ok(rest)
+}
+
+// Appends the octets of whole quanta before a text's first block, which padding fills up, and gives where they end.
+#[inline(always)]
+fn append_first(text: &[u8], alphabet: Alphabet, out: &mut Vec<u8>) -> Result<usize, AllocError>
+    ensures within { IfOk result (λ end. end ≤ length text.now) }
+    ensures read { IfOk result (λ end. IsRead alphabet (take end text.now) out.old.items out.new.items) }
+    ensures grown { IsGrown out.old.items out.new.items }
+{
+    match text.first_chunk::<32>() {
+        Some(block) => append_block(block, alphabet, out),
+        None => append_block(&padded(text), alphabet, out),
+    }
+}
+
+// At most a block of text, with padding up to a block.
+#[inline(always)]
+fn padded(text: &[u8]) -> [u8; 32]
+    requires { length text.now ≤ 32 }
+    ensures { result ≡ text.now ++ drop (length text.now) (replicate 32 padding) }
+{
+    let mut block = [PADDING; 32];
+    block[..text.len()].copy_from_slice(text);
+    block
+}
+
+// Appends the octets of whole quanta before a block, and gives where they end.
+#[inline(always)]
+fn append_block(
+    block: &[u8; 32],
+    alphabet: Alphabet,
+    out: &mut Vec<u8>,
+) -> Result<usize, AllocError>
+    ensures within { IfOk result (λ end. end ≤ 32) }
+    ensures read { IfOk result (λ end. IsRead alphabet (take end block.now) out.old.items out.new.items) }
+    ensures grown { IsGrown out.old.items out.new.items }
+{
+    let classes = classify(block, alphabet);
+    if !has_stray(&classes) {
+        append_values(&classes, 0, 32, alphabet, out)?;
+        return Ok(32);
+    }
+    append_prefix(block, &classes, alphabet, out)
 }
 
 // Appends the octets of whole quanta before a block with stray characters, and gives where they end. Which of the two ways
@@ -188,7 +237,8 @@ fn append_prefix(
 ) -> Result<usize, AllocError>
     requires { classes.now ≡ map (class_of alphabet) block.now }
     ensures within { IfOk result (λ end. end ≤ 32) }
-    ensures octets { IfOk result (λ end. (rest : List ℕ) → out.new.items ++ decoding_of alphabet (drop end block.now ++ rest) ≡ out.old.items ++ decoding_of alphabet (block.now ++ rest)) }
+    ensures read { IfOk result (λ end. IsRead alphabet (take end block.now) out.old.items out.new.items) }
+    ensures grown { IsGrown out.old.items out.new.items }
 {
     if has_many_strays(classes) && !has_padding(block) {
         return append_closed(block, classes, alphabet, out);
@@ -206,11 +256,12 @@ fn append_run(
 ) -> Result<usize, AllocError>
     requires { classes.now ≡ map (class_of alphabet) block.now }
     ensures within { IfOk result (λ end. end ≤ 32) }
-    ensures octets { IfOk result (λ end. (rest : List ℕ) → out.new.items ++ decoding_of alphabet (drop end block.now ++ rest) ≡ out.old.items ++ decoding_of alphabet (block.now ++ rest)) }
+    ensures read { IfOk result (λ end. IsRead alphabet (take end block.now) out.old.items out.new.items) }
+    ensures grown { IsGrown out.old.items out.new.items }
 {
     let run = run_len(classes);
     let whole = run - run % alphabet.quantum_characters();
-    append_values(&some_values(classes, alphabet), whole, alphabet, out)?;
+    append_values(&some_values(classes, alphabet), 0, whole, alphabet, out)?;
     if whole < run {
         return Ok(whole);
     }
@@ -242,11 +293,12 @@ fn append_closed(
     requires classes { classes.now ≡ map (class_of alphabet) block.now }
     requires free { list_any (λ octet. octet == padding) block.now ≡ false }
     ensures within { IfOk result (λ end. end ≤ 32) }
-    ensures octets { IfOk result (λ end. (rest : List ℕ) → out.new.items ++ decoding_of alphabet (drop end block.now ++ rest) ≡ out.old.items ++ decoding_of alphabet (block.now ++ rest)) }
+    ensures read { IfOk result (λ end. IsRead alphabet (take end block.now) out.old.items out.new.items) }
+    ensures grown { IsGrown out.old.items out.new.items }
 {
     let (values, n) = close_up(classes);
     let last = n % alphabet.quantum_characters();
-    append_values(&some_values(&values, alphabet), n - last, alphabet, out)?;
+    append_values(&some_values(&values, alphabet), 0, n - last, alphabet, out)?;
     Ok(start_of_last(classes, last))
 }
 
@@ -268,19 +320,22 @@ fn start_of_last(classes: &[u8; 32], n: usize) -> usize
     start
 }
 
-// Appends the whole octets of the first `n` values.
+// Appends the whole octets of the first `n` values, from that on which follows the `given` ones.
 #[inline(always)]
 fn append_values(
     values: &[u8; 32],
+    given: usize,
     n: usize,
     alphabet: Alphabet,
     out: &mut Vec<u8>,
 ) -> Result<(), AllocError>
     requires few { n ≤ 32 }
+    requires given { given ≤ n * width alphabet / 8 }
     requires small { All (λ value. value < 2 ^ width alphabet) values.now }
-    ensures { OnOk result (out.new.items ≡ out.old.items ++ octets_of (all_bits (width alphabet) (take n values.now))) }
+    ensures bits { OnOk result (all_bits 8 out.new.items ≡ all_bits 8 out.old.items ++ drop (given * 8) (whole 8 (all_bits (width alphabet) (take n values.now)))) }
+    ensures grown { IsGrown out.old.items out.new.items }
 {
-    out.extend_from_slice(&join(values, alphabet)[..n * alphabet.width() / 8])
+    out.extend_from_slice(&join(values, alphabet)[given..n * alphabet.width() / 8])
 }
 
 /// The octets of at most a block of text, from the first octet on, and their number: the bits of its symbols before the first `=`, as
@@ -291,9 +346,7 @@ pub fn block_octets(text: &[u8], alphabet: Alphabet) -> ([u8; 32], usize)
     ensures bits { all_bits 8 (take result.1 result.0) ≡ whole 8 (all_bits (width alphabet) (values_of alphabet (before_padding text.now))) }
     ensures few { result.1 ≤ 4 * width alphabet }
 {
-    let symbols = up_to_padding(text);
-    let mut block = [PADDING; 32];
-    block[..symbols.len()].copy_from_slice(symbols);
+    let block = padded(up_to_padding(text));
     let (values, n) = close_up(&classify(&block, alphabet));
     let octets = join(&some_values(&values, alphabet), alphabet);
     (octets, n * alphabet.width() / 8)

@@ -21,11 +21,13 @@ returns-clause-bits c =
     let filler = replicate (32 - length kept) stray in
     let m = c.close_up-n.result.1 * c.width.result / 8 in
     let octets = c.join-octets.result in
+    let symbols = c.up_to_padding.result.now in
+    let block : c.padded-block.result ≡ symbols ++ drop (length symbols) (replicate 32 padding) = c.padded-block.ensures in
     let values : kept ≡ values_of a (before_padding text) =
     ap values_among c.classify.ensures
-    ∙ ap (λ l. values_of a (l ++ drop (length c.up_to_padding-symbols.result.now) (replicate 32 padding))) c.copy_from_slice.ensures.after
-    ∙ values_of-padded a c.up_to_padding-symbols.result.now (length c.up_to_padding-symbols.result.now)
-    ∙ ap (values_of a) c.up_to_padding-symbols.ensures in
+    ∙ ap (values_of a) block
+    ∙ values_of-padded a symbols (length symbols)
+    ∙ ap (values_of a) c.up_to_padding.ensures in
     let small = All-same (λ value. value < 2 ^ w) kept (values_of a (before_padding text)) values (values_small a (before_padding text)) in
     let many : m ≡ length kept * w / 8 = (λ i. c.close_up-n.ensures.number i * c.width.ensures i / 8) in
     let bits : all_bits 8 (take (4 * w) octets) ≡ all_bits w (map low (kept ++ filler)) = c.join-octets.ensures ∙ ap (all_bits w) (c.some_values.ensures ∙ ap (map low) c.close_up-n.ensures.lanes) in

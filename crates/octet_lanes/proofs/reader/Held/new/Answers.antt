@@ -1,7 +1,7 @@
 use Rattle.std.proofs.Common.{◌^◌, ◌<◌, refl, arith}
 use Rattle.std.proofs.lemmas.List.Elements.{All-replicate}
 use Rattle.octet_lanes.specs.Encoding.{width}
-use Rattle.octet_lanes.proofs.Reading.{after_none, some_characters, zero_small}
+use Rattle.octet_lanes.proofs.Reading.{some_characters, zero_small}
 use Rattle.octet_lanes.proofs.reader.Held.new.Goals as goal
 
 pub returns-clause-held : goal.returns-clause-held
@@ -10,6 +10,3 @@ returns-clause-held c = λ alphabet. record {
   few = omega (arith, some_characters alphabet);
   small = All-replicate (λ value. value < 2 ^ width alphabet) 32 0 (zero_small alphabet);
 }
-
-pub returns-clause-nothing : goal.returns-clause-nothing
-returns-clause-nothing c = λ alphabet text. after_none alphabet text

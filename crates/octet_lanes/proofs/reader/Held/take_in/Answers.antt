@@ -1,29 +1,28 @@
-use Rattle.std.proofs.Common.{◌++◌, sym, ap, ◌∙◌}
-use Rattle.octet_lanes.specs.Held.{decoding_held}
-use Rattle.octet_lanes.proofs.Reading.{held_none}
+use Rattle.std.proofs.Common.{ℕ, ◌^◌, ◌<◌, ◌++◌, length, drop}
+use Rattle.std.proofs.lemmas.List.Elements.{All-drop}
+use Rattle.std.proofs.lemmas.Simd.{Each1-from_get_or}
+use Rattle.octet_lanes.specs.Held.{held_bits, kept_bits, taken_bits}
+use Rattle.octet_lanes.proofs.Reading.{few_left, taken_in}
 use Rattle.octet_lanes.proofs.reader.Held.take_in.Goals as goal
-use Rattle.octet_lanes.proofs.reader.Held.take_in.Goals.{then-self-eq0+in_ok-rest, else-self-eq0}
 
-pub quanta-preserved : goal.quanta-preserved
-quanta-preserved c =
+pub returns-clause-octets : goal.returns-clause-octets
+returns-clause-octets c =
     let a = c.args.alphabet in
-    let held = c.quanta.self in
-    let was = c.quanta.out.items in
-    record {
-      held = c.in_ok-rest-2.ensures.held;
-      octets = λ more.
-          c.in_ok-rest-2.ensures.octets more ∙ elim c.if-self-eq0.branch [
-            | then-self-eq0+in_ok-rest w ↦
-                let now = w.append_runs.new.out.items in
-                ap (λ o. o.items ++ decoding_held a held (c.if-self-eq0.rest.now ++ more)) w.out-is
-                ∙ ap (λ r. now ++ decoding_held a held (r.now ++ more)) w.rest-is
-                ∙ ap (λ l. now ++ l) (held_none a held (w.in_ok-rest.rest.now ++ more) c.quanta-test.true w.if-self-eq0.true)
-                ∙ w.in_ok-rest.ensures.octets more
-                ∙ ap (λ l. was ++ l) (sym (held_none a held (c.quanta.rest.now ++ more) c.quanta-test.true w.if-self-eq0.true))
-                ∙ c.quanta.invariant.octets more
-            | else-self-eq0 w ↦
-                ap (λ o. o.items ++ decoding_held a held (c.if-self-eq0.rest.now ++ more)) w.out-is
-                ∙ ap (λ r. was ++ decoding_held a held (r.now ++ more)) w.rest-is
-                ∙ c.quanta.invariant.octets more
-          ];
-    }
+    let was = c.args.out.now.items in
+    let now = c.read.new.out.items in
+    let P : ℕ → Type 0 = λ octet. octet < 2 ^ 8 in
+    let each = All-drop P (length was) now (λ i d l. c.type_inv.out i d l) in
+    let small = Each1-from_get_or P (drop (length was) now) 0 (λ i l. each i 0 l) in
+    (taken_in was now (kept_bits a c.read.new.self) (kept_bits a c.args.self.now ++ taken_bits a c.args.self.now.ended c.args.piece.now)
+    c.in_default.ensures.grown small (few_left (held_bits a c.read.new.self)) c.in_default.ensures.bits).0
+
+pub returns-clause-kept : goal.returns-clause-kept
+returns-clause-kept c =
+    let a = c.args.alphabet in
+    let was = c.args.out.now.items in
+    let now = c.read.new.out.items in
+    let P : ℕ → Type 0 = λ octet. octet < 2 ^ 8 in
+    let each = All-drop P (length was) now (λ i d l. c.type_inv.out i d l) in
+    let small = Each1-from_get_or P (drop (length was) now) 0 (λ i l. each i 0 l) in
+    (taken_in was now (kept_bits a c.read.new.self) (kept_bits a c.args.self.now ++ taken_bits a c.args.self.now.ended c.args.piece.now)
+    c.in_default.ensures.grown small (few_left (held_bits a c.read.new.self)) c.in_default.ensures.bits).1
