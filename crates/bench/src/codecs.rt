@@ -1,12 +1,15 @@
 // The codecs both ways, on 1 MiB and on 64 MiB of octets that no codec favours. A rate counts the octets that the codec reads.
 use lanes_base32::{decode32, decode32hex, encode32, encode32hex};
-use lanes_base64_mime::{decode_mime, encode_mime};
+use lanes_base64_mime::{Decoder, decode_mime, encode_mime};
 use std::alloc::{AllocError, Global};
 use std::time::Instant;
 
 pub(crate) const SMALL: usize = 1 << 20;
 
 pub(crate) const LARGE: usize = 1 << 26;
+
+/// A line with its break, one that no line fits, and a page.
+const PIECES: [usize; 3] = [78, 77, 4096];
 
 pub(crate) fn run(rt: &HostRuntime) -> anyhow::Result<()> {
     for (octets, rounds) in [(SMALL, 256), (LARGE, 4)] {
@@ -26,6 +29,10 @@ pub(crate) fn run(rt: &HostRuntime) -> anyhow::Result<()> {
         let text = encode_mime(rt.alloc(), &data)?;
         let rate = decode_mime_rate(rt, &text, rounds)?;
         println!(rt; "{octets} octets: decode_mime {rate} MB/s")?;
+        for piece in PIECES {
+            let rate = decode_pieces_rate(rt, &text, piece, rounds)?;
+            println!(rt; "{octets} octets: decoder, in pieces of {piece}, {rate} MB/s")?;
+        }
     }
     Ok(())
 }
@@ -91,6 +98,24 @@ fn decode_mime_rate(rt: &HostRuntime, text: &[u8], rounds: u64) -> anyhow::Resul
     let start = Instant::now(rt)?;
     for _ in 0..rounds {
         let _octets = decode_mime(rt.alloc(), text)?;
+    }
+    Ok(rate_of(text.len(), rounds, start.elapsed(rt)?.as_micros()))
+}
+
+fn decode_pieces_rate(
+    rt: &HostRuntime,
+    text: &[u8],
+    piece: usize,
+    rounds: u64,
+) -> anyhow::Result<u64> {
+    let start = Instant::now(rt)?;
+    for _ in 0..rounds {
+        let mut out = Vec::with_capacity(rt.alloc(), text.len())?;
+        let mut decoder = Decoder::new();
+        for part in text.chunks(piece.max(1)) {
+            decoder.feed(part, &mut out)?;
+        }
+        let _bits_left = decoder.finish();
     }
     Ok(rate_of(text.len(), rounds, start.elapsed(rt)?.as_micros()))
 }
