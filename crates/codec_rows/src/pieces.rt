@@ -19,11 +19,8 @@ fn decoded(alloc: Global, pieces: &[&[u8]]) -> Result<(Vec<u8>, u8), AllocError>
 fn decoded_by(alloc: Global, text: &[u8], piece: usize) -> Result<(Vec<u8>, u8), AllocError> {
     let mut out = Vec::new(alloc);
     let mut decoder = Decoder::new();
-    let mut rest = text;
-    while !rest.is_empty() {
-        let (first, after) = rest.split_at(rest.len().min(piece));
-        decoder.feed(first, &mut out)?;
-        rest = after;
+    for part in text.chunks(piece.max(1)) {
+        decoder.feed(part, &mut out)?;
     }
     Ok((out, decoder.finish()))
 }
