@@ -1,11 +1,11 @@
 -- What a script's limits say of its typed form.
-use Rattle.std.specs.Prelude.{◌+◌, ◌<◌, ◌≤◌, List, length, All, bytes_eq}
-use Rattle.octets.specs.Limits.{max_script, max_segments, max_string, max_test_strings, max_variables}
+use Rattle.std.specs.Prelude.{ℕ, suc, ◌+◌, ◌<◌, ◌≤◌, List, length, All, bytes_eq}
+use Rattle.octets.specs.Limits.{max_loops, max_script, max_segments, max_string, max_test_strings, max_variables}
 use Rattle.octets.specs.Once.{each_once}
 use Rattle.sieve_references.specs.References.{last_capture}
 use Rattle.sieve_check.specs.declared.typed.Segment.{Segment}
 use Rattle.sieve_check.specs.declared.typed.Segment.TheVariants.{Text, Variable, Capture}
-use Rattle.sieve_check.specs.Typed.{Template, Selected, whole, main, sub, content_type, params, params_of, TestForm, constant, negation, all_of, any_of, header, exists, size, string, TestForms, no_test, test, CommandForm, keep, discard, file_into, set, stop, choice, CommandForms, no_command, command, BranchForms, no_branch, otherwise, branch}
+use Rattle.sieve_check.specs.Typed.{Template, Selected, whole, main, sub, content_type, params, params_of, TestForm, constant, negation, all_of, any_of, header, exists, size, string, part_size, part_body, part_digest, TestForms, no_test, test, CommandForm, keep, discard, file_into, set, store, for_every_part, leave, stop, choice, CommandForms, no_command, command, BranchForms, no_branch, otherwise, branch}
 use Rattle.sieve_check.specs.Extent.{commands_extent, string_extent}
 use Rattle.sieve_check.specs.Variables.{commands_variables}
 
@@ -60,6 +60,9 @@ abbrev mutual
   IsBoundedTest (exists scope names) = IsBoundedList names
   IsBoundedTest (size order number) = Unit {0}
   IsBoundedTest (string matching sources keys) = AreBoundedLists sources keys
+  IsBoundedTest (part_size order number) = Unit {0}
+  IsBoundedTest (part_body matching keys) = IsBoundedList keys
+  IsBoundedTest (part_digest keys) = IsBoundedList keys
 
   pub AreBoundedTests : TestForms → Type 0
   AreBoundedTests no_test = Unit {0}
@@ -71,6 +74,9 @@ abbrev mutual
   IsBoundedCommand discard = Unit {0}
   IsBoundedCommand (file_into folder) = IsBoundedString folder
   IsBoundedCommand (set modifiers name value) = IsBoundedString value
+  IsBoundedCommand (store folder) = IsBoundedString folder
+  IsBoundedCommand (for_every_part cs) = AreBoundedCommands cs
+  IsBoundedCommand (leave loops) = Unit {0}
   IsBoundedCommand stop = Unit {0}
   IsBoundedCommand (choice branches) = AreBoundedBranches branches
 
@@ -83,8 +89,52 @@ abbrev mutual
   AreBoundedBranches (otherwise cs) = AreBoundedCommands cs
   AreBoundedBranches (branch t cs bs) = IsBoundedTest t × AreBoundedCommands cs × AreBoundedBranches bs
 
+-- Below, so many loops are open around.
+
+abbrev mutual
+  -- a test of the current part stands in a loop
+  pub IsTestIn : ℕ → TestForm → Type 0
+  IsTestIn loops (constant b) = Unit {0}
+  IsTestIn loops (negation t) = IsTestIn loops t
+  IsTestIn loops (all_of t ts) = IsTestIn loops t × AreTestsIn loops ts
+  IsTestIn loops (any_of t ts) = IsTestIn loops t × AreTestsIn loops ts
+  IsTestIn loops (header matching scope selected names keys) = Unit {0}
+  IsTestIn loops (exists scope names) = Unit {0}
+  IsTestIn loops (size order number) = Unit {0}
+  IsTestIn loops (string matching sources keys) = Unit {0}
+  IsTestIn loops (part_size order number) = 0 < loops
+  IsTestIn loops (part_body matching keys) = 0 < loops
+  IsTestIn loops (part_digest keys) = 0 < loops
+
+  pub AreTestsIn : ℕ → TestForms → Type 0
+  AreTestsIn loops no_test = Unit {0}
+  AreTestsIn loops (test t ts) = IsTestIn loops t × AreTestsIn loops ts
+
+abbrev mutual
+  -- a part is stored in a loop, no more loops are left than there are, and no more are open than may be
+  pub IsCommandIn : ℕ → CommandForm → Type 0
+  IsCommandIn loops keep = Unit {0}
+  IsCommandIn loops discard = Unit {0}
+  IsCommandIn loops (file_into folder) = Unit {0}
+  IsCommandIn loops (set modifiers name value) = Unit {0}
+  IsCommandIn loops (store folder) = 0 < loops
+  IsCommandIn loops (for_every_part cs) = (loops < max_loops) × AreCommandsIn (suc loops) cs
+  IsCommandIn loops (leave left) = (0 < left) × (left ≤ loops)
+  IsCommandIn loops stop = Unit {0}
+  IsCommandIn loops (choice branches) = AreBranchesIn loops branches
+
+  pub AreCommandsIn : ℕ → CommandForms → Type 0
+  AreCommandsIn loops no_command = Unit {0}
+  AreCommandsIn loops (command c cs) = IsCommandIn loops c × AreCommandsIn loops cs
+
+  pub AreBranchesIn : ℕ → BranchForms → Type 0
+  AreBranchesIn loops no_branch = Unit {0}
+  AreBranchesIn loops (otherwise cs) = AreCommandsIn loops cs
+  AreBranchesIn loops (branch t cs bs) = IsTestIn loops t × AreCommandsIn loops cs × AreBranchesIn loops bs
+
 -- the form is that of a script within the limits
 pub record IsBounded (form : CommandForms) : Type 0 where
   pub octets : commands_extent form ≤ max_script
   pub variables : length (each_once bytes_eq (commands_variables form)) ≤ max_variables
   pub commands : AreBoundedCommands form
+  pub loops : AreCommandsIn 0 form

@@ -2,7 +2,7 @@
 use Rattle.std.specs.Prelude.{ℕ, ◌+◌, List, length, sum_by}
 use Rattle.sieve_check.specs.declared.typed.Segment.{Segment}
 use Rattle.sieve_check.specs.declared.typed.Segment.TheVariants.{Text, Variable, Capture}
-use Rattle.sieve_check.specs.Typed.{Template, params_of, TestForm, constant, negation, all_of, any_of, header, exists, size, string, TestForms, no_test, test, CommandForm, keep, discard, file_into, set, stop, choice, CommandForms, no_command, command, BranchForms, no_branch, otherwise, branch}
+use Rattle.sieve_check.specs.Typed.{Template, params_of, TestForm, constant, negation, all_of, any_of, header, exists, size, string, part_size, part_body, part_digest, TestForms, no_test, test, CommandForm, keep, discard, file_into, set, store, for_every_part, leave, stop, choice, CommandForms, no_command, command, BranchForms, no_branch, otherwise, branch}
 
 -- a stretch of text, or a reference with its braces
 abbrev pub segment_extent : Segment → ℕ
@@ -29,6 +29,9 @@ abbrev mutual
   test_extent (exists scope names) = 1 + strings_extent names
   test_extent (size order number) = 3
   test_extent (string matching sources keys) = 1 + strings_extent sources + strings_extent keys
+  test_extent (part_size order number) = 3
+  test_extent (part_body matching keys) = 1 + strings_extent keys
+  test_extent (part_digest keys) = 1 + strings_extent keys
 
   -- each with the comma before it
   pub tests_extent : TestForms → ℕ
@@ -36,12 +39,15 @@ abbrev mutual
   tests_extent (test t ts) = 1 + test_extent t + tests_extent ts
 
 abbrev mutual
-  -- a name, its strings, if it has any, and a semicolon; or branches
+  -- a name, its strings, if it has any, and a semicolon, or a block in braces; or branches
   pub command_extent : CommandForm → ℕ
   command_extent keep = 2
   command_extent discard = 2
   command_extent (file_into folder) = 2 + string_extent folder
   command_extent (set modifiers name value) = 4 + length name + string_extent value
+  command_extent (store folder) = 2 + string_extent folder
+  command_extent (for_every_part cs) = 3 + commands_extent cs
+  command_extent (leave loops) = 2
   command_extent stop = 2
   command_extent (choice branches) = branches_extent branches
 

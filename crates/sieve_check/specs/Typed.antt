@@ -38,6 +38,10 @@ mutual
     size : Order → ℕ → TestForm
     -- sources, and then keys
     string : Match → List Template → List Template → TestForm
+    -- of the current part its size, its content against keys, and its digest against keys
+    part_size : Order → ℕ → TestForm
+    part_body : Match → List Template → TestForm
+    part_digest : List Template → TestForm
 
   pub data TestForms : Type 0 where
     no_test : TestForms
@@ -51,6 +55,12 @@ mutual
     file_into : Template → CommandForm
     -- a variable, by its name in lower case, and its value before it is modified
     set : Modifiers → List ℕ → Template → CommandForm
+    -- the current part, filed into a folder
+    store : Template → CommandForm
+    -- a loop over parts, with its block
+    for_every_part : CommandForms → CommandForm
+    -- so many of the loops around are left, the innermost first
+    leave : ℕ → CommandForm
     stop : CommandForm
     choice : BranchForms → CommandForm
 

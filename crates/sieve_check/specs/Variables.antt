@@ -2,7 +2,7 @@
 use Rattle.std.specs.Prelude.{ℕ, List, [], ◌∷◌, ◌++◌, flat_map}
 use Rattle.sieve_check.specs.declared.typed.Segment.{Segment}
 use Rattle.sieve_check.specs.declared.typed.Segment.TheVariants.{Text, Variable, Capture}
-use Rattle.sieve_check.specs.Typed.{Template, params_of, TestForm, constant, negation, all_of, any_of, header, exists, size, string, TestForms, no_test, test, CommandForm, keep, discard, file_into, set, stop, choice, CommandForms, no_command, command, BranchForms, no_branch, otherwise, branch}
+use Rattle.sieve_check.specs.Typed.{Template, params_of, TestForm, constant, negation, all_of, any_of, header, exists, size, string, part_size, part_body, part_digest, TestForms, no_test, test, CommandForm, keep, discard, file_into, set, store, for_every_part, leave, stop, choice, CommandForms, no_command, command, BranchForms, no_branch, otherwise, branch}
 
 abbrev pub segment_variables : Segment → List (List ℕ)
 segment_variables (Text octets) = []
@@ -26,6 +26,9 @@ abbrev mutual
   test_variables (exists scope names) = strings_variables names
   test_variables (size order number) = []
   test_variables (string matching sources keys) = strings_variables sources ++ strings_variables keys
+  test_variables (part_size order number) = []
+  test_variables (part_body matching keys) = strings_variables keys
+  test_variables (part_digest keys) = strings_variables keys
 
   pub tests_variables : TestForms → List (List ℕ)
   tests_variables no_test = []
@@ -38,6 +41,9 @@ abbrev mutual
   command_variables discard = []
   command_variables (file_into folder) = string_variables folder
   command_variables (set modifiers name value) = string_variables value ++ name ∷ []
+  command_variables (store folder) = string_variables folder
+  command_variables (for_every_part cs) = commands_variables cs
+  command_variables (leave loops) = []
   command_variables stop = []
   command_variables (choice branches) = branches_variables branches
 

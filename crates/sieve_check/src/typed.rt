@@ -94,6 +94,15 @@ pub enum Test {
         sources: Vec<Vec<Segment>>,
         keys: Vec<Vec<Segment>>,
     },
+    /// `partsize`: the size of the current part's content. Ours, as the two that follow.
+    PartSize(Order, u64),
+    /// `partbody`: whether the current part's content matches one of the keys.
+    PartBody {
+        matching: Match,
+        keys: Vec<Vec<Segment>>,
+    },
+    /// `partdigest`: whether the digest of the current part's content is one of the keys.
+    PartDigest(Vec<Vec<Segment>>),
 }
 
 /// A test of an `if` or `elsif`, and the block that it guards.
@@ -121,6 +130,12 @@ pub enum Command {
         name: Octets,
         value: Vec<Segment>,
     },
+    /// `store`: the current part, with the folder. Ours.
+    Store(Vec<Segment>),
+    /// `foreverypart`, with its block (RFC 5703, section 3).
+    ForEveryPart(Vec<Command>),
+    /// `break`: how many of the loops around it are left, the innermost first (RFC 5703, section 3).
+    Break(usize),
     /// `stop`.
     Stop,
     /// `if` and each `elsif` after it, as tests with their blocks; and the block of `else`, if there is one.

@@ -1,21 +1,23 @@
 -- What a script means.
-use Rattle.std.specs.Prelude.{ℕ, Bool, true, false, not, nat_lt, bytes_eq, List, [], ◌∷◌, ◌++◌, flat_map, map, slice_index_or, take, Option, None, Some, if◌then◌else◌}
+use Rattle.std.specs.Prelude.{ℕ, ◌-◌, Bool, true, false, not, nat_lt, bytes_eq, List, [], ◌∷◌, ◌++◌, flat_map, length, map, slice_get, slice_index_or, take, Option, None, Some, if◌then◌else◌}
 use Rattle.octets.specs.Limits.{max_string, max_value}
 use Rattle.bytecode_format.specs.declared.action.Action.{Action}
-use Rattle.bytecode_format.specs.declared.action.Action.TheVariants.{Keep, File}
+use Rattle.bytecode_format.specs.declared.action.Action.TheVariants.{Keep, File, Store}
 use Rattle.bytecode_format.specs.Actions.{final_actions}
 use Rattle.bytecode_format.specs.Modifiers.{modified}
 use Rattle.mail_matching.specs.FirstMatch.{first_match, no_captures}
 use Rattle.mail_matching.specs.HeaderTests.{exists_in, header_match}
-use Rattle.mime_decode.specs.Mail.{Mail, size_of}
+use Rattle.mail_matching.specs.PartTests.{body_match, digest_match}
+use Rattle.mime_decode.specs.Mail.{Mail, Part as MailPart, size_of}
 use Rattle.mime_decode.specs.Scope as scopes
+use Rattle.mime_decode.specs.Scope.{visited}
 use Rattle.sieve_check.specs.declared.typed.Order.{Order}
 use Rattle.sieve_check.specs.declared.typed.Order.TheVariants.{Over, Under}
 use Rattle.sieve_check.specs.declared.typed.Scope.{Scope}
 use Rattle.sieve_check.specs.declared.typed.Scope.TheVariants.{Message, Part, PartAndBelow}
 use Rattle.sieve_check.specs.declared.typed.Segment.{Segment}
 use Rattle.sieve_check.specs.declared.typed.Segment.TheVariants.{Text, Variable, Capture}
-use Rattle.sieve_check.specs.Typed.{Template, Selected, whole, main, sub, content_type, params, TestForm, constant, negation, all_of, any_of, header, exists, size, string, TestForms, no_test, test, CommandForm, keep, discard, file_into, set, stop, choice, CommandForms, no_command, command, BranchForms, no_branch, otherwise, branch}
+use Rattle.sieve_check.specs.Typed.{Template, Selected, whole, main, sub, content_type, params, TestForm, constant, negation, all_of, any_of, header, exists, size, string, part_size, part_body, part_digest, TestForms, no_test, test, CommandForm, keep, discard, file_into, set, store, for_every_part, leave, stop, choice, CommandForms, no_command, command, BranchForms, no_branch, otherwise, branch}
 
 -- what a script has done so far: the values of variables by their names in lower case, the captures of the last match that set
 -- them, the actions, and whether the implicit keep stands
@@ -97,7 +99,22 @@ followed_by (normal effects) next = next effects
 followed_by (stopped effects) next = stopped effects
 followed_by (broken loops effects) next = broken loops effects
 
--- whether the message is over or under a number of octets (RFC 5228, section 5.9)
+-- a loop is left: with it the one around, where more are to be left; else the run goes on after it
+abbrev pub left : ℕ → Effects → Ending
+left loops effects = if nat_lt 1 loops then broken (loops - 1) effects else normal effects
+
+-- on with the next turn of a loop, where a turn of it ends so
+abbrev pub after_turn : Ending → (Effects → Ending) → Ending
+after_turn (normal effects) next = next effects
+after_turn (stopped effects) next = stopped effects
+after_turn (broken loops effects) next = left loops effects
+
+-- the turns of a loop, one for each part, up to one that stops the script or leaves the loop
+abbrev pub turns : (ℕ → Effects → Ending) → List ℕ → Effects → Ending
+turns turn [] effects = normal effects
+turns turn (part ∷ parts) effects = after_turn (turn part effects) (λ e. turns turn parts e)
+
+-- whether the message or a part is over or under a number of octets (RFC 5228, section 5.9)
 abbrev pub is_size : Order → ℕ → ℕ → Bool
 is_size Over number octets = nat_lt number octets
 is_size Under number octets = nat_lt octets number
@@ -107,7 +124,22 @@ abbrev pub matched : Option (List (List ℕ)) → Effects → Verdict
 matched None effects = verdict false effects
 matched (Some captures) effects = verdict true (record effects { captures = captures })
 
--- Below, the current part is that of the innermost loop, none outside of loops.
+-- Below, the current part is that of the innermost loop, by its number; none outside of loops.
+
+-- the current part
+abbrev pub current : Mail → Option ℕ → Option MailPart
+current mail None = None
+current mail (Some number) = slice_get mail.parts number
+
+-- what a test of the current part comes to; where there is none, as in no checked script, it is false
+abbrev pub of_part : (MailPart → Verdict) → Effects → Option MailPart → Verdict
+of_part test effects None = verdict false effects
+of_part test effects (Some part) = test part
+
+-- the actions of storing the current part in a folder
+abbrev pub stored : Option ℕ → List ℕ → List Action
+stored None folder = []
+stored (Some number) folder = Store folder number ∷ []
 
 abbrev mutual
   -- what a test comes to (RFC 5228, section 5; RFC 5229, section 5)
@@ -122,6 +154,10 @@ abbrev mutual
   test_does mail part (size order number) effects = verdict (is_size order number (size_of mail)) effects
   -- the values are those of its sources (RFC 5229, section 5)
   test_does mail part (string how sources keys) effects = matched (first_match how (all_expanded effects sources) (all_expanded effects keys) effects.captures) effects
+  -- the size of its content, its content and the digest of its content; ours
+  test_does mail part (part_size order number) effects = of_part (λ p. verdict (is_size order number (length p.content)) effects) effects (current mail part)
+  test_does mail part (part_body how keys) effects = of_part (λ p. matched (body_match how p (all_expanded effects keys) effects.captures) effects) effects (current mail part)
+  test_does mail part (part_digest keys) effects = of_part (λ p. matched (digest_match p (all_expanded effects keys) effects.captures) effects) effects (current mail part)
 
   -- whether all tests are true, from left to right up to the first that isn't
   pub all_do : Mail → Option ℕ → TestForms → Effects → Verdict
@@ -134,7 +170,7 @@ abbrev mutual
   any_do mail part (test t ts) effects = or_else (test_does mail part t effects) (λ e. any_do mail part ts e)
 
 abbrev mutual
-  -- what a command does (RFC 5228, sections 3 and 4; RFC 5229, section 4)
+  -- what a command does (RFC 5228, sections 3 and 4; RFC 5229, section 4; RFC 5703, section 3)
   pub command_does : Mail → Option ℕ → CommandForm → Effects → Ending
   command_does mail part keep effects = normal (record effects { actions = effects.actions ++ Keep ∷ []; implicit_keep = false })
   command_does mail part discard effects = normal (record effects { implicit_keep = false })
@@ -142,6 +178,11 @@ abbrev mutual
   -- the value is expanded, modified and cut (RFC 5229, section 4)
   command_does mail part (set modifiers name value) effects =
       normal (record effects { variables = with_value name (take max_value (modified modifiers (expanded effects value))) effects.variables })
+  -- the implicit keep stands as it stood; ours
+  command_does mail part (store folder) effects = normal (record effects { actions = effects.actions ++ stored part (expanded effects folder) })
+  -- outside of loops each part of the message, in a loop each one below its current part, in preorder (RFC 5703, section 3)
+  command_does mail part (for_every_part cs) effects = turns (λ number e. commands_do mail (Some number) cs e) (visited part mail) effects
+  command_does mail part (leave loops) effects = broken loops effects
   command_does mail part stop effects = stopped effects
   command_does mail part (choice branches) effects = choice_does mail part branches effects
 
