@@ -84,7 +84,7 @@ not_all_required : lacks (after_invocation at_start (invocation 0 (codes "requir
 not_all_required = refl
 
 -- size :over 10, with one tag, with none, with two, and with the tag behind the number
-over_read : reading (test_signature Size) (label (codes "over") ∷ amount 10 ∷ []) ≡ Some (let r : Read = record { tags = record no_tag { order = Some Over }; params = []; positional = amount 10 ∷ [] } in r)
+over_read : reading (test_signature Size) (label (codes "over") ∷ amount 10 ∷ []) ≡ Some (let r : Read = record { tags = record no_tag { order = Some Over }; params = []; name = None; positional = amount 10 ∷ [] } in r)
 over_read = refl
 
 no_tag_read : reading (test_signature Size) (amount 10 ∷ []) ≡ None

@@ -13,9 +13,9 @@ use Rattle.sieve_parser.proofs.Extent.{octets_of, octets-append, octets_fit}
 use Rattle.bytecode_format.specs.declared.modifiers.Modifiers.{Modifiers}
 use Rattle.sieve_check.specs.declared.names.Capability.TheVariants.{Variables}
 use Rattle.sieve_check.specs.declared.names.CommandName.{CommandName}
-use Rattle.sieve_check.specs.declared.names.CommandName.TheVariants.{Require, If, Elsif, Else, Stop, Keep, Discard, FileInto, Set}
+use Rattle.sieve_check.specs.declared.names.CommandName.TheVariants.{Require, If, Elsif, Else, Stop, Keep, Discard, FileInto, Set, ForEveryPart, Break, Store}
 use Rattle.sieve_check.specs.declared.names.TestName.{TestName}
-use Rattle.sieve_check.specs.declared.names.TestName.TheVariants.{Constant, Not, AllOf, AnyOf, Header, Exists, Size, String}
+use Rattle.sieve_check.specs.declared.names.TestName.TheVariants.{Constant, Not, AllOf, AnyOf, Header, Exists, Size, String, PartSize, PartBody, PartDigest}
 use Rattle.sieve_check.specs.declared.typed.Order.{Order}
 use Rattle.sieve_check.specs.declared.names.Piece.{Piece}
 use Rattle.sieve_check.specs.declared.names.Piece.TheVariants.{Main, Sub, ContentType, Params}
@@ -24,8 +24,8 @@ use Rattle.sieve_check.specs.declared.signature.Signature.{Signature}
 use Rattle.sieve_check.specs.Names.{command_named, test_named}
 use Rattle.sieve_check.specs.Signatures.{Read, Given, with_tag, with_argument, reading, command_signature, test_signature}
 use Rattle.sieve_check.specs.Rules.{after_invocation, invocation_of, loops_opened}
-use Rattle.sieve_check.specs.Surroundings.{Context, at_start, has_capability, in_block}
-use Rattle.sieve_check.specs.Typed.{Template, params_of, TestForm, constant, negation, all_of, any_of, header, exists, size, string, TestForms, no_test as no_other, test, CommandForm, keep, discard, file_into, set, stop, CommandForms, no_command, command, BranchForms, no_branch, otherwise, branch}
+use Rattle.sieve_check.specs.Surroundings.{Context, at_start, has_capability, inside, loops_left}
+use Rattle.sieve_check.specs.Typed.{Template, params_of, TestForm, constant, negation, all_of, any_of, header, exists, size, string, part_size, part_body, part_digest, TestForms, no_test as no_other, test, CommandForm, keep, discard, file_into, set, store, for_every_part, leave, stop, CommandForms, no_command, command, BranchForms, no_branch, otherwise, branch}
 use Rattle.sieve_check.specs.Extent.{strings_extent, test_extent, tests_extent, command_extent, commands_extent, branches_extent}
 use Rattle.sieve_check.specs.FormOf.{InnerForms, none, one, bracketed, number_in, template_of, text_in, setting_in, list_in, of_list, of_lists, match_of, scope_of, selected_by, params_in, header_of, test_of, test_form_of, inner_forms_of, more_forms_of, PartForm, nothing, action, first, next_branch, last, simple_of, block_of, simple_part, block_part, Forms, closed, closed_by, after_none, put, part_of, forms_of, IsFormOf}
 use Rattle.sieve_check.proofs.Options.{step_some, map_some}
@@ -149,10 +149,10 @@ header_fits s read f h =
     )
 
 -- arguments by which a size was read
-size_args : (args : List ArgumentTree) (read : Read) (order : Order) (n : ℕ) → reading (test_signature Size) args ≡ Some read → read.tags.order ≡ Some order → number_in read.positional ≡ Some n → 2 ≤ arguments_extent args
-size_args args read order n h is number =
+size_args : (signature : Signature) (args : List ArgumentTree) (read : Read) (order : Order) (n : ℕ) → reading signature args ≡ Some read → read.tags.order ≡ Some order → number_in read.positional ≡ Some n → 2 ≤ arguments_extent args
+size_args signature args read order n h is number =
     let some : given_order read.tags.order ≡ 1 = ap given_order is in
-    omega (arith, read_fits (test_signature Size) args read h, some, positional read.positional n number)
+    omega (arith, read_fits signature args read h, some, positional read.positional n number)
   where
     positional : (xs : List ArgumentTree) (n : ℕ) → number_in xs ≡ Some n → 1 ≤ arguments_extent xs
     positional [] n h = absurd (cc)
@@ -190,7 +190,13 @@ test_of_fits s AnyOf args read (bracketed t ts) f h is = subst (λ x. test_exten
 test_of_fits s Size args read none f h is =
     let order = step_some read.tags.order _ f is in
     let n = step_some (number_in read.positional) _ f order.2 in
-    subst (λ x. test_extent x ≤ 1 + arguments_extent args + 0) (same_Some (size order.0 n.0) f n.2) (omega (arith, size_args args read order.0 n.0 h order.1 n.1))
+    subst (λ x. test_extent x ≤ 1 + arguments_extent args + 0) (same_Some (size order.0 n.0) f n.2) (omega (arith, size_args (test_signature Size) args read order.0 n.0 h order.1 n.1))
+test_of_fits s PartSize args read none f h is =
+    let order = step_some read.tags.order _ f is in
+    let n = step_some (number_in read.positional) _ f order.2 in
+    subst (λ x. test_extent x ≤ 1 + arguments_extent args + 0) (same_Some (part_size order.0 n.0) f n.2) (omega (arith, size_args (test_signature PartSize) args read order.0 n.0 h order.1 n.1))
+test_of_fits s PartBody args read none f h is = omega (arith, one_list_fits s (part_body (match_of read.tags)) (λ l. refl) read.positional f is, read_fits (test_signature PartBody) args read h)
+test_of_fits s PartDigest args read none f h is = omega (arith, one_list_fits s part_digest (λ l. refl) read.positional f is, read_fits (test_signature PartDigest) args read h)
 test_of_fits s Header args read none f h is = omega (arith, header_fits s read f is, read_fits (test_signature Header) args read h)
 test_of_fits s String args read none f h is = omega (arith, two_lists_fit s 1 (string (match_of read.tags)) (λ k l. refl) read.positional f is, read_fits (test_signature String) args read h)
 test_of_fits s Exists args read none f h is = omega (arith, one_list_fits s (exists (scope_of read.tags)) (λ l. refl) read.positional f is, read_fits (test_signature Exists) args read h)
@@ -210,6 +216,12 @@ test_of_fits s Size args read (one t) f h is = absurd (cc)
 test_of_fits s Size args read (bracketed t ts) f h is = absurd (cc)
 test_of_fits s String args read (one t) f h is = absurd (cc)
 test_of_fits s String args read (bracketed t ts) f h is = absurd (cc)
+test_of_fits s PartSize args read (one t) f h is = absurd (cc)
+test_of_fits s PartSize args read (bracketed t ts) f h is = absurd (cc)
+test_of_fits s PartBody args read (one t) f h is = absurd (cc)
+test_of_fits s PartBody args read (bracketed t ts) f h is = absurd (cc)
+test_of_fits s PartDigest args read (one t) f h is = absurd (cc)
+test_of_fits s PartDigest args read (bracketed t ts) f h is = absurd (cc)
 
 mutual
   test_fits : (s : Context) (i : InvocationTree) (f : TestForm) (d : ℕ) → test_form_of s i ≡ Some f → test_extent f ≤ octets_of (invocation_spelled d i)
@@ -270,6 +282,13 @@ simple_fits s FileInto args read none p r h =
     let folder = map_some (text_in read.positional) (λ folder. action (file_into (template_of s folder))) p h in
     subst (λ x. part_extent x ≤ 2 + arguments_extent args) (same_Some (action (file_into (template_of s folder.0))) p folder.2)
     (omega (arith, text_fits read.positional folder.0 folder.1, template_fits (has_capability Variables s.required) folder.0, read_fits (command_signature FileInto) args read r))
+simple_fits s Store args read none p r h =
+    let folder = map_some (text_in read.positional) (λ folder. action (store (template_of s folder))) p h in
+    subst (λ x. part_extent x ≤ 2 + arguments_extent args) (same_Some (action (store (template_of s folder.0))) p folder.2)
+    (omega (arith, text_fits read.positional folder.0 folder.1, template_fits (has_capability Variables s.required) folder.0, read_fits (command_signature Store) args read r))
+simple_fits s Break args read none p r h =
+    let loops = map_some (loops_left read.name s.loops) (λ loops. action (leave loops)) p h in
+    subst (λ x. part_extent x ≤ 2 + arguments_extent args) (same_Some (action (leave loops.0)) p loops.2) (omega arith)
 simple_fits s Set args read none p r h =
     let c = map_some (setting_in s read.tags.modifiers read.positional) action p h in
     subst (λ x. part_extent x ≤ 2 + arguments_extent args) (same_Some (action c.0) p c.2)
@@ -295,11 +314,19 @@ simple_fits s FileInto args read (one f) p r h = absurd (cc)
 simple_fits s FileInto args read (bracketed f fs) p r h = absurd (cc)
 simple_fits s Set args read (one f) p r h = absurd (cc)
 simple_fits s Set args read (bracketed f fs) p r h = absurd (cc)
+simple_fits s ForEveryPart args read none p r h = absurd (cc)
+simple_fits s ForEveryPart args read (one f) p r h = absurd (cc)
+simple_fits s ForEveryPart args read (bracketed f fs) p r h = absurd (cc)
+simple_fits s Break args read (one f) p r h = absurd (cc)
+simple_fits s Break args read (bracketed f fs) p r h = absurd (cc)
+simple_fits s Store args read (one f) p r h = absurd (cc)
+simple_fits s Store args read (bracketed f fs) p r h = absurd (cc)
 
 block_fits : (name : CommandName) (inner : InnerForms) (body : CommandForms) (p : PartForm) → block_of name inner body ≡ Some p → part_extent p ≤ 3 + inner_extent inner + commands_extent body
 block_fits If (one f) body p h = subst (λ x. part_extent x ≤ 3 + test_extent f + commands_extent body) (same_Some (first f body) p h) (omega arith)
 block_fits Elsif (one f) body p h = subst (λ x. part_extent x ≤ 3 + test_extent f + commands_extent body) (same_Some (next_branch f body) p h) (omega arith)
 block_fits Else none body p h = subst (λ x. part_extent x ≤ 3 + 0 + commands_extent body) (same_Some (last body) p h) (omega arith)
+block_fits ForEveryPart none body p h = subst (λ x. part_extent x ≤ 3 + 0 + commands_extent body) (same_Some (action (for_every_part body)) p h) (omega arith)
 block_fits Require none body p h = absurd (cc)
 block_fits Require (one f) body p h = absurd (cc)
 block_fits Require (bracketed f fs) body p h = absurd (cc)
@@ -324,6 +351,14 @@ block_fits FileInto (bracketed f fs) body p h = absurd (cc)
 block_fits Set none body p h = absurd (cc)
 block_fits Set (one f) body p h = absurd (cc)
 block_fits Set (bracketed f fs) body p h = absurd (cc)
+block_fits ForEveryPart (one f) body p h = absurd (cc)
+block_fits ForEveryPart (bracketed f fs) body p h = absurd (cc)
+block_fits Break none body p h = absurd (cc)
+block_fits Break (one f) body p h = absurd (cc)
+block_fits Break (bracketed f fs) body p h = absurd (cc)
+block_fits Store none body p h = absurd (cc)
+block_fits Store (one f) body p h = absurd (cc)
+block_fits Store (bracketed f fs) body p h = absurd (cc)
 
 abbrev forms_extent : Forms → ℕ
 forms_extent r = branches_extent r.branches + commands_extent r.commands
@@ -369,14 +404,14 @@ mutual
   part_fits : (s : Context) (c : CommandTree) (p : PartForm) (d : ℕ) → part_of s c ≡ Some p → part_extent p ≤ octets_of (command_spelled d c)
   part_fits s (simple i) p d h = simple_part_fits s i p d h
   part_fits s (block i cs) p d h =
-      let inside = in_block (loops_opened i) s in
-      let forms = step_some (forms_of inside cs) _ p h in
+      let around = step_some (inside (loops_opened i) s) _ p h in
+      let forms = step_some (forms_of around.0 cs) _ p around.2 in
       let body = step_some (closed forms.0) _ p forms.2 in
       omega (
         arith,
         block_part_fits s i body.0 p d body.2,
         closed_fits forms.0.branches forms.0.commands body.0 body.1,
-        forms_fit inside cs forms.0 (suc d) forms.1,
+        forms_fit around.0 cs forms.0 (suc d) forms.1,
         octets-append (invocation_spelled d i) (at_depth (suc d) opening_brace ∷ (commands_spelled (suc d) cs ++ at_depth (suc d) closing_brace ∷ [])),
         octets-append (commands_spelled (suc d) cs) (at_depth (suc d) closing_brace ∷ []),
       )

@@ -1,5 +1,5 @@
 -- The visits of tests and commands, piece by piece.
-use Rattle.std.proofs.Common.{◌≡◌, ℕ, ◌+◌, ◌<◌, List, [], ◌∷◌, ◌++◌, drop, length, get_or, ap, ◌∙◌}
+use Rattle.std.proofs.Common.{◌≡◌, ℕ, ◌+◌, ◌<◌, List, ◌∷◌, ◌++◌, drop, length, get_or, ap, ◌∙◌}
 use Rattle.std.specs.Global.{Vec, Box}
 use Rattle.sieve_parser.specs.View.{invocation_tree, command_tree, commands_tree}
 use Rattle.sieve_parser.specs.declared.tree.Head.{Head}
@@ -12,7 +12,7 @@ use Rattle.sieve_parser.proofs.CommandSteps.{tree_block}
 use Rattle.sieve_check.specs.declared.signature.Tests.TheVariants.{One, Bracketed}
 use Rattle.sieve_check.specs.declared.signature.Ending.{Ending}
 use Rattle.sieve_check.specs.declared.signature.Ending.TheVariants.{Block}
-use Rattle.sieve_check.specs.Rules.{arguments_of, test_visit, test_visits, more_visits, command_visit, head_visits, command_visits, commands_visits, invocation_of, after_invocation}
+use Rattle.sieve_check.specs.Rules.{arguments_of, test_visit, test_visits, more_visits, command_visit, head_visits, command_visits, commands_visits, invocation_of, loops_opened, after_invocation}
 use Rattle.sieve_check.specs.Surroundings.{Context, in_block}
 use Rattle.sieve_check.proofs.FromIndex.{others_of, split_at}
 
@@ -40,7 +40,7 @@ rest_visits s list i x lt is = ap (λ xs. more_visits s (others_of xs)) (split_a
 
 -- a command with a block
 pub block_visits : (s : Context) (tree : Tree) (i : Invocation) (cs : Vec Tree) → tree ≡ trees.Block i cs
-    → command_visits s (command_tree tree) ≡ head_visits s (invocation_tree i) Block ++ commands_visits (in_block [] s) (commands_tree cs.items)
+    → command_visits s (command_tree tree) ≡ head_visits s (invocation_tree i) Block ++ commands_visits (in_block (loops_opened (invocation_tree i)) s) (commands_tree cs.items)
 block_visits s tree i cs is = ap (λ x. command_visits s x) (ap command_tree is ∙ tree_block i cs)
 
 -- the commands from an index on

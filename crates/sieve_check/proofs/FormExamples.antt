@@ -164,12 +164,12 @@ in_order = refl
 abbrev two_texts : List ArgumentTree
 two_texts = text (codes "a") ∷ text (codes "b") ∷ []
 
-no_modifier : reading (command_signature Set) two_texts ≡ Some (let r : Read = record { tags = no_tag; params = []; positional = two_texts } in r)
+no_modifier : reading (command_signature Set) two_texts ≡ Some (let r : Read = record { tags = no_tag; params = []; name = None; positional = two_texts } in r)
 no_modifier = refl
 
 -- of each precedence at most one, in any order
 all_four : reading (command_signature Set) (label (codes "length") ∷ label (codes "quotewildcard") ∷ label (codes "lowerfirst") ∷ label (codes "upper") ∷ two_texts)
-    ≡ Some (let r : Read = record { tags = record no_tag { modifiers = record { letters = Some Upper; first = Some Lower; quote_wildcard = true; length = true } }; params = []; positional = two_texts } in r)
+    ≡ Some (let r : Read = record { tags = record no_tag { modifiers = record { letters = Some Upper; first = Some Lower; quote_wildcard = true; length = true } }; params = []; name = None; positional = two_texts } in r)
 all_four = refl
 
 two_cases : reading (command_signature Set) (label (codes "lower") ∷ label (codes "upper") ∷ two_texts) ≡ None

@@ -3,6 +3,7 @@ pub mod Forms
 pub mod TestLists
 pub mod SequenceSteps
 pub mod Visits
+pub mod OpenLoops
 pub mod FaultSteps
 pub mod FormSteps
 pub mod Requiring

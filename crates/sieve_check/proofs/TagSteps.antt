@@ -6,7 +6,7 @@ use Rattle.sieve_parser.specs.Tree.{ArgumentTree, text, text_list, amount, label
 use Rattle.sieve_check.specs.declared.names.Piece.{Piece}
 use Rattle.sieve_check.specs.declared.names.Piece.TheVariants.{Main, Sub, ContentType, Params}
 use Rattle.sieve_check.specs.declared.names.Tag.{Tag}
-use Rattle.sieve_check.specs.declared.names.Tag.TheVariants.{Order, Kind, Comparator, Letters, First, QuoteWildcard, Length, Mime, AnyChild, Select}
+use Rattle.sieve_check.specs.declared.names.Tag.TheVariants.{Order, Kind, Comparator, Letters, First, QuoteWildcard, Length, Mime, AnyChild, Select, Name}
 use Rattle.sieve_check.specs.declared.signature.Signature.{Signature}
 use Rattle.sieve_check.specs.declared.signature.Tags.{Tags}
 use Rattle.sieve_check.specs.Names.{comparator_named, tag_named}
@@ -28,16 +28,20 @@ added signature tag given more h =
 abbrev pub with_params : ArgumentTree → Given → Given
 with_params a given = record given { params = a ∷ [] }
 
--- of a comparator, and of `:param`
+-- of a comparator or a name, and of `:param`
 pub argument_taken : (tag : Tag) (a : ArgumentTree) (given more : Given) → with_argument tag a given ≡ Some more
-    → ((tag ≡ Comparator) × (more.params ≡ given.params) × (more.tags.piece ≡ given.tags.piece)) ⊎ ((tag ≡ Select Params) × (is_list a ≡ true) × (with_params a given ≡ more))
+    → (((tag ≡ Comparator) ⊎ (tag ≡ Name)) × (more.params ≡ given.params) × (more.tags.piece ≡ given.tags.piece)) ⊎ ((tag ≡ Select Params) × (is_list a ≡ true) × (with_params a given ≡ more))
 argument_taken Comparator (text s) given more h =
     let c = map_some (comparator_named s) _ more h in
     let same = sym (same_Some _ more c.2) in
-    inl (refl, ap (λ (g : Given). g.params) same, ap (λ (g : Given). g.tags.piece) same)
+    inl (inl refl, ap (λ (g : Given). g.params) same, ap (λ (g : Given). g.tags.piece) same)
 argument_taken (Select Params) a given more h =
     let c = if_some (is_list a) (with_params a given) more h in
     inr (refl, c.0, same_Some (with_params a given) more c.1)
+argument_taken Name (text s) given more h =
+    let named : Given = record given { name = Some s } in
+    let same = sym (same_Some named more h) in
+    inl (inr refl, ap (λ (g : Given). g.params) same, ap (λ (g : Given). g.tags.piece) same)
 argument_taken Comparator (text_list s ss) given more h = absurd (cc)
 argument_taken Comparator (amount n) given more h = absurd (cc)
 argument_taken Comparator (label name) given more h = absurd (cc)
@@ -52,11 +56,14 @@ argument_taken AnyChild a given more h = absurd (cc)
 argument_taken (Select Main) a given more h = absurd (cc)
 argument_taken (Select Sub) a given more h = absurd (cc)
 argument_taken (Select ContentType) a given more h = absurd (cc)
+argument_taken Name (text_list s ss) given more h = absurd (cc)
+argument_taken Name (amount n) given more h = absurd (cc)
+argument_taken Name (label name) given more h = absurd (cc)
 
 -- ---- what each step keeps
 
 abbrev pub given_in : Read → Given
-given_in read = record { tags = read.tags; params = read.params }
+given_in read = record { tags = read.tags; params = read.params; name = read.name }
 
 module _ (signature : Signature) (P : Option Tag → Given → List ArgumentTree → Type 0) where
   pub record IsKept : Type 0 where
@@ -119,6 +126,7 @@ tag_selecting signature QuoteWildcard name given args h is = record { params = i
 tag_selecting signature Length name given args h is = record { params = is.params; unselected = is.unselected }
 tag_selecting signature Mime name given args h is = record { params = is.params; unselected = is.unselected }
 tag_selecting signature AnyChild name given args h is = record { params = is.params; unselected = is.unselected }
+tag_selecting signature Name name given args h is = record { params = is.params; unselected = is.unselected }
 tag_selecting signature (Select Main) name given args h is =
     let taken = both_true signature.selecting _ h in
     record { params = none_yet given.tags.piece given.params taken.1 is.params; unselected = λ plain. absurd (not_both signature.selecting taken.0 plain) }
@@ -132,11 +140,18 @@ tag_selecting signature (Select Params) name given args h is =
     let taken = both_true signature.selecting _ h in
     record { params = refl; unselected = λ plain. absurd (not_both signature.selecting taken.0 plain) }
 
+plain_awaits : (tag : Tag) (given : Given) → (tag ≡ Comparator) ⊎ (tag ≡ Name) → Awaits (Some tag) given → HasArgument given.tags.piece given.params
+plain_awaits tag given is awaits =
+    elim is [
+      | inl comparator ↦ subst (λ t. Awaits (Some t) given) comparator awaits
+      | inr named ↦ subst (λ t. Awaits (Some t) given) named awaits
+    ]
+
 argument_selecting : (signature : Signature) (tag : Tag) (a : ArgumentTree) (given more : Given) (args : List ArgumentTree) → with_argument tag a given ≡ Some more → IsSelecting signature (Some tag) given (a ∷ args) → IsSelecting signature None more args
 argument_selecting signature tag a given more args h is =
     elim (argument_taken tag a given more h) [
       | inl c ↦
-          let params : HasArgument given.tags.piece given.params = subst (λ t. Awaits (Some t) given) c.0 is.params in
+          let params = plain_awaits tag given c.0 is.params in
           record {
             params = subst (λ piece. HasArgument piece more.params) (sym c.2) (subst (HasArgument given.tags.piece) (sym c.1) params);
             unselected = λ plain. c.2 ∙ is.unselected plain;

@@ -2,7 +2,7 @@
 use Rattle.std.proofs.Common.{◌≡◌, ℕ, ◌≤◌, length, Bool, true, false, ◌&&◌, ◌||◌, not, if◌then◌else◌, List, [], ◌∷◌, ◌++◌, All, Option, Some, None, option_map, refl, sym, ap, subst, ◌∙◌}
 use Rattle.std.specs.Prelude.{is_some, flat_map}
 use Rattle.std.specs.List.{list_any}
-use Rattle.std.proofs.lemmas.Bool.{ltb-false}
+use Rattle.std.proofs.lemmas.Bool.{ltb-false, ltb-true}
 use Rattle.std.proofs.lemmas.Grind.{flat_map-append}
 use Rattle.std.proofs.lemmas.List.{append-nil}
 use Rattle.std.proofs.lemmas.Option.{same_Some}
@@ -11,18 +11,19 @@ use Rattle.sieve_parser.specs.Tree.{ArgumentTree, text, text_list, amount, label
 use Rattle.sieve_check.specs.declared.error.Fault.{Fault}
 use Rattle.sieve_check.specs.declared.error.Fault.TheVariants.{MissingCapability, BadArguments, Limit}
 use Rattle.sieve_check.specs.declared.names.TestName.{TestName}
-use Rattle.sieve_check.specs.declared.names.TestName.TheVariants.{Constant, Not, AllOf, AnyOf, Header, Exists, Size, String}
+use Rattle.sieve_check.specs.declared.names.TestName.TheVariants.{Constant, Not, AllOf, AnyOf, Header, Exists, Size, String, PartSize, PartBody, PartDigest}
 use Rattle.sieve_check.specs.declared.signature.Positional.TheVariants as positional
+use Rattle.sieve_check.specs.declared.typed.Order.{Order}
 use Rattle.sieve_check.specs.declared.signature.Signature.{Signature}
 use Rattle.sieve_check.specs.declared.signature.Tests.{Tests}
 use Rattle.sieve_check.specs.declared.signature.Tests.TheVariants.{Nothing, One, Bracketed}
-use Rattle.sieve_check.specs.Bounded.{IsBoundedTest, AreBoundedTests}
-use Rattle.sieve_check.specs.FormOf.{InnerForms, none, one, bracketed, number_in, match_of, scope_of, test_of, test_form_of, inner_forms_of, more_forms_of}
+use Rattle.sieve_check.specs.Bounded.{IsBoundedTest, AreBoundedTests, IsTestIn, AreTestsIn}
+use Rattle.sieve_check.specs.FormOf.{InnerForms, none, one, bracketed, number_in, match_of, scope_of, size_of, test_of, test_form_of, inner_forms_of, more_forms_of}
 use Rattle.sieve_check.specs.Names.{test_named}
-use Rattle.sieve_check.specs.Rules.{Visit, where_required, names_by, fault_by_name, known_test_fault, test_needs, has_long_string, has_many_strings, Mentions, no_mention, strings_read, lists_read, test_mentions, has_wrong_mention, has_large_mention, names_mentioned, same_tests, is_well_formed, kind_of, strings_of, test_visits, tests_visits, more_visits}
+use Rattle.sieve_check.specs.Rules.{Visit, where_required, names_by, fault_by_name, known_test_fault, test_needs, test_may_stand, has_long_string, has_many_strings, Mentions, no_mention, strings_read, lists_read, test_mentions, has_wrong_mention, has_large_mention, names_mentioned, same_tests, is_well_formed, kind_of, strings_of, test_visits, tests_visits, more_visits}
 use Rattle.sieve_check.specs.Signatures.{◌>>=◌, Read, nothing_given, tags_read, asks_for_mime, is_positional, is_complete, reading, test_signature}
 use Rattle.sieve_check.specs.Surroundings.{Context, lacks}
-use Rattle.sieve_check.specs.Typed.{TestForm, constant, negation, all_of, any_of, header, exists, size, string, TestForms, no_test as no_other, test}
+use Rattle.sieve_check.specs.Typed.{TestForm, constant, negation, all_of, any_of, header, exists, size, string, part_size, part_body, part_digest, TestForms, no_test as no_other, test}
 use Rattle.sieve_check.specs.Variables.{test_variables, tests_variables}
 use Rattle.sieve_check.proofs.Faultless.{AreFaultless, faultless_both, names_brought}
 use Rattle.sieve_check.proofs.Lists.{expands, is_large, read_short, all_sound, one_listed, two_listed, three_listed}
@@ -72,6 +73,7 @@ none_large false mentions h expands = absurd (cc)
 
 -- the same of a test, whose strings are within the limits
 pub record TestWellFormed (s : Context) (name : TestName) (args : List ArgumentTree) (tests : Tests) : Type 0 where
+  pub stands : test_may_stand s name ≡ true
   pub form : WellFormed (test_signature name) args tests
   pub params : HasArgument form.read.tags.piece form.read.params
   pub few : length (strings_of (lists_read form.read)) ≤ max_test_strings
@@ -80,14 +82,16 @@ pub record TestWellFormed (s : Context) (name : TestName) (args : List ArgumentT
 test_well_formed : (s : Context) (name : TestName) (args : List ArgumentTree) (tests : Tests) → known_test_fault s name args tests ≡ None → TestWellFormed s name args tests
 test_well_formed s name args tests h =
     let a = if_none (lacks s (test_needs name args)) MissingCapability _ h in
-    let b = if_none (not (is_well_formed (test_signature name) args tests)) BadArguments _ a.1 in
+    let b = if_none (not (test_may_stand s name && is_well_formed (test_signature name) args tests)) BadArguments _ a.1 in
+    let taken = both_true (test_may_stand s name) _ (not_false _ b.0) in
     let c = if_none (has_wrong_mention (test_mentions s name args)) BadArguments _ b.1 in
     let d = if_none (has_long_string args || has_many_strings (reading (test_signature name) args) || has_large_mention (test_mentions s name args)) Limit _ c.1 in
     let e = either_false (has_long_string args || has_many_strings (reading (test_signature name) args)) _ d.0 in
     let f = either_false (has_long_string args) _ e.0 in
-    let form = well_formed (test_signature name) args tests (not_false _ b.0) in
+    let form = well_formed (test_signature name) args tests taken.1 in
     let mentions = expanding (strings_read (reading (test_signature name) args)) in
     record {
+      stands = taken.0;
       form = form;
       params = (selecting_read (test_signature name) args form.read form.is).params;
       few = ltb-false max_test_strings (length (strings_of (lists_read form.read))) (ap has_many_strings (sym form.is) ∙ f.1);
@@ -108,6 +112,12 @@ IsBoundedInner none = Unit {0}
 IsBoundedInner (one f) = IsBoundedTest f
 IsBoundedInner (bracketed f fs) = IsBoundedTest f × AreBoundedTests fs
 
+-- so many loops are open around them
+abbrev pub IsInnerIn : ℕ → InnerForms → Type 0
+IsInnerIn loops none = Unit {0}
+IsInnerIn loops (one f) = IsTestIn loops f
+IsInnerIn loops (bracketed f fs) = IsTestIn loops f × AreTestsIn loops fs
+
 abbrev pub inner_variables : InnerForms → List (List ℕ)
 inner_variables none = []
 inner_variables (one f) = test_variables f
@@ -115,11 +125,12 @@ inner_variables (bracketed f fs) = test_variables f ++ tests_variables fs
 
 -- ---- a test of a known name
 
--- a form within the limits, with these variables
-pub record Made (names : List (List ℕ)) (o : Option TestForm) : Type 0 where
+-- a form within the limits, with these variables, around which so many loops are open
+pub record Made (loops : ℕ) (names : List (List ℕ)) (o : Option TestForm) : Type 0 where
   pub form : TestForm
   pub is : o ≡ Some form
   pub bounded : IsBoundedTest form
+  pub around : IsTestIn loops form
   pub variables : test_variables form ≡ names
 
 -- no argument brings a name
@@ -145,17 +156,19 @@ none_own s signature read nothing h alone =
     unnamed (expands s) read.positional (ap (λ p. is_positional p read.positional) (sym nothing) ∙ (complete_parts signature read h).1)
     ∙ ap (λ xs. mentioned_at (expands s) (expanding (strings_of xs))) (sym alone)
 
-sized : (s : Context) (read : Read) → is_complete (test_signature Size) read ≡ true → lists_read read ≡ read.positional → Made (own_names s read ++ []) (test_of s Size read none)
-sized s read h alone =
-    let parts = complete_parts (test_signature Size) read h in
-    let order = some_of read.tags.order parts.0 in
-    let n = numbered (expands s) read.positional parts.1 in
-    record {
-      form = size order.0 n.0;
-      is = ap (λ o. o >>= λ order. number_in read.positional >>= λ n. Some (size order n)) order.1 ∙ ap (λ o. o >>= λ n. Some (size order.0 n)) n.1;
-      bounded = tt;
-      variables = n.2 ∙ ap (λ xs. mentioned_at (expands s) (expanding (strings_of xs))) (sym alone) ∙ sym (append-nil (own_names s read));
-    }
+-- a comparison of a size
+module _ (s : Context) (make : Order → ℕ → TestForm) (within : (order : Order) (n : ℕ) → IsBoundedTest (make order n)) (around : (order : Order) (n : ℕ) → IsTestIn (length s.loops) (make order n)) (plain : (order : Order) (n : ℕ) → test_variables (make order n) ≡ []) where
+  sized : (read : Read) → is_some read.tags.order ≡ true → is_positional positional.Number read.positional ≡ true → lists_read read ≡ read.positional → Made (length s.loops) (own_names s read ++ []) (size_of make read.tags read.positional)
+  sized read ordered number alone =
+      let order = some_of read.tags.order ordered in
+      let n = numbered (expands s) read.positional number in
+      record {
+        form = make order.0 n.0;
+        is = ap (λ o. o >>= λ order. number_in read.positional >>= λ n. Some (make order n)) order.1 ∙ ap (λ o. o >>= λ n. Some (make order.0 n)) n.1;
+        bounded = within order.0 n.0;
+        around = around order.0 n.0;
+        variables = plain order.0 n.0 ∙ n.2 ∙ ap (λ xs. mentioned_at (expands s) (expanding (strings_of xs))) (sym alone) ∙ sym (append-nil (own_names s read));
+      }
 
 -- names that lists bring
 listed_names : (s : Context) (read : Read) (names : List (List ℕ)) → names ≡ flat_map (names_at (expands s)) (strings_of (lists_read read)) → names ≡ own_names s read ++ []
@@ -178,39 +191,58 @@ behind_tags s read alone few sound = record {
 
 made : (s : Context) (name : TestName) (read : Read) (inner : InnerForms) → is_complete (test_signature name) read ≡ true → ((test_signature name).selecting ≡ false → lists_read read ≡ read.positional)
     → same_tests (test_signature name).tests (inner_kind inner) ≡ true → HasArgument read.tags.piece read.params → length (strings_of (lists_read read)) ≤ max_test_strings → All (IsSound (expands s)) (strings_of (lists_read read)) → IsBoundedInner inner
-    → Made (own_names s read ++ inner_variables inner) (test_of s name read inner)
-made s (Constant b) read none complete alone same params few sound inside = record { form = constant b; is = refl; bounded = tt; variables = ap (λ names. names ++ []) (none_own s (test_signature (Constant b)) read refl complete (alone refl)) }
-made s Not read (one f) complete alone same params few sound inside = record { form = negation f; is = refl; bounded = inside; variables = ap (λ names. names ++ test_variables f) (none_own s (test_signature Not) read refl complete (alone refl)) }
-made s AllOf read (bracketed f fs) complete alone same params few sound inside = record { form = all_of f fs; is = refl; bounded = inside; variables = ap (λ names. names ++ (test_variables f ++ tests_variables fs)) (none_own s (test_signature AllOf) read refl complete (alone refl)) }
-made s AnyOf read (bracketed f fs) complete alone same params few sound inside = record { form = any_of f fs; is = refl; bounded = inside; variables = ap (λ names. names ++ (test_variables f ++ tests_variables fs)) (none_own s (test_signature AnyOf) read refl complete (alone refl)) }
-made s Size read none complete alone same params few sound inside = sized s read complete (alone refl)
-made s Header read none complete alone same params few sound inside =
+    → test_may_stand s name ≡ true → IsInnerIn (length s.loops) inner → Made (length s.loops) (own_names s read ++ inner_variables inner) (test_of s name read inner)
+made s (Constant b) read none complete alone same params few sound inside stands around = record { form = constant b; is = refl; bounded = tt; around = tt; variables = ap (λ names. names ++ []) (none_own s (test_signature (Constant b)) read refl complete (alone refl)) }
+made s Not read (one f) complete alone same params few sound inside stands around = record { form = negation f; is = refl; bounded = inside; around = around; variables = ap (λ names. names ++ test_variables f) (none_own s (test_signature Not) read refl complete (alone refl)) }
+made s AllOf read (bracketed f fs) complete alone same params few sound inside stands around = record { form = all_of f fs; is = refl; bounded = inside; around = around; variables = ap (λ names. names ++ (test_variables f ++ tests_variables fs)) (none_own s (test_signature AllOf) read refl complete (alone refl)) }
+made s AnyOf read (bracketed f fs) complete alone same params few sound inside stands around = record { form = any_of f fs; is = refl; bounded = inside; around = around; variables = ap (λ names. names ++ (test_variables f ++ tests_variables fs)) (none_own s (test_signature AnyOf) read refl complete (alone refl)) }
+made s Size read none complete alone same params few sound inside stands around =
+    let parts = complete_parts (test_signature Size) read complete in
+    sized s size (λ order n. tt) (λ order n. tt) (λ order n. refl) read parts.0 parts.1 (alone refl)
+made s PartSize read none complete alone same params few sound inside stands around =
+    let parts = complete_parts (test_signature PartSize) read complete in
+    sized s part_size (λ order n. tt) (λ order n. ltb-true 0 (length s.loops) stands) (λ order n. refl) read parts.0 parts.1 (alone refl)
+made s Header read none complete alone same params few sound inside stands around =
     let lists = three_listed s (header (match_of read.tags) (scope_of read.tags)) read.tags.piece read.params read.positional (complete_parts (test_signature Header) read complete).1 params few sound in
-    record { form = header (match_of read.tags) (scope_of read.tags) lists.selected lists.first lists.second; is = lists.is; bounded = lists.bounded; variables = listed_names s read _ lists.names }
-made s Exists read none complete alone same params few sound inside =
+    record { form = header (match_of read.tags) (scope_of read.tags) lists.selected lists.first lists.second; is = lists.is; bounded = lists.bounded; around = tt; variables = listed_names s read _ lists.names }
+made s Exists read none complete alone same params few sound inside stands around =
     let behind = behind_tags s read (alone refl) few sound in
     let list = one_listed s (exists (scope_of read.tags)) read.positional (complete_parts (test_signature Exists) read complete).1 behind.few behind.sound in
-    record { form = exists (scope_of read.tags) list.list; is = list.is; bounded = list.bounded; variables = positional_names s read _ (alone refl) list.names }
-made s String read none complete alone same params few sound inside =
+    record { form = exists (scope_of read.tags) list.list; is = list.is; bounded = list.bounded; around = tt; variables = positional_names s read _ (alone refl) list.names }
+made s PartBody read none complete alone same params few sound inside stands around =
+    let behind = behind_tags s read (alone refl) few sound in
+    let list = one_listed s (part_body (match_of read.tags)) read.positional (complete_parts (test_signature PartBody) read complete).1 behind.few behind.sound in
+    record { form = part_body (match_of read.tags) list.list; is = list.is; bounded = list.bounded; around = ltb-true 0 (length s.loops) stands; variables = positional_names s read _ (alone refl) list.names }
+made s PartDigest read none complete alone same params few sound inside stands around =
+    let behind = behind_tags s read (alone refl) few sound in
+    let list = one_listed s part_digest read.positional (complete_parts (test_signature PartDigest) read complete).1 behind.few behind.sound in
+    record { form = part_digest list.list; is = list.is; bounded = list.bounded; around = ltb-true 0 (length s.loops) stands; variables = positional_names s read _ (alone refl) list.names }
+made s String read none complete alone same params few sound inside stands around =
     let behind = behind_tags s read (alone refl) few sound in
     let lists = two_listed s (string (match_of read.tags)) read.positional (complete_parts (test_signature String) read complete).1 behind.few behind.sound in
-    record { form = string (match_of read.tags) lists.first lists.second; is = lists.is; bounded = lists.bounded; variables = positional_names s read _ (alone refl) lists.names }
-made s (Constant b) read (one f) complete alone same params few sound inside = absurd (cc)
-made s (Constant b) read (bracketed f fs) complete alone same params few sound inside = absurd (cc)
-made s Not read none complete alone same params few sound inside = absurd (cc)
-made s Not read (bracketed f fs) complete alone same params few sound inside = absurd (cc)
-made s AllOf read none complete alone same params few sound inside = absurd (cc)
-made s AllOf read (one f) complete alone same params few sound inside = absurd (cc)
-made s AnyOf read none complete alone same params few sound inside = absurd (cc)
-made s AnyOf read (one f) complete alone same params few sound inside = absurd (cc)
-made s Header read (one f) complete alone same params few sound inside = absurd (cc)
-made s Header read (bracketed f fs) complete alone same params few sound inside = absurd (cc)
-made s Exists read (one f) complete alone same params few sound inside = absurd (cc)
-made s Exists read (bracketed f fs) complete alone same params few sound inside = absurd (cc)
-made s Size read (one f) complete alone same params few sound inside = absurd (cc)
-made s Size read (bracketed f fs) complete alone same params few sound inside = absurd (cc)
-made s String read (one f) complete alone same params few sound inside = absurd (cc)
-made s String read (bracketed f fs) complete alone same params few sound inside = absurd (cc)
+    record { form = string (match_of read.tags) lists.first lists.second; is = lists.is; bounded = lists.bounded; around = tt; variables = positional_names s read _ (alone refl) lists.names }
+made s (Constant b) read (one f) complete alone same params few sound inside stands around = absurd (cc)
+made s (Constant b) read (bracketed f fs) complete alone same params few sound inside stands around = absurd (cc)
+made s Not read none complete alone same params few sound inside stands around = absurd (cc)
+made s Not read (bracketed f fs) complete alone same params few sound inside stands around = absurd (cc)
+made s AllOf read none complete alone same params few sound inside stands around = absurd (cc)
+made s AllOf read (one f) complete alone same params few sound inside stands around = absurd (cc)
+made s AnyOf read none complete alone same params few sound inside stands around = absurd (cc)
+made s AnyOf read (one f) complete alone same params few sound inside stands around = absurd (cc)
+made s Header read (one f) complete alone same params few sound inside stands around = absurd (cc)
+made s Header read (bracketed f fs) complete alone same params few sound inside stands around = absurd (cc)
+made s Exists read (one f) complete alone same params few sound inside stands around = absurd (cc)
+made s Exists read (bracketed f fs) complete alone same params few sound inside stands around = absurd (cc)
+made s Size read (one f) complete alone same params few sound inside stands around = absurd (cc)
+made s Size read (bracketed f fs) complete alone same params few sound inside stands around = absurd (cc)
+made s String read (one f) complete alone same params few sound inside stands around = absurd (cc)
+made s String read (bracketed f fs) complete alone same params few sound inside stands around = absurd (cc)
+made s PartSize read (one f) complete alone same params few sound inside stands around = absurd (cc)
+made s PartSize read (bracketed f fs) complete alone same params few sound inside stands around = absurd (cc)
+made s PartBody read (one f) complete alone same params few sound inside stands around = absurd (cc)
+made s PartBody read (bracketed f fs) complete alone same params few sound inside stands around = absurd (cc)
+made s PartDigest read (one f) complete alone same params few sound inside stands around = absurd (cc)
+made s PartDigest read (bracketed f fs) complete alone same params few sound inside stands around = absurd (cc)
 
 -- ---- any test
 
@@ -220,6 +252,7 @@ pub record Inner (s : Context) (tests : TestsTree) : Type 0 where
   pub is : inner_forms_of s tests ≡ Some inner
   pub kind : inner_kind inner ≡ kind_of tests
   pub bounded : IsBoundedInner inner
+  pub around : IsInnerIn (length s.loops) inner
   pub variables : inner_variables inner ≡ names_brought (tests_visits s tests)
 
 -- tests in round brackets after the first
@@ -227,24 +260,26 @@ record Others (s : Context) (ts : MoreTests) : Type 0 where
   forms : TestForms
   is : more_forms_of s ts ≡ Some forms
   bounded : AreBoundedTests forms
+  around : AreTestsIn (length s.loops) forms
   variables : tests_variables forms ≡ names_brought (more_visits s ts)
 
 both_names : (vs ws : List Visit) → names_brought vs ++ names_brought ws ≡ names_brought (vs ++ ws)
 both_names vs ws = sym (flat_map-append (λ (v : Visit). v.names) vs ws)
 
 mutual
-  pub test_exists : (s : Context) (i : InvocationTree) → AreFaultless (test_visits s i) → Made (names_brought (test_visits s i)) (test_form_of s i)
+  pub test_exists : (s : Context) (i : InvocationTree) → AreFaultless (test_visits s i) → Made (length s.loops) (names_brought (test_visits s i)) (test_form_of s i)
   test_exists s (invocation token word args tests) h =
       let name = known (λ known. known_test_fault s known args (kind_of tests)) (test_named word) h.0 in
       let well = test_well_formed s name.0 args (kind_of tests) name.2 in
       let read = well.form.read in
       let inner = inner_exists s tests h.1 in
-      let f = made s name.0 read inner.inner well.form.complete well.form.alone (ap (same_tests (test_signature name.0).tests) inner.kind ∙ well.form.same) well.params well.few well.sound inner.bounded in
+      let f = made s name.0 read inner.inner well.form.complete well.form.alone (ap (same_tests (test_signature name.0).tests) inner.kind ∙ well.form.same) well.params well.few well.sound inner.bounded well.stands inner.around in
       record {
         form = f.form;
         is = all_taken (inner_forms_of s tests) inner.inner (test_named word) name.0 (λ name. reading (test_signature name) args) read (λ inner name read. test_of s name read inner) inner.is name.1 well.form.is
             ∙ f.is;
         bounded = f.bounded;
+        around = f.around;
         variables = f.variables
             ∙ ap (λ o. names_mentioned (where_required s (expanding (strings_read o))) ++ inner_variables inner.inner) (sym well.form.is)
             ∙ ap (λ o. names_by (λ known. test_mentions s known args) o ++ inner_variables inner.inner) (sym name.1)
@@ -252,10 +287,10 @@ mutual
       }
 
   pub inner_exists : (s : Context) (tests : TestsTree) → AreFaultless (tests_visits s tests) → Inner s tests
-  inner_exists s no_test h = record { inner = none; is = refl; kind = refl; bounded = tt; variables = refl }
+  inner_exists s no_test h = record { inner = none; is = refl; kind = refl; bounded = tt; around = tt; variables = refl }
   inner_exists s (one_test t) h =
       let f = test_exists s t h in
-      record { inner = one f.form; is = ap (option_map one) f.is; kind = refl; bounded = f.bounded; variables = f.variables }
+      record { inner = one f.form; is = ap (option_map one) f.is; kind = refl; bounded = f.bounded; around = f.around; variables = f.variables }
   inner_exists s (test_list t ts) h =
       let parts = faultless_both (test_visits s t) (more_visits s ts) h in
       let f = test_exists s t parts.0 in
@@ -265,11 +300,12 @@ mutual
         is = ap (λ o. o >>= λ f. option_map (bracketed f) (more_forms_of s ts)) f.is ∙ ap (option_map (bracketed f.form)) fs.is;
         kind = refl;
         bounded = (f.bounded, fs.bounded);
+        around = (f.around, fs.around);
         variables = ap (λ names. names ++ tests_variables fs.forms) f.variables ∙ ap (λ names. names_brought (test_visits s t) ++ names) fs.variables ∙ both_names (test_visits s t) (more_visits s ts);
       }
 
   more_exist : (s : Context) (ts : MoreTests) → AreFaultless (more_visits s ts) → Others s ts
-  more_exist s no_more h = record { forms = no_other; is = refl; bounded = tt; variables = refl }
+  more_exist s no_more h = record { forms = no_other; is = refl; bounded = tt; around = tt; variables = refl }
   more_exist s (next t ts) h =
       let parts = faultless_both (test_visits s t) (more_visits s ts) h in
       let f = test_exists s t parts.0 in
@@ -278,5 +314,6 @@ mutual
         forms = test f.form fs.forms;
         is = ap (λ o. o >>= λ f. option_map (test f) (more_forms_of s ts)) f.is ∙ ap (option_map (test f.form)) fs.is;
         bounded = (f.bounded, fs.bounded);
+        around = (f.around, fs.around);
         variables = ap (λ names. names ++ tests_variables fs.forms) f.variables ∙ ap (λ names. names_brought (test_visits s t) ++ names) fs.variables ∙ both_names (test_visits s t) (more_visits s ts);
       }

@@ -7,10 +7,11 @@ use Rattle.glob_match.specs.declared.comparator.Comparator.TheVariants.{Casemap}
 use Rattle.glob_match.specs.declared.match_type.Match.{Match}
 use Rattle.glob_match.specs.declared.match_type.MatchType.TheVariants.{Is}
 use Rattle.sieve_check.specs.declared.names.CommandName.{CommandName}
-use Rattle.sieve_check.specs.declared.names.CommandName.TheVariants.{Require, If, Elsif, Else, Stop, Keep, Discard, FileInto, Set}
+use Rattle.sieve_check.specs.declared.names.CommandName.TheVariants.{Require, If, Elsif, Else, Stop, Keep, Discard, FileInto, Set, ForEveryPart, Break, Store}
 use Rattle.sieve_check.specs.declared.names.TestName.{TestName}
-use Rattle.sieve_check.specs.declared.names.TestName.TheVariants.{Constant, Not, AllOf, AnyOf, Header, Exists, Size, String}
+use Rattle.sieve_check.specs.declared.names.TestName.TheVariants.{Constant, Not, AllOf, AnyOf, Header, Exists, Size, String, PartSize, PartBody, PartDigest}
 use Rattle.sieve_check.specs.declared.names.Capability.TheVariants.{Variables}
+use Rattle.sieve_check.specs.declared.typed.Order.{Order}
 use Rattle.sieve_check.specs.declared.typed.Segment.{Segment}
 use Rattle.sieve_check.specs.declared.typed.Segment.TheVariants.{Text, Variable, Capture}
 use Rattle.bytecode_format.specs.declared.modifiers.Modifiers.{Modifiers}
@@ -22,8 +23,8 @@ use Rattle.sieve_check.specs.declared.typed.Scope.TheVariants.{Message, Part, Pa
 use Rattle.sieve_check.specs.Names.{command_named, test_named}
 use Rattle.sieve_check.specs.Signatures.{◌>>=◌, Read, reading, command_signature, test_signature}
 use Rattle.sieve_check.specs.Rules.{after_invocation, invocation_of, loops_opened}
-use Rattle.sieve_check.specs.Surroundings.{Context, at_start, has_capability, in_block}
-use Rattle.sieve_check.specs.Typed.{Template, Selected, whole, main, sub, content_type, params, TestForm, constant, negation, all_of, any_of, header, exists, size, string, TestForms, no_test as no_other, test, CommandForm, keep, discard, file_into, set, stop, choice, CommandForms, no_command, command, BranchForms, no_branch, otherwise, branch}
+use Rattle.sieve_check.specs.Surroundings.{Context, at_start, has_capability, inside, loops_left}
+use Rattle.sieve_check.specs.Typed.{Template, Selected, whole, main, sub, content_type, params, TestForm, constant, negation, all_of, any_of, header, exists, size, string, part_size, part_body, part_digest, TestForms, no_test as no_other, test, CommandForm, keep, discard, file_into, set, store, for_every_part, leave, stop, choice, CommandForms, no_command, command, BranchForms, no_branch, otherwise, branch}
 
 -- the forms of the tests behind arguments: none, one, or a first and others in brackets
 pub data InnerForms : Type 0 where
@@ -98,9 +99,9 @@ abbrev pub header_of : Context → Read → Option TestForm
 header_of s read =
     params_in s read.params >>= λ names. of_lists s (header (match_of read.tags) (scope_of read.tags) (selected_by read.tags.piece names)) read.positional
 
--- the comparison of a size
-abbrev pub size_of : Tags → List ArgumentTree → Option TestForm
-size_of tags args = tags.order >>= λ order. number_in args >>= λ n. Some (size order n)
+-- the comparison of a size, that of the message or that of a part
+abbrev pub size_of : (Order → ℕ → TestForm) → Tags → List ArgumentTree → Option TestForm
+size_of make tags args = tags.order >>= λ order. number_in args >>= λ n. Some (make order n)
 
 -- a test of this name, with the arguments that were read and the tests behind them
 abbrev pub test_of : Context → TestName → Read → InnerForms → Option TestForm
@@ -110,8 +111,11 @@ test_of s AllOf read (bracketed f fs) = Some (all_of f fs)
 test_of s AnyOf read (bracketed f fs) = Some (any_of f fs)
 test_of s Header read none = header_of s read
 test_of s Exists read none = of_list s (exists (scope_of read.tags)) read.positional
-test_of s Size read none = size_of read.tags read.positional
+test_of s Size read none = size_of size read.tags read.positional
 test_of s String read none = of_lists s (string (match_of read.tags)) read.positional
+test_of s PartSize read none = size_of part_size read.tags read.positional
+test_of s PartBody read none = of_list s (part_body (match_of read.tags)) read.positional
+test_of s PartDigest read none = of_list s part_digest read.positional
 test_of s _ _ _ = None
 
 abbrev mutual
@@ -136,13 +140,19 @@ pub data PartForm : Type 0 where
   next_branch : TestForm → CommandForms → PartForm
   last : CommandForms → PartForm
 
+-- a command that files into the folder which the arguments are
+abbrev pub filing_in : Context → (Template → CommandForm) → List ArgumentTree → Option PartForm
+filing_in s make args = option_map (λ folder. action (make (template_of s folder))) (text_in args)
+
 -- a command of this name that ends in a semicolon, with the arguments that were read
 abbrev pub simple_of : Context → CommandName → Read → InnerForms → Option PartForm
 simple_of s Require read none = Some nothing
 simple_of s Stop read none = Some (action stop)
 simple_of s Keep read none = Some (action keep)
 simple_of s Discard read none = Some (action discard)
-simple_of s FileInto read none = option_map (λ folder. action (file_into (template_of s folder))) (text_in read.positional)
+simple_of s FileInto read none = filing_in s file_into read.positional
+simple_of s Store read none = filing_in s store read.positional
+simple_of s Break read none = option_map (λ loops. action (leave loops)) (loops_left read.name s.loops)
 simple_of s Set read none = option_map action (setting_in s read.tags.modifiers read.positional)
 simple_of s _ _ _ = None
 
@@ -151,6 +161,7 @@ abbrev pub block_of : CommandName → InnerForms → CommandForms → Option Par
 block_of If (one f) body = Some (first f body)
 block_of Elsif (one f) body = Some (next_branch f body)
 block_of Else none body = Some (last body)
+block_of ForEveryPart none body = Some (action (for_every_part body))
 block_of _ _ _ = None
 
 -- commands, of which the first may go on with a choice before them: those branches, and then the commands
@@ -188,9 +199,10 @@ block_part s (invocation token word args tests) body =
     inner_forms_of s tests >>= λ inner. command_named word >>= λ name. reading (command_signature name) args >>= λ read. block_of name inner body
 
 abbrev mutual
+  -- there is none where more loops would be open than may be
   pub part_of : Context → CommandTree → Option PartForm
   part_of s (simple i) = simple_part s i
-  part_of s (block i cs) = forms_of (in_block (loops_opened i) s) cs >>= λ forms. closed forms >>= λ body. block_part s i body
+  part_of s (block i cs) = inside (loops_opened i) s >>= λ around. forms_of around cs >>= λ forms. closed forms >>= λ body. block_part s i body
 
   -- commands, one before the others
   pub forms_of : Context → CommandsTree → Option Forms

@@ -7,14 +7,14 @@ use Rattle.glob_match.specs.declared.match_type.MatchType.TheVariants.{Is, Conta
 use Rattle.bytecode_format.specs.declared.modifiers.Case.TheVariants.{Lower, Upper}
 use Rattle.sieve_check.specs.declared.typed.Order.TheVariants.{Over, Under}
 use Rattle.sieve_check.specs.declared.names.CommandName.{CommandName}
-use Rattle.sieve_check.specs.declared.names.CommandName.TheVariants.{Require, If, Elsif, Else, Stop, Keep, Discard, FileInto, Set}
+use Rattle.sieve_check.specs.declared.names.CommandName.TheVariants.{Require, If, Elsif, Else, Stop, Keep, Discard, FileInto, Set, ForEveryPart, Break, Store}
 use Rattle.sieve_check.specs.declared.names.TestName.{TestName}
-use Rattle.sieve_check.specs.declared.names.TestName.TheVariants.{Constant, Not, AllOf, AnyOf, Header, Exists, Size, String}
+use Rattle.sieve_check.specs.declared.names.TestName.TheVariants.{Constant, Not, AllOf, AnyOf, Header, Exists, Size, String, PartSize, PartBody, PartDigest}
 use Rattle.sieve_check.specs.declared.names.Tag.{Tag}
-use Rattle.sieve_check.specs.declared.names.Tag.TheVariants.{Order, Kind, Comparator, Letters, First, QuoteWildcard, Length, Mime as MimeTag, AnyChild, Select}
+use Rattle.sieve_check.specs.declared.names.Tag.TheVariants.{Order, Kind, Comparator, Letters, First, QuoteWildcard, Length, Mime as MimeTag, AnyChild, Select, Name}
 use Rattle.sieve_check.specs.declared.names.Piece.TheVariants.{Main, Sub, ContentType, Params}
 use Rattle.sieve_check.specs.declared.names.Capability.{Capability}
-use Rattle.sieve_check.specs.declared.names.Capability.TheVariants.{FileInto as FileIntoCapability, Variables, Mime, ForEveryPart, Depot, OctetComparator, CasemapComparator}
+use Rattle.sieve_check.specs.declared.names.Capability.TheVariants.{FileInto as FileIntoCapability, Variables, Mime, ForEveryPart as ForEveryPartCapability, Depot, OctetComparator, CasemapComparator}
 
 -- the texts are equal but for the case of ASCII letters
 abbrev pub is_word : List ℕ → List ℕ → Bool
@@ -32,6 +32,9 @@ command_named name =
     if is_word name (codes "discard") then Some Discard else
     if is_word name (codes "fileinto") then Some FileInto else
     if is_word name (codes "set") then Some Set else
+    if is_word name (codes "foreverypart") then Some ForEveryPart else
+    if is_word name (codes "break") then Some Break else
+    if is_word name (codes "store") then Some Store else
     None
 
 -- the test of that name, if it is known
@@ -46,6 +49,9 @@ test_named name =
     if is_word name (codes "exists") then Some Exists else
     if is_word name (codes "size") then Some Size else
     if is_word name (codes "string") then Some String else
+    if is_word name (codes "partsize") then Some PartSize else
+    if is_word name (codes "partbody") then Some PartBody else
+    if is_word name (codes "partdigest") then Some PartDigest else
     None
 
 -- the tag of that name, if it is known
@@ -69,6 +75,7 @@ tag_named name =
     if is_word name (codes "subtype") then Some (Select Sub) else
     if is_word name (codes "contenttype") then Some (Select ContentType) else
     if is_word name (codes "param") then Some (Select Params) else
+    if is_word name (codes "name") then Some Name else
     None
 
 -- the capability of that name, if it is known; capabilities are taken as they are written
@@ -77,7 +84,7 @@ capability_named name =
     if bytes_eq name (codes "fileinto") then Some FileIntoCapability else
     if bytes_eq name (codes "variables") then Some Variables else
     if bytes_eq name (codes "mime") then Some Mime else
-    if bytes_eq name (codes "foreverypart") then Some ForEveryPart else
+    if bytes_eq name (codes "foreverypart") then Some ForEveryPartCapability else
     if bytes_eq name (codes "vnd.depot") then Some Depot else
     if bytes_eq name (codes "comparator-i;octet") then Some OctetComparator else
     if bytes_eq name (codes "comparator-i;ascii-casemap") then Some CasemapComparator else

@@ -1,5 +1,5 @@
 -- What the readers of arguments answer.
-use Rattle.std.specs.Prelude.{◌≡◌, ℕ, ◌≤◌, true, List, [], ◌∷◌, ◌++◌, map, length, Option, Some, None, MatchOption}
+use Rattle.std.specs.Prelude.{◌≡◌, ℕ, ◌≤◌, true, List, [], ◌∷◌, ◌++◌, map, length, Option, Some, None, option_map, MatchOption}
 use Rattle.std.specs.Borrow.{Bor}
 use Rattle.sieve_parser.specs.Tree.{ArgumentTree, text, label}
 use Rattle.sieve_parser.specs.View.{argument_tree}
@@ -24,9 +24,13 @@ FirstList args answer =
     MatchOption answer ((a : ArgumentTree) (rest : List ArgumentTree) → args ≡ a ∷ rest → is_list a ≡ true → ⊥)
     (λ found. (a : ArgumentTree) × (map argument_tree found.0.now ≡ a ∷ []) × (is_list a ≡ true) × (args ≡ a ∷ map argument_tree found.1.now))
 
+-- a name that was lent, if one was
+abbrev pub name_in : Option (Bor (List ℕ)) → Option (List ℕ)
+name_in name = option_map (λ (name : Bor (List ℕ)). name.now) name
+
 -- what was read so far, as a definition sees it, and the arguments that are left
 abbrev pub given_of : Reading → Given
-given_of reading = record { tags = reading.tags; params = map argument_tree reading.params.now }
+given_of reading = record { tags = reading.tags; params = map argument_tree reading.params.now; name = name_in reading.name }
 
 abbrev pub left_of : Reading → List ArgumentTree
 left_of reading = map argument_tree reading.positional.now
@@ -38,7 +42,7 @@ Settles before last answer = MatchOption answer ((signature : Signature) → tag
 
 -- the arguments as they were read, as a definition sees them
 abbrev pub read_of : Reading → Read
-read_of reading = record { tags = reading.tags; params = map argument_tree reading.params.now; positional = left_of reading }
+read_of reading = record { tags = reading.tags; params = map argument_tree reading.params.now; name = name_in reading.name; positional = left_of reading }
 
 -- the lists, one after the other
 abbrev pub all_lists : Lists → List ArgumentTree

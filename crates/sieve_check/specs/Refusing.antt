@@ -1,5 +1,5 @@
 -- What the functions answer that look for faults.
-use Rattle.std.specs.Prelude.{◌≡◌, ℕ, ◌<◌, List, [], ◌∷◌, length, map, bytes_eq, Option, Some, None, Result, MatchResult}
+use Rattle.std.specs.Prelude.{◌≡◌, ℕ, ◌<◌, true, false, List, [], ◌∷◌, ◌++◌, length, map, take, bytes_eq, Option, Some, None, Result, MatchOption, MatchResult}
 use Rattle.std.specs.Borrow.{Bor}
 use Rattle.octets.specs.Ascii.{lowercase_of}
 use Rattle.octets.specs.Limits.{max_variables}
@@ -9,20 +9,29 @@ use Rattle.sieve_check.specs.declared.error.CheckError.{CheckError}
 use Rattle.sieve_check.specs.declared.error.Fault.{Fault}
 use Rattle.sieve_check.specs.declared.error.Fault.TheVariants.{Limit}
 use Rattle.sieve_check.specs.declared.mentions.Mentions.{Mentions}
+use Rattle.sieve_check.specs.declared.loops.Loops.{Loops}
 use Rattle.sieve_check.specs.declared.names.CommandName.{CommandName}
 use Rattle.sieve_check.specs.declared.names.TestName.{TestName}
 use Rattle.sieve_check.specs.declared.signature.Ending.{Ending}
 use Rattle.sieve_check.specs.declared.signature.Tests.{Tests}
 use Rattle.sieve_check.specs.declared.surroundings.Surroundings.{Surroundings}
 use Rattle.sieve_check.specs.declared.variable_names.VariableNames.{VariableNames}
-use Rattle.sieve_check.specs.Reading.{all_lists}
+use Rattle.sieve_check.specs.Reading.{all_lists, name_in}
 use Rattle.sieve_check.specs.Rules as rules
 use Rattle.sieve_check.specs.Rules.{Visit, command_mentions, first_fault, known_command_fault, known_test_fault, names_mentioned, names_with, strings_of, test_mentions, visit_fault}
-use Rattle.sieve_check.specs.Surroundings.{Context}
+use Rattle.sieve_check.specs.Surroundings.{Context, opens_many}
 
--- the code's surroundings, as a definition sees them: no loop is open, since no command opens one yet
+-- the names of the loops that are open, the innermost first
+abbrev pub open_loops : Loops → List (Option (List ℕ))
+open_loops loops = map name_in (take loops.number loops.names)
+
+-- the code's surroundings, as a definition sees them
 abbrev pub context_of : Surroundings → Context
-context_of s = record { required = s.required; loops = []; takes_require = s.takes_require; after_if = s.after_if }
+context_of s = record { required = s.required; loops = open_loops s.loops; takes_require = s.takes_require; after_if = s.after_if }
+
+-- the loops around a block, around which these are opened, where there may be so many
+abbrev pub LoopsWithin : Context → List (Option (List ℕ)) → Option Loops → Type 0
+LoopsWithin s opened result = MatchOption result (opens_many opened s ≡ true) (λ all. (opens_many opened s ≡ false) × (open_loops all ≡ opened ++ s.loops))
 
 -- the names so far, in lower case
 abbrev pub shown : List (Bor (List ℕ)) → List (List ℕ)

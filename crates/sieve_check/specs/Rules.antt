@@ -16,9 +16,9 @@ use Rattle.sieve_check.specs.declared.error.Fault.TheVariants.{UnknownCommand, M
 use Rattle.sieve_check.specs.declared.names.Capability.{Capability}
 use Rattle.sieve_check.specs.declared.names.Capability.TheVariants as capability
 use Rattle.sieve_check.specs.declared.names.CommandName.{CommandName}
-use Rattle.sieve_check.specs.declared.names.CommandName.TheVariants.{Require, If, Elsif, Else, Stop, Keep, Discard, FileInto, Set}
+use Rattle.sieve_check.specs.declared.names.CommandName.TheVariants.{Require, If, Elsif, Else, Stop, Keep, Discard, FileInto, Set, ForEveryPart, Break, Store}
 use Rattle.sieve_check.specs.declared.names.TestName.{TestName}
-use Rattle.sieve_check.specs.declared.names.TestName.TheVariants.{Constant, Not, AllOf, AnyOf, Header, Exists, Size, String}
+use Rattle.sieve_check.specs.declared.names.TestName.TheVariants.{Constant, Not, AllOf, AnyOf, Header, Exists, Size, String, PartSize, PartBody, PartDigest}
 use Rattle.sieve_check.specs.declared.rules.StringFault.{StringFault}
 use Rattle.sieve_check.specs.declared.rules.StringFault.TheVariants.{Unknown, Long, Wrong, Large}
 use Rattle.sieve_check.specs.declared.signature.Tests.{Tests}
@@ -30,7 +30,7 @@ use Rattle.sieve_check.specs.declared.names.Tag.{Tag}
 use Rattle.sieve_check.specs.declared.names.Tag.TheVariants.{Mime}
 use Rattle.sieve_check.specs.Names.{capability_named, command_named, tag_named, test_named}
 use Rattle.sieve_check.specs.Signatures.{Read, command_signature, ending_of, test_signature, reading}
-use Rattle.sieve_check.specs.Surroundings.{Context, at_start, following, has_capability, in_block, lacks}
+use Rattle.sieve_check.specs.Surroundings.{Context, at_start, following, has_capability, in_block, in_loop, lacks, loops_left, opens_many}
 
 -- the strings of arguments, with those in brackets
 abbrev pub strings_in : ArgumentTree → List (List ℕ)
@@ -56,6 +56,9 @@ command_needs Keep = None
 command_needs Discard = None
 command_needs FileInto = Some capability.FileInto
 command_needs Set = Some capability.Variables
+command_needs ForEveryPart = Some capability.ForEveryPart
+command_needs Break = Some capability.ForEveryPart
+command_needs Store = Some capability.Depot
 
 abbrev pub is_mime : Option Tag → Bool
 is_mime (Some Mime) = true
@@ -79,18 +82,54 @@ test_needs Header args = mime_where_given args
 test_needs Exists args = mime_where_given args
 test_needs Size args = None
 test_needs String args = Some capability.Variables
+test_needs PartSize args = Some capability.Depot
+test_needs PartBody args = Some capability.Depot
+test_needs PartDigest args = Some capability.Depot
 
--- where each command may stand: a require at the top level after nothing else, an elsif and an else directly after an if or elsif
-abbrev pub may_stand : Context → CommandName → Bool
-may_stand s Require = s.takes_require
-may_stand s If = true
-may_stand s Elsif = s.after_if
-may_stand s Else = s.after_if
-may_stand s Stop = true
-may_stand s Keep = true
-may_stand s Discard = true
-may_stand s FileInto = true
-may_stand s Set = true
+-- arguments that were read name a loop that can be left, or none where there is one
+abbrev pub leaves_loop : Context → Option Read → Bool
+leaves_loop s None = false
+leaves_loop s (Some read) = is_some (loops_left read.name s.loops)
+
+-- where each command may stand: a require at the top level after nothing else, an elsif and an else directly after an if or elsif,
+-- a break where it has a loop to leave, a store in a loop
+abbrev pub may_stand : Context → CommandName → List ArgumentTree → Bool
+may_stand s Require args = s.takes_require
+may_stand s If args = true
+may_stand s Elsif args = s.after_if
+may_stand s Else args = s.after_if
+may_stand s Stop args = true
+may_stand s Keep args = true
+may_stand s Discard args = true
+may_stand s FileInto args = true
+may_stand s Set args = true
+may_stand s ForEveryPart args = true
+may_stand s Break args = leaves_loop s (reading (command_signature Break) args)
+may_stand s Store args = in_loop s
+
+-- where each test may stand: those of the current part in a loop
+abbrev pub test_may_stand : Context → TestName → Bool
+test_may_stand s (Constant b) = true
+test_may_stand s Not = true
+test_may_stand s AllOf = true
+test_may_stand s AnyOf = true
+test_may_stand s Header = true
+test_may_stand s Exists = true
+test_may_stand s Size = true
+test_may_stand s String = true
+test_may_stand s PartSize = in_loop s
+test_may_stand s PartBody = in_loop s
+test_may_stand s PartDigest = in_loop s
+
+-- the argument of `:name`, if it could be read
+abbrev pub name_read : Option Read → Option (List ℕ)
+name_read None = None
+name_read (Some read) = read.name
+
+-- the loop that a command opens around its block, with its name, if it has one
+abbrev pub opened_by : CommandName → List ArgumentTree → List (Option (List ℕ))
+opened_by ForEveryPart args = name_read (reading (command_signature ForEveryPart) args) ∷ []
+opened_by _ args = []
 
 -- a reference into a namespace, or to a capture that there can't be
 abbrev pub is_wrong : Segment → Bool
@@ -192,16 +231,16 @@ abbrev pub known_command_fault : Context → CommandName → List ArgumentTree �
 known_command_fault s name args tests ending =
     if lacks s (command_needs name) then Some MissingCapability
     else if has_unknown_capability name args then Some UnknownCapability
-    else if not (may_stand s name && (same_ending (ending_of name) ending && is_well_formed (command_signature name) args tests)) then Some BadArguments
+    else if not (may_stand s name args && (same_ending (ending_of name) ending && is_well_formed (command_signature name) args tests)) then Some BadArguments
     else if has_wrong_mention (command_mentions s name args) then Some BadArguments
-    else if has_long_string args || has_large_mention (command_mentions s name args) then Some Limit
+    else if has_long_string args || has_large_mention (command_mentions s name args) || opens_many (opened_by name args) s then Some Limit
     else None
 
 -- the fault of least number of a test that is known by that name
 abbrev pub known_test_fault : Context → TestName → List ArgumentTree → Tests → Option Fault
 known_test_fault s name args tests =
     if lacks s (test_needs name args) then Some MissingCapability
-    else if not (is_well_formed (test_signature name) args tests) then Some BadArguments
+    else if not (test_may_stand s name && is_well_formed (test_signature name) args tests) then Some BadArguments
     else if has_wrong_mention (test_mentions s name args) then Some BadArguments
     else if has_long_string args || has_many_strings (reading (test_signature name) args) || has_large_mention (test_mentions s name args) then Some Limit
     else None
@@ -265,9 +304,13 @@ abbrev pub invocation_of : CommandTree → InvocationTree
 invocation_of (simple i) = i
 invocation_of (block i cs) = i
 
--- the loop that a command opens around its block: none of those that there are opens one
+-- the loop that a command opens around its block, by what its name is known as
+abbrev pub loops_by : Option CommandName → List ArgumentTree → List (Option (List ℕ))
+loops_by None args = []
+loops_by (Some name) args = opened_by name args
+
 abbrev pub loops_opened : InvocationTree → List (Option (List ℕ))
-loops_opened i = []
+loops_opened (invocation token name args tests) = loops_by (command_named name) args
 
 -- after a command
 abbrev pub after_invocation : Context → InvocationTree → Context

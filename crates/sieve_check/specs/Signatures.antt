@@ -1,13 +1,14 @@
--- What commands and tests take, and how their arguments are read (RFC 5228, section 2.6; RFC 5229, section 4).
-use Rattle.std.specs.Prelude.{Bool, true, false, not, ◌&&◌, ◌||◌, if◌then◌else◌, List, [], ◌∷◌, Option, Some, None, is_some, option_map}
+-- What commands and tests take, and how their arguments are read (RFC 5228, section 2.6; RFC 5229, section 4; RFC 5703, sections 3
+-- and 4).
+use Rattle.std.specs.Prelude.{ℕ, Bool, true, false, not, ◌&&◌, ◌||◌, if◌then◌else◌, List, [], ◌∷◌, Option, Some, None, is_some, option_map}
 use Rattle.sieve_parser.specs.Tree.{ArgumentTree, text, text_list, amount, label}
 use Rattle.bytecode_format.specs.Modifiers.{no_modifiers}
 use Rattle.sieve_check.specs.declared.names.CommandName.{CommandName}
-use Rattle.sieve_check.specs.declared.names.CommandName.TheVariants.{Require, If, Elsif, Else, Stop, Keep, Discard, FileInto, Set}
+use Rattle.sieve_check.specs.declared.names.CommandName.TheVariants.{Require, If, Elsif, Else, Stop, Keep, Discard, FileInto, Set, ForEveryPart, Break, Store}
 use Rattle.sieve_check.specs.declared.names.TestName.{TestName}
-use Rattle.sieve_check.specs.declared.names.TestName.TheVariants.{Constant, Not, AllOf, AnyOf, Header, Exists, Size, String}
+use Rattle.sieve_check.specs.declared.names.TestName.TheVariants.{Constant, Not, AllOf, AnyOf, Header, Exists, Size, String, PartSize, PartBody, PartDigest}
 use Rattle.sieve_check.specs.declared.names.Tag.{Tag}
-use Rattle.sieve_check.specs.declared.names.Tag.TheVariants.{Order, Kind, Comparator, Letters, First, QuoteWildcard, Length, Mime, AnyChild, Select}
+use Rattle.sieve_check.specs.declared.names.Tag.TheVariants.{Order, Kind, Comparator, Letters, First, QuoteWildcard, Length, Mime, AnyChild, Select, Name}
 use Rattle.sieve_check.specs.declared.names.Piece.TheVariants.{Main, Sub, ContentType, Params}
 use Rattle.sieve_check.specs.declared.signature.Positional.{Positional}
 use Rattle.sieve_check.specs.declared.signature.Positional.TheVariants as positional
@@ -26,7 +27,7 @@ None >>= f = None
 
 -- no argument, and these tests
 abbrev pub bare : Tests → Signature
-bare after = record { order = false; matching = false; modifying = false; scoped = false; selecting = false; positional = positional.Nothing; tests = after }
+bare after = record { order = false; matching = false; modifying = false; scoped = false; selecting = false; naming = false; positional = positional.Nothing; tests = after }
 
 -- what each command takes, and how it ends
 abbrev pub command_signature : CommandName → Signature
@@ -39,6 +40,9 @@ command_signature Keep = bare tests.Nothing
 command_signature Discard = bare tests.Nothing
 command_signature FileInto = record (bare tests.Nothing) { positional = positional.Text }
 command_signature Set = record (bare tests.Nothing) { modifying = true; positional = positional.TwoTexts }
+command_signature ForEveryPart = record (bare tests.Nothing) { naming = true }
+command_signature Break = record (bare tests.Nothing) { naming = true }
+command_signature Store = record (bare tests.Nothing) { positional = positional.Text }
 
 abbrev pub ending_of : CommandName → Ending
 ending_of Require = Semicolon
@@ -50,6 +54,9 @@ ending_of Keep = Semicolon
 ending_of Discard = Semicolon
 ending_of FileInto = Semicolon
 ending_of Set = Semicolon
+ending_of ForEveryPart = Block
+ending_of Break = Semicolon
+ending_of Store = Semicolon
 
 -- what each test takes
 abbrev pub test_signature : TestName → Signature
@@ -61,24 +68,29 @@ test_signature Header = record (bare tests.Nothing) { matching = true; scoped = 
 test_signature Exists = record (bare tests.Nothing) { scoped = true; positional = positional.OneList }
 test_signature Size = record (bare tests.Nothing) { order = true; positional = positional.Number }
 test_signature String = record (bare tests.Nothing) { matching = true; positional = positional.TwoLists }
+test_signature PartSize = record (bare tests.Nothing) { order = true; positional = positional.Number }
+test_signature PartBody = record (bare tests.Nothing) { matching = true; positional = positional.OneList }
+test_signature PartDigest = record (bare tests.Nothing) { positional = positional.OneList }
 
--- arguments that were read: the tags, one of each group at most, the argument of `:param`, if it stands there, and those behind
--- the tags
+-- arguments that were read: the tags, one of each group at most, the argument of `:param` and that of `:name`, if they stand
+-- there, and those behind the tags
 pub record Read : Type 0 where
   pub tags : Tags
   pub params : List ArgumentTree
+  pub name : Option (List ℕ)
   pub positional : List ArgumentTree
 
 abbrev pub no_tag : Tags
-no_tag = record { order = None; kind = None; comparator = None; modifiers = no_modifiers; mime = false; any_child = false; piece = None }
+no_tag = record { order = None; kind = None; comparator = None; modifiers = no_modifiers; mime = false; any_child = false; piece = None; named = false }
 
 -- what was read of the tags
 pub record Given : Type 0 where
   pub tags : Tags
   pub params : List ArgumentTree
+  pub name : Option (List ℕ)
 
 abbrev pub nothing_given : Given
-nothing_given = record { tags = no_tag; params = [] }
+nothing_given = record { tags = no_tag; params = []; name = None }
 
 -- the signature takes the tag, and none of its group was given
 abbrev pub takes_tag : Signature → Tag → Tags → Bool
@@ -92,6 +104,7 @@ takes_tag signature Length tags = signature.modifying && not tags.modifiers.leng
 takes_tag signature Mime tags = signature.scoped && not tags.mime
 takes_tag signature AnyChild tags = signature.scoped && not tags.any_child
 takes_tag signature (Select piece) tags = signature.selecting && not (is_some tags.piece)
+takes_tag signature Name tags = signature.naming && not tags.named
 
 -- with one more tag; what one with an argument says comes with that
 abbrev pub with_tag : Tag → Tags → Tags
@@ -105,6 +118,7 @@ with_tag Length tags = record tags { modifiers = record tags.modifiers { length 
 with_tag Mime tags = record tags { mime = true }
 with_tag AnyChild tags = record tags { any_child = true }
 with_tag (Select piece) tags = record tags { piece = Some piece }
+with_tag Name tags = record tags { named = true }
 
 abbrev pub tags_with : Signature → Tag → Tags → Option Tags
 tags_with signature tag tags = if takes_tag signature tag tags then Some (with_tag tag tags) else None
@@ -127,6 +141,7 @@ awaited (Select Main) = None
 awaited (Select Sub) = None
 awaited (Select ContentType) = None
 awaited (Select Params) = Some (Select Params)
+awaited Name = Some Name
 
 -- one string, or one list of strings in square brackets
 abbrev pub is_list : ArgumentTree → Bool
@@ -135,16 +150,17 @@ is_list (text_list s ss) = true
 is_list (amount n) = false
 is_list (label name) = false
 
--- a tag's argument: of a comparator one string, its name; of `:param` a list
+-- a tag's argument: of a comparator one string, its name; of `:param` a list; of `:name` one string, which is taken as it is written
 abbrev pub with_argument : Tag → ArgumentTree → Given → Option Given
 with_argument Comparator (text s) given = option_map (λ comparator. record given { tags = record given.tags { comparator = Some comparator } }) (comparator_named s)
 with_argument (Select Params) a given = if is_list a then Some (record given { params = a ∷ [] }) else None
+with_argument Name (text s) given = Some (record given { name = Some s })
 with_argument _ _ given = None
 
 -- after these tags, of which the last may await its argument: those that are still to come, and the arguments behind them
 abbrev pub tags_read : Signature → Given → Option Tag → List ArgumentTree → Option Read
 tags_read signature given None (label name ∷ args) = tag_named name >>= λ tag. add_tag signature tag given >>= λ more. tags_read signature more (awaited tag) args
-tags_read signature given None args = Some (record { tags = given.tags; params = given.params; positional = args })
+tags_read signature given None args = Some (record { tags = given.tags; params = given.params; name = given.name; positional = args })
 tags_read signature given (Some tag) (a ∷ args) = with_argument tag a given >>= λ more. tags_read signature more None args
 tags_read signature given (Some tag) [] = None
 

@@ -1,5 +1,6 @@
 -- What surrounds a command or test.
-use Rattle.std.specs.Prelude.{ℕ, Bool, true, false, not, List, [], ◌∷◌, ◌++◌, Option, Some, None}
+use Rattle.std.specs.Prelude.{ℕ, suc, Bool, true, false, not, nat_lt, bytes_eq, if◌then◌else◌, List, [], ◌∷◌, ◌++◌, length, Option, Some, None, option_map}
+use Rattle.octets.specs.Limits.{max_loops}
 use Rattle.sieve_check.specs.declared.names.Capability.{Capability}
 use Rattle.sieve_check.specs.declared.names.Capability.TheVariants.{FileInto, Variables, Mime, ForEveryPart, Depot, OctetComparator, CasemapComparator}
 use Rattle.sieve_check.specs.declared.names.CommandName.{CommandName}
@@ -67,6 +68,30 @@ at_start = record {
 -- before the first command of a block, around which these loops were opened
 abbrev pub in_block : List (Option (List ℕ)) → Context → Context
 in_block opened s = record s { loops = opened ++ s.loops; takes_require = false; after_if = false }
+
+-- around these loops are opened, one of which would be more than may be open
+abbrev pub opens_many : List (Option (List ℕ)) → Context → Bool
+opens_many [] s = false
+opens_many (loop ∷ loops) s = not (nat_lt (length s.loops) max_loops)
+
+-- before the first command of a block, where there may be so many loops
+abbrev pub inside : List (Option (List ℕ)) → Context → Option Context
+inside opened s = if opens_many opened s then None else Some (in_block opened s)
+
+-- a loop is open around
+abbrev pub in_loop : Context → Bool
+in_loop s = nat_lt 0 (length s.loops)
+
+-- a loop is meant: each one where none is named, else those of just that name
+abbrev pub is_meant : Option (List ℕ) → Option (List ℕ) → Bool
+is_meant None loop = true
+is_meant (Some name) None = false
+is_meant (Some name) (Some other) = bytes_eq name other
+
+-- how many of the open loops are left, the innermost first, up to the first that is meant, if one is
+abbrev pub loops_left : Option (List ℕ) → List (Option (List ℕ)) → Option ℕ
+loops_left name [] = None
+loops_left name (loop ∷ loops) = if is_meant name loop then Some 1 else option_map suc (loops_left name loops)
 
 -- after a command that is known by that name, and has these strings
 abbrev pub following : Context → Option CommandName → List (List ℕ) → Context

@@ -1,11 +1,13 @@
 // The typed form of scripts. Nothing is answered where something isn't written as it has to be.
 ghost use Rattle.std.specs.Prelude.{◌≡◌, IfOk, map, option_map, Some, None};
 ghost use Rattle.sieve_parser.specs.View.{argument_tree, command_tree, commands_tree, invocation_tree};
-ghost use Rattle.sieve_check.specs.FormOf.{none, one, action, block_part, form_of, part_of, setting_in, simple_part, template_of, text_in};
+ghost use Rattle.sieve_check.specs.FormOf.{none, one, action, block_part, filing_in, form_of, part_of, setting_in, simple_part};
 ghost use Rattle.sieve_check.specs.Forming.{commands_formed, head_block, head_simple, opened_by};
+ghost use Rattle.sieve_check.specs.Reading.{name_in};
 ghost use Rattle.sieve_check.specs.Refusing.{context_of};
 ghost use Rattle.sieve_check.specs.Sequences.{part_form};
-ghost use Rattle.sieve_check.specs.Typed.{CommandForms, TestForm, file_into};
+ghost use Rattle.sieve_check.specs.Surroundings.{loops_left};
+ghost use Rattle.sieve_check.specs.Typed.{CommandForms, TestForm, file_into, leave, store};
 ghost use Rattle.sieve_check.specs.TypedView.{commands_form, test_form};
 
 use crate::names::{CommandName, command_named};
@@ -20,13 +22,13 @@ use octets::to_lowercase;
 use sieve_parser::{Argument, Command as Tree, Head, Invocation};
 use std::alloc::{AllocError, Global};
 
-// The command that files into the folder which the arguments are.
+// The command that files the message into the folder which the arguments are.
 fn file_into(
     alloc: Global,
-    surroundings: Surroundings,
+    surroundings: Surroundings<'_>,
     arguments: &[Argument],
 ) -> Result<Option<Part>, AllocError>
-    ensures { IfOk result (λ part. option_map part_form part ≡ option_map (λ folder. action (file_into (template_of (context_of surroundings) folder))) (text_in (map argument_tree arguments.now))) }
+    ensures { IfOk result (λ part. option_map part_form part ≡ filing_in (context_of surroundings.entry) file_into (map argument_tree arguments.now)) }
 {
     match arguments {
         [Argument::Text(folder)] => {
@@ -37,14 +39,39 @@ fn file_into(
     }
 }
 
+// The command that files the current part into the folder which the arguments are.
+fn store(
+    alloc: Global,
+    surroundings: Surroundings<'_>,
+    arguments: &[Argument],
+) -> Result<Option<Part>, AllocError>
+    ensures { IfOk result (λ part. option_map part_form part ≡ filing_in (context_of surroundings.entry) store (map argument_tree arguments.now)) }
+{
+    match arguments {
+        [Argument::Text(folder)] => {
+            let folder = template(alloc, surroundings, folder)?;
+            Ok(Some(Part::Action(Command::Store(folder))))
+        }
+        _ => Ok(None),
+    }
+}
+
+// The command that leaves the loop of the name, or the innermost one, with those within it.
+fn leaving(surroundings: Surroundings<'_>, name: Option<&[u8]>) -> Option<Part>
+    ensures { option_map part_form result ≡ option_map (λ loops. action (leave loops)) (loops_left (name_in name.entry) (context_of surroundings.entry).loops) }
+{
+    let loops = surroundings.loops.left_by(name)?;
+    Some(Part::Action(Command::Break(loops)))
+}
+
 // The command that sets the variable of the name to the value, which the arguments are. The name isn't expanded.
 fn setting(
     alloc: Global,
-    surroundings: Surroundings,
+    surroundings: Surroundings<'_>,
     modifiers: Modifiers,
     arguments: &[Argument],
 ) -> Result<Option<Part>, AllocError>
-    ensures { IfOk result (λ part. option_map part_form part ≡ option_map action (setting_in (context_of surroundings) modifiers (map argument_tree arguments.now))) }
+    ensures { IfOk result (λ part. option_map part_form part ≡ option_map action (setting_in (context_of surroundings.entry) modifiers (map argument_tree arguments.now))) }
 {
     match arguments {
         [Argument::Text(name), Argument::Text(value)] => {
@@ -63,10 +90,10 @@ fn setting(
 // A command that ends in a semicolon, and after whose arguments no test stands.
 fn plain_part(
     alloc: Global,
-    surroundings: Surroundings,
+    surroundings: Surroundings<'_>,
     head: &Head,
 ) -> Result<Option<Part>, AllocError>
-    ensures { IfOk result (λ part. option_map part_form part ≡ head_simple (context_of surroundings) head.now none) }
+    ensures { IfOk result (λ part. option_map part_form part ≡ head_simple (context_of surroundings.entry) head.now none) }
 {
     let Some(name) = command_named(head.name.as_slice()) else {
         return Ok(None);
@@ -86,7 +113,11 @@ fn plain_part(
             reading.tags.modifiers,
             reading.positional,
         ),
-        CommandName::If | CommandName::Elsif | CommandName::Else => Ok(None),
+        CommandName::Store => store(alloc, surroundings, reading.positional),
+        CommandName::Break => Ok(leaving(surroundings, reading.name)),
+        CommandName::If | CommandName::Elsif | CommandName::Else | CommandName::ForEveryPart => {
+            Ok(None)
+        }
     }
 }
 
@@ -114,7 +145,10 @@ fn opened(head: &Head) -> Option<Opening>
         | CommandName::Keep
         | CommandName::Discard
         | CommandName::FileInto
-        | CommandName::Set => None,
+        | CommandName::Set
+        | CommandName::ForEveryPart
+        | CommandName::Break
+        | CommandName::Store => None,
     }
 }
 
@@ -129,14 +163,15 @@ fn branch_part(head: &Head, test: Test, block: Vec<Command>) -> Option<Part>
     }
 }
 
-// What this adds, with a block of these commands behind it.
-fn last_part(head: &Head, block: Vec<Command>) -> Option<Part>
+// What this adds, with a block of these commands and no test behind it.
+fn untested_part(head: &Head, block: Vec<Command>) -> Option<Part>
     ensures { option_map part_form result ≡ head_block head.now none (commands_form block.items) }
 {
     let name = command_named(head.name.as_slice())?;
     command_signature(name).read(&head.arguments)?;
     match name {
         CommandName::Else => Some(Part::Last(block)),
+        CommandName::ForEveryPart => Some(Part::Action(Command::ForEveryPart(block))),
         CommandName::Require
         | CommandName::If
         | CommandName::Elsif
@@ -144,21 +179,23 @@ fn last_part(head: &Head, block: Vec<Command>) -> Option<Part>
         | CommandName::Keep
         | CommandName::Discard
         | CommandName::FileInto
-        | CommandName::Set => None,
+        | CommandName::Set
+        | CommandName::Break
+        | CommandName::Store => None,
     }
 }
 
 // A command with a block of these commands, as a part of the commands around it.
 fn block_part(
     alloc: Global,
-    surroundings: Surroundings,
+    surroundings: Surroundings<'_>,
     invocation: &Invocation,
     body: Vec<Command>,
 ) -> Result<Option<Part>, AllocError>
-    ensures { IfOk result (λ part. option_map part_form part ≡ block_part (context_of surroundings) (invocation_tree invocation.now) (commands_form body.items)) }
+    ensures { IfOk result (λ part. option_map part_form part ≡ block_part (context_of surroundings.entry) (invocation_tree invocation.now) (commands_form body.items)) }
 {
     match invocation {
-        Invocation::Plain(head) => Ok(last_part(head, body)),
+        Invocation::Plain(head) => Ok(untested_part(head, body)),
         Invocation::WithTest(head, guard) => match test(alloc, surroundings, guard)? {
             Some(test) => Ok(branch_part(head, test, body)),
             None => Ok(None),
@@ -170,10 +207,10 @@ fn block_part(
 // A command without a block, as a part of the commands around it.
 fn simple_part(
     alloc: Global,
-    surroundings: Surroundings,
+    surroundings: Surroundings<'_>,
     invocation: &Invocation,
 ) -> Result<Option<Part>, AllocError>
-    ensures { IfOk result (λ part. option_map part_form part ≡ simple_part (context_of surroundings) (invocation_tree invocation.now)) }
+    ensures { IfOk result (λ part. option_map part_form part ≡ simple_part (context_of surroundings.entry) (invocation_tree invocation.now)) }
 {
     match invocation {
         Invocation::Plain(head) => plain_part(alloc, surroundings, head),
@@ -183,26 +220,35 @@ fn simple_part(
 
 // A command, as a part of the commands around it.
 #[cycle(commands)]
-fn part(alloc: Global, surroundings: Surroundings, tree: &Tree) -> Result<Option<Part>, AllocError>
-    ensures { IfOk result (λ part. option_map part_form part ≡ part_of (context_of surroundings) (command_tree tree.now)) }
+fn part<'t>(
+    alloc: Global,
+    surroundings: Surroundings<'t>,
+    tree: &'t Tree,
+) -> Result<Option<Part>, AllocError>
+    ensures { IfOk result (λ part. option_map part_form part ≡ part_of (context_of surroundings.entry) (command_tree tree.now)) }
 {
     match tree {
         Tree::Simple(invocation) => simple_part(alloc, surroundings, invocation),
-        Tree::Block(invocation, block) => match commands(alloc, surroundings.in_block(), block)? {
-            Some(body) => block_part(alloc, surroundings, invocation, body),
-            None => Ok(None),
-        },
+        Tree::Block(invocation, block) => {
+            let Some(inside) = surroundings.in_block(invocation) else {
+                return Ok(None);
+            };
+            match commands(alloc, inside, block)? {
+                Some(body) => block_part(alloc, surroundings, invocation, body),
+                None => Ok(None),
+            }
+        }
     }
 }
 
 // The commands of a script or of a block.
 #[cycle(commands)]
-fn commands(
+fn commands<'t>(
     alloc: Global,
-    surroundings: Surroundings,
-    trees: &[Tree],
+    surroundings: Surroundings<'t>,
+    trees: &'t [Tree],
 ) -> Result<Option<Vec<Command>>, AllocError>
-    ensures { IfOk result (λ cs. option_map (λ cs. commands_form cs.items) cs ≡ commands_formed (context_of surroundings) (commands_tree trees.now)) }
+    ensures { IfOk result (λ cs. option_map (λ cs. commands_form cs.items) cs ≡ commands_formed (context_of surroundings.entry) (commands_tree trees.now)) }
 {
     let mut around = surroundings;
     let mut sequence = Sequence::new(alloc);

@@ -13,6 +13,7 @@ mod checker;
 mod error;
 mod forming;
 pub mod laws;
+mod loops;
 mod mentions;
 mod names;
 mod references;

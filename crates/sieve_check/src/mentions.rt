@@ -58,8 +58,12 @@ impl<'t> Mentions<'t> {
 
     /// Those of a command that is known by that name: none where variables weren't required, or where its arguments aren't
     /// what it takes.
-    pub fn of_command(surroundings: Surroundings, name: CommandName, head: &'t Head) -> Mentions<'t>
-        ensures { mentions_in result ≡ command_mentions (context_of surroundings) name (arguments_of head.now) }
+    pub fn of_command(
+        surroundings: Surroundings<'_>,
+        name: CommandName,
+        head: &'t Head,
+    ) -> Mentions<'t>
+        ensures { mentions_in result ≡ command_mentions (context_of surroundings.entry) name (arguments_of head.now) }
     {
         if !surroundings.required.has(Capability::Variables) {
             return Mentions::none();
@@ -76,7 +80,10 @@ impl<'t> Mentions<'t> {
             | CommandName::Stop
             | CommandName::Keep
             | CommandName::Discard
-            | CommandName::FileInto => Mentions {
+            | CommandName::FileInto
+            | CommandName::ForEveryPart
+            | CommandName::Break
+            | CommandName::Store => Mentions {
                 expanded: reading.lists(),
                 set: None,
             },
@@ -84,8 +91,8 @@ impl<'t> Mentions<'t> {
     }
 
     /// Those of a test that is known by that name.
-    pub fn of_test(surroundings: Surroundings, name: TestName, head: &'t Head) -> Mentions<'t>
-        ensures { mentions_in result ≡ test_mentions (context_of surroundings) name (arguments_of head.now) }
+    pub fn of_test(surroundings: Surroundings<'_>, name: TestName, head: &'t Head) -> Mentions<'t>
+        ensures { mentions_in result ≡ test_mentions (context_of surroundings.entry) name (arguments_of head.now) }
     {
         if !surroundings.required.has(Capability::Variables) {
             return Mentions::none();

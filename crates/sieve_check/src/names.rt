@@ -28,6 +28,12 @@ pub enum CommandName {
     FileInto,
     /// `set` (RFC 5229, section 4).
     Set,
+    /// `foreverypart` (RFC 5703, section 3).
+    ForEveryPart,
+    /// `break` (RFC 5703, section 3).
+    Break,
+    /// `store`, of our own.
+    Store,
 }
 
 /// The tests that are known.
@@ -49,6 +55,12 @@ pub enum TestName {
     Size,
     /// `string` (RFC 5229, section 5).
     String,
+    /// `partsize`, of our own, as the two that follow.
+    PartSize,
+    /// `partbody`.
+    PartBody,
+    /// `partdigest`.
+    PartDigest,
 }
 
 /// The tags that are known, by the group of which at most one may stand.
@@ -74,6 +86,8 @@ pub enum Tag {
     AnyChild,
     /// `:type`, `:subtype`, `:contenttype`, and `:param`, which takes the parameters' names (RFC 5703, section 4.2).
     Select(Piece),
+    /// `:name`, which takes the name of a loop (RFC 5703, section 3).
+    Name,
 }
 
 /// What a test may take of a field in place of its value.
@@ -137,6 +151,12 @@ pub fn command_named(name: &[u8]) -> Option<CommandName>
         Some(CommandName::FileInto)
     } else if is_word(name, b"set") {
         Some(CommandName::Set)
+    } else if is_word(name, b"foreverypart") {
+        Some(CommandName::ForEveryPart)
+    } else if is_word(name, b"break") {
+        Some(CommandName::Break)
+    } else if is_word(name, b"store") {
+        Some(CommandName::Store)
     } else {
         None
     }
@@ -164,6 +184,12 @@ pub fn test_named(name: &[u8]) -> Option<TestName>
         Some(TestName::Size)
     } else if is_word(name, b"string") {
         Some(TestName::String)
+    } else if is_word(name, b"partsize") {
+        Some(TestName::PartSize)
+    } else if is_word(name, b"partbody") {
+        Some(TestName::PartBody)
+    } else if is_word(name, b"partdigest") {
+        Some(TestName::PartDigest)
     } else {
         None
     }
@@ -209,6 +235,8 @@ pub fn tag_named(name: &[u8]) -> Option<Tag>
         Some(Tag::Select(Piece::ContentType))
     } else if is_word(name, b"param") {
         Some(Tag::Select(Piece::Params))
+    } else if is_word(name, b"name") {
+        Some(Tag::Name)
     } else {
         None
     }

@@ -1,10 +1,11 @@
 // The static rules: what is wrong with commands and tests (RFC 5228, section 8.2, and each command's own section).
 ghost use Rattle.std.specs.Prelude.{◌≡◌, ◌+◌, ◌<◌, ◌&&◌, ◌||◌, not, [], ◌∷◌, map, length, nat_lt, is_some, IsOk, MatchOption, MatchResult};
 ghost use Rattle.sieve_parser.specs.View.{argument_tree, command_tree, commands_tree, invocation_tree, more_tests_of};
-ghost use Rattle.sieve_check.specs.Rules.{arguments_of, command_needs, command_visit, command_visits, commands_visits, fault_of, has_large_mention, has_long_string, has_many_strings, head_visits, is_well_formed, is_mime_tag, known_command_fault, known_test_fault, may_stand, mime_where_given, more_visits, refusal, same_ending, strings_in, strings_of, test_needs, test_visit, test_visits};
-ghost use Rattle.sieve_check.specs.Signatures.{command_signature, ending_of, reading};
+ghost use Rattle.sieve_check.specs.Rules.{arguments_of, command_needs, command_visit, command_visits, commands_visits, fault_of, has_large_mention, has_long_string, has_many_strings, head_visits, is_well_formed, is_mime_tag, known_command_fault, known_test_fault, leaves_loop, may_stand, mime_where_given, more_visits, opened_by, refusal, same_ending, strings_in, strings_of, test_may_stand, test_needs, test_visit, test_visits};
+ghost use Rattle.sieve_check.specs.Signatures.{command_signature, ending_of, reading, test_signature};
 ghost use Rattle.sieve_check.specs.Reading.{all_lists};
 ghost use Rattle.sieve_check.specs.Refusing.{Judges, Passes, Refuses, context_of, listed, mentions_in, known_command_visit, known_test_visit};
+ghost use Rattle.sieve_check.specs.Surroundings.{opens_many};
 
 use crate::error::{CheckError, Fault};
 use crate::mentions::Mentions;
@@ -40,6 +41,8 @@ fn command_needs(name: CommandName) -> Option<Capability>
         | CommandName::Discard => None,
         CommandName::FileInto => Some(Capability::FileInto),
         CommandName::Set => Some(Capability::Variables),
+        CommandName::ForEveryPart | CommandName::Break => Some(Capability::ForEveryPart),
+        CommandName::Store => Some(Capability::Depot),
     }
 }
 
@@ -77,6 +80,7 @@ fn test_needs(name: TestName, head: &Head) -> Option<Capability>
         | TestName::Size => None,
         TestName::Header | TestName::Exists => mime_where_given(&head.arguments),
         TestName::String => Some(Capability::Variables),
+        TestName::PartSize | TestName::PartBody | TestName::PartDigest => Some(Capability::Depot),
     }
 }
 
@@ -205,53 +209,92 @@ fn is_well_formed(signature: Signature, head: &Head, tests: Tests) -> bool
     signature.tests == tests && signature.read(&head.arguments).is_some()
 }
 
-// Whether the command may stand there.
-fn may_stand(name: CommandName, surroundings: Surroundings) -> bool
-    ensures { result ≡ may_stand (context_of surroundings) name }
+// Whether a `break` of these arguments has a loop to leave.
+fn leaves_loop(surroundings: Surroundings<'_>, head: &Head) -> bool
+    ensures { result ≡ leaves_loop (context_of surroundings.entry) (reading (command_signature CommandName.Break) (arguments_of head.now)) }
+{
+    match command_signature(CommandName::Break).read(&head.arguments) {
+        Some(reading) => surroundings.loops.left_by(reading.name).is_some(),
+        None => false,
+    }
+}
+
+// Whether the command may stand there, with these arguments.
+fn may_stand(surroundings: Surroundings<'_>, name: CommandName, head: &Head) -> bool
+    ensures { result ≡ may_stand (context_of surroundings.entry) name (arguments_of head.now) }
 {
     match name {
         CommandName::Require => surroundings.takes_require,
         CommandName::Elsif | CommandName::Else => surroundings.after_if,
+        CommandName::Break => leaves_loop(surroundings, head),
+        CommandName::Store => surroundings.loops.are_some(),
         CommandName::If
         | CommandName::Stop
         | CommandName::Keep
         | CommandName::Discard
         | CommandName::FileInto
-        | CommandName::Set => true,
+        | CommandName::Set
+        | CommandName::ForEveryPart => true,
+    }
+}
+
+// Whether the test may stand there.
+fn test_may_stand(surroundings: Surroundings<'_>, name: TestName) -> bool
+    ensures { result ≡ test_may_stand (context_of surroundings.entry) name }
+{
+    match name {
+        TestName::PartSize | TestName::PartBody | TestName::PartDigest => {
+            surroundings.loops.are_some()
+        }
+        TestName::Constant(_)
+        | TestName::Not
+        | TestName::AllOf
+        | TestName::AnyOf
+        | TestName::Header
+        | TestName::Exists
+        | TestName::Size
+        | TestName::String => true,
     }
 }
 
 // Whether the command may stand there, with these arguments and tests, and ended so.
 fn is_taken(
-    surroundings: Surroundings,
+    surroundings: Surroundings<'_>,
     name: CommandName,
     head: &Head,
     tests: Tests,
     ending: Ending,
 ) -> bool
-    ensures { result ≡ (may_stand (context_of surroundings) name && (same_ending (ending_of name) ending && is_well_formed (command_signature name) (arguments_of head.now) tests)) }
+    ensures { result ≡ (may_stand (context_of surroundings.entry) name (arguments_of head.now) && (same_ending (ending_of name) ending && is_well_formed (command_signature name) (arguments_of head.now) tests)) }
 {
-    may_stand(name, surroundings)
+    may_stand(surroundings, name, head)
         && ending_of(name) == ending
         && is_well_formed(command_signature(name), head, tests)
 }
 
 // Whether a command goes beyond a limit.
-fn is_large_command(head: &Head, mentions: Mentions<'_>) -> bool
-    ensures { result ≡ (has_long_string (arguments_of head.now) || has_large_mention (mentions_in mentions.entry)) }
+fn is_large_command(
+    surroundings: Surroundings<'_>,
+    name: CommandName,
+    head: &Head,
+    mentions: Mentions<'_>,
+) -> bool
+    ensures { result ≡ (has_long_string (arguments_of head.now) || has_large_mention (mentions_in mentions.entry) || opens_many (opened_by name (arguments_of head.now)) (context_of surroundings.entry)) }
 {
-    StringFault::Long.is_in_some(&head.arguments) || mentions.are_large()
+    StringFault::Long.is_in_some(&head.arguments)
+        || mentions.are_large()
+        || surroundings.opens_many(name, head)
 }
 
 // What is wrong with a command that is known by that name, by itself.
 fn known_command_fault(
-    surroundings: Surroundings,
+    surroundings: Surroundings<'_>,
     name: CommandName,
     head: &Head,
     tests: Tests,
     ending: Ending,
 ) -> Option<Fault>
-    ensures { result ≡ known_command_fault (context_of surroundings) name (arguments_of head.now) tests ending }
+    ensures { result ≡ known_command_fault (context_of surroundings.entry) name (arguments_of head.now) tests ending }
 {
     let mentions = Mentions::of_command(surroundings, name, head);
     if surroundings.lacks(command_needs(name)) {
@@ -260,11 +303,18 @@ fn known_command_fault(
         Some(Fault::UnknownCapability)
     } else if !is_taken(surroundings, name, head, tests, ending) || mentions.are_wrong() {
         Some(Fault::BadArguments)
-    } else if is_large_command(head, mentions) {
+    } else if is_large_command(surroundings, name, head, mentions) {
         Some(Fault::Limit)
     } else {
         None
     }
+}
+
+// Whether the test may stand there, with these arguments and tests.
+fn is_taken_test(surroundings: Surroundings<'_>, name: TestName, head: &Head, tests: Tests) -> bool
+    ensures { result ≡ (test_may_stand (context_of surroundings.entry) name && is_well_formed (test_signature name) (arguments_of head.now) tests) }
+{
+    test_may_stand(surroundings, name) && is_well_formed(test_signature(name), head, tests)
 }
 
 // Whether a test goes beyond a limit.
@@ -278,20 +328,19 @@ fn is_large_test(signature: Signature, head: &Head, mentions: Mentions<'_>) -> b
 
 // What is wrong with a test that is known by that name, by itself.
 fn known_test_fault(
-    surroundings: Surroundings,
+    surroundings: Surroundings<'_>,
     name: TestName,
     head: &Head,
     tests: Tests,
 ) -> Option<Fault>
-    ensures { result ≡ known_test_fault (context_of surroundings) name (arguments_of head.now) tests }
+    ensures { result ≡ known_test_fault (context_of surroundings.entry) name (arguments_of head.now) tests }
 {
-    let signature = test_signature(name);
     let mentions = Mentions::of_test(surroundings, name, head);
     if surroundings.lacks(test_needs(name, head)) {
         Some(Fault::MissingCapability)
-    } else if !is_well_formed(signature, head, tests) || mentions.are_wrong() {
+    } else if !is_taken_test(surroundings, name, head, tests) || mentions.are_wrong() {
         Some(Fault::BadArguments)
-    } else if is_large_test(signature, head, mentions) {
+    } else if is_large_test(test_signature(name), head, mentions) {
         Some(Fault::Limit)
     } else {
         None
@@ -301,13 +350,13 @@ fn known_test_fault(
 // Nothing, where nothing is wrong with a command that is known by that name; the names that it brings are then added.
 fn known_command<'t>(
     names: &mut VariableNames<'t>,
-    surroundings: Surroundings,
+    surroundings: Surroundings<'_>,
     name: CommandName,
     head: &'t Head,
     tests: Tests,
     ending: Ending,
 ) -> Result<(), Fault>
-    ensures { Judges (listed names.old) (known_command_visit (context_of surroundings) head.now.token name (arguments_of head.now) tests ending) result (listed names.new) }
+    ensures { Judges (listed names.old) (known_command_visit (context_of surroundings.entry) head.now.token name (arguments_of head.now) tests ending) result (listed names.new) }
 {
     match known_command_fault(surroundings, name, head, tests, ending) {
         Some(fault) => Err(fault),
@@ -318,12 +367,12 @@ fn known_command<'t>(
 // Nothing, where nothing is wrong with a test that is known by that name; the names that it brings are then added.
 fn known_test<'t>(
     names: &mut VariableNames<'t>,
-    surroundings: Surroundings,
+    surroundings: Surroundings<'_>,
     name: TestName,
     head: &'t Head,
     tests: Tests,
 ) -> Result<(), Fault>
-    ensures { Judges (listed names.old) (known_test_visit (context_of surroundings) head.now.token name (arguments_of head.now) tests) result (listed names.new) }
+    ensures { Judges (listed names.old) (known_test_visit (context_of surroundings.entry) head.now.token name (arguments_of head.now) tests) result (listed names.new) }
 {
     match known_test_fault(surroundings, name, head, tests) {
         Some(fault) => Err(fault),
@@ -341,12 +390,12 @@ fn at(head: &Head, judged: Result<(), Fault>) -> Result<(), CheckError>
 // Nothing, where nothing is wrong with a command, apart from its tests and its block.
 fn command_alone<'t>(
     names: &mut VariableNames<'t>,
-    surroundings: Surroundings,
+    surroundings: Surroundings<'_>,
     head: &'t Head,
     tests: Tests,
     ending: Ending,
 ) -> Result<(), CheckError>
-    ensures { Passes (listed names.old) (command_visit (context_of surroundings) head.now.token head.now.name (arguments_of head.now) tests ending ∷ []) result (listed names.new) }
+    ensures { Passes (listed names.old) (command_visit (context_of surroundings.entry) head.now.token head.now.name (arguments_of head.now) tests ending ∷ []) result (listed names.new) }
 {
     let judged = match command_named(head.name.as_slice()) {
         Some(name) => known_command(names, surroundings, name, head, tests, ending),
@@ -358,11 +407,11 @@ fn command_alone<'t>(
 // Nothing, where nothing is wrong with a test, apart from its own tests.
 fn test_alone<'t>(
     names: &mut VariableNames<'t>,
-    surroundings: Surroundings,
+    surroundings: Surroundings<'_>,
     head: &'t Head,
     tests: Tests,
 ) -> Result<(), CheckError>
-    ensures { Passes (listed names.old) (test_visit (context_of surroundings) head.now.token head.now.name (arguments_of head.now) tests ∷ []) result (listed names.new) }
+    ensures { Passes (listed names.old) (test_visit (context_of surroundings.entry) head.now.token head.now.name (arguments_of head.now) tests ∷ []) result (listed names.new) }
 {
     let judged = match test_named(head.name.as_slice()) {
         Some(name) => known_test(names, surroundings, name, head, tests),
@@ -375,10 +424,10 @@ fn test_alone<'t>(
 #[cycle(tests)]
 fn test<'t>(
     names: &mut VariableNames<'t>,
-    surroundings: Surroundings,
+    surroundings: Surroundings<'_>,
     invocation: &'t Invocation,
 ) -> Result<(), CheckError>
-    ensures { Passes (listed names.old) (test_visits (context_of surroundings) (invocation_tree invocation.now)) result (listed names.new) }
+    ensures { Passes (listed names.old) (test_visits (context_of surroundings.entry) (invocation_tree invocation.now)) result (listed names.new) }
 {
     match invocation {
         Invocation::Plain(head) => test_alone(names, surroundings, head, Tests::Nothing),
@@ -398,10 +447,10 @@ fn test<'t>(
 #[cycle(tests)]
 fn tests<'t>(
     names: &mut VariableNames<'t>,
-    surroundings: Surroundings,
+    surroundings: Surroundings<'_>,
     list: &'t [Invocation],
 ) -> Result<(), CheckError>
-    ensures { Passes (listed names.old) (more_visits (context_of surroundings) (more_tests_of (map invocation_tree list.now))) result (listed names.new) }
+    ensures { Passes (listed names.old) (more_visits (context_of surroundings.entry) (more_tests_of (map invocation_tree list.now))) result (listed names.new) }
 {
     'list: for invocation in list {
         test(names, surroundings, invocation)?;
@@ -412,11 +461,11 @@ fn tests<'t>(
 // Nothing, where nothing is wrong with a command and its tests, apart from its block.
 fn head<'t>(
     names: &mut VariableNames<'t>,
-    surroundings: Surroundings,
+    surroundings: Surroundings<'_>,
     invocation: &'t Invocation,
     ending: Ending,
 ) -> Result<(), CheckError>
-    ensures { Passes (listed names.old) (head_visits (context_of surroundings) (invocation_tree invocation.now) ending) result (listed names.new) }
+    ensures { Passes (listed names.old) (head_visits (context_of surroundings.entry) (invocation_tree invocation.now) ending) result (listed names.new) }
 {
     match invocation {
         Invocation::Plain(head) => {
@@ -438,16 +487,19 @@ fn head<'t>(
 #[cycle(commands)]
 fn command<'t>(
     names: &mut VariableNames<'t>,
-    surroundings: Surroundings,
+    surroundings: Surroundings<'t>,
     tree: &'t Command,
 ) -> Result<(), CheckError>
-    ensures { Passes (listed names.old) (command_visits (context_of surroundings) (command_tree tree.now)) result (listed names.new) }
+    ensures { Passes (listed names.old) (command_visits (context_of surroundings.entry) (command_tree tree.now)) result (listed names.new) }
 {
     match tree {
         Command::Simple(invocation) => head(names, surroundings, invocation, Ending::Semicolon),
         Command::Block(invocation, block) => {
             head(names, surroundings, invocation, Ending::Block)?;
-            commands(names, surroundings.in_block(), block)
+            match surroundings.in_block(invocation) {
+                Some(inside) => commands(names, inside, block),
+                None => unreachable!(),
+            }
         }
     }
 }
@@ -456,10 +508,10 @@ fn command<'t>(
 #[cycle(commands)]
 fn commands<'t>(
     names: &mut VariableNames<'t>,
-    surroundings: Surroundings,
+    surroundings: Surroundings<'t>,
     trees: &'t [Command],
 ) -> Result<(), CheckError>
-    ensures { Passes (listed names.old) (commands_visits (context_of surroundings) (commands_tree trees.now)) result (listed names.new) }
+    ensures { Passes (listed names.old) (commands_visits (context_of surroundings.entry) (commands_tree trees.now)) result (listed names.new) }
 {
     let mut around = surroundings;
     'trees: for tree in trees {

@@ -1,4 +1,5 @@
-// What commands and tests take, and how their arguments are read (RFC 5228, section 2.6; RFC 5229, section 4).
+// What commands and tests take, and how their arguments are read (RFC 5228, section 2.6; RFC 5229, section 4; RFC 5703, sections 3
+// and 4).
 ghost use Rattle.std.specs.Prelude.{◌≡◌, map, Some};
 ghost use Rattle.sieve_parser.specs.View.{argument_tree};
 ghost use Rattle.sieve_check.specs.Signatures.{awaited, bare, command_signature, ending_of, is_list, test_signature};
@@ -57,6 +58,8 @@ pub struct Signature {
     pub scoped: bool,
     /// Takes, with `:mime`, at most one of `:type`, `:subtype`, `:contenttype` and `:param`.
     pub selecting: bool,
+    /// Takes `:name`, at most once.
+    pub naming: bool,
     pub positional: Positional,
     pub tests: Tests,
 }
@@ -71,6 +74,7 @@ pub struct Tags {
     pub mime: bool,
     pub any_child: bool,
     pub piece: Option<Piece>,
+    pub named: bool,
 }
 
 impl Tags {
@@ -89,6 +93,7 @@ impl Tags {
             mime: false,
             any_child: false,
             piece: None,
+            named: false,
         }
     }
 
@@ -106,6 +111,8 @@ pub struct Reading<'a> {
     pub tags: Tags,
     /// That of `:param`, if it stands there.
     pub params: &'a [Argument],
+    /// That of `:name`, if it stands there.
+    pub name: Option<&'a [u8]>,
     /// Those behind the tags.
     pub positional: &'a [Argument],
 }
@@ -165,6 +172,7 @@ fn bare(tests: Tests) -> Signature
         modifying: false,
         scoped: false,
         selecting: false,
+        naming: false,
         positional: Positional::Nothing,
         tests,
     }
@@ -179,13 +187,17 @@ pub fn command_signature(name: CommandName) -> Signature
             positional: Positional::OneList,
             ..bare(Tests::Nothing)
         },
-        CommandName::FileInto => Signature {
+        CommandName::FileInto | CommandName::Store => Signature {
             positional: Positional::Text,
             ..bare(Tests::Nothing)
         },
         CommandName::Set => Signature {
             modifying: true,
             positional: Positional::TwoTexts,
+            ..bare(Tests::Nothing)
+        },
+        CommandName::ForEveryPart | CommandName::Break => Signature {
+            naming: true,
             ..bare(Tests::Nothing)
         },
         CommandName::If | CommandName::Elsif => bare(Tests::One),
@@ -200,13 +212,17 @@ pub fn ending_of(name: CommandName) -> Ending
     ensures { result ≡ ending_of name }
 {
     match name {
-        CommandName::If | CommandName::Elsif | CommandName::Else => Ending::Block,
+        CommandName::If | CommandName::Elsif | CommandName::Else | CommandName::ForEveryPart => {
+            Ending::Block
+        }
         CommandName::Require
         | CommandName::Stop
         | CommandName::Keep
         | CommandName::Discard
         | CommandName::FileInto
-        | CommandName::Set => Ending::Semicolon,
+        | CommandName::Set
+        | CommandName::Break
+        | CommandName::Store => Ending::Semicolon,
     }
 }
 
@@ -235,9 +251,18 @@ pub fn test_signature(name: TestName) -> Signature
             positional: Positional::OneList,
             ..bare(Tests::Nothing)
         },
-        TestName::Size => Signature {
+        TestName::Size | TestName::PartSize => Signature {
             order: true,
             positional: Positional::Number,
+            ..bare(Tests::Nothing)
+        },
+        TestName::PartBody => Signature {
+            matching: true,
+            positional: Positional::OneList,
+            ..bare(Tests::Nothing)
+        },
+        TestName::PartDigest => Signature {
+            positional: Positional::OneList,
             ..bare(Tests::Nothing)
         },
     }
@@ -293,8 +318,8 @@ fn with_comparator(reading: Reading<'_>) -> Option<Reading<'_>>
     };
     Some(Reading {
         tags,
-        params: reading.params,
         positional: rest,
+        ..reading
     })
 }
 
@@ -304,9 +329,21 @@ fn with_params(reading: Reading<'_>) -> Option<Reading<'_>>
 {
     let (params, rest) = first_list(reading.positional)?;
     Some(Reading {
-        tags: reading.tags,
         params,
         positional: rest,
+        ..reading
+    })
+}
+
+// What was read so far, with the string of `:name`, which comes next.
+fn with_name(reading: Reading<'_>) -> Option<Reading<'_>>
+    ensures { Settles reading.entry (Some Tag.Name) result }
+{
+    let (name, rest) = first_text(reading.positional)?;
+    Some(Reading {
+        name: Some(name.as_slice()),
+        positional: rest,
+        ..reading
     })
 }
 
@@ -328,6 +365,7 @@ fn settle(tag: Tag, reading: Reading<'_>) -> Option<Reading<'_>>
             Piece::Main | Piece::Sub | Piece::ContentType => Some(reading),
             Piece::Params => with_params(reading),
         },
+        Tag::Name => with_name(reading),
     }
 }
 
@@ -352,6 +390,7 @@ impl Signature {
             Tag::Mime => self.scoped && !tags.mime,
             Tag::AnyChild => self.scoped && !tags.any_child,
             Tag::Select(_) => self.selecting && tags.piece.is_none(),
+            Tag::Name => self.naming && !tags.named,
         }
     }
 
@@ -374,6 +413,7 @@ impl Signature {
             Tag::Mime => tags.mime = true,
             Tag::AnyChild => tags.any_child = true,
             Tag::Select(piece) => tags.piece = Some(piece),
+            Tag::Name => tags.named = true,
         }
         Some(tags)
     }
@@ -416,6 +456,7 @@ impl Signature {
         let mut reading = Reading {
             tags: Tags::none(),
             params: &[],
+            name: None,
             positional: arguments,
         };
         'tags: while let Some((name, rest)) = first_tag(reading.positional) {
@@ -425,8 +466,8 @@ impl Signature {
                 tag,
                 Reading {
                     tags,
-                    params: reading.params,
                     positional: rest,
+                    ..reading
                 },
             )?;
         }

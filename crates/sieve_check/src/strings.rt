@@ -4,7 +4,7 @@ ghost use Rattle.std.specs.Option.{option_to_list};
 ghost use Rattle.sieve_references.specs.References.{segments};
 ghost use Rattle.sieve_references.specs.SegmentView.{segment_of};
 ghost use Rattle.sieve_parser.specs.View.{argument_tree};
-ghost use Rattle.sieve_check.specs.FormOf.{list_in, meant, of_lists, template_of};
+ghost use Rattle.sieve_check.specs.FormOf.{list_in, meant, of_list, of_lists, template_of};
 ghost use Rattle.sieve_check.specs.Refusing.{context_of};
 ghost use Rattle.sieve_check.specs.Typed.{Template, TestForm};
 ghost use Rattle.sieve_check.specs.TypedView.{templates_of};
@@ -51,10 +51,10 @@ fn expanded(alloc: Global, string: &[u8]) -> Result<Vec<Segment>, AllocError>
 /// (RFC 5229, section 3). An error comes only where memory was refused.
 pub fn template(
     alloc: Global,
-    surroundings: Surroundings,
+    surroundings: Surroundings<'_>,
     string: &Octets,
 ) -> Result<Vec<Segment>, AllocError>
-    ensures { IfOk result (λ all. all.items ≡ template_of (context_of surroundings) string.now) }
+    ensures { IfOk result (λ all. all.items ≡ template_of (context_of surroundings.entry) string.now) }
 {
     if surroundings.required.has(Capability::Variables) {
         return expanded(alloc, string.as_slice());
@@ -67,11 +67,11 @@ pub fn template(
 // The strings, as they are meant.
 fn templates(
     alloc: Global,
-    surroundings: Surroundings,
+    surroundings: Surroundings<'_>,
     first: &Octets,
     others: &[Octets],
 ) -> Result<Vec<Vec<Segment>>, AllocError>
-    ensures { IfOk result (λ all. templates_of all.items ≡ map (template_of (context_of surroundings)) (first.now ∷ others.now)) }
+    ensures { IfOk result (λ all. templates_of all.items ≡ map (template_of (context_of surroundings.entry)) (first.now ∷ others.now)) }
 {
     let mut all = Vec::new(alloc);
     all.push(template(alloc, surroundings, first)?)?;
@@ -85,10 +85,10 @@ fn templates(
 /// only where memory was refused.
 pub fn list_in(
     alloc: Global,
-    surroundings: Surroundings,
+    surroundings: Surroundings<'_>,
     argument: &Argument,
 ) -> Result<Option<Vec<Vec<Segment>>>, AllocError>
-    ensures { IfOk result (λ list. option_map (λ all. templates_of all.items) list ≡ list_in (context_of surroundings) (argument_tree argument.now)) }
+    ensures { IfOk result (λ list. option_map (λ all. templates_of all.items) list ≡ list_in (context_of surroundings.entry) (argument_tree argument.now)) }
 {
     match argument {
         Argument::Text(string) => Ok(Some(templates(alloc, surroundings, string, &[])?)),
@@ -99,15 +99,31 @@ pub fn list_in(
     }
 }
 
+/// The one list that the arguments are. Nothing where they are something else. An error comes only where memory was
+/// refused.
+pub fn only_list_in(
+    alloc: Global,
+    surroundings: Surroundings<'_>,
+    arguments: &[Argument],
+) -> Result<Option<Vec<Vec<Segment>>>, AllocError>
+    ensures { IfOk result (λ list. (make : List Template → TestForm) →
+        option_map (λ all. make (templates_of all.items)) list ≡ of_list (context_of surroundings.entry) make (map argument_tree arguments.now)) }
+{
+    match arguments {
+        [list] => list_in(alloc, surroundings, list),
+        _ => Ok(None),
+    }
+}
+
 /// The two lists that the arguments are. Nothing where they are something else. An error comes only where memory was
 /// refused.
 pub fn lists_in(
     alloc: Global,
-    surroundings: Surroundings,
+    surroundings: Surroundings<'_>,
     arguments: &[Argument],
 ) -> Result<Option<(Vec<Vec<Segment>>, Vec<Vec<Segment>>)>, AllocError>
     ensures { IfOk result (λ lists. (make : List Template → List Template → TestForm) →
-        option_map (λ both. make (templates_of both.0.items) (templates_of both.1.items)) lists ≡ of_lists (context_of surroundings) make (map argument_tree arguments.now)) }
+        option_map (λ both. make (templates_of both.0.items) (templates_of both.1.items)) lists ≡ of_lists (context_of surroundings.entry) make (map argument_tree arguments.now)) }
 {
     let [first, second] = arguments else {
         return Ok(None);

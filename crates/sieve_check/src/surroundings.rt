@@ -1,9 +1,14 @@
 // What surrounds a command or test.
-ghost use Rattle.std.specs.Prelude.{◌≡◌};
+ghost use Rattle.std.specs.Prelude.{◌≡◌, map};
 ghost use Rattle.sieve_parser.specs.Tree.{TestsTree};
-ghost use Rattle.sieve_parser.specs.View.{head_tree, invocation_tree};
+ghost use Rattle.sieve_parser.specs.View.{argument_tree, head_tree, invocation_tree};
+ghost use Rattle.sieve_check.specs.Reading.{name_in};
+ghost use Rattle.sieve_check.specs.Rules.{name_read};
+ghost use Rattle.sieve_check.specs.Signatures.{command_signature, reading};
 
+use crate::loops::Loops;
 use crate::names::{Capability, CommandName, capability_named, command_named};
+use crate::signature::command_signature;
 use octets::Octets;
 use sieve_parser::{Argument, Command, Head, Invocation};
 
@@ -108,27 +113,38 @@ fn head_in(invocation: &Invocation) -> &Head
     }
 }
 
+// The name of the loop that a `foreverypart` of these arguments opens, if it could be read with one.
+fn loop_name(arguments: &[Argument]) -> Option<&[u8]>
+    ensures { name_in result ≡ name_read (reading (command_signature CommandName.ForEveryPart) (map argument_tree arguments.now)) }
+{
+    command_signature(CommandName::ForEveryPart)
+        .read(arguments)?
+        .name
+}
+
 /// What surrounds a command or test.
-#[derive(Clone, Copy, Debug, PartialEq, Eq)]
-pub struct Surroundings {
+#[derive(Clone, Copy)]
+pub struct Surroundings<'t> {
     /// What was required before it.
     pub required: Capabilities,
+    /// The loops that are open around it.
+    pub loops: Loops<'t>,
     /// At the top level, and after no other command than `require` (RFC 5228, section 3.2).
     pub takes_require: bool,
     /// Directly after an `if` or `elsif` of the same block (RFC 5228, section 3.1).
     pub after_if: bool,
 }
 
-impl Surroundings {
-    ghost use Rattle.std.specs.Prelude.{◌≡◌, [], map};
-    ghost use Rattle.sieve_parser.specs.View.{argument_tree, command_tree};
-    ghost use Rattle.sieve_check.specs.Rules.{after_invocation, arguments_of, invocation_of, strings_of};
+impl<'t> Surroundings<'t> {
+    ghost use Rattle.std.specs.Prelude.{◌≡◌, false, map, option_map};
+    ghost use Rattle.sieve_parser.specs.View.{argument_tree, command_tree, invocation_tree};
+    ghost use Rattle.sieve_check.specs.Rules.{after_invocation, arguments_of, invocation_of, loops_by, loops_opened, opened_by, strings_of};
     ghost use Rattle.sieve_check.specs.Names.{command_named};
-    ghost use Rattle.sieve_check.specs.Refusing.{context_of};
-    ghost use Rattle.sieve_check.specs.Surroundings.{at_start, following, in_block, lacks};
+    ghost use Rattle.sieve_check.specs.Refusing.{LoopsWithin, context_of, open_loops};
+    ghost use Rattle.sieve_check.specs.Surroundings.{at_start, following, inside, lacks, opens_many};
 
     /// Those of the first command of a script.
-    pub fn at_start() -> Surroundings
+    pub fn at_start() -> Surroundings<'t>
         ensures { context_of result ≡ at_start }
     {
         Surroundings {
@@ -139,35 +155,88 @@ impl Surroundings {
                 for_every_part: false,
                 depot: false,
             },
+            loops: Loops::none(),
             takes_require: true,
             after_if: false,
         }
     }
 
-    /// Those of the first command of a block.
-    pub fn in_block(self) -> Surroundings
-        ensures { context_of result ≡ in_block [] (context_of self) }
+    // The loops around the block of a command that begins so. Nothing where there would be too many.
+    fn loops_within(self, head: &'t Head) -> Option<Loops<'t>>
+        ensures { LoopsWithin (context_of self.entry) (loops_by (command_named head.now.name) (arguments_of head.now)) result }
+    {
+        let Some(name) = command_named(head.name.as_slice()) else {
+            return Some(self.loops);
+        };
+        match name {
+            CommandName::ForEveryPart => self.loops.with(loop_name(&head.arguments)),
+            CommandName::Require
+            | CommandName::If
+            | CommandName::Elsif
+            | CommandName::Else
+            | CommandName::Stop
+            | CommandName::Keep
+            | CommandName::Discard
+            | CommandName::FileInto
+            | CommandName::Set
+            | CommandName::Break
+            | CommandName::Store => Some(self.loops),
+        }
+    }
+
+    // With these loops, those of the first command of a block.
+    fn within(self, loops: Loops<'t>) -> Surroundings<'t>
+        ensures { context_of result ≡ record (context_of self.entry) { loops = open_loops loops.entry; takes_require = false; after_if = false } }
     {
         Surroundings {
+            loops,
             takes_require: false,
             after_if: false,
             ..self
         }
     }
 
-    // Those of the command after one that begins so.
-    fn following(self, head: &Head) -> Surroundings
-        ensures { context_of result ≡ following (context_of self) (command_named head.now.name) (strings_of (arguments_of head.now)) }
+    /// Those of the first command of the block of a command. Nothing where more loops would be open than may be.
+    pub fn in_block(self, invocation: &'t Invocation) -> Option<Surroundings<'t>>
+        ensures { option_map context_of result ≡ inside (loops_opened (invocation_tree invocation.now)) (context_of self.entry) }
     {
-        let after = self.in_block();
+        let loops = self.loops_within(head_in(invocation))?;
+        Some(self.within(loops))
+    }
+
+    /// Whether the block of a command that is known by that name would have more loops around it than there may be.
+    pub fn opens_many(self, name: CommandName, head: &Head) -> bool
+        ensures { result ≡ opens_many (opened_by name (arguments_of head.now)) (context_of self.entry) }
+    {
+        match name {
+            CommandName::ForEveryPart => self.loops.are_full(),
+            CommandName::Require
+            | CommandName::If
+            | CommandName::Elsif
+            | CommandName::Else
+            | CommandName::Stop
+            | CommandName::Keep
+            | CommandName::Discard
+            | CommandName::FileInto
+            | CommandName::Set
+            | CommandName::Break
+            | CommandName::Store => false,
+        }
+    }
+
+    // Those of the command after one that begins so.
+    fn following(self, head: &Head) -> Surroundings<'t>
+        ensures { context_of result ≡ following (context_of self.entry) (command_named head.now.name) (strings_of (arguments_of head.now)) }
+    {
+        let after = self.within(self.loops);
         let Some(name) = command_named(head.name.as_slice()) else {
             return after;
         };
         match name {
             CommandName::Require => Surroundings {
                 required: self.required.requiring(&head.arguments),
-                takes_require: self.takes_require,
                 after_if: false,
+                ..self
             },
             CommandName::If | CommandName::Elsif => Surroundings {
                 after_if: true,
@@ -178,13 +247,16 @@ impl Surroundings {
             | CommandName::Keep
             | CommandName::Discard
             | CommandName::FileInto
-            | CommandName::Set => after,
+            | CommandName::Set
+            | CommandName::ForEveryPart
+            | CommandName::Break
+            | CommandName::Store => after,
         }
     }
 
     /// Those of the command after this one.
-    pub fn after(self, command: &Command) -> Surroundings
-        ensures { context_of result ≡ after_invocation (context_of self) (invocation_of (command_tree command.now)) }
+    pub fn after(self, command: &Command) -> Surroundings<'t>
+        ensures { context_of result ≡ after_invocation (context_of self.entry) (invocation_of (command_tree command.now)) }
     {
         match command {
             Command::Simple(invocation) => self.following(head_in(invocation)),
@@ -194,7 +266,7 @@ impl Surroundings {
 
     /// Whether a capability is needed and wasn't required.
     pub fn lacks(self, needed: Option<Capability>) -> bool
-        ensures { result ≡ lacks (context_of self) needed }
+        ensures { result ≡ lacks (context_of self.entry) needed }
     {
         match needed {
             Some(capability) => !self.required.has(capability),

@@ -6,12 +6,12 @@ ghost use Rattle.sieve_check.specs.Forming.{head_test, joined_by, test_with_list
 ghost use Rattle.sieve_check.specs.Reading.{read_of};
 ghost use Rattle.sieve_check.specs.Refusing.{context_of};
 ghost use Rattle.sieve_check.specs.Surroundings.{Context};
-ghost use Rattle.sieve_check.specs.Typed.{TestForm, TestForms, exists, negation, string};
+ghost use Rattle.sieve_check.specs.Typed.{TestForm, TestForms, exists, negation, part_body, part_digest, part_size, size, string};
 ghost use Rattle.sieve_check.specs.TypedView.{selected_form, templates_of, test_form, tests_of};
 
 use crate::names::{Piece, TestName, test_named};
 use crate::signature::{Reading, Tags, test_signature};
-use crate::strings::{list_in, lists_in};
+use crate::strings::{list_in, lists_in, only_list_in};
 use crate::surroundings::Surroundings;
 use crate::typed::{Scope, Segment, Selection, Test};
 use glob_match::{Comparator, Match, MatchType};
@@ -67,10 +67,10 @@ fn selected_by(piece: Option<Piece>, names: Vec<Vec<Segment>>) -> Selection
 // The names of the parameters, which the argument is, if there is one.
 fn params_in(
     alloc: Global,
-    surroundings: Surroundings,
+    surroundings: Surroundings<'_>,
     arguments: &[Argument],
 ) -> Result<Option<Vec<Vec<Segment>>>, AllocError>
-    ensures { IfOk result (λ names. option_map (λ all. templates_of all.items) names ≡ params_in (context_of surroundings) (map argument_tree arguments.now)) }
+    ensures { IfOk result (λ names. option_map (λ all. templates_of all.items) names ≡ params_in (context_of surroundings.entry) (map argument_tree arguments.now)) }
 {
     match arguments {
         [] => Ok(Some(Vec::new(alloc))),
@@ -81,10 +81,10 @@ fn params_in(
 // The test of a header's names and keys.
 fn header(
     alloc: Global,
-    surroundings: Surroundings,
+    surroundings: Surroundings<'_>,
     reading: Reading<'_>,
 ) -> Result<Option<Test>, AllocError>
-    ensures { IfOk result (λ t. option_map test_form t ≡ header_of (context_of surroundings) (read_of reading.entry)) }
+    ensures { IfOk result (λ t. option_map test_form t ≡ header_of (context_of surroundings.entry) (read_of reading.entry)) }
 {
     let Some(params) = params_in(alloc, surroundings, reading.params)? else {
         return Ok(None);
@@ -107,11 +107,11 @@ fn header(
 // The test of sources and keys, which the arguments are.
 fn string(
     alloc: Global,
-    surroundings: Surroundings,
+    surroundings: Surroundings<'_>,
     tags: Tags,
     arguments: &[Argument],
 ) -> Result<Option<Test>, AllocError>
-    ensures { IfOk result (λ t. option_map test_form t ≡ of_lists (context_of surroundings) (string (match_of tags)) (map argument_tree arguments.now)) }
+    ensures { IfOk result (λ t. option_map test_form t ≡ of_lists (context_of surroundings.entry) (string (match_of tags)) (map argument_tree arguments.now)) }
 {
     let Some((sources, keys)) = lists_in(alloc, surroundings, arguments)? else {
         return Ok(None);
@@ -127,36 +127,71 @@ fn string(
 // The test that there are fields of the names, which the arguments are.
 fn exists(
     alloc: Global,
-    surroundings: Surroundings,
+    surroundings: Surroundings<'_>,
     scope: Scope,
     arguments: &[Argument],
 ) -> Result<Option<Test>, AllocError>
-    ensures { IfOk result (λ t. option_map test_form t ≡ of_list (context_of surroundings) (exists scope) (map argument_tree arguments.now)) }
+    ensures { IfOk result (λ t. option_map test_form t ≡ of_list (context_of surroundings.entry) (exists scope) (map argument_tree arguments.now)) }
 {
-    let [names] = arguments else {
-        return Ok(None);
-    };
-    match list_in(alloc, surroundings, names)? {
+    match only_list_in(alloc, surroundings, arguments)? {
         Some(names) => Ok(Some(Test::Exists(scope, names))),
         None => Ok(None),
     }
 }
 
-// The comparison of a size.
+// The test of the current part's content against the keys, which the arguments are.
+fn part_body(
+    alloc: Global,
+    surroundings: Surroundings<'_>,
+    tags: Tags,
+    arguments: &[Argument],
+) -> Result<Option<Test>, AllocError>
+    ensures { IfOk result (λ t. option_map test_form t ≡ of_list (context_of surroundings.entry) (part_body (match_of tags)) (map argument_tree arguments.now)) }
+{
+    let Some(keys) = only_list_in(alloc, surroundings, arguments)? else {
+        return Ok(None);
+    };
+    let matching = match_of(tags);
+    Ok(Some(Test::PartBody { matching, keys }))
+}
+
+// The test of the digest of the current part's content against the keys, which the arguments are.
+fn part_digest(
+    alloc: Global,
+    surroundings: Surroundings<'_>,
+    arguments: &[Argument],
+) -> Result<Option<Test>, AllocError>
+    ensures { IfOk result (λ t. option_map test_form t ≡ of_list (context_of surroundings.entry) part_digest (map argument_tree arguments.now)) }
+{
+    match only_list_in(alloc, surroundings, arguments)? {
+        Some(keys) => Ok(Some(Test::PartDigest(keys))),
+        None => Ok(None),
+    }
+}
+
+// The comparison of the message's size.
 fn size(tags: Tags, arguments: &[Argument]) -> Option<Test>
-    ensures { option_map test_form result ≡ size_of tags (map argument_tree arguments.now) }
+    ensures { option_map test_form result ≡ size_of size tags (map argument_tree arguments.now) }
 {
     let order = tags.order?;
     Some(Test::Size(order, number_in(arguments)?))
 }
 
+// The comparison of the size of the current part's content.
+fn part_size(tags: Tags, arguments: &[Argument]) -> Option<Test>
+    ensures { option_map test_form result ≡ size_of part_size tags (map argument_tree arguments.now) }
+{
+    let order = tags.order?;
+    Some(Test::PartSize(order, number_in(arguments)?))
+}
+
 // A test after whose arguments no test stands.
 fn plain_test(
     alloc: Global,
-    surroundings: Surroundings,
+    surroundings: Surroundings<'_>,
     head: &Head,
 ) -> Result<Option<Test>, AllocError>
-    ensures { IfOk result (λ t. option_map test_form t ≡ head_test (context_of surroundings) head.now none) }
+    ensures { IfOk result (λ t. option_map test_form t ≡ head_test (context_of surroundings.entry) head.now none) }
 {
     let Some(name) = test_named(head.name.as_slice()) else {
         return Ok(None);
@@ -173,6 +208,9 @@ fn plain_test(
         }
         TestName::Size => Ok(size(reading.tags, reading.positional)),
         TestName::String => string(alloc, surroundings, reading.tags, reading.positional),
+        TestName::PartSize => Ok(part_size(reading.tags, reading.positional)),
+        TestName::PartBody => part_body(alloc, surroundings, reading.tags, reading.positional),
+        TestName::PartDigest => part_digest(alloc, surroundings, reading.positional),
         TestName::Not | TestName::AllOf | TestName::AnyOf => Ok(None),
     }
 }
@@ -181,11 +219,24 @@ fn plain_test(
 fn negates(head: &Head) -> bool
     ensures { (s : Context) (f : TestForm) → head_test s head.now (one f) ≡ (if result then Some (negation f) else None) }
 {
-    match test_named(head.name.as_slice()) {
-        Some(name) => {
-            name == TestName::Not && test_signature(name).read(&head.arguments).is_some()
-        }
-        None => false,
+    let Some(name) = test_named(head.name.as_slice()) else {
+        return false;
+    };
+    if test_signature(name).read(&head.arguments).is_none() {
+        return false;
+    }
+    match name {
+        TestName::Not => true,
+        TestName::Constant(_)
+        | TestName::AllOf
+        | TestName::AnyOf
+        | TestName::Header
+        | TestName::Exists
+        | TestName::Size
+        | TestName::String
+        | TestName::PartSize
+        | TestName::PartBody
+        | TestName::PartDigest => false,
     }
 }
 
@@ -210,7 +261,10 @@ fn combining(head: &Head) -> Option<Junction>
         | TestName::Header
         | TestName::Exists
         | TestName::Size
-        | TestName::String => None,
+        | TestName::String
+        | TestName::PartSize
+        | TestName::PartBody
+        | TestName::PartDigest => None,
     }
 }
 
@@ -256,10 +310,10 @@ fn combined(
 #[cycle(tests)]
 pub fn test(
     alloc: Global,
-    surroundings: Surroundings,
+    surroundings: Surroundings<'_>,
     invocation: &Invocation,
 ) -> Result<Option<Test>, AllocError>
-    ensures { IfOk result (λ t. option_map test_form t ≡ test_form_of (context_of surroundings) (invocation_tree invocation.now)) }
+    ensures { IfOk result (λ t. option_map test_form t ≡ test_form_of (context_of surroundings.entry) (invocation_tree invocation.now)) }
 {
     match invocation {
         Invocation::Plain(head) => plain_test(alloc, surroundings, head),
@@ -279,10 +333,10 @@ pub fn test(
 #[cycle(tests)]
 fn tests(
     alloc: Global,
-    surroundings: Surroundings,
+    surroundings: Surroundings<'_>,
     list: &[Invocation],
 ) -> Result<Option<Vec<Test>>, AllocError>
-    ensures { IfOk result (λ ts. option_map (λ ts. tests_of (map test_form ts.items)) ts ≡ more_forms_of (context_of surroundings) (more_tests_of (map invocation_tree list.now))) }
+    ensures { IfOk result (λ ts. option_map (λ ts. tests_of (map test_form ts.items)) ts ≡ more_forms_of (context_of surroundings.entry) (more_tests_of (map invocation_tree list.now))) }
 {
     let mut tests = Vec::new(alloc);
     'list: for invocation in list {

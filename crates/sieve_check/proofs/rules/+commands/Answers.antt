@@ -1,12 +1,14 @@
-use Rattle.std.proofs.Common.{◌+◌, [], List, sym, subst, drop}
+use Rattle.std.proofs.Common.{◌≡◌, ◌∙◌, ◌+◌, List, ap, sym, subst, drop}
+use Rattle.std.specs.Prelude.{option_map}
 use Rattle.std.proofs.lemmas.Result.{err_from_is_err_and}
 use Rattle.sieve_parser.specs.View.{command_tree, commands_tree, invocation_tree}
 use Rattle.sieve_parser.specs.declared.tree.Command.{Command as Tree}
 use Rattle.sieve_check.specs.declared.signature.Ending.TheVariants.{Block}
 use Rattle.sieve_check.specs.Refusing.{Passes, context_of, listed}
-use Rattle.sieve_check.specs.Rules.{after_invocation, invocation_of, head_visits, command_visits, commands_visits}
+use Rattle.sieve_check.specs.Rules.{after_invocation, invocation_of, loops_opened, head_visits, command_visits, commands_visits}
 use Rattle.sieve_check.specs.Surroundings.{Context, in_block}
 use Rattle.sieve_check.proofs.FaultSteps.{block_visits, next_visits}
+use Rattle.sieve_check.proofs.OpenLoops.{inside_is}
 use Rattle.sieve_check.proofs.Visits.{AreLeft, found_among, one_less, passed, refused}
 use Rattle.sieve_check.proofs.rules.+commands.Goals as goal
 
@@ -15,18 +17,20 @@ command-returns-in_err-head-in-Block t c =
     let b = c.in-Block in
     let s = context_of c.args.surroundings in
     let p = err_from_is_err_and c.from_residual.result c.from_residual.ensures.1 in
-    refused (listed c.args.names.now) (command_visits s (command_tree c.args.tree.now)) (head_visits s (invocation_tree b.invocation) Block) (commands_visits (in_block [] s) (commands_tree b.block.items))
+    refused (listed c.args.names.now) (command_visits s (command_tree c.args.tree.now)) (head_visits s (invocation_tree b.invocation) Block) (commands_visits (in_block (loops_opened (invocation_tree b.invocation)) s) (commands_tree b.block.items))
     (block_visits s c.args.tree.now b.invocation b.block b.is) c.in_err-head-in-Block.field-0.0 p.0 c.from_residual.result (listed c.head-in-Block.new.names) c.in_err-head-in-Block.ensures p.1 p.2
 
-pub command-returns-in_ok-head-in-Block : goal.command-returns-in_ok-head-in-Block
-command-returns-in_ok-head-in-Block t c =
+pub command-returns-in-Some : goal.command-returns-in-Some
+command-returns-in-Some t c =
     let b = c.in-Block in
     let s = context_of c.args.surroundings in
+    let i = invocation_tree b.invocation in
     let between = listed c.head-in-Block.new.names in
-    passed (listed c.args.names.now) (command_visits s (command_tree c.args.tree.now)) (head_visits s (invocation_tree b.invocation) Block) (commands_visits (in_block [] s) (commands_tree b.block.items))
+    let around : context_of c.in-Some.inside ≡ in_block (loops_opened i) s = inside_is (loops_opened i) s (context_of c.in-Some.inside) (ap (option_map context_of) (sym c.in-Some.is) ∙ c.in_block.ensures) in
+    passed (listed c.args.names.now) (command_visits s (command_tree c.args.tree.now)) (head_visits s i Block) (commands_visits (in_block (loops_opened i) s) (commands_tree b.block.items))
     (block_visits s c.args.tree.now b.invocation b.block b.is) between c.commands.result (listed c.commands.new.names) c.in_ok-head-in-Block.ensures
-    (subst (λ (around : Context). Passes between (commands_visits around (commands_tree b.block.items)) c.commands.result (listed c.commands.new.names)) c.in_block.ensures
-    (subst (λ (xs : List Tree). Passes between (commands_visits (context_of c.in_block.result) (commands_tree xs)) c.commands.result (listed c.commands.new.names)) c.deref.ensures.value c.commands.ensures))
+    (subst (λ (around : Context). Passes between (commands_visits around (commands_tree b.block.items)) c.commands.result (listed c.commands.new.names)) around
+    (subst (λ (xs : List Tree). Passes between (commands_visits (context_of c.in-Some.inside) (commands_tree xs)) c.commands.result (listed c.commands.new.names)) c.deref.ensures.value c.commands.ensures))
 
 pub commands-returns-in_err-command : goal.commands-returns-in_err-command
 commands-returns-in_err-command t c =

@@ -1,0 +1,90 @@
+// The loops that are open around a command or test (RFC 5703, section 3).
+ghost use Rattle.std.specs.Prelude.{◌≡◌, ◌≤◌};
+ghost use Rattle.octets.specs.Limits.{max_loops};
+ghost use Rattle.sieve_check.specs.Reading.{name_in};
+ghost use Rattle.sieve_check.specs.Surroundings.{is_meant};
+
+/// The most open loops.
+const MAX_LOOPS: usize = 3;
+
+// Whether a loop is meant: each one where none is named, else those of just that name.
+fn is_meant(name: Option<&[u8]>, loop_name: Option<&[u8]>) -> bool
+    ensures { result ≡ is_meant (name_in name.entry) (name_in loop_name.entry) }
+{
+    match name {
+        Some(name) => match loop_name {
+            Some(other) => name == other,
+            None => false,
+        },
+        None => true,
+    }
+}
+
+/// The loops that are open, each with its name, if it has one.
+#[derive(Clone, Copy)]
+pub struct Loops<'t> {
+    /// The innermost is the first; those after the open ones say nothing.
+    pub names: [Option<&'t [u8]>; MAX_LOOPS],
+    /// How many are open.
+    pub number: usize,
+    ghost few: { number ≤ max_loops },
+}
+
+impl<'t> Loops<'t> {
+    ghost use Rattle.std.specs.Prelude.{◌≡◌, [], ◌∷◌, true, false, nat_lt, not, length, MatchOption};
+    ghost use Rattle.octets.specs.Limits.{max_loops};
+    ghost use Rattle.sieve_check.specs.Reading.{name_in};
+    ghost use Rattle.sieve_check.specs.Refusing.{open_loops};
+    ghost use Rattle.sieve_check.specs.Surroundings.{loops_left};
+
+    /// None.
+    pub fn none() -> Loops<'t>
+        ensures { open_loops result ≡ [] }
+    {
+        Loops {
+            names: [None; MAX_LOOPS],
+            number: 0,
+        }
+    }
+
+    /// Whether there are some.
+    pub fn are_some(self) -> bool
+        ensures { result ≡ nat_lt 0 (length (open_loops self.entry)) }
+    {
+        self.number > 0
+    }
+
+    /// Whether there are as many as there may be.
+    pub fn are_full(self) -> bool
+        ensures { result ≡ not (nat_lt (length (open_loops self.entry)) max_loops) }
+    {
+        self.number >= MAX_LOOPS
+    }
+
+    /// These and one within them. Nothing where there would be too many.
+    pub fn with(self, name: Option<&'t [u8]>) -> Option<Loops<'t>>
+        ensures { MatchOption result (nat_lt (length (open_loops self.entry)) max_loops ≡ false) (λ all. (nat_lt (length (open_loops self.entry)) max_loops ≡ true) × (open_loops all ≡ name_in name.entry ∷ open_loops self.entry)) }
+    {
+        if self.number >= MAX_LOOPS {
+            return None;
+        }
+        Some(Loops {
+            names: [name, self.names[0], self.names[1]],
+            number: self.number + 1,
+        })
+    }
+
+    /// How many of them are left by a `break`, the innermost first: up to the first that is meant, if one is.
+    pub fn left_by(self, name: Option<&[u8]>) -> Option<usize>
+        ensures { result ≡ loops_left (name_in name.entry) (open_loops self.entry) }
+    {
+        let mut left = 0;
+        for loop_name in &self.names[..self.number] {
+            left += 1;
+            if is_meant(name, *loop_name) {
+                return Some(left);
+            }
+        }
+        None
+    }
+}
