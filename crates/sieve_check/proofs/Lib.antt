@@ -18,3 +18,4 @@ pub mod Existence
 pub mod Examples
 pub mod NameSteps
 pub mod FormExamples
+pub mod LoopExamples
