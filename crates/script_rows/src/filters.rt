@@ -40,8 +40,8 @@ fn reports(report: &Report, folder: &[u8], charged: u128, limit: u128) -> bool {
         && report.limit == limit
 }
 
-// What the script's evaluation reports, by its program's octets.
-fn by_program(alloc: Global, script: &[u8], message: &[u8]) -> Result<Report, Fail> {
+/// What the evaluation of the script reports, by the octets of its program.
+pub fn by_program(alloc: Global, script: &[u8], message: &[u8]) -> Result<Report, Fail> {
     let checked = check(alloc, parse(alloc, script)?)?;
     let program = compile(alloc, &checked)?.write(alloc)?;
     Ok(execute(alloc, &program, message)?)

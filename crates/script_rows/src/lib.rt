@@ -12,6 +12,8 @@ mod large;
 #[cfg(test)]
 mod lexer;
 #[cfg(test)]
+mod loops;
+#[cfg(test)]
 mod meaning;
 #[cfg(test)]
 mod mime;

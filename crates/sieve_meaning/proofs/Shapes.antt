@@ -8,15 +8,14 @@ use Rattle.sieve_check.specs.declared.typed.Scope.{Scope}
 use Rattle.sieve_check.specs.declared.typed.Selection.{Selection}
 use Rattle.sieve_check.specs.declared.typed.Segment.{Segment}
 use Rattle.sieve_check.specs.declared.typed.Command.{Command}
-use Rattle.sieve_check.specs.declared.typed.Command.TheVariants.{FileInto, Set, rolls-FileInto, rolls-Set}
+use Rattle.sieve_check.specs.declared.typed.Command.TheVariants.{FileInto, Set, Store, ForEveryPart, rolls-FileInto, rolls-Set, rolls-Store, rolls-ForEveryPart}
 use Rattle.sieve_check.specs.declared.typed.Command.TheOpen as open_layer
 use Rattle.sieve_check.specs.declared.typed.Command.TheFolds.{fold-roll-Command}
-use Rattle.sieve_check.specs.declared.typed.Test.{Test}
 use Rattle.sieve_check.specs.declared.typed.Test.TheVariants.{Header, rolls-Header}
 use Rattle.sieve_check.specs.declared.typed.Test.TheOpen as test_layer
 use Rattle.sieve_check.specs.declared.typed.Test.TheFolds.{fold-roll-Test}
-use Rattle.sieve_check.specs.Typed.{TestForm, header, CommandForm, file_into, set}
-use Rattle.sieve_check.specs.TypedView.{GuardedForm, branch_step, command_form, command_step, selected_form, templates_of, test_form, test_step}
+use Rattle.sieve_check.specs.Typed.{TestForm, header, CommandForm, file_into, for_every_part, set, store}
+use Rattle.sieve_check.specs.TypedView.{GuardedForm, branch_step, command_form, command_step, commands_form, selected_form, templates_of, test_form, test_step}
 
 pub form_header : (how : Match) (scope : Scope) (selection : Selection) (names keys : Vec (Vec Segment)) → test_form (Header how scope selection names keys) ≡ header how scope (selected_form selection) (templates_of names.items) (templates_of keys.items)
 form_header how scope selection names keys =
@@ -27,3 +26,9 @@ form_file_into folder = ap command_form (sym (rolls-FileInto folder)) ∙ fold-r
 
 pub form_set : (modifiers : Modifiers) (name : Octets) (value : Vec Segment) → command_form (Set modifiers name value) ≡ set modifiers name value.items
 form_set modifiers name value = ap command_form (sym (rolls-Set modifiers name value)) ∙ fold-roll-Command CommandForm GuardedForm command_step branch_step (open_layer.Set modifiers name value)
+
+pub form_store : (folder : Vec Segment) → command_form (Store folder) ≡ store folder.items
+form_store folder = ap command_form (sym (rolls-Store folder)) ∙ fold-roll-Command CommandForm GuardedForm command_step branch_step (open_layer.Store folder)
+
+pub form_for_every_part : (block : Vec Command) → command_form (ForEveryPart block) ≡ for_every_part (commands_form block.items)
+form_for_every_part block = ap command_form (sym (rolls-ForEveryPart block)) ∙ fold-roll-Command CommandForm GuardedForm command_step branch_step (open_layer.ForEveryPart block)

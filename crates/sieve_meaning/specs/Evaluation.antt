@@ -4,9 +4,9 @@ use Rattle.mail_matching.specs.FirstMatch.{captures_of}
 use Rattle.bytecode_format.specs.Actions.{first_occurrences}
 use Rattle.sieve_meaning.specs.declared.evaluator.Evaluator.{Evaluator}
 use Rattle.sieve_meaning.specs.declared.evaluator.Flow.{Flow}
-use Rattle.sieve_meaning.specs.declared.evaluator.Flow.TheVariants.{GoesOn, Stopped}
+use Rattle.sieve_meaning.specs.declared.evaluator.Flow.TheVariants.{GoesOn, Stopped, Leaves}
 use Rattle.sieve_meaning.specs.Values.{found_in}
-use Rattle.sieve_meaning.specs.Meaning.{Effects, Verdict, Ending, normal, stopped}
+use Rattle.sieve_meaning.specs.Meaning.{Effects, Verdict, Ending, normal, stopped, broken}
 
 -- the evaluator stands for these effects
 pub record StandsFor (effects : Effects) (evaluator : Evaluator) : Type 0 where
@@ -23,4 +23,5 @@ Gives verdict value evaluator = (verdict.value ≡ value) × StandsFor verdict.e
 abbrev pub StandsAt : Ending → Flow → Evaluator → Type 0
 StandsAt (normal effects) GoesOn evaluator = StandsFor effects evaluator
 StandsAt (stopped effects) Stopped evaluator = StandsFor effects evaluator
+StandsAt (broken loops effects) (Leaves left) evaluator = (left ≡ loops) × StandsFor effects evaluator
 StandsAt _ _ evaluator = ⊥

@@ -133,8 +133,8 @@ current mail (Some number) = slice_get mail.parts number
 
 -- what a test of the current part comes to; where there is none, as in no checked script, it is false
 abbrev pub of_part : (MailPart → Verdict) → Effects → Option MailPart → Verdict
-of_part test effects None = verdict false effects
-of_part test effects (Some part) = test part
+of_part does effects None = verdict false effects
+of_part does effects (Some part) = does part
 
 -- the actions of storing the current part in a folder
 abbrev pub stored : Option ℕ → List ℕ → List Action

@@ -1,10 +1,13 @@
 // Scripts evaluated.
-ghost use Rattle.std.specs.Prelude.{◌≡◌, IfOk};
+ghost use Rattle.std.specs.Prelude.{◌≡◌, ◌-◌, nat_lt, if◌then◌else◌, IfOk};
+ghost use Rattle.sieve_meaning.specs.declared.evaluator.Flow.TheVariants.{GoesOn, Leaves};
 
+use crate::subject::Subject;
 use crate::variables::Variables;
 use bytecode_format::{Action, ActionList, Modifiers};
 use mail_matching::Captured;
 use mime_decode::Message;
+use octets::Octets;
 use sieve_check::{Checked, Command, Segment};
 use std::alloc::{AllocError, Global};
 
@@ -21,21 +24,35 @@ pub struct Evaluator<'s, 'm> {
     pub captures: Option<Captured<'m>>,
 }
 
-/// Whether the script goes on after a command.
+/// How the script goes on after a command.
 #[derive(Clone, Copy, Debug, PartialEq, Eq)]
 pub enum Flow {
     GoesOn,
     Stopped,
+    /// So many loops are left, the innermost first; at least one.
+    Leaves(usize),
+}
+
+// How a loop ends that is left.
+fn left(loops: usize) -> Flow
+    ensures { result ≡ (if nat_lt 1 loops then Leaves (loops - 1) else GoesOn) }
+{
+    if loops > 1 {
+        Flow::Leaves(loops - 1)
+    } else {
+        Flow::GoesOn
+    }
 }
 
 impl<'s, 'm> Evaluator<'s, 'm> {
-    ghost use Rattle.std.specs.Prelude.{◌≡◌, ◌∷◌, [], ◌++◌, false, map, take, IfOk, OnOk, None};
+    ghost use Rattle.std.specs.Prelude.{◌≡◌, ◌∷◌, [], ◌++◌, false, map, take, IfOk, OnOk, Some};
     ghost use Rattle.sieve_check.specs.Bounded.{IsBoundedCommand, AreBoundedCommands};
     ghost use Rattle.sieve_check.specs.TypedView.{command_form, commands_form};
     ghost use Rattle.octets.specs.Limits.{max_value};
     ghost use Rattle.bytecode_format.specs.Modifiers.{modified};
-    ghost use Rattle.sieve_meaning.specs.Meaning.{Effects, no_effects, command_does, commands_do, expanded, with_value};
+    ghost use Rattle.sieve_meaning.specs.Meaning.{Effects, no_effects, command_does, commands_do, expanded, stored, turns, with_value};
     ghost use Rattle.sieve_meaning.specs.Evaluation.{StandsFor, StandsAt};
+    ghost use Rattle.mime_decode.specs.Scope.{visited};
 
     /// Before the first command.
     pub fn new(alloc: Global) -> Evaluator<'s, 'm>
@@ -74,16 +91,48 @@ impl<'s, 'm> Evaluator<'s, 'm> {
         Ok(())
     }
 
+    // Lists that the part is stored in the folder; nothing, where there is no part.
+    fn store(&mut self, part: Option<usize>, folder: Octets) -> Result<(), AllocError>
+        ensures { (e : Effects) → StandsFor e self.old → OnOk result (StandsFor (record e { actions = e.actions ++ stored part folder }) self.new) }
+    {
+        if let Some(part) = part {
+            self.actions.push(Action::Store(folder, part))?;
+        }
+        Ok(())
+    }
+
+    // Does what the commands do, on each part that a loop visits, up to a turn that stops the script or leaves the loop.
+    #[cycle(commands)]
+    fn for_every_part(
+        &mut self,
+        alloc: Global,
+        block: &'s [Command],
+        subject: Subject<'_, 'm>,
+    ) -> Result<Flow, AllocError>
+        requires { AreBoundedCommands (commands_form block.now) }
+        ensures { (e : Effects) → StandsFor e self.old → IfOk result (λ flow. StandsAt (turns (λ number f. commands_do subject.entry.message.now (Some number) (commands_form block.now) f) (visited subject.entry.part subject.entry.message.now) e) flow self.new) }
+    {
+        let parts = subject.visited();
+        'parts: for part in parts.start..parts.end {
+            match self.commands(alloc, block, subject.at(part))? {
+                Flow::GoesOn => {}
+                Flow::Stopped => return Ok(Flow::Stopped),
+                Flow::Leaves(loops) => return Ok(left(loops)),
+            }
+        }
+        Ok(Flow::GoesOn)
+    }
+
     /// Does what a command does.
     #[cycle(commands)]
     fn command(
         &mut self,
         alloc: Global,
         command: &'s Command,
-        message: &Message<'m>,
+        subject: Subject<'_, 'm>,
     ) -> Result<Flow, AllocError>
         requires { IsBoundedCommand (command_form command.now) }
-        ensures { (e : Effects) → StandsFor e self.old → IfOk result (λ flow. StandsAt (command_does message.now None (command_form command.now) e) flow self.new) }
+        ensures { (e : Effects) → StandsFor e self.old → IfOk result (λ flow. StandsAt (command_does subject.entry.message.now subject.entry.part (command_form command.now) e) flow self.new) }
     {
         match command {
             Command::Keep => self.list(Action::Keep)?,
@@ -97,15 +146,21 @@ impl<'s, 'm> Evaluator<'s, 'm> {
                 name,
                 value,
             } => self.set(alloc, *modifiers, name.as_slice(), value)?,
+            Command::Store(folder) => {
+                let folder = self.expanded(alloc, folder)?;
+                self.store(subject.part, folder)?;
+            }
+            Command::ForEveryPart(block) => return self.for_every_part(alloc, block, subject),
+            Command::Break(loops) => return Ok(Flow::Leaves(*loops)),
             Command::Stop => return Ok(Flow::Stopped),
             Command::If(branches, otherwise) => {
                 'branches: for branch in branches {
-                    if self.is_true(alloc, &branch.test, message)? {
-                        return self.commands(alloc, &branch.block, message);
+                    if self.is_true(alloc, &branch.test, subject)? {
+                        return self.commands(alloc, &branch.block, subject);
                     }
                 }
                 if let Some(block) = otherwise {
-                    return self.commands(alloc, block, message);
+                    return self.commands(alloc, block, subject);
                 }
             }
         }
@@ -118,15 +173,15 @@ impl<'s, 'm> Evaluator<'s, 'm> {
         &mut self,
         alloc: Global,
         commands: &'s [Command],
-        message: &Message<'m>,
+        subject: Subject<'_, 'm>,
     ) -> Result<Flow, AllocError>
         requires { AreBoundedCommands (commands_form commands.now) }
-        ensures { (e : Effects) → StandsFor e self.old → IfOk result (λ flow. StandsAt (commands_do message.now None (commands_form commands.now) e) flow self.new) }
+        ensures { (e : Effects) → StandsFor e self.old → IfOk result (λ flow. StandsAt (commands_do subject.entry.message.now subject.entry.part (commands_form commands.now) e) flow self.new) }
     {
         'commands: for command in commands {
-            match self.command(alloc, command, message)? {
+            match self.command(alloc, command, subject)? {
                 Flow::GoesOn => {}
-                Flow::Stopped => return Ok(Flow::Stopped),
+                flow => return Ok(flow),
             }
         }
         Ok(Flow::GoesOn)
@@ -147,7 +202,7 @@ fn eval_commands(
     ensures { IfOk result (λ actions. actions.items ≡ meaning message.now (commands_form commands.now)) }
 {
     let mut evaluator = Evaluator::new(alloc);
-    let _flow = evaluator.commands(alloc, commands, message)?;
+    let _flow = evaluator.commands(alloc, commands, Subject::of(message))?;
     evaluator.actions.into_final(evaluator.implicit_keep)
 }
 

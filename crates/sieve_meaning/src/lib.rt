@@ -6,7 +6,9 @@
 
 mod evaluator;
 mod expansion;
+mod part_tests;
 mod selection;
+mod subject;
 mod tests_hold;
 mod variables;
 

@@ -1,5 +1,5 @@
 // Where a test looks, and what it takes of a field.
-ghost use Rattle.std.specs.Prelude.{◌≡◌, None};
+ghost use Rattle.std.specs.Prelude.{◌≡◌};
 ghost use Rattle.mail_matching.specs.Selection as code;
 ghost use Rattle.sieve_check.specs.Typed.{params_of};
 ghost use Rattle.sieve_check.specs.TypedView.{selected_form};
@@ -8,20 +8,17 @@ ghost use Rattle.sieve_meaning.specs.Meaning.{Effects, all_expanded, scope_of, s
 use mail_matching::{Reach, Scope as Place, Selector};
 use sieve_check::{Scope, Selection};
 
-/// Where a test looks, outside all loops.
-pub fn reach_of(scope: Scope) -> Reach
+/// Where a test looks, with the current part, if there is one.
+pub fn reach_of(scope: Scope, current: Option<usize>) -> Reach
     ensures scope { code.scope_of result.scope ≡ scope_of scope }
-    ensures outside { result.current ≡ None }
+    ensures current { result.current ≡ current }
 {
     let scope = match scope {
         Scope::Message => Place::Root,
         Scope::Part => Place::Current,
         Scope::PartAndBelow => Place::CurrentAndBelow,
     };
-    Reach {
-        scope,
-        current: None,
-    }
+    Reach { scope, current }
 }
 
 /// What a test takes of a field.

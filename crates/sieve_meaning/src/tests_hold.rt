@@ -4,9 +4,9 @@ ghost use Rattle.sieve_meaning.specs.Meaning.{is_size};
 
 use crate::evaluator::Evaluator;
 use crate::selection::{reach_of, selector_of};
+use crate::subject::Subject;
 use glob_match::Match;
 use mail_matching::{Answer, HeaderTest, Outcome, exists, header, string};
-use mime_decode::Message;
 use sieve_check::{Order, Segment, Test};
 use std::alloc::{AllocError, Global};
 
@@ -30,25 +30,25 @@ impl<'s, 'm> Evaluator<'s, 'm> {
         &mut self,
         alloc: Global,
         test: &Test,
-        message: &Message<'m>,
+        subject: Subject<'_, 'm>,
     ) -> Result<bool, AllocError>
         requires { IsBoundedTest (test_form test.now) }
-        ensures { (e : Effects) → StandsFor e self.old → IfOk result (λ value. Gives (test_does message.now None (test_form test.now) e) value self.new) }
+        ensures { (e : Effects) → StandsFor e self.old → IfOk result (λ value. Gives (test_does subject.entry.message.now subject.entry.part (test_form test.now) e) value self.new) }
     {
         match test {
             Test::Constant(value) => Ok(*value),
-            Test::Not(inner) => Ok(!self.is_true(alloc, inner, message)?),
+            Test::Not(inner) => Ok(!self.is_true(alloc, inner, subject)?),
             Test::AllOf(first, others) => {
-                if !self.is_true(alloc, first, message)? {
+                if !self.is_true(alloc, first, subject)? {
                     return Ok(false);
                 }
-                self.all_true(alloc, others, message)
+                self.all_true(alloc, others, subject)
             }
             Test::AnyOf(first, others) => {
-                if self.is_true(alloc, first, message)? {
+                if self.is_true(alloc, first, subject)? {
                     return Ok(true);
                 }
-                self.any_true(alloc, others, message)
+                self.any_true(alloc, others, subject)
             }
             Test::Header {
                 matching,
@@ -58,22 +58,29 @@ impl<'s, 'm> Evaluator<'s, 'm> {
                 keys,
             } => {
                 let test = HeaderTest {
-                    reach: reach_of(*scope),
+                    reach: reach_of(*scope, subject.part),
                     selector: selector_of(selection),
                     how: *matching,
                 };
-                self.matches(alloc, test, names, selection.params(), keys, message)
+                self.matches(alloc, test, names, selection.params(), keys, subject)
             }
             Test::Exists(scope, names) => {
                 let names = self.all_expanded(alloc, names)?;
-                Ok(exists(message, reach_of(*scope), &names).0)
+                Ok(exists(subject.message, reach_of(*scope, subject.part), &names).0)
             }
-            Test::Size(order, number) => Ok(is_size(*order, *number, message.size() as u64)),
+            Test::Size(order, number) => Ok(is_size(
+                *order,
+                *number,
+                subject.message.size() as u64,
+            )),
             Test::String {
                 matching,
                 sources,
                 keys,
             } => self.texts_match(alloc, *matching, sources, keys),
+            Test::PartSize(order, number) => self.part_size(alloc, subject, *order, *number),
+            Test::PartBody { matching, keys } => self.body_matches(alloc, subject, *matching, keys),
+            Test::PartDigest(keys) => self.digest_matches(alloc, subject, keys),
         }
     }
 
@@ -83,13 +90,13 @@ impl<'s, 'm> Evaluator<'s, 'm> {
         &mut self,
         alloc: Global,
         list: &[Test],
-        message: &Message<'m>,
+        subject: Subject<'_, 'm>,
     ) -> Result<bool, AllocError>
         requires { AreBoundedTests (tests_of (map test_form list.now)) }
-        ensures { (e : Effects) → StandsFor e self.old → IfOk result (λ value. Gives (all_do message.now None (tests_of (map test_form list.now)) e) value self.new) }
+        ensures { (e : Effects) → StandsFor e self.old → IfOk result (λ value. Gives (all_do subject.entry.message.now subject.entry.part (tests_of (map test_form list.now)) e) value self.new) }
     {
         'list: for test in list {
-            if !self.is_true(alloc, test, message)? {
+            if !self.is_true(alloc, test, subject)? {
                 return Ok(false);
             }
         }
@@ -102,13 +109,13 @@ impl<'s, 'm> Evaluator<'s, 'm> {
         &mut self,
         alloc: Global,
         list: &[Test],
-        message: &Message<'m>,
+        subject: Subject<'_, 'm>,
     ) -> Result<bool, AllocError>
         requires { AreBoundedTests (tests_of (map test_form list.now)) }
-        ensures { (e : Effects) → StandsFor e self.old → IfOk result (λ value. Gives (any_do message.now None (tests_of (map test_form list.now)) e) value self.new) }
+        ensures { (e : Effects) → StandsFor e self.old → IfOk result (λ value. Gives (any_do subject.entry.message.now subject.entry.part (tests_of (map test_form list.now)) e) value self.new) }
     {
         'list: for test in list {
-            if self.is_true(alloc, test, message)? {
+            if self.is_true(alloc, test, subject)? {
                 return Ok(true);
             }
         }
@@ -123,17 +130,17 @@ impl<'s, 'm> Evaluator<'s, 'm> {
         names: &[Vec<Segment>],
         params: &[Vec<Segment>],
         keys: &[Vec<Segment>],
-        message: &Message<'m>,
+        subject: Subject<'_, 'm>,
     ) -> Result<bool, AllocError>
         requires lists { AreBoundedLists (templates_of names.now) (templates_of keys.now) }
         requires params { length params.now ≤ max_test_strings }
-        requires outside { test.reach.current ≡ None }
-        ensures { (e : Effects) → StandsFor e self.old → IfOk result (λ value. Gives (matched (header_match test.how (scope_of test.reach.scope) None (selector_of test.selector (all_expanded e (templates_of params.now))) (all_expanded e (templates_of names.now)) (all_expanded e (templates_of keys.now)) message.now e.captures) e) value self.new) }
+        requires current { test.reach.current ≡ subject.part }
+        ensures { (e : Effects) → StandsFor e self.old → IfOk result (λ value. Gives (matched (header_match test.how (scope_of test.reach.scope) subject.entry.part (selector_of test.selector (all_expanded e (templates_of params.now))) (all_expanded e (templates_of names.now)) (all_expanded e (templates_of keys.now)) subject.entry.message.now e.captures) e) value self.new) }
     {
         let names = self.all_expanded(alloc, names)?;
         let params = self.all_expanded(alloc, params)?;
         let keys = self.all_expanded(alloc, keys)?;
-        let Answer { outcome, .. } = header(alloc, message, test, &names, &params, &keys)?;
+        let Answer { outcome, .. } = header(alloc, subject.message, test, &names, &params, &keys)?;
         Ok(self.settle(outcome))
     }
 
@@ -154,8 +161,8 @@ impl<'s, 'm> Evaluator<'s, 'm> {
         Ok(self.settle(outcome))
     }
 
-    // Keeps the captures that a test has set, and says whether it has matched.
-    fn settle(&mut self, outcome: Outcome<'m>) -> bool
+    /// Keeps the captures that a test has set, and says whether it has matched.
+    pub fn settle(&mut self, outcome: Outcome<'m>) -> bool
         ensures { (e : Effects) → StandsFor e self.old → Gives (matched (after outcome.entry e.captures) e) result self.new }
     {
         match outcome {
@@ -169,8 +176,8 @@ impl<'s, 'm> Evaluator<'s, 'm> {
     }
 }
 
-// Whether the octets are over or under the number.
-fn is_size(order: Order, number: u64, octets: u64) -> bool
+/// Whether the octets are over or under the number.
+pub fn is_size(order: Order, number: u64, octets: u64) -> bool
     ensures { result ≡ is_size order number octets }
 {
     match order {

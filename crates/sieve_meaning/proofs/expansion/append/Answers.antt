@@ -1,4 +1,4 @@
-use Rattle.std.proofs.Common.{◌≡◌, ◌-◌, ◌++◌, length, take, min, sym, ap, ◌∙◌, arith}
+use Rattle.std.proofs.Common.{◌≡◌, ◌-◌, length, min, ap, ◌∙◌}
 use Rattle.octets.specs.Limits.{max_string}
 use Rattle.sieve_meaning.proofs.Joining.{appended}
 use Rattle.sieve_meaning.proofs.expansion.append.Goals as goal

@@ -1,4 +1,4 @@
-use Rattle.std.proofs.Common.{◌≡◌, ◌∙◌, ap, sym, subst, IfOk, None}
+use Rattle.std.proofs.Common.{◌≡◌, ◌∙◌, ap, sym, subst, IfOk}
 use Rattle.sieve_check.specs.Typed.{header}
 use Rattle.sieve_check.specs.TypedView.{selected_form, templates_of, test_form}
 use Rattle.sieve_meaning.specs.Evaluation.{Gives}
@@ -14,7 +14,7 @@ all_true-list-preserved t c = (
   tests_bounded c.args.list.now c.list.test-index c.test-item.result c.list-test.true c.test-item.is c.list.invariant.0,
   λ e stands.
       let before = c.list.invariant.1 e stands in
-      let after = all_on c.args.message.now c.args.list.now c.list.test-index c.test-item.result c.in_ok-is_true.field-0 c.is_true.new.self before.0 c.list-test.true c.test-item.is (c.in_ok-is_true.ensures before.0 before.1) c.if-not-branch.false in
+      let after = all_on c.args.subject.message.now c.args.subject.part c.args.list.now c.list.test-index c.test-item.result c.in_ok-is_true.field-0 c.is_true.new.self before.0 c.list-test.true c.test-item.is (c.in_ok-is_true.ensures before.0 before.1) c.if-not-branch.false in
       (after.0, after.1, after.2 ∙ before.2),
 )
 
@@ -23,13 +23,14 @@ any_true-list-preserved t c = (
   tests_bounded c.args.list.now c.list.test-index c.test-item.result c.list-test.true c.test-item.is c.list.invariant.0,
   λ e stands.
       let before = c.list.invariant.1 e stands in
-      let after = any_on c.args.message.now c.args.list.now c.list.test-index c.test-item.result c.in_ok-is_true.field-0 c.is_true.new.self before.0 c.list-test.true c.test-item.is (c.in_ok-is_true.ensures before.0 before.1) c.if-branch.false in
+      let after = any_on c.args.subject.message.now c.args.subject.part c.args.list.now c.list.test-index c.test-item.result c.in_ok-is_true.field-0 c.is_true.new.self before.0 c.list-test.true c.test-item.is (c.in_ok-is_true.ensures before.0 before.1) c.if-branch.false in
       (after.0, after.1, after.2 ∙ before.2),
 )
 
 pub is_true-returns-in-Header : goal.is_true-returns-in-Header
 is_true-returns-in-Header t c = λ e stands.
-    let mail = c.args.message.now in
+    let mail = c.args.subject.message.now in
+    let part = c.args.subject.part in
     let how = c.in-Header.matching in
     let scope = c.in-Header.scope in
     let selected = selected_form c.in-Header.selection in
@@ -40,5 +41,5 @@ is_true-returns-in-Header t c = λ e stands.
     let names_are = ap (λ ss. header how scope selected (templates_of ss) (templates_of c.in-Header.keys.items)) (sym c.deref-in-Header.ensures.value) in
     let keys_are = ap (λ ss. header how scope selected names (templates_of ss)) (sym c.deref-in-Header-2.ensures.value) in
     let same =
-    header_again mail e how scope selected names keys (templates_of c.params.result.now) (place_of c.reach_of.result.scope) (λ given. code_selector_of c.selector_of.result given) c.reach_of.ensures.scope c.params.ensures (c.selector_of.ensures e) in
-    subst (λ v. IfOk c.matches.result (λ value. Gives v value c.matches.new.self)) (same ∙ sym (ap (λ f. test_does mail None f e) (form ∙ names_are ∙ keys_are))) (c.matches.ensures e stands)
+    header_again mail part e how scope selected names keys (templates_of c.params.result.now) (place_of c.reach_of.result.scope) (λ given. code_selector_of c.selector_of.result given) c.reach_of.ensures.scope c.params.ensures (c.selector_of.ensures e) in
+    subst (λ v. IfOk c.matches.result (λ value. Gives v value c.matches.new.self)) (same ∙ sym (ap (λ f. test_does mail part f e) (form ∙ names_are ∙ keys_are))) (c.matches.ensures e stands)

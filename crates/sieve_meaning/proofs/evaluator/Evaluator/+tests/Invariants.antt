@@ -1,4 +1,4 @@
-use Rattle.std.proofs.Common.{◌≡◌, map, drop, None}
+use Rattle.std.proofs.Common.{◌≡◌, map, drop}
 use Rattle.sieve_check.specs.Bounded.{AreBoundedTests}
 use Rattle.sieve_check.specs.TypedView.{test_form, tests_of}
 use Rattle.sieve_meaning.specs.Meaning.{Effects, all_do, any_do}
@@ -9,9 +9,9 @@ use Rattle.sieve_meaning.proofs.evaluator.Evaluator.+tests.Given as goal
 abbrev pub invariant-all_true-list : goal.invariant-all_true-list
 invariant-all_true-list l =
     AreBoundedTests (tests_of (map test_form (drop l.test-index l.list)))
-    × ((e : Effects) → StandsFor e l.initial.self → (f : Effects) × StandsFor f l.self × (all_do l.message None (tests_of (map test_form (drop l.test-index l.list))) f ≡ all_do l.message None (tests_of (map test_form l.list)) e))
+    × ((e : Effects) → StandsFor e l.initial.self → (f : Effects) × StandsFor f l.self × (all_do l.subject.message.now l.subject.part (tests_of (map test_form (drop l.test-index l.list))) f ≡ all_do l.subject.message.now l.subject.part (tests_of (map test_form l.list)) e))
 
 abbrev pub invariant-any_true-list : goal.invariant-any_true-list
 invariant-any_true-list l =
     AreBoundedTests (tests_of (map test_form (drop l.test-index l.list)))
-    × ((e : Effects) → StandsFor e l.initial.self → (f : Effects) × StandsFor f l.self × (any_do l.message None (tests_of (map test_form (drop l.test-index l.list))) f ≡ any_do l.message None (tests_of (map test_form l.list)) e))
+    × ((e : Effects) → StandsFor e l.initial.self → (f : Effects) × StandsFor f l.self × (any_do l.subject.message.now l.subject.part (tests_of (map test_form (drop l.test-index l.list))) f ≡ any_do l.subject.message.now l.subject.part (tests_of (map test_form l.list)) e))

@@ -1,4 +1,4 @@
-use Rattle.std.proofs.Common.{◌≡◌, ap, ◌∙◌, ◌++◌, take}
+use Rattle.std.proofs.Common.{ap, ◌∙◌, ◌++◌, take}
 use Rattle.std.proofs.lemmas.List.{take_all}
 use Rattle.octets.specs.Limits.{max_string}
 use Rattle.sieve_meaning.specs.Meaning.{expanded, value_of}

@@ -1,4 +1,4 @@
-use Rattle.std.proofs.Common.{◌≡◌, ap, ◌∙◌, take}
+use Rattle.std.proofs.Common.{ap, ◌∙◌, take}
 use Rattle.octets.specs.Limits.{max_value}
 use Rattle.bytecode_format.specs.Modifiers.{modified}
 use Rattle.sieve_meaning.proofs.Joining.{same_values}

@@ -1,7 +1,5 @@
 use Rattle.std.proofs.Common.{◌≡◌, ℕ, Bool, true, false, List, [], Option, Some, unwrap_or, bytes_eq, refl, ap, ◌∙◌, cond}
 use Rattle.std.proofs.lemmas.Map.Text.{btree_map_updates_str}
-use Rattle.sieve_meaning.specs.Meaning.{with_value}
-use Rattle.sieve_meaning.specs.Values.{found_in}
 use Rattle.sieve_meaning.proofs.variables.Variables.set.Goals as goal
 
 -- a value that is chosen before it is looked at
