@@ -1,24 +1,27 @@
 -- The code of a script is accepted.
-use Rattle.std.proofs.Common.{◌≡◌, ℕ, zero, suc, ◌+◌, ◌-◌, ◌<◌, ◌≤◌, true, false, not, ◌&&◌, ◌||◌, ◌==◌, nat_le, List, [], ◌∷◌, Option, Some, None, is_some, is_none, slice_get, get_or, length, refl, sym, ap, subst, ◌∙◌, inl, inr, arith}
-use Rattle.std.proofs.lemmas.Bool.{cases_Bool, cases_lt, cases_eq, ne_eqb, lt-leb}
+use Rattle.std.proofs.Common.{◌≡◌, ℕ, zero, suc, ◌+◌, ◌-◌, ◌<◌, ◌≤◌, Bool, true, false, not, ◌&&◌, ◌||◌, ◌==◌, nat_lt, nat_le, List, [], ◌∷◌, Option, Some, None, is_some, is_none, slice_get, get_or, length, refl, sym, ap, subst, ◌∙◌, inl, inr, arith}
+use Rattle.std.proofs.lemmas.Bool.{cases_Bool, cases_lt, cases_eq, eq-eqb, ne_eqb, lt-ltb, le-ltb, lt-leb}
 use Rattle.std.proofs.lemmas.List.{length-append, append-nil}
 use Rattle.std.proofs.Math.Bool.{and-false}
 use Rattle.std.proofs.lemmas.Option.{slice_get_within, slice_get-get_or}
+use Rattle.octets.specs.Limits.{max_loops}
 use Rattle.bytecode_format.specs.declared.instruction.Instruction.{Instruction}
 use Rattle.bytecode_format.specs.declared.operation.Operation.{Operation}
 use Rattle.bytecode_format.specs.declared.operation.Operation.TheVariants.{Halt, Literal, Variable, Capture, Join, Set, Bool as BoolOp, Not, Jump, JumpIfTrue, JumpIfFalse, Header, Exists, String, Size, PartSize, PartBody, PartDigest, Keep, Discard, File, Store, Each, Next, Break}
 use Rattle.bytecode_format.specs.Operations.{operation_of}
 use Rattle.bytecode_format.specs.Code.{Code}
 use Rattle.bytecode_verifier.specs.Acceptance.{IsAccepted}
-use Rattle.bytecode_verifier.specs.Loops.{loops, same_loops}
+use Rattle.bytecode_verifier.specs.Loops.{open_loops, same_loops}
+use Rattle.bytecode_verifier.specs.Nests.{first_of, open_at}
+use Rattle.bytecode_verifier.proofs.Around.{same_loops_is, has_loop_is, length_reverse}
+use Rattle.bytecode_verifier.proofs.Open.{inside, nexts, open_inside, open_loops_are}
 use Rattle.bytecode_verifier.specs.Places.{holds_at}
-use Rattle.bytecode_verifier.specs.Rules.{misses_index, is_halt, breaks_form, breaks_end, breaks_stack}
-use Rattle.std.specs.Option.{option_and_then}
-use Rattle.bytecode_verifier.specs.Rows.{row_of, row_named, is_jump}
+use Rattle.bytecode_verifier.specs.Rules.{misses_index, misses_loop, is_halt, breaks_form, breaks_end, breaks_stack}
+use Rattle.std.specs.Option.{option_and_then, option_map_or}
+use Rattle.bytecode_verifier.specs.Rows.{row_of, row_named, is_jump, needs_part}
 use Rattle.bytecode_verifier.specs.Shape.{Entries, is_empty, is_target, shape_at}
 use Rattle.bytecode_verifier.proofs.Ends.{past_stack}
-use Rattle.sieve_compiler.proofs.Loopless.{needs_no_part, misses_no_loop, no_loops, nowhere}
-use Rattle.sieve_check.specs.Bounded.{AreBoundedCommands}
+use Rattle.sieve_check.specs.Bounded.{IsBounded}
 use Rattle.sieve_check.specs.Typed.{CommandForms}
 use Rattle.sieve_compiler.specs.Tables.{Tables, tables_of}
 use Rattle.sieve_compiler.specs.Lengths.{commands_length}
@@ -26,7 +29,7 @@ use Rattle.sieve_compiler.specs.Coding.{plain, commands_code, code_of}
 use Rattle.sieve_compiler.proofs.Standing.{Stands, stands_right, stands_first}
 use Rattle.sieve_compiler.proofs.CodeLengths.{commands_code_length}
 use Rattle.sieve_compiler.proofs.Known.{tables_have}
-use Rattle.sieve_compiler.proofs.Sound.{standing, IsKnown, IsSound, AreSound, sound_both, halt_sound, commands_end, commands_sound}
+use Rattle.sieve_compiler.proofs.Sound.{standing, IsKnown, KeepsLoops, IsSound, AreSound, sound_both, halt_sound, commands_end, commands_sound}
 
 sound_at : (all : List Instruction) (tables : Tables) (last place : ℕ) (piece : List Instruction) (k : ℕ) (i : Instruction) → AreSound all tables last place piece → slice_get piece k ≡ Some i → IsSound all tables last (place + k) i
 sound_at all tables last place [] k i h e = absurd (cc)
@@ -66,6 +69,40 @@ index_kept code tables (Some Each) i same h = refl
 index_kept code tables (Some Next) i same h = refl
 index_kept code tables (Some Break) i same h = refl
 
+none_passes : (o : Option Instruction) (test : Instruction → Bool) → ((i : Instruction) → o ≡ Some i → test i ≡ false) → option_map_or test o false ≡ false
+none_passes None test h = refl
+none_passes (Some i) test h = h i refl
+
+-- a rule that no instruction breaks
+nowhere : (code : Code) (place : ℕ) (test : Instruction → Bool) → ((i : Instruction) → slice_get code.instructions place ≡ Some i → test i ≡ false) → holds_at code place test ≡ false
+nowhere code place test h = none_passes (slice_get code.instructions place) test h
+
+-- how many loops are open
+depth : (code : Code) (place : ℕ) → length (open_loops code place) ≡ length (inside code.instructions place)
+depth code place = ap length (open_loops_are code place) ∙ length_reverse (inside code.instructions place)
+
+-- where the same are
+same_open : (code : Code) (p q : ℕ) → inside code.instructions q ≡ inside code.instructions p → same_loops code p q ≡ true
+same_open code p q same =
+    same_loops_is code p q ∙ eq-eqb (first_of (open_at code.instructions p)) (first_of (open_at code.instructions q)) (ap first_of (open_inside code.instructions p ∙ ap nexts (sym same) ∙ sym (open_inside code.instructions q)))
+
+loops_kept : (code : Code) (place : ℕ) (o : Option Operation) (i : Instruction) → KeepsLoops code.instructions place o i → misses_loop code place o i ≡ false
+loops_kept code place (Some Each) i h = rw (has_loop_is code place i.c, h.0, depth code place, lt-leb max_loops (length (inside code.instructions place)) h.1) refl
+loops_kept code place (Some Next) i h = rw (has_loop_is code i.c place, h) refl
+loops_kept code place (Some Break) i h = rw (depth code place) (le-ltb (length (inside code.instructions place)) i.a h)
+loops_kept code place _ i h = refl
+
+some_open : (code : Code) (place : ℕ) → 0 < length (inside code.instructions place) → (length (open_loops code place) == 0) ≡ false
+some_open code place h = ne_eqb (length (open_loops code place)) 0 (λ e. omega (arith, h, depth code place, e))
+
+-- an operation on the current part stands in a loop
+part_kept : (code : Code) (place : ℕ) (o : Option Operation) (i : Instruction) → KeepsLoops code.instructions place o i → (needs_part (option_and_then (row_of 1) o) && (length (open_loops code place) == 0)) ≡ false
+part_kept code place (Some PartSize) i h = some_open code place h
+part_kept code place (Some PartBody) i h = some_open code place h
+part_kept code place (Some PartDigest) i h = some_open code place h
+part_kept code place (Some Store) i h = some_open code place h
+part_kept code place _ i h = refl
+
 goes_on : (before after : Option Entries) (entries : Entries) → after ≡ Some entries → (is_some before && is_none after) ≡ false
 goes_on before after entries e = rw e (and-false (is_some before))
 
@@ -81,7 +118,7 @@ no_target all tables last from (i ∷ piece) place h some =
       | inr none ↦ rw none rest
     ]
 
-module _ (script : CommandForms) (bounded : AreBoundedCommands script) where
+module _ (script : CommandForms) (bounded : IsBounded script) where
   abbrev code : Code
   code = code_of script
 
@@ -116,7 +153,7 @@ module _ (script : CommandForms) (bounded : AreBoundedCommands script) where
   all_sound =
       let le : 0 + last ≤ last = omega arith in
       let halt = halt_sound all tables last (0 + last) (commands_end all tables last script 0 body_stands refl) in
-      sound_both all tables last body (plain Halt ∷ []) 0 last (commands_code_length tables script 0) (commands_sound all tables last script 0 body_stands (tables_have script) bounded refl le) (halt, tt)
+      sound_both all tables last body (plain Halt ∷ []) 0 last (commands_code_length tables script 0) (commands_sound all tables last script 0 0 body_stands (tables_have script) bounded.commands refl le (omega arith) bounded.loops refl) (halt, tt)
 
   pub sound : (place : ℕ) (i : Instruction) → slice_get all place ≡ Some i → IsSound all tables last place i
   sound place i e = let same : 0 + place ≡ place = omega arith in subst (λ p. IsSound all tables last p i) same (sound_at all tables last 0 all place i all_sound e)
@@ -139,9 +176,6 @@ module _ (script : CommandForms) (bounded : AreBoundedCommands script) where
   formed : (place : ℕ) → breaks_form code place ≡ false
   formed place = nowhere code place _ (λ i e. ap not (sound place i e).form)
 
-  pub loopless : loops code ≡ []
-  loopless = no_loops code (λ place i e. (sound place i e).loopless)
-
   ended : (place : ℕ) → breaks_end code place ≡ false
   ended place =
       elim (cases_eq place (length all - 1)) [
@@ -157,10 +191,16 @@ module _ (script : CommandForms) (bounded : AreBoundedCommands script) where
       elim (cases_Bool (is_jump (row_named 1 i.op))) [
         | inl jump ↦
             let a = (sound place i e).jump jump in
-            let inside : i.c < length all = omega (arith, a.within, code_length) in
-            rw (jump, lt-leb i.c place a.forward, lt-leb (length all) i.c inside, loopless) refl
+            let inner : i.c < length all = omega (arith, a.within, code_length) in
+            rw (jump, lt-leb i.c place a.forward, lt-leb (length all) i.c inner, same_open code place i.c a.same) refl
         | inr none ↦ rw none refl
       ]
+
+  -- a jump is one that the machine makes
+  pub jump_kept : (place : ℕ) (i : Instruction) → slice_get all place ≡ Some i → is_jump (row_named 1 i.op) ≡ true → (nat_lt place i.c && same_loops code place i.c) ≡ true
+  jump_kept place i e jump =
+      let a = (sound place i e).jump jump in
+      rw (lt-ltb place i.c a.forward, same_open code place i.c a.same) refl
 
   stacked : (place : ℕ) → breaks_stack code place ≡ false
   stacked place =
@@ -174,8 +214,8 @@ module _ (script : CommandForms) (bounded : AreBoundedCommands script) where
     index = λ place. nowhere code place _ (λ i e. index_kept code tables (operation_of i.op) i (refl, refl, refl) (sound place i e).index);
     form = formed;
     end = ended;
-    loop = λ place. nowhere code place _ (λ i e. misses_no_loop code place (operation_of i.op) i (sound place i e).loopless);
+    loop = λ place. nowhere code place _ (λ i e. loops_kept code place (operation_of i.op) i (sound place i e).loops);
     jump = λ place. nowhere code place _ (aimed place);
-    no_part = λ place. nowhere code place _ (λ i e. rw (needs_no_part 1 (operation_of i.op) (sound place i e).loopless) refl);
+    no_part = λ place. nowhere code place _ (λ i e. part_kept code place (operation_of i.op) i (sound place i e).loops);
     stack = stacked;
   }

@@ -2,10 +2,11 @@
 use Rattle.std.proofs.Common.{◌≡◌, ℕ, ◌+◌, Bool, false, List, [], ◌∷◌, ◌++◌, refl, sym, ◌∙◌, arith, length, map}
 use Rattle.std.proofs.lemmas.List.{length-append, length-map}
 use Rattle.std.proofs.lemmas.List.Sums.{sum_by-cons}
-use Rattle.sieve_check.specs.Typed.{Template, Selected, params_of, TestForm, constant, negation, all_of, any_of, size, header, exists, string, TestForms, no_test, test, CommandForm, keep, discard, file_into, set, stop, choice, CommandForms, no_command, command, BranchForms, no_branch, otherwise, branch}
+use Rattle.bytecode_format.specs.declared.operation.Operation.TheVariants.{Next}
+use Rattle.sieve_check.specs.Typed.{Template, params_of, TestForm, constant, negation, all_of, any_of, size, header, exists, string, part_size, part_body, part_digest, TestForms, no_test, test, CommandForm, keep, discard, file_into, set, store, for_every_part, leave, stop, choice, CommandForms, no_command, command, BranchForms, no_branch, otherwise, branch}
 use Rattle.sieve_compiler.specs.Tables.{Tables}
 use Rattle.sieve_compiler.specs.Lengths.{string_length, strings_length, test_length, tests_length, leave_length, command_length, commands_length, branches_length}
-use Rattle.sieve_compiler.specs.Coding.{join_texts, push_segment, string_code, strings_code, test_code, tests_code, leave_code, command_code, commands_code, branches_code}
+use Rattle.sieve_compiler.specs.Coding.{instruction, join_texts, push_segment, string_code, strings_code, test_code, tests_code, leave_code, command_code, commands_code, branches_code}
 
 pub length_two : {A : Type 0} (a b : List A) (m n : ℕ) → length a ≡ m → length b ≡ n → length (a ++ b) ≡ m + n
 length_two a b m n e f = let all = length-append a b in omega (arith, all, e, f)
@@ -35,6 +36,9 @@ module _ (tables : Tables) where
     test_code_length (exists scope names) place asked target = length_two (strings_code tables names) _ (strings_length names) 2 (strings_code_length names) refl
     test_code_length (string how sources keys) place asked target =
         length_two (strings_code tables sources ++ strings_code tables keys) _ (strings_length sources + strings_length keys) 2 (length_two (strings_code tables sources) (strings_code tables keys) _ _ (strings_code_length sources) (strings_code_length keys)) refl
+    test_code_length (part_size order number) place asked target = refl
+    test_code_length (part_body how keys) place asked target = length_two (strings_code tables keys) _ (strings_length keys) 2 (strings_code_length keys) refl
+    test_code_length (part_digest keys) place asked target = length_two (strings_code tables keys) _ (strings_length keys) 2 (strings_code_length keys) refl
 
     pub tests_code_length : (ts : TestForms) (place : ℕ) (deciding asked : Bool) (following target : ℕ) → length (tests_code tables place ts deciding asked following target) ≡ tests_length ts
     tests_code_length no_test place deciding asked following target = refl
@@ -51,6 +55,11 @@ module _ (tables : Tables) where
     command_code_length discard place = refl
     command_code_length (file_into folder) place = length_two (string_code tables folder) _ _ 1 (string_code_length folder) refl
     command_code_length (set modifiers name value) place = length_two (string_code tables value) _ _ 1 (string_code_length value) refl
+    command_code_length (store folder) place = length_two (string_code tables folder) _ _ 1 (string_code_length folder) refl
+    command_code_length (for_every_part cs) place =
+        let block = length_two (commands_code tables (place + 1) cs) (instruction Next 0 place ∷ []) (commands_length cs) 1 (commands_code_length cs (place + 1)) refl in
+        omega (arith, block)
+    command_code_length (leave loops) place = refl
     command_code_length stop place = refl
     command_code_length (choice bs) place = branches_code_length bs place _
 

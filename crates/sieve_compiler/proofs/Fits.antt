@@ -5,7 +5,7 @@ use Rattle.std.proofs.lemmas.List.Sums.{sum_by-cons, sum_by-append}
 use Rattle.std.proofs.lemmas.List.Elements.{All-nil, All-cons, All-head, All-tail, All-append}
 use Rattle.bytecode_format.specs.declared.instruction.Instruction.{Instruction}
 use Rattle.bytecode_format.specs.declared.operation.Operation.{Operation}
-use Rattle.bytecode_format.specs.declared.operation.Operation.TheVariants.{Halt, Literal, Variable as VariableOp, Capture as CaptureOp, Set, Bool as BoolOp, Jump, JumpIfTrue, JumpIfFalse, Size, Keep, Discard, File}
+use Rattle.bytecode_format.specs.declared.operation.Operation.TheVariants.{Halt, Literal, Variable as VariableOp, Capture as CaptureOp, Set, Bool as BoolOp, Jump, JumpIfTrue, JumpIfFalse, Size, Keep, Discard, File, PartSize, PartBody, PartDigest, Store, Each, Next, Break}
 use Rattle.bytecode_format.specs.Operations.{octet_of}
 use Rattle.std.specs.List.{flat_map}
 use Rattle.std.proofs.lemmas.List.Concat.{flat_map-cons}
@@ -18,15 +18,10 @@ use Rattle.sieve_check.specs.declared.typed.Order.{Order}
 use Rattle.sieve_check.specs.declared.typed.Order.TheVariants.{Over, Under}
 use Rattle.sieve_check.specs.declared.typed.Segment.{Segment}
 use Rattle.sieve_check.specs.declared.typed.Segment.TheVariants.{Text, Variable, Capture}
-use Rattle.sieve_check.specs.Variables.{commands_variables}
 use Rattle.sieve_compiler.proofs.Selecting as selecting
 use Rattle.sieve_check.specs.declared.typed.Scope.{Scope}
-use Rattle.sieve_check.specs.Typed.{Template, Selected, params_of, TestForm, constant, negation, all_of, any_of, size, header, exists, string, TestForms, no_test, test, CommandForm, keep, discard, file_into, set, stop, choice, CommandForms, no_command, command, BranchForms, no_branch, otherwise, branch}
-use Rattle.glob_match.specs.declared.comparator.Comparator.{Comparator}
-use Rattle.glob_match.specs.declared.comparator.Comparator.TheVariants.{Octet, Casemap}
+use Rattle.sieve_check.specs.Typed.{Template, Selected, params_of, TestForm, constant, negation, all_of, any_of, size, header, exists, string, part_size, part_body, part_digest, TestForms, no_test, test, CommandForm, keep, discard, file_into, set, store, for_every_part, leave, stop, choice, CommandForms, no_command, command, BranchForms, no_branch, otherwise, branch}
 use Rattle.glob_match.specs.declared.match_type.Match.{Match}
-use Rattle.glob_match.specs.declared.match_type.MatchType.{MatchType}
-use Rattle.glob_match.specs.declared.match_type.MatchType.TheVariants.{Is, Contains, Matches}
 use Rattle.octets.specs.Once.{each_once}
 use Rattle.octets.specs.Limits.{max_segments, max_string, max_variables}
 use Rattle.sieve_check.specs.Bounded.{IsBoundedSegment, IsBoundedString, IsBoundedHeader, IsBoundedTest, AreBoundedTests, IsBoundedCommand, AreBoundedCommands, AreBoundedBranches, IsBounded}
@@ -35,9 +30,11 @@ use Rattle.sieve_check.specs.Extent.{segment_extent, string_extent, strings_exte
 use Rattle.sieve_compiler.specs.Tables.{Tables, tables_of, place_of_number, place_of_string, place_of_variable}
 use Rattle.sieve_compiler.specs.Lengths.{string_length, strings_length, test_length, tests_length, leave_length, command_length, commands_length, branches_length}
 use Rattle.sieve_compiler.specs.Numbers.{test_numbers, tests_numbers, command_numbers, commands_numbers, branches_numbers}
-use Rattle.sieve_compiler.specs.Coding.{instruction, plain, jump_if, push_bool, push_size, push_text, push_segment, join_texts, string_code, strings_code, set_variable, kind_number, comparator_number, match_fields, match_texts, find_fields, asked_of, aim_of, test_code, tests_code, leave_code, command_code, commands_code, branches_code, code_of}
+use Rattle.sieve_compiler.specs.Coding.{instruction, plain, jump_if, push_bool, push_part_size, push_size, push_text, push_segment, join_texts, string_code, strings_code, set_variable, match_fields, match_body, match_digest, match_texts, find_fields, asked_of, aim_of, test_code, tests_code, leave_code, command_code, commands_code, branches_code, code_of}
 use Rattle.octets.proofs.Once.{place_within, each_once_within, each_once_all}
+use Rattle.sieve_compiler.specs.Leaving.{LeavesFew, LeaveFew, BranchesLeaveFew}
 use Rattle.sieve_compiler.proofs.CodeLengths.{commands_code_length}
+use Rattle.sieve_compiler.proofs.LeavingLemmas.{leave_few}
 
 -- ---- lengths
 
@@ -67,6 +64,9 @@ mutual
       omega (arith, strings_within names b.lists.bounded_first, strings_within (params_of selected) b.bounded_params, strings_within keys b.lists.bounded_second)
   test_within (exists scope names) b = omega (arith, strings_within names b.bounded)
   test_within (string how sources keys) b = omega (arith, strings_within sources b.bounded_first, strings_within keys b.bounded_second)
+  test_within (part_size order number) b = omega arith
+  test_within (part_body how keys) b = omega (arith, strings_within keys b.bounded)
+  test_within (part_digest keys) b = omega (arith, strings_within keys b.bounded)
 
   pub tests_within : (ts : TestForms) → AreBoundedTests ts → tests_length ts ≤ tests_extent ts
   tests_within no_test b = omega arith
@@ -83,6 +83,9 @@ mutual
   command_within discard b = omega arith
   command_within (file_into folder) b = omega (arith, string_within folder b)
   command_within (set modifiers name value) b = omega (arith, string_within value b)
+  command_within (store folder) b = omega (arith, string_within folder b)
+  command_within (for_every_part cs) b = omega (arith, commands_within cs b)
+  command_within (leave loops) b = omega arith
   command_within stop b = omega arith
   command_within (choice bs) b = branches_within bs b
 
@@ -108,6 +111,9 @@ mutual
   test_uses (header how scope selected names keys) = omega arith
   test_uses (exists scope names) = omega arith
   test_uses (string how sources keys) = omega arith
+  test_uses (part_size order number) = omega arith
+  test_uses (part_body how keys) = omega arith
+  test_uses (part_digest keys) = omega arith
 
   tests_use : (ts : TestForms) → length (tests_numbers ts) ≤ tests_length ts
   tests_use no_test = omega arith
@@ -119,6 +125,9 @@ mutual
   command_uses discard = omega arith
   command_uses (file_into folder) = omega arith
   command_uses (set modifiers name value) = omega arith
+  command_uses (store folder) = omega arith
+  command_uses (for_every_part cs) = omega (arith, commands_use cs)
+  command_uses (leave loops) = omega arith
   command_uses stop = omega arith
   command_uses (choice bs) = branches_use bs
 
@@ -196,6 +205,9 @@ mutual
       omega (arith, both_octets (strings_of names ++ strings_of given) (strings_of keys), both_octets (strings_of names) (strings_of given), strings_spell names, strings_spell given, strings_spell keys)
   test_spells (exists scope names) = omega (arith, strings_spell names)
   test_spells (string how sources keys) = omega (arith, both_octets (strings_of sources) (strings_of keys), strings_spell sources, strings_spell keys)
+  test_spells (part_size order number) = omega arith
+  test_spells (part_body how keys) = omega (arith, strings_spell keys)
+  test_spells (part_digest keys) = omega (arith, strings_spell keys)
 
   tests_spell : (ts : TestForms) → octets_of (tests_strings ts) ≤ tests_extent ts
   tests_spell no_test = omega arith
@@ -207,6 +219,9 @@ mutual
   command_spells discard = omega arith
   command_spells (file_into folder) = omega (arith, string_spells folder)
   command_spells (set modifiers name value) = omega (arith, string_spells value)
+  command_spells (store folder) = omega (arith, string_spells folder)
+  command_spells (for_every_part cs) = omega (arith, commands_spell cs)
+  command_spells (leave loops) = omega arith
   command_spells stop = omega arith
   command_spells (choice bs) = branches_spell bs
 
@@ -249,6 +264,9 @@ mutual
       omega (arith, length-append (strings_of names ++ strings_of given) (strings_of keys), length-append (strings_of names) (strings_of given), strings_push names, strings_push given, strings_push keys)
   test_pushes (exists scope names) = omega (arith, strings_push names)
   test_pushes (string how sources keys) = omega (arith, length-append (strings_of sources) (strings_of keys), strings_push sources, strings_push keys)
+  test_pushes (part_size order number) = omega arith
+  test_pushes (part_body how keys) = omega (arith, strings_push keys)
+  test_pushes (part_digest keys) = omega (arith, strings_push keys)
 
   tests_push : (ts : TestForms) → length (tests_strings ts) ≤ tests_length ts
   tests_push no_test = omega arith
@@ -260,6 +278,9 @@ mutual
   command_pushes discard = omega arith
   command_pushes (file_into folder) = omega (arith, string_pushes folder)
   command_pushes (set modifiers name value) = omega (arith, string_pushes value)
+  command_pushes (store folder) = omega (arith, string_pushes folder)
+  command_pushes (for_every_part cs) = omega (arith, commands_push cs)
+  command_pushes (leave loops) = omega arith
   command_pushes stop = omega arith
   command_pushes (choice bs) = branches_push bs
 
@@ -304,6 +325,9 @@ mutual
       All-append IsShort _ _ (All-append IsShort _ _ (strings_short names b.lists.bounded_first) (strings_short (params_of selected) b.bounded_params)) (strings_short keys b.lists.bounded_second)
   test_short (exists scope names) b = strings_short names b.bounded
   test_short (string how sources keys) b = All-append IsShort _ _ (strings_short sources b.bounded_first) (strings_short keys b.bounded_second)
+  test_short (part_size order number) b = All-nil IsShort
+  test_short (part_body how keys) b = strings_short keys b.bounded
+  test_short (part_digest keys) b = strings_short keys b.bounded
 
   tests_short : (ts : TestForms) → AreBoundedTests ts → All IsShort (tests_strings ts)
   tests_short no_test b = All-nil IsShort
@@ -315,6 +339,9 @@ mutual
   command_short discard b = All-nil IsShort
   command_short (file_into folder) b = string_short folder b
   command_short (set modifiers name value) b = string_short value b
+  command_short (store folder) b = string_short folder b
+  command_short (for_every_part cs) b = commands_short cs b
+  command_short (leave loops) b = All-nil IsShort
   command_short stop b = All-nil IsShort
   command_short (choice bs) b = branches_short bs b
 
@@ -356,6 +383,10 @@ fits_push_bool false = fits_instruction BoolOp 0 0 (omega arith) (omega arith) (
 fits_push_size : (order : Order) (place : ℕ) → place < 2 ^ 32 → Fits (push_size order place)
 fits_push_size Over place small = fits_instruction Size 0 place (omega arith) (omega arith) small
 fits_push_size Under place small = fits_instruction Size 1 place (omega arith) (omega arith) small
+
+fits_push_part_size : (order : Order) (place : ℕ) → place < 2 ^ 32 → Fits (push_part_size order place)
+fits_push_part_size Over place small = fits_instruction PartSize 0 place (omega arith) (omega arith) small
+fits_push_part_size Under place small = fits_instruction PartSize 1 place (omega arith) (omega arith) small
 
 fits_simple : (i : Instruction) (asked : Bool) (target : ℕ) → Fits i → target < 2 ^ 32 → All Fits (i ∷ jump_if asked target ∷ [])
 fits_simple i asked target fits small = All-cons Fits i (jump_if asked target ∷ []) fits (one (jump_if asked target) (fits_jump_if asked target small))
@@ -411,6 +442,12 @@ fits_fields how scope selected names keys b = record {
 fits_texts : (how : Match) (sources keys : ℕ) → sources + keys ≤ 512 → Fits (match_texts how sources keys)
 fits_texts how sources keys few = record { op = omega arith; a = omega (arith, selecting.match_small how); b = omega (arith, few); c = omega (arith, few) }
 
+fits_body : (how : Match) (keys : ℕ) → keys ≤ 512 → Fits (match_body how keys)
+fits_body how keys few = fits_instruction PartBody _ keys (omega arith) (omega (arith, selecting.match_small how)) (omega (arith, few))
+
+fits_digest : (keys : ℕ) → keys ≤ 512 → Fits (match_digest keys)
+fits_digest keys few = fits_instruction PartDigest 0 keys (omega arith) (omega arith) (omega (arith, few))
+
 fits_names : (scope : Scope) (names : ℕ) → names ≤ 512 → Fits (find_fields scope names)
 fits_names scope names few = record { op = omega arith; a = omega (arith, selecting.scope_small scope); b = omega (arith, few); c = omega arith }
 
@@ -437,6 +474,12 @@ mutual
       (fits_simple (match_texts how (length sources) (length keys)) asked target (fits_texts how (length sources) (length keys) b.few) small)
   fits_test tables place (size order number) asked target few b room small =
       fits_simple (push_size order (place_of_number tables number)) asked target (fits_push_size order (place_of_number tables number) (omega (arith, place_within nat_eq tables.numbers number, few.0))) small
+  fits_test tables place (part_size order number) asked target few b room small =
+      fits_simple (push_part_size order (place_of_number tables number)) asked target (fits_push_part_size order (place_of_number tables number) (omega (arith, place_within nat_eq tables.numbers number, few.0))) small
+  fits_test tables place (part_body how keys) asked target few b room small =
+      All-append Fits _ _ (fits_strings tables keys few b.bounded) (fits_simple (match_body how (length keys)) asked target (fits_body how (length keys) b.few) small)
+  fits_test tables place (part_digest keys) asked target few b room small =
+      All-append Fits _ _ (fits_strings tables keys few b.bounded) (fits_simple (match_digest (length keys)) asked target (fits_digest (length keys) b.few) small)
 
   fits_tests : (tables : Tables) (place : ℕ) (ts : TestForms) (deciding asked : Bool) (following target : ℕ) → AreFew tables → AreBoundedTests ts → place + tests_length ts < 2 ^ 32 → following < 2 ^ 32 → target < 2 ^ 32 → All Fits (tests_code tables place ts deciding asked following target)
   fits_tests tables place no_test deciding asked following target few b room inside small = All-nil Fits
@@ -450,27 +493,33 @@ fits_leave (otherwise cs) end small = one (instruction Jump 0 end) (fits_instruc
 fits_leave (branch t cs bs) end small = one (instruction Jump 0 end) (fits_instruction Jump 0 end (omega arith) (omega arith) small)
 
 mutual
-  fits_command : (tables : Tables) (place : ℕ) (c : CommandForm) → AreFew tables → IsBoundedCommand c → place + command_length c < 2 ^ 32 → All Fits (command_code tables place c)
-  fits_command tables place keep few b room = fits_plain Keep (omega arith)
-  fits_command tables place discard few b room = fits_plain Discard (omega arith)
-  fits_command tables place (file_into folder) few b room = All-append Fits (string_code tables folder) (plain File ∷ []) (fits_string tables folder few b) (fits_plain File (omega arith))
-  fits_command tables place (set modifiers name value) few b room = All-append Fits (string_code tables value) (set_variable tables modifiers name ∷ []) (fits_string tables value few b) (one (set_variable tables modifiers name) (fits_set tables modifiers name few))
-  fits_command tables place stop few b room = fits_plain Halt (omega arith)
-  fits_command tables place (choice bs) few b room = fits_branches tables place bs (place + branches_length bs) few b room room
+  fits_command : (tables : Tables) (place : ℕ) (c : CommandForm) → AreFew tables → IsBoundedCommand c → LeavesFew c → place + command_length c < 2 ^ 32 → All Fits (command_code tables place c)
+  fits_command tables place keep few b l room = fits_plain Keep (omega arith)
+  fits_command tables place discard few b l room = fits_plain Discard (omega arith)
+  fits_command tables place (file_into folder) few b l room = All-append Fits (string_code tables folder) (plain File ∷ []) (fits_string tables folder few b) (fits_plain File (omega arith))
+  fits_command tables place (set modifiers name value) few b l room = All-append Fits (string_code tables value) (set_variable tables modifiers name ∷ []) (fits_string tables value few b) (one (set_variable tables modifiers name) (fits_set tables modifiers name few))
+  fits_command tables place (store folder) few b l room = All-append Fits (string_code tables folder) (plain Store ∷ []) (fits_string tables folder few b) (fits_plain Store (omega arith))
+  fits_command tables place (for_every_part cs) few b l room =
+      let next : ℕ = place + 1 + commands_length cs in
+      All-cons Fits (instruction Each 0 next) _ (fits_instruction Each 0 next (omega arith) (omega arith) (omega (arith, room)))
+      (All-append Fits _ _ (fits_commands tables (place + 1) cs few b l (omega (arith, room))) (one (instruction Next 0 place) (fits_instruction Next 0 place (omega arith) (omega arith) (omega (arith, room)))))
+  fits_command tables place (leave loops) few b l room = one (instruction Break loops 0) (fits_instruction Break loops 0 (omega arith) (omega (arith, l)) (omega arith))
+  fits_command tables place stop few b l room = fits_plain Halt (omega arith)
+  fits_command tables place (choice bs) few b l room = fits_branches tables place bs (place + branches_length bs) few b l room room
 
-  fits_commands : (tables : Tables) (place : ℕ) (cs : CommandForms) → AreFew tables → AreBoundedCommands cs → place + commands_length cs < 2 ^ 32 → All Fits (commands_code tables place cs)
-  fits_commands tables place no_command few b room = All-nil Fits
-  fits_commands tables place (command c cs) few b room =
-      All-append Fits _ _ (fits_command tables place c few b.0 (omega (arith, room))) (fits_commands tables (place + command_length c) cs few b.1 (omega (arith, room)))
+  fits_commands : (tables : Tables) (place : ℕ) (cs : CommandForms) → AreFew tables → AreBoundedCommands cs → LeaveFew cs → place + commands_length cs < 2 ^ 32 → All Fits (commands_code tables place cs)
+  fits_commands tables place no_command few b l room = All-nil Fits
+  fits_commands tables place (command c cs) few b l room =
+      All-append Fits _ _ (fits_command tables place c few b.0 l.0 (omega (arith, room))) (fits_commands tables (place + command_length c) cs few b.1 l.1 (omega (arith, room)))
 
-  fits_branches : (tables : Tables) (place : ℕ) (bs : BranchForms) (end : ℕ) → AreFew tables → AreBoundedBranches bs → place + branches_length bs < 2 ^ 32 → end < 2 ^ 32 → All Fits (branches_code tables place bs end)
-  fits_branches tables place no_branch end few b room small = All-nil Fits
-  fits_branches tables place (otherwise cs) end few b room small = fits_commands tables place cs few b room
-  fits_branches tables place (branch t cs bs) end few b room small =
+  fits_branches : (tables : Tables) (place : ℕ) (bs : BranchForms) (end : ℕ) → AreFew tables → AreBoundedBranches bs → BranchesLeaveFew bs → place + branches_length bs < 2 ^ 32 → end < 2 ^ 32 → All Fits (branches_code tables place bs end)
+  fits_branches tables place no_branch end few b l room small = All-nil Fits
+  fits_branches tables place (otherwise cs) end few b l room small = fits_commands tables place cs few b l room
+  fits_branches tables place (branch t cs bs) end few b l room small =
       let block : ℕ = place + test_length t in
       let next : ℕ = block + commands_length cs + leave_length bs in
-      All-append Fits _ _ (All-append Fits _ _ (All-append Fits _ _ (fits_test tables place t false next few b.0 (omega (arith, room)) (omega (arith, room))) (fits_commands tables block cs few b.1 (omega (arith, room)))) (fits_leave bs end small))
-      (fits_branches tables next bs end few b.2 (omega (arith, room)) small)
+      All-append Fits _ _ (All-append Fits _ _ (All-append Fits _ _ (fits_test tables place t false next few b.0 (omega (arith, room)) (omega (arith, room))) (fits_commands tables block cs few b.1 l.0 (omega (arith, room)))) (fits_leave bs end small))
+      (fits_branches tables next bs end few b.2 l.1 (omega (arith, room)) small)
 
 -- ---- the program
 
@@ -494,7 +543,7 @@ is_program cs short numbers =
       strings = omega (arith, commands, texts, short.octets);
       each_string = each_once_all bytes_eq IsShort (commands_strings cs) (commands_short cs short.commands);
       instructions = omega (arith, length_code cs, commands, short.octets);
-      each_instruction = All-append Fits _ _ (fits_commands (tables_of cs) 0 cs few short.commands (omega (arith, commands, short.octets))) (fits_plain Halt (omega arith));
+      each_instruction = All-append Fits _ _ (fits_commands (tables_of cs) 0 cs few short.commands (leave_few 0 cs (omega arith) short.loops) (omega (arith, commands, short.octets))) (fits_plain Halt (omega arith));
       octets = omega (arith, length-spelling (code_of cs), length_code cs, commands, numbers_few, strings_small cs, short.octets);
     }
 

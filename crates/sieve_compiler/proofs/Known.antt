@@ -1,5 +1,5 @@
 -- The tables have each number, each text and each variable that they are made of.
-use Rattle.std.proofs.Common.{◌≡◌, ℕ, true, nat_eq, bytes_eq, List, [], ◌∷◌, ◌++◌, Some, slice_get, refl, ◌∙◌}
+use Rattle.std.proofs.Common.{◌≡◌, ℕ, true, nat_eq, bytes_eq, List, [], ◌∷◌, Some, slice_get, refl, ◌∙◌}
 use Rattle.std.proofs.Math.Bool.{or-true}
 use Rattle.std.proofs.lemmas.Bool.{eq-eqb, eqb-true}
 use Rattle.std.proofs.lemmas.Cmp.{nat_eq_equiv, nat_list_eq_equiv}

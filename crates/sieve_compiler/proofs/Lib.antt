@@ -1,7 +1,9 @@
 pub mod Standing
 pub mod CodeLengths
+pub mod BranchParts
+pub mod Bracketed
+pub mod LeavingLemmas
 pub mod Known
-pub mod Loopless
 pub mod Selecting
 pub mod Sound
 pub mod Accepted
@@ -12,3 +14,4 @@ pub mod NumberingLemmas
 pub mod PuttingLemmas
 pub mod Leftovers
 pub mod Fits
+mod Examples

@@ -6,19 +6,15 @@ use Rattle.bytecode_format.specs.declared.instruction.Instruction.{Instruction}
 use Rattle.sieve_check.specs.declared.typed.Test.{Test}
 use Rattle.glob_match.specs.declared.match_type.Match.{Match}
 use Rattle.sieve_check.specs.declared.typed.Scope.{Scope}
-use Rattle.sieve_check.specs.declared.typed.Selection.{Selection}
 use Rattle.sieve_check.specs.declared.typed.Segment.{Segment}
-use Rattle.sieve_check.specs.declared.typed.Test.TheVariants.{Header, Exists, String, rolls-Header, rolls-Exists, rolls-String}
-use Rattle.sieve_check.specs.declared.typed.Test.TheOpen as test_layer
-use Rattle.sieve_check.specs.declared.typed.Test.TheFolds.{fold-roll-Test}
-use Rattle.sieve_check.specs.Typed.{Template, params_of, TestForm, all_of, any_of, header, exists, string, TestForms}
-use Rattle.sieve_check.specs.TypedView.{selected_form, templates_of, test_form, test_step, tests_of}
+use Rattle.sieve_check.specs.Typed.{Selected, params_of, TestForm, all_of, any_of, header, TestForms}
+use Rattle.sieve_check.specs.TypedView.{templates_of, test_form, tests_of}
 use Rattle.sieve_compiler.specs.Tables.{Tables}
 use Rattle.sieve_compiler.specs.declared.coder.Coder.{Coder}
 use Rattle.sieve_compiler.specs.declared.exits.ListExit.{ListExit}
 use Rattle.sieve_compiler.specs.declared.exits.Exit.{Exit}
 use Rattle.sieve_compiler.specs.Lengths.{test_length, tests_length}
-use Rattle.sieve_compiler.specs.Coding.{asked_of, aim_of, find_fields, jump_if, match_fields, match_texts, strings_code, test_code, tests_code}
+use Rattle.sieve_compiler.specs.Coding.{asked_of, aim_of, jump_if, match_fields, strings_code, test_code, tests_code}
 use Rattle.sieve_compiler.specs.Putting.{Puts}
 use Rattle.sieve_compiler.proofs.CodeLengths.{test_code_length}
 
@@ -38,7 +34,7 @@ puts_then a b c piece n rest len p q = record {
   instructions = q.instructions ∙ after_piece a.instructions.items b.instructions.items piece a.tables.now b.tables.now n rest len p.tables p.instructions;
 }
 
--- a list of tests, by what decides it
+-- a list of tests, by the value of a test that decides it
 abbrev pub list_form : Bool → TestForm → TestForms → TestForm
 list_form false t ts = all_of t ts
 list_form true t ts = any_of t ts
@@ -88,56 +84,19 @@ puts_both a b c p q first second = record {
   instructions = second.instructions ∙ ap (λ l. l ++ q) first.instructions ∙ append_assoc a.instructions.items p q;
 }
 
--- two lists of strings, and the test of them with its jump
-lists_put : (a b c d : Coder) (first second : List Template) (test jump : Instruction) → Puts a b (strings_code a.tables.now first) → Puts b c (strings_code b.tables.now second) → Puts c d (test ∷ jump ∷ [])
-    → Puts a d (strings_code a.tables.now first ++ strings_code a.tables.now second ++ test ∷ jump ∷ [])
-lists_put a b c d first second test jump p q r =
-    puts_both a c d _ _ (puts_both a b c _ _ p (subst (λ (tables : Tables). Puts b c (strings_code tables second)) p.tables q)) r
-
 -- three lists of strings, and the test of them with its jump
-three_put : (a b c d e : Coder) (first second third : List Template) (test jump : Instruction) → Puts a b (strings_code a.tables.now first) → Puts b c (strings_code b.tables.now second) → Puts c d (strings_code c.tables.now third) → Puts d e (test ∷ jump ∷ [])
-    → Puts a e (strings_code a.tables.now first ++ strings_code a.tables.now second ++ strings_code a.tables.now third ++ test ∷ jump ∷ [])
-three_put a b c d e first second third test jump p q r s =
-    let two = puts_both a b c _ _ p (subst (λ (tables : Tables). Puts b c (strings_code tables second)) p.tables q) in
-    puts_both a d e _ _ (puts_both a c d _ _ two (subst (λ (tables : Tables). Puts c d (strings_code tables third)) two.tables r)) s
-
--- the same as the code has it
-pub header_put : {T E : Type 0} (r : Result T E) (a b c d e : Coder) (t : Test) (exit : Exit) (how : Match) (scope : Scope) (selection : Selection) (names keys : Vec (Vec Segment)) (ns ps ks : List (Vec Segment)) (n k : ℕ) (test : Instruction)
-    → t ≡ Header how scope selection names keys → ns ≡ names.items → templates_of ps ≡ params_of (selected_form selection) → ks ≡ keys.items → n ≡ length names.items → k ≡ length keys.items → test ≡ match_fields how scope (selected_form selection) n k
-    → Puts a b (strings_code a.tables.now (templates_of ns)) → Puts b c (strings_code b.tables.now (templates_of ps)) → Puts c d (strings_code c.tables.now (templates_of ks)) → OnOk r (Puts d e (test ∷ jump_if exit.asked exit.target ∷ []))
-    → OnOk r (Puts a e (test_code a.tables.now (length a.instructions.items) (test_form t) exit.asked exit.target))
-header_put r a b c d e t exit how scope selection names keys ns ps ks n k test is ne pe ke en ek et p q s h =
-    let selected = selected_form selection in
-    let form : test_form t ≡ header how scope selected (templates_of names.items) (templates_of keys.items) =
-    ap test_form (is ∙ sym (rolls-Header how scope selection names keys)) ∙ fold-roll-Test TestForm test_step (test_layer.Header how scope selection names keys) in
-    let counts : test ≡ match_fields how scope selected (length (templates_of names.items)) (length (templates_of keys.items)) =
-    et ∙ ap (λ m. match_fields how scope selected m k) (en ∙ sym (length-map names.items (λ (s : Vec Segment). s.items))) ∙ ap (match_fields how scope selected (length (templates_of names.items))) (ek ∙ sym (length-map keys.items (λ (s : Vec Segment). s.items))) in
+pub header_put : {T E : Type 0} (r : Result T E) (a b c d : Coder) (how : Match) (scope : Scope) (selected : Selected) (names given keys : List (Vec Segment)) (test : Instruction) (exit : Exit)
+    → templates_of given ≡ params_of selected → test ≡ match_fields how scope selected (length names) (length keys)
+    → Puts a b (strings_code a.tables.now (templates_of names)) → Puts b c (strings_code b.tables.now (templates_of given))
+    → OnOk r (Puts c d (strings_code c.tables.now (templates_of keys) ++ test ∷ jump_if exit.asked exit.target ∷ []))
+    → OnOk r (Puts a d (test_code a.tables.now (length a.instructions.items) (header how scope selected (templates_of names) (templates_of keys)) exit.asked exit.target))
+header_put r a b c d how scope selected names given keys test exit params made p q h =
+    let counts : test ≡ match_fields how scope selected (length (templates_of names)) (length (templates_of keys)) =
+    made ∙ ap (λ m. match_fields how scope selected m (length keys)) (sym (length-map names (λ (s : Vec Segment). s.items))) ∙ ap (match_fields how scope selected (length (templates_of names))) (sym (length-map keys (λ (s : Vec Segment). s.items))) in
     let jump = jump_if exit.asked exit.target in
-    let code : strings_code a.tables.now (templates_of ns) ++ strings_code a.tables.now (templates_of ps) ++ strings_code a.tables.now (templates_of ks) ++ test ∷ jump ∷ [] ≡ test_code a.tables.now (length a.instructions.items) (test_form t) exit.asked exit.target =
-    rw (ne, pe, ke, counts) (sym (ap (λ g. test_code a.tables.now (length a.instructions.items) g exit.asked exit.target) form)) in
-    on_ok r (λ last. subst (λ (l : List Instruction). Puts a e l) code (three_put a b c d e (templates_of ns) (templates_of ps) (templates_of ks) test jump p q s last)) h
-
-pub string_put : {T E : Type 0} (r : Result T E) (a b c d : Coder) (t : Test) (exit : Exit) (how : Match) (sources keys : Vec (Vec Segment)) (ns ks : List (Vec Segment)) (n k : ℕ) (test : Instruction)
-    → t ≡ String how sources keys → ns ≡ sources.items → ks ≡ keys.items → n ≡ length sources.items → k ≡ length keys.items → test ≡ match_texts how n k
-    → Puts a b (strings_code a.tables.now (templates_of ns)) → Puts b c (strings_code b.tables.now (templates_of ks)) → OnOk r (Puts c d (test ∷ jump_if exit.asked exit.target ∷ []))
-    → OnOk r (Puts a d (test_code a.tables.now (length a.instructions.items) (test_form t) exit.asked exit.target))
-string_put r a b c d t exit how sources keys ns ks n k test is e f en ek et p q h =
-    let form : test_form t ≡ string how (templates_of sources.items) (templates_of keys.items) = ap test_form (is ∙ sym (rolls-String how sources keys)) ∙ fold-roll-Test TestForm test_step (test_layer.String how sources keys) in
-    let counts : test ≡ match_texts how (length (templates_of sources.items)) (length (templates_of keys.items)) =
-    et ∙ ap (λ m. match_texts how m k) (en ∙ sym (length-map sources.items (λ (s : Vec Segment). s.items))) ∙ ap (match_texts how (length (templates_of sources.items))) (ek ∙ sym (length-map keys.items (λ (s : Vec Segment). s.items))) in
-    let jump = jump_if exit.asked exit.target in
-    let code : strings_code a.tables.now (templates_of ns) ++ strings_code a.tables.now (templates_of ks) ++ test ∷ jump ∷ [] ≡ test_code a.tables.now (length a.instructions.items) (test_form t) exit.asked exit.target =
-    rw (e, f, counts) (sym (ap (λ g. test_code a.tables.now (length a.instructions.items) g exit.asked exit.target) form)) in
-    on_ok r (λ third. subst (λ (l : List Instruction). Puts a d l) code (lists_put a b c d (templates_of ns) (templates_of ks) test jump p q third)) h
-
-pub exists_put : {T E : Type 0} (r : Result T E) (a b c : Coder) (t : Test) (exit : Exit) (scope : Scope) (names : Vec (Vec Segment)) (ns : List (Vec Segment)) (n : ℕ) (test : Instruction)
-    → t ≡ Exists scope names → ns ≡ names.items → n ≡ length names.items → test ≡ find_fields scope n
-    → Puts a b (strings_code a.tables.now (templates_of ns)) → OnOk r (Puts b c (test ∷ jump_if exit.asked exit.target ∷ []))
-    → OnOk r (Puts a c (test_code a.tables.now (length a.instructions.items) (test_form t) exit.asked exit.target))
-exists_put r a b c t exit scope names ns n test is e en et p h =
-    let form : test_form t ≡ exists scope (templates_of names.items) = ap test_form (is ∙ sym (rolls-Exists scope names)) ∙ fold-roll-Test TestForm test_step (test_layer.Exists scope names) in
-    let counts : test ≡ find_fields scope (length (templates_of names.items)) = et ∙ ap (find_fields scope) (en ∙ sym (length-map names.items (λ (s : Vec Segment). s.items))) in
-    let jump = jump_if exit.asked exit.target in
-    let code : strings_code a.tables.now (templates_of ns) ++ test ∷ jump ∷ [] ≡ test_code a.tables.now (length a.instructions.items) (test_form t) exit.asked exit.target =
-    rw (e, counts) (sym (ap (λ g. test_code a.tables.now (length a.instructions.items) g exit.asked exit.target) form)) in
-    on_ok r (λ second. subst (λ (l : List Instruction). Puts a c l) code (puts_both a b c _ _ p second)) h
+    let two : Puts a c (strings_code a.tables.now (templates_of names) ++ strings_code a.tables.now (templates_of given)) =
+    puts_both a b c _ _ p (subst (λ (tables : Tables). Puts b c (strings_code tables (templates_of given))) p.tables q) in
+    let code : (strings_code a.tables.now (templates_of names) ++ strings_code a.tables.now (templates_of given)) ++ (strings_code a.tables.now (templates_of keys) ++ test ∷ jump ∷ [])
+    ≡ test_code a.tables.now (length a.instructions.items) (header how scope selected (templates_of names) (templates_of keys)) exit.asked exit.target =
+    rw (params, counts) (sym (append_assoc (strings_code a.tables.now (templates_of names) ++ strings_code a.tables.now (params_of selected)) (strings_code a.tables.now (templates_of keys)) _)) in
+    on_ok r (λ last. subst (λ (l : List Instruction). Puts a d l) code (puts_both a c d _ _ two (subst (λ (tables : Tables). Puts c d (strings_code tables (templates_of keys) ++ test ∷ jump ∷ [])) two.tables last))) h

@@ -1,5 +1,5 @@
 -- The numbers of a test of fields: what the verifier and the machine read of them again.
-use Rattle.std.proofs.Common.{◌≡◌, ℕ, ◌+◌, ◌*◌, ◌/◌, ◌%◌, ◌<◌, ◌≤◌, ◌==◌, ◌&&◌, Bool, true, false, List, length, nat_lt, if◌then◌else◌, refl, ap, ◌∙◌, arith, lit≤}
+use Rattle.std.proofs.Common.{◌≡◌, ℕ, ◌+◌, ◌*◌, ◌/◌, ◌%◌, ◌<◌, ◌≤◌, ◌==◌, true, List, length, nat_lt, if◌then◌else◌, refl, ap, ◌∙◌, arith, lit≤}
 use Rattle.std.proofs.lemmas.Bool.{le-leb}
 use Rattle.std.proofs.lemmas.Nat.{mod-mul-add, div-mul-add}
 use Rattle.octets.specs.Limits.{max_test_strings}

@@ -2,10 +2,10 @@
 use Rattle.std.proofs.Common.{◌≡◌, ℕ, zero, suc, ◌+◌, ◌<◌, ◌≤◌, Bool, true, false, List, [], ◌∷◌, ◌++◌, Option, Some, None, unwrap_or, option_map, map, flat_map, slice_get, length, min, sum, All, refl, sym, ap, subst, ◌∙◌, arith}
 use Rattle.bytecode_format.specs.declared.instruction.Instruction.{Instruction}
 use Rattle.bytecode_format.specs.declared.operation.Operation.{Operation}
-use Rattle.bytecode_format.specs.declared.operation.Operation.TheVariants.{Halt, Literal, Variable as VariableOp, Capture as CaptureOp, Join, Set, String, Bool as BoolOp, Jump, Header, Exists, Size, PartSize, Keep, Discard, File}
+use Rattle.bytecode_format.specs.declared.operation.Operation.TheVariants.{Halt, Literal, Variable as VariableOp, Capture as CaptureOp, Join, Set, String, Bool as BoolOp, Jump, Header, Exists, Size, PartSize, PartBody, PartDigest, Keep, Discard, File, Store, Each, Next, Break}
 use Rattle.bytecode_format.specs.Operations.{operation_of}
 use Rattle.std.specs.Option.{option_and_then, option_map_or}
-use Rattle.std.proofs.lemmas.Bool.{lt-ltb, le-leb}
+use Rattle.std.proofs.lemmas.Bool.{lt-ltb, le-leb, eq-eqb, ne_eqb}
 use Rattle.std.proofs.lemmas.List.{append-nil, length-map}
 use Rattle.std.proofs.lemmas.List.Elements.{All-head, All-tail}
 use Rattle.std.proofs.lemmas.List.Sums.{sum_by-cons}
@@ -13,29 +13,28 @@ use Rattle.bytecode_format.specs.Code.{Code}
 use Rattle.bytecode_format.specs.declared.modifiers.Modifiers.{Modifiers}
 use Rattle.bytecode_format.proofs.ModifierLemmas.{number_again}
 use Rattle.sieve_compiler.proofs.Selecting.{match_fits, selection_fits, counts_fit, keys_are, params_are, scope_fits}
-use Rattle.bytecode_verifier.specs.Rows.{row_named, is_well_formed, is_match_number, is_jump}
+use Rattle.bytecode_verifier.specs.Rows.{row_named, is_well_formed, is_jump}
+use Rattle.bytecode_verifier.specs.Nests.{next_at, leads}
+use Rattle.bytecode_verifier.proofs.Open.{inside}
 use Rattle.bytecode_verifier.specs.Shape.{Entries, Texts, with_text, take_texts, entries_after}
 use Rattle.bytecode_verifier.specs.declared.shape.Entry.TheVariants.{Truth, Text}
-use Rattle.octets.specs.Limits.{max_string, max_segments, max_test_strings, max_value, max_stack}
-use Rattle.sieve_check.specs.Bounded.{IsBoundedSegment, IsBoundedString, IsBoundedList, AreBoundedLists, IsBoundedHeader, IsBoundedTest, AreBoundedTests, IsBoundedCommand, AreBoundedCommands, AreBoundedBranches}
-use Rattle.glob_match.specs.declared.comparator.Comparator.{Comparator}
-use Rattle.glob_match.specs.declared.comparator.Comparator.TheVariants.{Octet, Casemap}
+use Rattle.octets.specs.Limits.{max_loops, max_string, max_segments, max_test_strings, max_value, max_stack}
+use Rattle.sieve_check.specs.Bounded.{IsBoundedSegment, IsBoundedString, IsBoundedList, AreBoundedLists, IsBoundedHeader, IsBoundedTest, AreBoundedTests, IsBoundedCommand, AreBoundedCommands, AreBoundedBranches, IsTestIn, AreTestsIn, IsCommandIn, AreCommandsIn, AreBranchesIn}
 use Rattle.glob_match.specs.declared.match_type.Match.{Match}
-use Rattle.glob_match.specs.declared.match_type.MatchType.{MatchType}
-use Rattle.glob_match.specs.declared.match_type.MatchType.TheVariants.{Is, Contains, Matches}
 use Rattle.sieve_check.specs.declared.typed.Order.{Order}
 use Rattle.sieve_check.specs.declared.typed.Order.TheVariants.{Over, Under}
 use Rattle.sieve_check.specs.declared.typed.Segment.{Segment}
 use Rattle.sieve_check.specs.declared.typed.Segment.TheVariants.{Text as Stretch, Variable, Capture}
 use Rattle.sieve_check.specs.Variables.{segment_variables, string_variables}
 use Rattle.sieve_check.specs.declared.typed.Scope.{Scope}
-use Rattle.sieve_check.specs.Typed.{Template, Selected, params_of, TestForm, constant, negation, all_of, any_of, size, header, exists, string, TestForms, no_test, test, CommandForm, keep, discard, file_into, set, stop, choice, CommandForms, no_command, command, BranchForms, no_branch, otherwise, branch}
-use Rattle.sieve_compiler.specs.Tables.{Tables, place_of_number, place_of_string, place_of_variable}
+use Rattle.sieve_check.specs.Typed.{Template, Selected, params_of, TestForm, constant, negation, all_of, any_of, size, header, exists, string, part_size, part_body, part_digest, TestForms, no_test, test, CommandForm, keep, discard, file_into, set, store, for_every_part, leave, stop, choice, CommandForms, no_command, command, BranchForms, no_branch, otherwise, branch}
+use Rattle.sieve_compiler.specs.Tables.{Tables, place_of_number, place_of_string}
 use Rattle.sieve_compiler.specs.Lengths.{string_length, strings_length, test_length, tests_length, leave_length, command_length, commands_length, branches_length}
 use Rattle.sieve_compiler.specs.Strings.{segment_strings, string_strings}
 use Rattle.sieve_compiler.specs.Growing.{Uses, uses_with, joined, segment_uses, string_uses, strings_uses, test_uses, tests_uses, command_uses, commands_uses, branches_uses}
-use Rattle.sieve_compiler.specs.Coding.{plain, instruction, jump_if, push_bool, push_size, push_text, push_segment, join_texts, string_code, strings_code, set_variable, kind_number, comparator_number, match_fields, match_texts, find_fields, aim_of, test_code, tests_code, leave_code, command_code, commands_code, branches_code}
-use Rattle.sieve_compiler.proofs.Loopless.{is_loopless}
+use Rattle.sieve_compiler.specs.Coding.{plain, instruction, jump_if, push_bool, push_part_size, push_size, push_text, push_segment, join_texts, string_code, strings_code, set_variable, match_fields, match_body, match_digest, match_texts, find_fields, aim_of, test_code, tests_code, leave_code, command_code, commands_code, branches_code}
+use Rattle.sieve_compiler.proofs.BranchParts.{branch_parts_of}
+use Rattle.sieve_compiler.proofs.Bracketed.{is_bracket, after_flat, flat_inside, string_flat, strings_flat, commands_balanced, loop_next, next_stands, block_stands, block_ends, block_inside, test_inside, leave_inside, command_inside, commands_inside, branches_inside}
 use Rattle.sieve_compiler.proofs.Standing.{Stands, stands_first, stands_next, stands_left, stands_right}
 use Rattle.sieve_compiler.proofs.CodeLengths.{length_two, string_code_length, strings_code_length, test_code_length, leave_code_length, command_code_length, commands_code_length}
 use Rattle.sieve_compiler.proofs.Known.{Has, has_left, has_right, found, found_string, found_variable}
@@ -59,6 +58,9 @@ leaves tables (Some Size) i entries = Truth ∷ []
 leaves tables (Some Header) i entries = Truth ∷ []
 leaves tables (Some Exists) i entries = Truth ∷ []
 leaves tables (Some String) i entries = Truth ∷ []
+leaves tables (Some PartSize) i entries = Truth ∷ []
+leaves tables (Some PartBody) i entries = Truth ∷ []
+leaves tables (Some PartDigest) i entries = Truth ∷ []
 leaves tables _ i entries = []
 
 abbrev pub left_by : Tables → Option Instruction → Entries → Entries
@@ -70,11 +72,12 @@ abbrev pub standing : Tables → List Instruction → ℕ → Entries
 standing tables all zero = []
 standing tables all (suc place) = left_by tables (slice_get all place) (standing tables all place)
 
--- where a jump leads: forward, to no later place than the last, and to where no entries are
+-- where a jump leads: forward, to no later place than the last, and to where no entries are and the same loops are open
 pub record IsAimed (all : List Instruction) (tables : Tables) (last place target : ℕ) : Type 0 where
   pub forward : place < target
   pub within : target ≤ last
   pub between : standing tables all target ≡ []
+  pub same : inside all target ≡ inside all place
 
 -- the index of an operation is one of its table
 abbrev pub IsKnown : Tables → Option Operation → Instruction → Type 0
@@ -85,6 +88,17 @@ IsKnown tables (Some Size) i = (n : ℕ) × (slice_get tables.numbers i.c ≡ So
 IsKnown tables (Some PartSize) i = (n : ℕ) × (slice_get tables.numbers i.c ≡ Some n)
 IsKnown tables _ i = Unit {0}
 
+-- a loop's brackets name each other, and there is room for it; no more loops are left than are open; the current part is that of a loop
+abbrev pub KeepsLoops : List Instruction → ℕ → Option Operation → Instruction → Type 0
+KeepsLoops all place (Some Each) i = (leads (next_at all place) i.c ≡ true) × (length (inside all place) < max_loops)
+KeepsLoops all place (Some Next) i = leads (next_at all i.c) place ≡ true
+KeepsLoops all place (Some Break) i = i.a ≤ length (inside all place)
+KeepsLoops all place (Some PartSize) i = 0 < length (inside all place)
+KeepsLoops all place (Some PartBody) i = 0 < length (inside all place)
+KeepsLoops all place (Some PartDigest) i = 0 < length (inside all place)
+KeepsLoops all place (Some Store) i = 0 < length (inside all place)
+KeepsLoops all place _ i = Unit {0}
+
 -- the operation takes these entries, and leaves those
 abbrev pub TurnsInto : Tables → Option Operation → Instruction → Entries → Entries → Type 0
 TurnsInto tables o i before after = (code : Code) → code.strings ≡ tables.strings → option_and_then (λ (operation : Operation). entries_after code operation i before) o ≡ Some after
@@ -92,7 +106,7 @@ TurnsInto tables o i before after = (code : Code) → code.strings ≡ tables.st
 -- the instruction keeps the rules at the place
 pub record IsSound (all : List Instruction) (tables : Tables) (last place : ℕ) (i : Instruction) : Type 0 where
   pub form : is_well_formed (row_named 1 i.op) i ≡ true
-  pub loopless : is_loopless (operation_of i.op) ≡ true
+  pub loops : KeepsLoops all place (operation_of i.op) i
   pub index : IsKnown tables (operation_of i.op) i
   pub jump : is_jump (row_named 1 i.op) ≡ true → IsAimed all tables last place i.c
   pub stack : TurnsInto tables (operation_of i.op) i (standing tables all place) (leaves tables (operation_of i.op) i (standing tables all place))
@@ -144,35 +158,6 @@ taken_back bound xs entries =
     let number : length (bounds_onto own []) ≡ length xs = omega (arith, bounds_number own [], length-map xs bound) in
     ap (take_texts (length xs)) (pushed_are own [] entries) ∙ ap (λ n. take_texts n (map Text (bounds_onto own []) ++ entries)) (sym number) ∙ taken (bounds_onto own []) entries
 
--- where the parts of a branch's code stand
-pub record BranchParts (all : List Instruction) (tables : Tables) (t : TestForm) (cs : CommandForms) (bs : BranchForms) (place end : ℕ) : Type 0 where
-  pub test : Stands all place (test_code tables place t false (place + test_length t + commands_length cs + leave_length bs))
-  pub block : Stands all (place + test_length t) (commands_code tables (place + test_length t) cs)
-  pub leave : Stands all (place + test_length t + commands_length cs) (leave_code bs end)
-  pub rest : Stands all (place + test_length t + commands_length cs + leave_length bs) (branches_code tables (place + test_length t + commands_length cs + leave_length bs) bs end)
-
-pub branch_parts_of : (all : List Instruction) (tables : Tables) (t : TestForm) (cs : CommandForms) (bs : BranchForms) (place end : ℕ) → Stands all place (branches_code tables place (branch t cs bs) end) → BranchParts all tables t cs bs place end
-branch_parts_of all tables t cs bs place end h =
-    let block = place + test_length t in
-    let next = block + commands_length cs + leave_length bs in
-    let a = test_code tables place t false next in
-    let b = commands_code tables block cs in
-    let c = leave_code bs end in
-    let d = branches_code tables next bs end in
-    let la : length a ≡ test_length t = test_code_length tables t place false next in
-    let lab : length (a ++ b) ≡ test_length t + commands_length cs = length_two a b _ _ la (commands_code_length tables cs block) in
-    let labc : length (a ++ b ++ c) ≡ test_length t + commands_length cs + leave_length bs = length_two (a ++ b) c _ _ lab (leave_code_length tables bs end) in
-    let abc = stands_left all place (a ++ b ++ c) d h in
-    let ab = stands_left all place (a ++ b) c abc in
-    let third : place + (test_length t + commands_length cs) ≡ place + test_length t + commands_length cs = omega arith in
-    let fourth : place + (test_length t + commands_length cs + leave_length bs) ≡ next = omega arith in
-    record {
-      test = stands_left all place a b ab;
-      block = stands_right all place (test_length t) a b la ab;
-      leave = subst (λ p. Stands all p c) third (stands_right all place _ (a ++ b) c lab abc);
-      rest = subst (λ p. Stands all p d) fourth (stands_right all place _ (a ++ b ++ c) d labc h);
-    }
-
 module _ (all : List Instruction) (tables : Tables) (last : ℕ) where
   -- all instructions of a piece keep the rules, from a place on
   abbrev pub AreSound : ℕ → List Instruction → Type 0
@@ -197,27 +182,55 @@ module _ (all : List Instruction) (tables : Tables) (last : ℕ) where
   following_size place Over n h = rw h refl
   following_size place Under n h = rw h refl
 
+  following_part_size : (place : ℕ) (order : Order) (n : ℕ) → slice_get all place ≡ Some (push_part_size order n) → standing tables all (suc place) ≡ Truth ∷ []
+  following_part_size place Over n h = rw h refl
+  following_part_size place Under n h = rw h refl
+
   bool_sound : (place : ℕ) (b : Bool) → standing tables all place ≡ [] → IsSound all tables last place (push_bool b)
-  bool_sound place true h = record { form = refl; loopless = refl; index = tt; jump = λ e. absurd (cc); stack = λ code same. rw h refl }
-  bool_sound place false h = record { form = refl; loopless = refl; index = tt; jump = λ e. absurd (cc); stack = λ code same. rw h refl }
+  bool_sound place true h = record { form = refl; loops = tt; index = tt; jump = λ e. absurd (cc); stack = λ code same. rw h refl }
+  bool_sound place false h = record { form = refl; loops = tt; index = tt; jump = λ e. absurd (cc); stack = λ code same. rw h refl }
 
   size_sound : (place : ℕ) (order : Order) (n : ℕ) → Has tables (uses_with (n ∷ []) [] []) → standing tables all place ≡ [] → IsSound all tables last place (push_size order (place_of_number tables n))
-  size_sound place Over n known h = record { form = refl; loopless = refl; index = (n, found tables n known); jump = λ e. absurd (cc); stack = λ code same. rw h refl }
-  size_sound place Under n known h = record { form = refl; loopless = refl; index = (n, found tables n known); jump = λ e. absurd (cc); stack = λ code same. rw h refl }
+  size_sound place Over n known h = record { form = refl; loops = tt; index = (n, found tables n known); jump = λ e. absurd (cc); stack = λ code same. rw h refl }
+  size_sound place Under n known h = record { form = refl; loops = tt; index = (n, found tables n known); jump = λ e. absurd (cc); stack = λ code same. rw h refl }
+
+  part_size_sound : (place : ℕ) (order : Order) (n : ℕ) → Has tables (uses_with (n ∷ []) [] []) → standing tables all place ≡ [] → 0 < length (inside all place) → IsSound all tables last place (push_part_size order (place_of_number tables n))
+  part_size_sound place Over n known h deep = record { form = refl; loops = deep; index = (n, found tables n known); jump = λ e. absurd (cc); stack = λ code same. rw h refl }
+  part_size_sound place Under n known h deep = record { form = refl; loops = deep; index = (n, found tables n known); jump = λ e. absurd (cc); stack = λ code same. rw h refl }
 
   jump_if_sound : (place : ℕ) (asked : Bool) (target : ℕ) → standing tables all place ≡ Truth ∷ [] → IsAimed all tables last place target → IsSound all tables last place (jump_if asked target)
-  jump_if_sound place true target h aimed = record { form = refl; loopless = refl; index = tt; jump = λ e. aimed; stack = λ code same. rw h refl }
-  jump_if_sound place false target h aimed = record { form = refl; loopless = refl; index = tt; jump = λ e. aimed; stack = λ code same. rw h refl }
+  jump_if_sound place true target h aimed = record { form = refl; loops = tt; index = tt; jump = λ e. aimed; stack = λ code same. rw h refl }
+  jump_if_sound place false target h aimed = record { form = refl; loops = tt; index = tt; jump = λ e. aimed; stack = λ code same. rw h refl }
 
-  simple_sound : (place : ℕ) (asked : Bool) (target : ℕ) (i : Instruction) → IsSound all tables last place i → standing tables all (suc place) ≡ Truth ∷ [] → IsAimed all tables last (suc place) target → AreSound place (i ∷ jump_if asked target ∷ [])
-  simple_sound place asked target i h pushed aimed = (h, (jump_if_sound (suc place) asked target pushed aimed, tt))
+  -- what a target has to be for code that ends at a place
+  abbrev pub IsTarget : ℕ → ℕ → Type 0
+  IsTarget end target = (end ≤ target) × (target ≤ last) × (standing tables all target ≡ []) × (inside all target ≡ inside all end)
+
+  jump_is_flat : (asked : Bool) (target : ℕ) → is_bracket (operation_of (jump_if asked target).op) ≡ false
+  jump_is_flat true target = refl
+  jump_is_flat false target = refl
+
+  -- the jump at the end of a test
+  aimed_at : (place end : ℕ) (asked : Bool) (target : ℕ) → end ≡ suc place → slice_get all place ≡ Some (jump_if asked target) → IsTarget end target → IsAimed all tables last place target
+  aimed_at place end asked target ends here aim = record {
+    forward = omega (arith, ends, aim.0);
+    within = aim.1;
+    between = aim.2;
+    same = aim.3 ∙ ap (inside all) ends ∙ after_flat all place (jump_if asked target) here (jump_is_flat asked target);
+  }
+
+  simple_sound : (place : ℕ) (asked : Bool) (target : ℕ) (i : Instruction) → Stands all place (i ∷ jump_if asked target ∷ []) → IsSound all tables last place i → standing tables all (suc place) ≡ Truth ∷ [] → IsTarget (place + 2) target → AreSound place (i ∷ jump_if asked target ∷ [])
+  simple_sound place asked target i stands h pushed aim =
+      let same : place + 2 ≡ suc (suc place) = omega arith in
+      let here = stands_first all (suc place) (jump_if asked target) [] (stands_next all place i (jump_if asked target ∷ []) stands) in
+      (h, (jump_if_sound (suc place) asked target pushed (aimed_at (suc place) (place + 2) asked target same here aim), tt))
 
   -- ---- strings
 
   text_sound : (place : ℕ) (s : List ℕ) → slice_get tables.strings (place_of_string tables s) ≡ Some s → length (standing tables all place) < max_stack → IsSound all tables last place (push_text tables s)
   text_sound place s there room = record {
     form = refl;
-    loopless = refl;
+    loops = tt;
     index = (s, there);
     jump = λ e. absurd (cc);
     stack = λ code same. rw (same, there, lt-ltb (length (standing tables all place)) max_stack room) refl;
@@ -230,14 +243,14 @@ module _ (all : List Instruction) (tables : Tables) (last : ℕ) where
   segment_sound place (Stretch octets) known b room = text_sound place octets (found_string tables octets [] [] known) room
   segment_sound place (Variable name) known b room = record {
     form = refl;
-    loopless = refl;
+    loops = tt;
     index = (name, found_variable tables name [] [] known);
     jump = λ e. absurd (cc);
     stack = λ code same. rw (lt-ltb (length (standing tables all place)) max_stack room) refl;
   }
   segment_sound place (Capture n) known b room = record {
     form = rw (lt-ltb n 10 (omega (arith, b))) refl;
-    loopless = refl;
+    loops = tt;
     index = tt;
     jump = λ e. absurd (cc);
     stack = λ code same. rw (lt-ltb (length (standing tables all place)) max_stack room) refl;
@@ -287,7 +300,7 @@ module _ (all : List Instruction) (tables : Tables) (last : ℕ) where
       → IsSound all tables last place (join_texts (length segments))
   join_sound place segments entries some few room start = record {
     form = rw (le-leb 2 (length segments) some, le-leb (length segments) max_segments few) refl;
-    loopless = refl;
+    loops = tt;
     index = tt;
     jump = λ e. absurd (cc);
     stack = λ code same. rw (start, taken_back segment_bound segments entries, lt-ltb (length entries) max_stack room) refl;
@@ -376,7 +389,7 @@ module _ (all : List Instruction) (tables : Tables) (last : ℕ) where
           counts_fit how scope selected names keys b,
         )
         refl;
-    loopless = refl;
+    loops = tt;
     index = tt;
     jump = λ e. absurd (cc);
     stack = λ code same.
@@ -402,7 +415,7 @@ module _ (all : List Instruction) (tables : Tables) (last : ℕ) where
           le-leb (length keys) 512 (omega (arith, b.few)),
         )
         refl;
-    loopless = refl;
+    loops = tt;
     index = tt;
     jump = λ e. absurd (cc);
     stack = λ code same. rw (h, taken_back bound_of keys (pushed (map bound_of sources) []), taken_back bound_of sources []) refl;
@@ -411,10 +424,28 @@ module _ (all : List Instruction) (tables : Tables) (last : ℕ) where
   names_sound : (place : ℕ) (scope : Scope) (names : List Template) → IsBoundedList names → standing tables all place ≡ pushed (map bound_of names) [] → IsSound all tables last place (find_fields scope (length names))
   names_sound place scope names b h = record {
     form = rw (scope_fits scope, le-leb 1 (length names) b.some, le-leb (length names) 512 (omega (arith, b.few))) refl;
-    loopless = refl;
+    loops = tt;
     index = tt;
     jump = λ e. absurd (cc);
     stack = λ code same. rw (h, taken_back bound_of names []) refl;
+  }
+
+  body_sound : (place : ℕ) (how : Match) (keys : List Template) → IsBoundedList keys → standing tables all place ≡ pushed (map bound_of keys) [] → 0 < length (inside all place) → IsSound all tables last place (match_body how (length keys))
+  body_sound place how keys b h deep = record {
+    form = rw (match_fits how.kind how.comparator, le-leb 1 (length keys) b.some, le-leb (length keys) 512 (omega (arith, b.few))) refl;
+    loops = deep;
+    index = tt;
+    jump = λ e. absurd (cc);
+    stack = λ code same. rw (h, taken_back bound_of keys []) refl;
+  }
+
+  digest_sound : (place : ℕ) (keys : List Template) → IsBoundedList keys → standing tables all place ≡ pushed (map bound_of keys) [] → 0 < length (inside all place) → IsSound all tables last place (match_digest (length keys))
+  digest_sound place keys b h deep = record {
+    form = rw (le-leb 1 (length keys) b.some, le-leb (length keys) 512 (omega (arith, b.few))) refl;
+    loops = deep;
+    index = tt;
+    jump = λ e. absurd (cc);
+    stack = λ code same. rw (h, taken_back bound_of keys []) refl;
   }
 
   -- after strings, a test and its jump no entry is left
@@ -426,12 +457,13 @@ module _ (all : List Instruction) (tables : Tables) (last : ℕ) where
 
   -- strings, a test of them and its jump
   tail_sound : (place n : ℕ) (strings : List Instruction) (i : Instruction) (asked : Bool) (target : ℕ) → length strings ≡ n → Stands all place (strings ++ i ∷ jump_if asked target ∷ []) → AreSound place strings → IsSound all tables last (place + n) i
-      → ((entries : Entries) → left_by tables (Some i) entries ≡ Truth ∷ []) → IsAimed all tables last (suc (place + n)) target → AreSound place (strings ++ i ∷ jump_if asked target ∷ [])
-  tail_sound place n strings i asked target e h sound tested leaves_truth aimed =
+      → ((entries : Entries) → left_by tables (Some i) entries ≡ Truth ∷ []) → IsTarget (place + (n + 2)) target → AreSound place (strings ++ i ∷ jump_if asked target ∷ [])
+  tail_sound place n strings i asked target e h sound tested leaves_truth aim =
       let tail = stands_right all place n strings (i ∷ jump_if asked target ∷ []) e h in
       let here = stands_first all (place + n) i (jump_if asked target ∷ []) tail in
       let after : standing tables all (suc (place + n)) ≡ Truth ∷ [] = ap (λ o. left_by tables o (standing tables all (place + n))) here ∙ leaves_truth (standing tables all (place + n)) in
-      sound_both strings (i ∷ jump_if asked target ∷ []) place n e sound (simple_sound (place + n) asked target i tested after aimed)
+      let same : place + (n + 2) ≡ place + n + 2 = omega arith in
+      sound_both strings (i ∷ jump_if asked target ∷ []) place n e sound (simple_sound (place + n) asked target i tail tested after (subst (λ end. IsTarget end target) same aim))
 
   -- two lists of strings, which are one after the other on top
   both_length : (first second : List Template) → length (strings_code tables first ++ strings_code tables second) ≡ strings_length first + strings_length second
@@ -497,16 +529,12 @@ module _ (all : List Instruction) (tables : Tables) (last : ℕ) where
       sound_both two (strings_code tables keys) place n (both_length names given) (both_sound names given place here of_two b.lists.bounded_first b.bounded_params few start)
       (strings_sound keys (place + n) (two_pushed names given) there (has_right tables (joined (strings_uses names) (strings_uses given)) (strings_uses keys) known) b.lists.bounded_second below (omega (arith, on_names, on_given, b.few)))
 
-  -- what a target has to be for code that ends at a place
-  abbrev pub IsTarget : ℕ → ℕ → Type 0
-  IsTarget end target = (end ≤ target) × (target ≤ last) × (standing tables all target ≡ [])
-
-  aim_is_target : (deciding asked : Bool) (ts : TestForms) (end following target : ℕ) → end ≤ following → following ≤ target → IsTarget following following → IsTarget following target → IsTarget end (aim_of deciding asked ts following target)
-  aim_is_target deciding asked no_test end following target le far h k = (omega arith, k.1, k.2)
-  aim_is_target true true (test t ts) end following target le far h k = (omega arith, k.1, k.2)
-  aim_is_target false false (test t ts) end following target le far h k = (omega arith, k.1, k.2)
-  aim_is_target true false (test t ts) end following target le far h k = (le, h.1, h.2)
-  aim_is_target false true (test t ts) end following target le far h k = (le, h.1, h.2)
+  aim_is_target : (deciding asked : Bool) (ts : TestForms) (end following target : ℕ) → end ≤ following → following ≤ target → inside all following ≡ inside all end → IsTarget following following → IsTarget following target → IsTarget end (aim_of deciding asked ts following target)
+  aim_is_target deciding asked no_test end following target le far around h k = (omega arith, k.1, k.2, k.3 ∙ around)
+  aim_is_target true true (test t ts) end following target le far around h k = (omega arith, k.1, k.2, k.3 ∙ around)
+  aim_is_target false false (test t ts) end following target le far around h k = (omega arith, k.1, k.2, k.3 ∙ around)
+  aim_is_target true false (test t ts) end following target le far around h k = (le, h.1, h.2, around)
+  aim_is_target false true (test t ts) end following target le far around h k = (le, h.1, h.2, around)
 
   -- after the code of a test no entry is left
   mutual
@@ -517,6 +545,11 @@ module _ (all : List Instruction) (tables : Tables) (last : ℕ) where
     test_ends (size order n) place asked target h =
         let same : suc (suc place) ≡ place + 2 = omega arith in
         subst (λ p. standing tables all p ≡ []) same (following_jump (suc place) asked target (stands_first all (suc place) _ [] (stands_next all place _ (jump_if asked target ∷ []) h)))
+    test_ends (part_size order n) place asked target h =
+        let same : suc (suc place) ≡ place + 2 = omega arith in
+        subst (λ p. standing tables all p ≡ []) same (following_jump (suc place) asked target (stands_first all (suc place) _ [] (stands_next all place _ (jump_if asked target ∷ []) h)))
+    test_ends (part_body how keys) place asked target h = tail_ends place (strings_length keys) _ _ asked target (strings_code_length tables keys) h
+    test_ends (part_digest keys) place asked target h = tail_ends place (strings_length keys) _ _ asked target (strings_code_length tables keys) h
     test_ends (header how scope selected names keys) place asked target h =
         tail_ends place (strings_length names + strings_length (params_of selected) + strings_length keys) _ _ asked target (three_length names (params_of selected) keys) h
     test_ends (exists scope names) place asked target h = tail_ends place (strings_length names) _ _ asked target (strings_code_length tables names) h
@@ -539,67 +572,91 @@ module _ (all : List Instruction) (tables : Tables) (last : ℕ) where
         let same : (place + test_length t) + tests_length ts ≡ place + (test_length t + tests_length ts) = omega arith in
         subst (λ p. standing tables all p ≡ []) same (tests_end ts (place + test_length t) deciding asked following target (stands_right all place (test_length t) _ _ (test_code_length tables t place _ _) h) first)
 
+  -- a list of strings, and a test of the current part with it
+  part_test_sound : (place : ℕ) (keys : List Template) (i : Instruction) (asked : Bool) (target : ℕ) → Stands all place (strings_code tables keys ++ i ∷ jump_if asked target ∷ []) → Has tables (strings_uses keys) → IsBoundedList keys → standing tables all place ≡ []
+      → IsTarget (place + (strings_length keys + 2)) target → 0 < length (inside all place)
+      → (standing tables all (place + strings_length keys) ≡ pushed (map bound_of keys) [] → 0 < length (inside all (place + strings_length keys)) → IsSound all tables last (place + strings_length keys) i)
+      → ((entries : Entries) → left_by tables (Some i) entries ≡ Truth ∷ []) → AreSound place (strings_code tables keys ++ i ∷ jump_if asked target ∷ [])
+  part_test_sound place keys i asked target h known b start aim deep sound leaves_truth =
+      let list = stands_left all place (strings_code tables keys) _ h in
+      let after = following_strings keys place [] list known start in
+      let same = flat_inside all (strings_code tables keys) place (strings_length keys) (strings_code_length tables keys) list (strings_flat tables keys) in
+      let room : 0 < length (inside all (place + strings_length keys)) = omega (arith, deep, ap length same) in
+      tail_sound place (strings_length keys) _ _ asked target (strings_code_length tables keys) h (strings_sound keys place [] list known b.bounded start (omega (arith, b.few))) (sound after room) leaves_truth aim
+
+  -- so many loops are open around a test
   mutual
-    pub test_sound : (t : TestForm) (place : ℕ) (asked : Bool) (target : ℕ) → Stands all place (test_code tables place t asked target) → Has tables (test_uses t) → IsBoundedTest t → standing tables all place ≡ [] → IsTarget (place + test_length t) target → AreSound place (test_code tables place t asked target)
-    test_sound (constant v) place asked target h known b start aim =
-        simple_sound place asked target (push_bool v) (bool_sound place v start) (following_bool place v (stands_first all place _ (jump_if asked target ∷ []) h)) (record { forward = omega (arith, aim.0); within = aim.1; between = aim.2 })
-    test_sound (size order n) place asked target h known b start aim =
-        simple_sound place asked target (push_size order (place_of_number tables n)) (size_sound place order n known start) (following_size place order (place_of_number tables n) (stands_first all place _ (jump_if asked target ∷ []) h)) (record { forward = omega (arith, aim.0); within = aim.1; between = aim.2 })
-    test_sound (header how scope selected names keys) place asked target h known b start aim =
+    pub test_sound : (t : TestForm) (place : ℕ) (asked : Bool) (target loops : ℕ) → Stands all place (test_code tables place t asked target) → Has tables (test_uses t) → IsBoundedTest t → standing tables all place ≡ [] → IsTarget (place + test_length t) target
+        → IsTestIn loops t → length (inside all place) ≡ loops → AreSound place (test_code tables place t asked target)
+    test_sound (constant v) place asked target loops h known b start aim in_loops deep =
+        simple_sound place asked target (push_bool v) h (bool_sound place v start) (following_bool place v (stands_first all place _ (jump_if asked target ∷ []) h)) aim
+    test_sound (size order n) place asked target loops h known b start aim in_loops deep =
+        simple_sound place asked target (push_size order (place_of_number tables n)) h (size_sound place order n known start) (following_size place order (place_of_number tables n) (stands_first all place _ (jump_if asked target ∷ []) h)) aim
+    test_sound (part_size order n) place asked target loops h known b start aim in_loops deep =
+        simple_sound place asked target (push_part_size order (place_of_number tables n)) h (part_size_sound place order n known start (omega (arith, in_loops, deep)))
+        (following_part_size place order (place_of_number tables n) (stands_first all place _ (jump_if asked target ∷ []) h)) aim
+    test_sound (part_body how keys) place asked target loops h known b start aim in_loops deep =
+        part_test_sound place keys _ asked target h known b start aim (omega (arith, in_loops, deep)) (λ after room. body_sound (place + strings_length keys) how keys b after room) (λ entries. refl)
+    test_sound (part_digest keys) place asked target loops h known b start aim in_loops deep =
+        part_test_sound place keys _ asked target h known b start aim (omega (arith, in_loops, deep)) (λ after room. digest_sound (place + strings_length keys) keys b after room) (λ entries. refl)
+    test_sound (header how scope selected names keys) place asked target loops h known b start aim in_loops deep =
         let given = params_of selected in
         let n : ℕ = strings_length names + strings_length given + strings_length keys in
         let lists = stands_left all place (three_code names given keys) _ h in
         let after = following_three names given keys place lists known start in
         tail_sound place n _ _ asked target (three_length names given keys) h (three_sound selected names keys place lists known b start)
-        (fields_sound (place + n) how scope selected names keys b after) (λ entries. refl)
-        (record { forward = omega (arith, aim.0); within = aim.1; between = aim.2 })
-    test_sound (exists scope names) place asked target h known b start aim =
+        (fields_sound (place + n) how scope selected names keys b after) (λ entries. refl) aim
+    test_sound (exists scope names) place asked target loops h known b start aim in_loops deep =
         let list = stands_left all place (strings_code tables names) _ h in
         let after = following_strings names place [] list known start in
         tail_sound place (strings_length names) _ _ asked target (strings_code_length tables names) h (strings_sound names place [] list known b.bounded start (omega (arith, b.few)))
-        (names_sound (place + strings_length names) scope names b after) (λ entries. refl)
-        (record { forward = omega (arith, aim.0); within = aim.1; between = aim.2 })
-    test_sound (string how sources keys) place asked target h known b start aim =
+        (names_sound (place + strings_length names) scope names b after) (λ entries. refl) aim
+    test_sound (string how sources keys) place asked target loops h known b start aim in_loops deep =
         let lists = stands_left all place (strings_code tables sources ++ strings_code tables keys) _ h in
         let after = following_both sources keys place lists known start in
         tail_sound place (strings_length sources + strings_length keys) _ _ asked target (both_length sources keys) h (both_sound sources keys place lists known b.bounded_first b.bounded_second b.few start)
-        (texts_sound (place + (strings_length sources + strings_length keys)) how sources keys b after) (λ entries. refl)
-        (record { forward = omega (arith, aim.0); within = aim.1; between = aim.2 })
-    test_sound (negation t) place asked target h known b start aim = test_sound t place _ target h known b start aim
-    test_sound (all_of t ts) place asked target h known b start aim =
-        let following = place + (test_length t + tests_length ts) in
+        (texts_sound (place + (strings_length sources + strings_length keys)) how sources keys b after) (λ entries. refl) aim
+    test_sound (negation t) place asked target loops h known b start aim in_loops deep = test_sound t place _ target loops h known b start aim in_loops deep
+    test_sound (all_of t ts) place asked target loops h known b start aim in_loops deep =
+        let following : ℕ = place + (test_length t + tests_length ts) in
         let near : place + test_length t ≤ following = omega arith in
         let same : following ≡ (place + test_length t) + tests_length ts = omega arith in
-        let closed : IsTarget following following = (omega arith, omega (arith, aim.0, aim.1), test_ends (all_of t ts) place asked target h) in
+        let closed : IsTarget following following = (omega arith, omega (arith, aim.0, aim.1), test_ends (all_of t ts) place asked target h, refl) in
         let here = stands_left all place _ _ h in
         let there = stands_right all place (test_length t) _ _ (test_code_length tables t place _ _) h in
-        let first_aim = aim_is_target false asked ts (place + test_length t) following target near aim.0 closed aim in
-        let first = test_sound t place _ _ here (has_left tables (test_uses t) (tests_uses ts) known) b.0 start first_aim in
-        let rest = tests_sound ts (place + test_length t) false asked following target there (has_right tables (test_uses t) (tests_uses ts) known) b.1 (test_ends t place _ _ here) same aim.0 closed aim in
+        let own : inside all (place + test_length t) ≡ inside all place = test_inside all tables t place _ _ here in
+        let around : inside all following ≡ inside all (place + test_length t) = test_inside all tables (all_of t ts) place asked target h ∙ sym own in
+        let first_aim = aim_is_target false asked ts (place + test_length t) following target near aim.0 around closed aim in
+        let first = test_sound t place _ _ loops here (has_left tables (test_uses t) (tests_uses ts) known) b.0 start first_aim in_loops.0 deep in
+        let rest = tests_sound ts (place + test_length t) false asked following target loops there (has_right tables (test_uses t) (tests_uses ts) known) b.1 (test_ends t place _ _ here) same aim.0 closed aim around in_loops.1 (ap length own ∙ deep) in
         sound_both _ _ place (test_length t) (test_code_length tables t place _ _) first rest
-    test_sound (any_of t ts) place asked target h known b start aim =
-        let following = place + (test_length t + tests_length ts) in
+    test_sound (any_of t ts) place asked target loops h known b start aim in_loops deep =
+        let following : ℕ = place + (test_length t + tests_length ts) in
         let near : place + test_length t ≤ following = omega arith in
         let same : following ≡ (place + test_length t) + tests_length ts = omega arith in
-        let closed : IsTarget following following = (omega arith, omega (arith, aim.0, aim.1), test_ends (any_of t ts) place asked target h) in
+        let closed : IsTarget following following = (omega arith, omega (arith, aim.0, aim.1), test_ends (any_of t ts) place asked target h, refl) in
         let here = stands_left all place _ _ h in
         let there = stands_right all place (test_length t) _ _ (test_code_length tables t place _ _) h in
-        let first_aim = aim_is_target true asked ts (place + test_length t) following target near aim.0 closed aim in
-        let first = test_sound t place _ _ here (has_left tables (test_uses t) (tests_uses ts) known) b.0 start first_aim in
-        let rest = tests_sound ts (place + test_length t) true asked following target there (has_right tables (test_uses t) (tests_uses ts) known) b.1 (test_ends t place _ _ here) same aim.0 closed aim in
+        let own : inside all (place + test_length t) ≡ inside all place = test_inside all tables t place _ _ here in
+        let around : inside all following ≡ inside all (place + test_length t) = test_inside all tables (any_of t ts) place asked target h ∙ sym own in
+        let first_aim = aim_is_target true asked ts (place + test_length t) following target near aim.0 around closed aim in
+        let first = test_sound t place _ _ loops here (has_left tables (test_uses t) (tests_uses ts) known) b.0 start first_aim in_loops.0 deep in
+        let rest = tests_sound ts (place + test_length t) true asked following target loops there (has_right tables (test_uses t) (tests_uses ts) known) b.1 (test_ends t place _ _ here) same aim.0 closed aim around in_loops.1 (ap length own ∙ deep) in
         sound_both _ _ place (test_length t) (test_code_length tables t place _ _) first rest
 
-    tests_sound : (ts : TestForms) (place : ℕ) (deciding asked : Bool) (following target : ℕ) → Stands all place (tests_code tables place ts deciding asked following target) → Has tables (tests_uses ts) → AreBoundedTests ts → standing tables all place ≡ []
-        → following ≡ place + tests_length ts → following ≤ target → IsTarget following following → IsTarget following target → AreSound place (tests_code tables place ts deciding asked following target)
-    tests_sound no_test place deciding asked following target h known b start at le closed aim = tt
-    tests_sound (test t ts) place deciding asked following target h known b start at le closed aim =
+    tests_sound : (ts : TestForms) (place : ℕ) (deciding asked : Bool) (following target loops : ℕ) → Stands all place (tests_code tables place ts deciding asked following target) → Has tables (tests_uses ts) → AreBoundedTests ts → standing tables all place ≡ []
+        → following ≡ place + tests_length ts → following ≤ target → IsTarget following following → IsTarget following target → inside all following ≡ inside all place → AreTestsIn loops ts → length (inside all place) ≡ loops → AreSound place (tests_code tables place ts deciding asked following target)
+    tests_sound no_test place deciding asked following target loops h known b start at le closed aim around in_loops deep = tt
+    tests_sound (test t ts) place deciding asked following target loops h known b start at le closed aim around in_loops deep =
         let near : place + test_length t ≤ following = omega (arith, at) in
         let same : following ≡ (place + test_length t) + tests_length ts = omega (arith, at) in
         let here = stands_left all place _ _ h in
         let there = stands_right all place (test_length t) _ _ (test_code_length tables t place _ _) h in
-        let first_aim = aim_is_target deciding asked ts (place + test_length t) following target near le closed aim in
-        let first = test_sound t place _ _ here (has_left tables (test_uses t) (tests_uses ts) known) b.0 start first_aim in
-        let rest = tests_sound ts (place + test_length t) deciding asked following target there (has_right tables (test_uses t) (tests_uses ts) known) b.1 (test_ends t place _ _ here) same le closed aim in
+        let own : inside all (place + test_length t) ≡ inside all place = test_inside all tables t place _ _ here in
+        let after : inside all following ≡ inside all (place + test_length t) = around ∙ sym own in
+        let first_aim = aim_is_target deciding asked ts (place + test_length t) following target near le after closed aim in
+        let first = test_sound t place _ _ loops here (has_left tables (test_uses t) (tests_uses ts) known) b.0 start first_aim in_loops.0 deep in
+        let rest = tests_sound ts (place + test_length t) deciding asked following target loops there (has_right tables (test_uses t) (tests_uses ts) known) b.1 (test_ends t place _ _ here) same le closed aim after in_loops.1 (ap length own ∙ deep) in
         sound_both _ _ place (test_length t) (test_code_length tables t place _ _) first rest
 
   at_same : (p q : ℕ) → p ≡ q → standing tables all p ≡ [] → standing tables all q ≡ []
@@ -629,6 +686,12 @@ module _ (all : List Instruction) (tables : Tables) (last : ℕ) where
     command_ends (file_into folder) place h start =
         after_string place folder (plain File) h refl
     command_ends (set modifiers name value) place h start = after_string place value (set_variable tables modifiers name) h refl
+    command_ends (store folder) place h start = after_string place folder (plain Store) h refl
+    command_ends (for_every_part cs) place h start =
+        let next : ℕ = place + 1 + commands_length cs in
+        let same : next + 1 ≡ place + (commands_length cs + 2) = omega arith in
+        at_same _ _ same (after_plain next (instruction Next 0 place) (next_stands all place next (commands_code tables (place + 1) cs) h (commands_balanced tables cs (place + 1)) (block_ends all tables cs place)) refl)
+    command_ends (leave loops) place h start = after_plain place _ (stands_first all place _ [] h) refl
     command_ends stop place h start = after_plain place _ (stands_first all place _ [] h) refl
     command_ends (choice bs) place h start = branches_end bs place _ h start
 
@@ -651,21 +714,52 @@ module _ (all : List Instruction) (tables : Tables) (last : ℕ) where
         at_same _ _ same (branches_end bs (place + test_length t + commands_length cs + leave_length bs) end p.rest left)
 
   keep_sound : (place : ℕ) → standing tables all place ≡ [] → IsSound all tables last place (plain Keep)
-  keep_sound place start = record { form = refl; loopless = refl; index = tt; jump = λ e. absurd (cc); stack = λ code same. rw start refl }
+  keep_sound place start = record { form = refl; loops = tt; index = tt; jump = λ e. absurd (cc); stack = λ code same. rw start refl }
 
   discard_sound : (place : ℕ) → standing tables all place ≡ [] → IsSound all tables last place (plain Discard)
-  discard_sound place start = record { form = refl; loopless = refl; index = tt; jump = λ e. absurd (cc); stack = λ code same. rw start refl }
+  discard_sound place start = record { form = refl; loops = tt; index = tt; jump = λ e. absurd (cc); stack = λ code same. rw start refl }
 
   pub halt_sound : (place : ℕ) → standing tables all place ≡ [] → IsSound all tables last place (plain Halt)
-  halt_sound place start = record { form = refl; loopless = refl; index = tt; jump = λ e. absurd (cc); stack = λ code same. rw start refl }
+  halt_sound place start = record { form = refl; loops = tt; index = tt; jump = λ e. absurd (cc); stack = λ code same. rw start refl }
+
+  -- an instruction on the current part, where a loop is open
+  store_sound : (place bound : ℕ) → standing tables all place ≡ Text bound ∷ [] → 0 < length (inside all place) → IsSound all tables last place (plain Store)
+  store_sound place bound start deep = record { form = refl; loops = deep; index = tt; jump = λ e. absurd (cc); stack = λ code same. rw start refl }
+
+  each_sound : (place next : ℕ) → standing tables all place ≡ [] → next_at all place ≡ next → 0 < next → length (inside all place) < max_loops → IsSound all tables last place (instruction Each 0 next)
+  each_sound place next start is some room = record {
+    form = refl;
+    loops = (rw (is, ne_eqb next 0 (λ e. omega (arith, some, e)), eq-eqb next next refl) refl, room);
+    index = tt;
+    jump = λ e. absurd (cc);
+    stack = λ code same. rw start refl;
+  }
+
+  next_sound : (place each : ℕ) → standing tables all place ≡ [] → next_at all each ≡ place → 0 < place → IsSound all tables last place (instruction Next 0 each)
+  next_sound place each start is some = record {
+    form = refl;
+    loops = rw (is, ne_eqb place 0 (λ e. omega (arith, some, e)), eq-eqb place place refl) refl;
+    index = tt;
+    jump = λ e. absurd (cc);
+    stack = λ code same. rw start refl;
+  }
+
+  break_sound : (place number : ℕ) → standing tables all place ≡ [] → 0 < number → number ≤ max_loops → number ≤ length (inside all place) → IsSound all tables last place (instruction Break number 0)
+  break_sound place number start some few deep = record {
+    form = rw (le-leb 1 number (omega (arith, some)), le-leb number max_loops few) refl;
+    loops = deep;
+    index = tt;
+    jump = λ e. absurd (cc);
+    stack = λ code same. rw start refl;
+  }
 
   file_sound : (place bound : ℕ) → standing tables all place ≡ Text bound ∷ [] → IsSound all tables last place (plain File)
-  file_sound place bound start = record { form = refl; loopless = refl; index = tt; jump = λ e. absurd (cc); stack = λ code same. rw start refl }
+  file_sound place bound start = record { form = refl; loops = tt; index = tt; jump = λ e. absurd (cc); stack = λ code same. rw start refl }
 
   set_sound : (place bound : ℕ) (modifiers : Modifiers) (name : List ℕ) → Has tables (uses_with [] [] (name ∷ [])) → standing tables all place ≡ Text bound ∷ [] → IsSound all tables last place (set_variable tables modifiers name)
   set_sound place bound modifiers name known start = record {
     form = rw (number_again modifiers) refl;
-    loopless = refl;
+    loops = tt;
     index = (name, found_variable tables name [] [] known);
     jump = λ e. absurd (cc);
     stack = λ code same. rw start refl;
@@ -684,62 +778,95 @@ module _ (all : List Instruction) (tables : Tables) (last : ℕ) where
   has_setting name value known = subst (λ ss. Has tables (uses_with [] ss (string_variables value ++ name ∷ []))) (sym (append-nil (string_strings value))) known
 
   jump_sound : (place end : ℕ) → standing tables all place ≡ [] → IsAimed all tables last place end → IsSound all tables last place (instruction Jump 0 end)
-  jump_sound place end start aimed = record { form = refl; loopless = refl; index = tt; jump = λ e. aimed; stack = λ code same. rw start refl }
+  jump_sound place end start aimed = record { form = refl; loops = tt; index = tt; jump = λ e. aimed; stack = λ code same. rw start refl }
 
-  leave_sound : (bs : BranchForms) (place end : ℕ) → standing tables all place ≡ [] → place + leave_length bs ≤ end → end ≤ last → standing tables all end ≡ [] → AreSound place (leave_code bs end)
-  leave_sound no_branch place end start le within between = tt
-  leave_sound (otherwise cs) place end start le within between = (jump_sound place end start (record { forward = omega (arith, le); within = within; between = between }), tt)
-  leave_sound (branch t cs bs) place end start le within between = (jump_sound place end start (record { forward = omega (arith, le); within = within; between = between }), tt)
+  leave_sound : (bs : BranchForms) (place end : ℕ) → standing tables all place ≡ [] → place + leave_length bs ≤ end → end ≤ last → standing tables all end ≡ [] → inside all end ≡ inside all place → AreSound place (leave_code bs end)
+  leave_sound no_branch place end start le within between same = tt
+  leave_sound (otherwise cs) place end start le within between same = (jump_sound place end start (record { forward = omega (arith, le); within = within; between = between; same = same }), tt)
+  leave_sound (branch t cs bs) place end start le within between same = (jump_sound place end start (record { forward = omega (arith, le); within = within; between = between; same = same }), tt)
 
+  -- so many loops are open around commands
   mutual
-    pub command_sound : (c : CommandForm) (place : ℕ) → Stands all place (command_code tables place c) → Has tables (command_uses c) → IsBoundedCommand c → standing tables all place ≡ [] → place + command_length c ≤ last → AreSound place (command_code tables place c)
-    command_sound keep place h known b start within = (keep_sound place start, tt)
-    command_sound discard place h known b start within = (discard_sound place start, tt)
-    command_sound (file_into folder) place h known b start within = taking_sound place folder (plain File) h known b start (λ after. file_sound (place + string_length folder) (bound_of folder) after)
-    command_sound (set modifiers name value) place h known b start within =
+    pub command_sound : (c : CommandForm) (place loops : ℕ) → Stands all place (command_code tables place c) → Has tables (command_uses c) → IsBoundedCommand c → standing tables all place ≡ [] → place + command_length c ≤ last
+        → loops ≤ max_loops → IsCommandIn loops c → length (inside all place) ≡ loops → AreSound place (command_code tables place c)
+    command_sound keep place loops h known b start within few in_loops deep = (keep_sound place start, tt)
+    command_sound discard place loops h known b start within few in_loops deep = (discard_sound place start, tt)
+    command_sound (file_into folder) place loops h known b start within few in_loops deep =
+        taking_sound place folder (plain File) h known b start (λ after. file_sound (place + string_length folder) (bound_of folder) after)
+    command_sound (set modifiers name value) place loops h known b start within few in_loops deep =
         let both = has_setting name value known in
         let of_value = has_left tables (string_uses value) (uses_with [] [] (name ∷ [])) both in
         let of_name = has_right tables (string_uses value) (uses_with [] [] (name ∷ [])) both in
         taking_sound place value (set_variable tables modifiers name) h of_value b start (λ after. set_sound (place + string_length value) (bound_of value) modifiers name of_name after)
-    command_sound stop place h known b start within = (halt_sound place start, tt)
-    command_sound (choice bs) place h known b start within =
+    command_sound (store folder) place loops h known b start within few in_loops deep =
+        let same = flat_inside all (string_code tables folder) place (string_length folder) (string_code_length tables folder) (stands_left all place (string_code tables folder) (plain Store ∷ []) h) (string_flat tables folder) in
+        taking_sound place folder (plain Store) h known b start (λ after. store_sound (place + string_length folder) (bound_of folder) after (omega (arith, in_loops, deep, ap length same)))
+    command_sound (for_every_part cs) place loops h known b start within few in_loops deep =
+        let block : ℕ = place + 1 in
+        let next : ℕ = block + commands_length cs in
+        let body = commands_code tables block cs in
+        let balanced = commands_balanced tables cs block in
+        let ends = block_ends all tables cs place in
+        let stands = block_stands all tables cs place h in
+        let is : next_at all place ≡ next = loop_next all place next body h balanced ends in
+        let some : 0 < next = omega arith in
+        let room : length (inside all place) < max_loops = omega (arith, in_loops.0, deep) in
+        let first : standing tables all block ≡ [] = after_plain place (instruction Each 0 next) (stands_first all place _ _ h) refl in
+        let inner : length (inside all block) ≡ suc loops = omega (arith, ap length (block_inside all tables cs place h), deep) in
+        let fits : block + commands_length cs ≤ last = omega (arith, within) in
+        let own = commands_sound cs block (suc loops) stands known b first fits (omega (arith, in_loops.0)) in_loops.1 inner in
+        let closing = next_sound next place (commands_end cs block stands first) is some in
+        let same : block ≡ suc place = omega arith in
+        (each_sound place next start is some room, subst (λ p. AreSound p (body ++ instruction Next 0 place ∷ [])) same (sound_both body (instruction Next 0 place ∷ []) block (commands_length cs) (commands_code_length tables cs block) own (closing, tt)))
+    command_sound (leave number) place loops h known b start within few in_loops deep = (break_sound place number start in_loops.0 (omega (arith, in_loops.1, few)) (omega (arith, in_loops.1, deep)), tt)
+    command_sound stop place loops h known b start within few in_loops deep = (halt_sound place start, tt)
+    command_sound (choice bs) place loops h known b start within few in_loops deep =
         let same : place + branches_length bs ≤ place + branches_length bs = omega arith in
-        branches_sound bs place (place + branches_length bs) h known b start same within (branches_end bs place _ h start)
+        branches_sound bs place (place + branches_length bs) loops h known b start same within (branches_end bs place _ h start) (branches_inside all tables bs place _ h) few in_loops deep
 
-    pub commands_sound : (cs : CommandForms) (place : ℕ) → Stands all place (commands_code tables place cs) → Has tables (commands_uses cs) → AreBoundedCommands cs → standing tables all place ≡ [] → place + commands_length cs ≤ last → AreSound place (commands_code tables place cs)
-    commands_sound no_command place h known b start within = tt
-    commands_sound (command c cs) place h known b start within =
+    pub commands_sound : (cs : CommandForms) (place loops : ℕ) → Stands all place (commands_code tables place cs) → Has tables (commands_uses cs) → AreBoundedCommands cs → standing tables all place ≡ [] → place + commands_length cs ≤ last
+        → loops ≤ max_loops → AreCommandsIn loops cs → length (inside all place) ≡ loops → AreSound place (commands_code tables place cs)
+    commands_sound no_command place loops h known b start within few in_loops deep = tt
+    commands_sound (command c cs) place loops h known b start within few in_loops deep =
         let first_within : place + command_length c ≤ last = omega (arith, within) in
         let rest_within : place + command_length c + commands_length cs ≤ last = omega (arith, within) in
         let here = stands_left all place _ _ h in
         let there = stands_right all place (command_length c) _ _ (command_code_length tables c place) h in
-        let first = command_sound c place here (has_left tables (command_uses c) (commands_uses cs) known) b.0 start first_within in
-        let rest = commands_sound cs (place + command_length c) there (has_right tables (command_uses c) (commands_uses cs) known) b.1 (command_ends c place here start) rest_within in
+        let first = command_sound c place loops here (has_left tables (command_uses c) (commands_uses cs) known) b.0 start first_within few in_loops.0 deep in
+        let after = ap length (command_inside all tables c place here) ∙ deep in
+        let rest = commands_sound cs (place + command_length c) loops there (has_right tables (command_uses c) (commands_uses cs) known) b.1 (command_ends c place here start) rest_within few in_loops.1 after in
         sound_both _ _ place (command_length c) (command_code_length tables c place) first rest
 
-    pub branches_sound : (bs : BranchForms) (place end : ℕ) → Stands all place (branches_code tables place bs end) → Has tables (branches_uses bs) → AreBoundedBranches bs → standing tables all place ≡ [] → place + branches_length bs ≤ end → end ≤ last → standing tables all end ≡ [] → AreSound place (branches_code tables place bs end)
-    branches_sound no_branch place end h known b start le within between = tt
-    branches_sound (otherwise cs) place end h known b start le within between = let fits : place + commands_length cs ≤ last = omega (arith, le, within) in commands_sound cs place h known b start fits
-    branches_sound (branch t cs bs) place end h known limits start le within between =
+    pub branches_sound : (bs : BranchForms) (place end loops : ℕ) → Stands all place (branches_code tables place bs end) → Has tables (branches_uses bs) → AreBoundedBranches bs → standing tables all place ≡ [] → place + branches_length bs ≤ end → end ≤ last → standing tables all end ≡ []
+        → inside all end ≡ inside all place → loops ≤ max_loops → AreBranchesIn loops bs → length (inside all place) ≡ loops → AreSound place (branches_code tables place bs end)
+    branches_sound no_branch place end loops h known b start le within between around few in_loops deep = tt
+    branches_sound (otherwise cs) place end loops h known b start le within between around few in_loops deep =
+        let fits : place + commands_length cs ≤ last = omega (arith, le, within) in
+        commands_sound cs place loops h known b start fits few in_loops deep
+    branches_sound (branch t cs bs) place end loops h known limits start le within between around few in_loops deep =
         let block = place + test_length t in
-        let leave = block + commands_length cs in
-        let next = leave + leave_length bs in
+        let after_block = block + commands_length cs in
+        let next = after_block + leave_length bs in
         let fits : block + commands_length cs ≤ last = omega (arith, le, within) in
         let near : block ≤ next = omega arith in
-        let inside : next ≤ last = omega (arith, le, within) in
-        let leaves : leave + leave_length bs ≤ end = omega (arith, le) in
+        let inside_last : next ≤ last = omega (arith, le, within) in
+        let leaves : after_block + leave_length bs ≤ end = omega (arith, le) in
         let rest_le : next + branches_length bs ≤ end = omega (arith, le) in
-        let of_place : place + (test_length t + commands_length cs) ≡ leave = omega arith in
+        let of_place : place + (test_length t + commands_length cs) ≡ after_block = omega arith in
         let of_next : place + (test_length t + commands_length cs + leave_length bs) ≡ next = omega arith in
         let both = has_left tables (joined (test_uses t) (commands_uses cs)) (branches_uses bs) known in
         let parts = branch_parts_of all tables t cs bs place end h in
         let tested = test_ends t place false _ parts.test in
         let blocked = commands_end cs block parts.block tested in
-        let left = leave_end bs leave end parts.leave blocked in
-        let a = test_sound t place false next parts.test (has_left tables (test_uses t) (commands_uses cs) both) limits.0 start (near, inside, left) in
-        let b = commands_sound cs block parts.block (has_right tables (test_uses t) (commands_uses cs) both) limits.1 tested fits in
-        let c = leave_sound bs leave end blocked leaves within between in
-        let d = branches_sound bs next end parts.rest (has_right tables (joined (test_uses t) (commands_uses cs)) (branches_uses bs) known) limits.2 left rest_le within between in
+        let left = leave_end bs after_block end parts.leave blocked in
+        -- the open loops after the test, after the block, and after its jump
+        let one : inside all block ≡ inside all place = test_inside all tables t place false next parts.test in
+        let two : inside all after_block ≡ inside all block = commands_inside all tables cs block parts.block in
+        let three : inside all next ≡ inside all after_block = leave_inside all tables bs after_block end parts.leave in
+        let a = test_sound t place false next loops parts.test (has_left tables (test_uses t) (commands_uses cs) both) limits.0 start (near, inside_last, left, three ∙ two) in_loops.0 deep in
+        let b = commands_sound cs block loops parts.block (has_right tables (test_uses t) (commands_uses cs) both) limits.1 tested fits few in_loops.1 (ap length one ∙ deep) in
+        let c = leave_sound bs after_block end blocked leaves within between (around ∙ sym (two ∙ one)) in
+        let d = branches_sound bs next end loops parts.rest (has_right tables (joined (test_uses t) (commands_uses cs)) (branches_uses bs) known) limits.2 left rest_le within between (around ∙ sym (three ∙ two ∙ one)) few in_loops.2 (ap length (three ∙ two ∙ one) ∙ deep) in
         let la = test_code_length tables t place false next in
         let lab = length_two _ _ _ _ la (commands_code_length tables cs block) in
         let labc = length_two _ _ _ _ lab (leave_code_length tables bs end) in

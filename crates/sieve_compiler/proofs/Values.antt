@@ -1,5 +1,5 @@
 -- The values of variables and captures stay as short as they are cut, and the values of the variables of a table are a list.
-use Rattle.std.proofs.Common.{◌≡◌, ℕ, zero, suc, ◌-◌, ◌<◌, ◌≤◌, Bool, true, false, not, bytes_eq, List, [], ◌∷◌, ◌++◌, Option, Some, None, IfSome, option_map, All, length, map, take, filter, replicate, slice_get, slice_set, refl, sym, ap, subst, ◌∙◌, inl, inr, arith, if◌then◌else◌, length-take}
+use Rattle.std.proofs.Common.{◌≡◌, ℕ, zero, suc, ◌-◌, ◌≤◌, nat_lt, Bool, true, false, not, bytes_eq, List, [], ◌∷◌, Option, Some, None, IfSome, option_map, All, length, map, take, filter, replicate, slice_set, refl, sym, ap, subst, inl, inr, arith, if◌then◌else◌, length-take}
 use Rattle.std.specs.Option.{option_or}
 use Rattle.std.specs.List.{slice_index_or}
 use Rattle.std.proofs.lemmas.Bool.{cases_Bool}
@@ -19,10 +19,12 @@ use Rattle.glob_match.specs.declared.match_type.Match.{Match}
 use Rattle.glob_match.specs.declared.match_type.MatchType.{MatchType}
 use Rattle.glob_match.specs.declared.match_type.MatchType.TheVariants.{Is, Contains, Matches}
 use Rattle.mail_matching.specs.FirstMatch.{after_comparison, first_key, first_match, ten_of}
-use Rattle.mime_decode.specs.Mail.{Mail}
-use Rattle.mime_decode.specs.Scope.{selected_values}
-use Rattle.sieve_check.specs.Typed.{TestForm, constant, negation, all_of, any_of, size, header, exists, string, TestForms, no_test, test, CommandForm, keep, discard, file_into, set, stop, choice, CommandForms, no_command, command, BranchForms, no_branch, otherwise, branch}
-use Rattle.sieve_meaning.specs.Meaning.{scope_of, selector_of, Effects, no_effects, all_expanded, expanded, with_value, Verdict, verdict, matched, and_then, or_else, Ending, normal, stopped, broken, effects_of, followed_by, test_does, all_do, any_do, command_does, commands_do, choice_does}
+use Rattle.mail_matching.specs.PartTests.{exactly, body_match, digest_match}
+use Rattle.mime_decode.specs.Content.{digest_of}
+use Rattle.mime_decode.specs.Mail.{Mail, Part as MailPart}
+use Rattle.mime_decode.specs.Scope.{selected_values, visited}
+use Rattle.sieve_check.specs.Typed.{TestForm, constant, negation, all_of, any_of, size, header, exists, string, part_size, part_body, part_digest, TestForms, no_test, test, CommandForm, keep, discard, file_into, set, store, for_every_part, leave, stop, choice, CommandForms, no_command, command, BranchForms, no_branch, otherwise, branch}
+use Rattle.sieve_meaning.specs.Meaning.{scope_of, selector_of, Effects, no_effects, all_expanded, expanded, with_value, Verdict, verdict, matched, and_then, or_else, Ending, normal, stopped, broken, effects_of, followed_by, left, after_turn, turns, is_size, current, of_part, test_does, all_do, any_do, command_does, commands_do, choice_does}
 
 -- ---- short values
 
@@ -117,49 +119,79 @@ decided_short : (b : Bool) (x y : Ending) → AreShort (effects_of x) → AreSho
 decided_short true x y h k = h
 decided_short false x y h k = k
 
+of_part_short : (does : MailPart → Verdict) (e : Effects) (found : Option MailPart) → AreShort e → ((p : MailPart) → AreShort (does p).effects) → AreShort (of_part does e found).effects
+of_part_short does e None short h = short
+of_part_short does e (Some p) short h = h p
+
+left_short : (n : ℕ) (e : Effects) → AreShort e → AreShort (effects_of (left n e))
+left_short n e short = step (nat_lt 1 n)
+  where
+    step : (b : Bool) → AreShort (effects_of (if b then broken (n - 1) e else normal e))
+    step true = short
+    step false = short
+
+turn_short : (x : Ending) (next : Effects → Ending) → AreShort (effects_of x) → ((f : Effects) → AreShort f → AreShort (effects_of (next f))) → AreShort (effects_of (after_turn x next))
+turn_short (normal e) next short h = h e short
+turn_short (stopped e) next short h = short
+turn_short (broken n e) next short h = left_short n e short
+
+-- after the turns of a loop
+pub turns_short : (turn : ℕ → Effects → Ending) (parts : List ℕ) (e : Effects) → ((number : ℕ) (f : Effects) → AreShort f → AreShort (effects_of (turn number f))) → AreShort e → AreShort (effects_of (turns turn parts e))
+turns_short turn [] e h short = short
+turns_short turn (number ∷ parts) e h short = turn_short (turn number e) (λ f. turns turn parts f) (h number e short) (λ f k. turns_short turn parts f h k)
+
 module _ (mail : Mail) where
   mutual
     -- after a test
-    pub test_short : (t : TestForm) (e : Effects) → AreShort e → AreShort (test_does mail None t e).effects
-    test_short (constant b) e short = short
-    test_short (negation t) e short = test_short t e short
-    test_short (all_of t ts) e short = let v = test_does mail None t e in and_short v.value v.effects (λ f. all_do mail None ts f) (test_short t e short) (λ f h. all_short ts f h)
-    test_short (any_of t ts) e short = let v = test_does mail None t e in or_short v.value v.effects (λ f. any_do mail None ts f) (test_short t e short) (λ f h. any_short ts f h)
-    test_short (size order number) e short = short
-    test_short (header how scope selected names keys) e short =
-        matched_short _ e short (after_values how (selected_values (scope_of scope) None (selector_of e selected) (all_expanded e names) mail) (all_expanded e keys) e.captures short.captures)
-    test_short (exists scope names) e short = short
-    test_short (string how sources keys) e short = matched_short _ e short (after_values how (all_expanded e sources) (all_expanded e keys) e.captures short.captures)
+    pub test_short : (part : Option ℕ) (t : TestForm) (e : Effects) → AreShort e → AreShort (test_does mail part t e).effects
+    test_short part (constant b) e short = short
+    test_short part (negation t) e short = test_short part t e short
+    test_short part (all_of t ts) e short = let v = test_does mail part t e in and_short v.value v.effects (λ f. all_do mail part ts f) (test_short part t e short) (λ f h. all_short part ts f h)
+    test_short part (any_of t ts) e short = let v = test_does mail part t e in or_short v.value v.effects (λ f. any_do mail part ts f) (test_short part t e short) (λ f h. any_short part ts f h)
+    test_short part (size order number) e short = short
+    test_short part (header how scope selected names keys) e short =
+        matched_short _ e short (after_values how (selected_values (scope_of scope) part (selector_of e selected) (all_expanded e names) mail) (all_expanded e keys) e.captures short.captures)
+    test_short part (exists scope names) e short = short
+    test_short part (string how sources keys) e short = matched_short _ e short (after_values how (all_expanded e sources) (all_expanded e keys) e.captures short.captures)
+    test_short part (part_size order number) e short = of_part_short (λ p. verdict (is_size order number (length p.content)) e) e (current mail part) short (λ p. short)
+    test_short part (part_body how keys) e short =
+        of_part_short (λ p. matched (body_match how p (all_expanded e keys) e.captures) e) e (current mail part) short (λ p. matched_short _ e short (after_values how (p.content ∷ []) (all_expanded e keys) e.captures short.captures))
+    test_short part (part_digest keys) e short =
+        of_part_short (λ p. matched (digest_match p (all_expanded e keys) e.captures) e) e (current mail part) short
+        (λ p. matched_short _ e short (after_values exactly (digest_of p.content ∷ []) (all_expanded e keys) e.captures short.captures))
 
-    all_short : (ts : TestForms) (e : Effects) → AreShort e → AreShort (all_do mail None ts e).effects
-    all_short no_test e short = short
-    all_short (test t ts) e short = let v = test_does mail None t e in and_short v.value v.effects (λ f. all_do mail None ts f) (test_short t e short) (λ f h. all_short ts f h)
+    all_short : (part : Option ℕ) (ts : TestForms) (e : Effects) → AreShort e → AreShort (all_do mail part ts e).effects
+    all_short part no_test e short = short
+    all_short part (test t ts) e short = let v = test_does mail part t e in and_short v.value v.effects (λ f. all_do mail part ts f) (test_short part t e short) (λ f h. all_short part ts f h)
 
-    any_short : (ts : TestForms) (e : Effects) → AreShort e → AreShort (any_do mail None ts e).effects
-    any_short no_test e short = short
-    any_short (test t ts) e short = let v = test_does mail None t e in or_short v.value v.effects (λ f. any_do mail None ts f) (test_short t e short) (λ f h. any_short ts f h)
+    any_short : (part : Option ℕ) (ts : TestForms) (e : Effects) → AreShort e → AreShort (any_do mail part ts e).effects
+    any_short part no_test e short = short
+    any_short part (test t ts) e short = let v = test_does mail part t e in or_short v.value v.effects (λ f. any_do mail part ts f) (test_short part t e short) (λ f h. any_short part ts f h)
 
   mutual
     -- after a command
-    pub command_short : (c : CommandForm) (e : Effects) → AreShort e → AreShort (effects_of (command_does mail None c e))
-    command_short keep e short = still e _ refl refl short
-    command_short discard e short = still e _ refl refl short
-    command_short (file_into folder) e short = still e _ refl refl short
-    command_short (set modifiers name value) e short = record { variables = set_short name (modified modifiers (expanded e value)) e.variables short.variables; captures = short.captures }
-    command_short stop e short = short
-    command_short (choice bs) e short = choice_short bs e short
+    pub command_short : (part : Option ℕ) (c : CommandForm) (e : Effects) → AreShort e → AreShort (effects_of (command_does mail part c e))
+    command_short part keep e short = still e _ refl refl short
+    command_short part discard e short = still e _ refl refl short
+    command_short part (file_into folder) e short = still e _ refl refl short
+    command_short part (set modifiers name value) e short = record { variables = set_short name (modified modifiers (expanded e value)) e.variables short.variables; captures = short.captures }
+    command_short part (store folder) e short = still e _ refl refl short
+    command_short part (for_every_part cs) e short = turns_short (λ number f. commands_do mail (Some number) cs f) (visited part mail) e (λ number f h. commands_short (Some number) cs f h) short
+    command_short part (leave loops) e short = short
+    command_short part stop e short = short
+    command_short part (choice bs) e short = choice_short part bs e short
 
-    commands_short : (cs : CommandForms) (e : Effects) → AreShort e → AreShort (effects_of (commands_do mail None cs e))
-    commands_short no_command e short = short
-    commands_short (command c cs) e short = followed_short (command_does mail None c e) (λ f. commands_do mail None cs f) (command_short c e short) (λ f h. commands_short cs f h)
+    pub commands_short : (part : Option ℕ) (cs : CommandForms) (e : Effects) → AreShort e → AreShort (effects_of (commands_do mail part cs e))
+    commands_short part no_command e short = short
+    commands_short part (command c cs) e short = followed_short (command_does mail part c e) (λ f. commands_do mail part cs f) (command_short part c e short) (λ f h. commands_short part cs f h)
 
-    choice_short : (bs : BranchForms) (e : Effects) → AreShort e → AreShort (effects_of (choice_does mail None bs e))
-    choice_short no_branch e short = short
-    choice_short (otherwise cs) e short = commands_short cs e short
-    choice_short (branch t cs bs) e short =
-        let v = test_does mail None t e in
-        let h = test_short t e short in
-        decided_short v.value (commands_do mail None cs v.effects) (choice_does mail None bs v.effects) (commands_short cs v.effects h) (choice_short bs v.effects h)
+    choice_short : (part : Option ℕ) (bs : BranchForms) (e : Effects) → AreShort e → AreShort (effects_of (choice_does mail part bs e))
+    choice_short part no_branch e short = short
+    choice_short part (otherwise cs) e short = commands_short part cs e short
+    choice_short part (branch t cs bs) e short =
+        let v = test_does mail part t e in
+        let h = test_short part t e short in
+        decided_short v.value (commands_do mail part cs v.effects) (choice_does mail part bs v.effects) (commands_short part cs v.effects h) (choice_short part bs v.effects h)
 
 -- ---- the values of a table's variables
 

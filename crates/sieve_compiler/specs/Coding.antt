@@ -2,7 +2,7 @@
 use Rattle.std.specs.Prelude.{ℕ, ◌+◌, ◌*◌, Bool, true, false, not, List, [], ◌∷◌, ◌++◌, flat_map, length, map}
 use Rattle.bytecode_format.specs.declared.instruction.Instruction.{Instruction}
 use Rattle.bytecode_format.specs.declared.operation.Operation.{Operation}
-use Rattle.bytecode_format.specs.declared.operation.Operation.TheVariants.{Halt, Literal, Variable as VariableOp, Capture as CaptureOp, Join, Set, String, Bool as BoolOp, Jump, JumpIfTrue, JumpIfFalse, Header, Exists, Size, Keep, Discard, File}
+use Rattle.bytecode_format.specs.declared.operation.Operation.TheVariants.{Halt, Literal, Variable as VariableOp, Capture as CaptureOp, Join, Set, String, Bool as BoolOp, Jump, JumpIfTrue, JumpIfFalse, Header, Exists, Size, PartSize, PartBody, PartDigest, Keep, Discard, File, Store, Each, Next, Break}
 use Rattle.bytecode_format.specs.declared.modifiers.Modifiers.{Modifiers}
 use Rattle.bytecode_format.specs.Modifiers.{modifiers_number}
 use Rattle.bytecode_format.specs.Operations.{octet_of}
@@ -18,7 +18,7 @@ use Rattle.sieve_check.specs.declared.typed.Segment.{Segment}
 use Rattle.sieve_check.specs.declared.typed.Segment.TheVariants.{Text, Variable, Capture}
 use Rattle.sieve_check.specs.declared.typed.Scope.{Scope}
 use Rattle.sieve_check.specs.declared.typed.Scope.TheVariants.{Message, Part, PartAndBelow}
-use Rattle.sieve_check.specs.Typed.{Template, Selected, whole, main, sub, content_type, params, params_of, TestForm, constant, negation, all_of, any_of, size, header, exists, string, TestForms, no_test, test, CommandForm, keep, discard, file_into, set, stop, choice, CommandForms, no_command, command, BranchForms, no_branch, otherwise, branch}
+use Rattle.sieve_check.specs.Typed.{Template, Selected, whole, main, sub, content_type, params, params_of, TestForm, constant, negation, all_of, any_of, size, header, exists, string, part_size, part_body, part_digest, TestForms, no_test, test, CommandForm, keep, discard, file_into, set, store, for_every_part, leave, stop, choice, CommandForms, no_command, command, BranchForms, no_branch, otherwise, branch}
 use Rattle.sieve_compiler.specs.Lengths.{test_length, tests_length, commands_length, command_length, leave_length, branches_length}
 use Rattle.sieve_compiler.specs.Tables.{Tables, tables_of, place_of_number, place_of_string, place_of_variable}
 
@@ -44,6 +44,11 @@ push_bool false = instruction BoolOp 0 0
 abbrev pub push_size : Order → ℕ → Instruction
 push_size Over place = instruction Size 0 place
 push_size Under place = instruction Size 1 place
+
+-- the size of the current part's content against that number
+abbrev pub push_part_size : Order → ℕ → Instruction
+push_part_size Over place = instruction PartSize 0 place
+push_part_size Under place = instruction PartSize 1 place
 
 -- a text, by its place in the table
 abbrev pub push_text : Tables → List ℕ → Instruction
@@ -113,6 +118,14 @@ match_fields how scope selected names keys = record {
 abbrev pub match_texts : Match → ℕ → ℕ → Instruction
 match_texts how sources keys = record { op = octet_of String; a = match_number how; b = sources; c = keys }
 
+-- the current part's content against so many keys
+abbrev pub match_body : Match → ℕ → Instruction
+match_body how keys = instruction PartBody (match_number how) keys
+
+-- the digest of its content against so many keys
+abbrev pub match_digest : ℕ → Instruction
+match_digest keys = instruction PartDigest 0 keys
+
 -- whether there are fields of so many names in scope
 abbrev pub find_fields : Scope → ℕ → Instruction
 find_fields scope names = record { op = octet_of Exists; a = scope_number scope; b = names; c = 0 }
@@ -149,6 +162,9 @@ abbrev mutual
   test_code tables place (exists scope names) asked target = strings_code tables names ++ find_fields scope (length names) ∷ jump_if asked target ∷ []
   test_code tables place (string how sources keys) asked target =
       strings_code tables sources ++ strings_code tables keys ++ match_texts how (length sources) (length keys) ∷ jump_if asked target ∷ []
+  test_code tables place (part_size order number) asked target = push_part_size order (place_of_number tables number) ∷ jump_if asked target ∷ []
+  test_code tables place (part_body how keys) asked target = strings_code tables keys ++ match_body how (length keys) ∷ jump_if asked target ∷ []
+  test_code tables place (part_digest keys) asked target = strings_code tables keys ++ match_digest (length keys) ∷ jump_if asked target ∷ []
 
   -- the tests of a list after its first
   pub tests_code : Tables → ℕ → TestForms → Bool → Bool → ℕ → ℕ → List Instruction
@@ -168,6 +184,13 @@ abbrev mutual
   command_code tables place discard = plain Discard ∷ []
   command_code tables place (file_into folder) = string_code tables folder ++ plain File ∷ []
   command_code tables place (set modifiers name value) = string_code tables value ++ set_variable tables modifiers name ∷ []
+  command_code tables place (store folder) = string_code tables folder ++ plain Store ∷ []
+  -- the loop's brackets name each other's places
+  command_code tables place (for_every_part cs) =
+      let block = place + 1 in
+      let next = block + commands_length cs in
+      instruction Each 0 next ∷ (commands_code tables block cs ++ instruction Next 0 place ∷ [])
+  command_code tables place (leave loops) = instruction Break loops 0 ∷ []
   command_code tables place stop = plain Halt ∷ []
   command_code tables place (choice bs) = branches_code tables place bs (place + branches_length bs)
 

@@ -1,6 +1,6 @@
 -- The numbers of a script, as they stand in it.
 use Rattle.std.specs.Prelude.{ℕ, List, [], ◌∷◌, ◌++◌}
-use Rattle.sieve_check.specs.Typed.{TestForm, constant, negation, all_of, any_of, size, header, exists, string, TestForms, no_test, test, CommandForm, keep, discard, file_into, set, stop, choice, CommandForms, no_command, command, BranchForms, no_branch, otherwise, branch}
+use Rattle.sieve_check.specs.Typed.{TestForm, constant, negation, all_of, any_of, size, header, exists, string, part_size, part_body, part_digest, TestForms, no_test, test, CommandForm, keep, discard, file_into, set, store, for_every_part, leave, stop, choice, CommandForms, no_command, command, BranchForms, no_branch, otherwise, branch}
 
 abbrev mutual
   -- the numbers of a test as they stand in it
@@ -13,6 +13,9 @@ abbrev mutual
   test_numbers (header how scope selected names keys) = []
   test_numbers (exists scope names) = []
   test_numbers (string how sources keys) = []
+  test_numbers (part_size order number) = number ∷ []
+  test_numbers (part_body how keys) = []
+  test_numbers (part_digest keys) = []
 
   pub tests_numbers : TestForms → List ℕ
   tests_numbers no_test = []
@@ -25,6 +28,9 @@ abbrev mutual
   command_numbers discard = []
   command_numbers (file_into folder) = []
   command_numbers (set modifiers name value) = []
+  command_numbers (store folder) = []
+  command_numbers (for_every_part cs) = commands_numbers cs
+  command_numbers (leave loops) = []
   command_numbers stop = []
   command_numbers (choice bs) = branches_numbers bs
 

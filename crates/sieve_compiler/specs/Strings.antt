@@ -2,7 +2,7 @@
 use Rattle.std.specs.Prelude.{ℕ, List, [], ◌∷◌, ◌++◌, flat_map}
 use Rattle.sieve_check.specs.declared.typed.Segment.{Segment}
 use Rattle.sieve_check.specs.declared.typed.Segment.TheVariants.{Text, Variable, Capture}
-use Rattle.sieve_check.specs.Typed.{Template, Selected, params_of, TestForm, constant, negation, all_of, any_of, size, header, exists, string, TestForms, no_test, test, CommandForm, keep, discard, file_into, set, stop, choice, CommandForms, no_command, command, BranchForms, no_branch, otherwise, branch}
+use Rattle.sieve_check.specs.Typed.{Template, params_of, TestForm, constant, negation, all_of, any_of, size, header, exists, string, part_size, part_body, part_digest, TestForms, no_test, test, CommandForm, keep, discard, file_into, set, store, for_every_part, leave, stop, choice, CommandForms, no_command, command, BranchForms, no_branch, otherwise, branch}
 
 abbrev pub segment_strings : Segment → List (List ℕ)
 segment_strings (Text octets) = octets ∷ []
@@ -28,6 +28,9 @@ abbrev mutual
   test_strings (header how scope selected names keys) = strings_of names ++ strings_of (params_of selected) ++ strings_of keys
   test_strings (exists scope names) = strings_of names
   test_strings (string how sources keys) = strings_of sources ++ strings_of keys
+  test_strings (part_size order number) = []
+  test_strings (part_body how keys) = strings_of keys
+  test_strings (part_digest keys) = strings_of keys
 
   pub tests_strings : TestForms → List (List ℕ)
   tests_strings no_test = []
@@ -40,6 +43,9 @@ abbrev mutual
   command_strings discard = []
   command_strings (file_into folder) = string_strings folder
   command_strings (set modifiers name value) = string_strings value
+  command_strings (store folder) = string_strings folder
+  command_strings (for_every_part cs) = commands_strings cs
+  command_strings (leave loops) = []
   command_strings stop = []
   command_strings (choice bs) = branches_strings bs
 

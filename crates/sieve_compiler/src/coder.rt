@@ -3,12 +3,14 @@ ghost use Rattle.std.specs.Prelude.{◌≡◌, ◌<◌, ◌^◌, length};
 
 use crate::exits::{Exit, ListExit};
 use crate::instructions::{
-    find_fields, instruction, join_texts, jump_if, match_fields, match_texts, push_bool, push_size,
+    find_fields, instruction, join_texts, jump_if, match_body, match_digest, match_fields,
+    match_texts, push_bool, push_part_size, push_size,
 };
 use crate::lengths::{command_length, commands_length, is_left, test_length, tests_length};
 use crate::tables::Tables;
 use bytecode_format::{Instruction, Operation};
-use sieve_check::{Branch, Command, Segment, Test};
+use glob_match::Match;
+use sieve_check::{Branch, Command, Scope, Segment, Selection, Test};
 use std::alloc::{AllocError, Global};
 
 /// The code so far, and the tables of the whole script.
@@ -23,11 +25,13 @@ pub struct Coder<'t, 's> {
 
 impl<'t, 's> Coder<'t, 's> {
     ghost use Rattle.std.specs.Prelude.{◌≡◌, ◌+◌, ◌<◌, ◌^◌, false, [], ◌∷◌, ◌++◌, length, map, All, OnOk};
-    ghost use Rattle.sieve_check.specs.TypedView.{templates_of, test_form, tests_of, command_form, commands_form, branch_forms, else_form};
+    ghost use Rattle.sieve_check.specs.TypedView.{templates_of, selected_form, test_form, tests_of, command_form, commands_form, branch_forms, else_form};
     ghost use Rattle.sieve_compiler.specs.Lengths.{string_length, strings_length, test_length, tests_length, leave_length, command_length, commands_length};
-    ghost use Rattle.sieve_check.specs.Bounded.{IsBoundedString, IsBoundedTest, AreBoundedTests, IsBoundedCommand, AreBoundedCommands};
+    ghost use Rattle.sieve_check.specs.Typed.{header, string, for_every_part};
+    ghost use Rattle.sieve_check.specs.Bounded.{IsBoundedString, AreBoundedLists, IsBoundedHeader, IsBoundedTest, AreBoundedTests, IsBoundedCommand, AreBoundedCommands};
     ghost use Rattle.sieve_compiler.specs.Coding.{jump_if, push_text, push_segment, string_code, strings_code, test_code, tests_code, leave_code, command_code, commands_code};
     ghost use Rattle.sieve_compiler.specs.Putting.{Puts};
+    ghost use Rattle.sieve_compiler.specs.Leaving.{LeavesFew, LeaveFew};
 
     /// No code. Takes no memory.
     pub fn new(alloc: Global, tables: &'t Tables<'s>) -> Coder<'t, 's>
@@ -133,6 +137,58 @@ impl<'t, 's> Coder<'t, 's> {
         Ok(())
     }
 
+    // Puts the strings that a simple test takes last, the test and its jump.
+    fn put_tested(
+        &mut self,
+        strings: &[Vec<Segment>],
+        test: Instruction,
+        exit: Exit,
+    ) -> Result<(), AllocError>
+        requires { All IsBoundedString (templates_of strings.now) }
+        ensures code { OnOk result (Puts self.old self.new (strings_code self.old.tables.now (templates_of strings.now) ++ test ∷ jump_if exit.asked exit.target ∷ [])) }
+        ensures room { OnOk result (length self.new.instructions.items ≡ length self.old.instructions.items + (strings_length (templates_of strings.now) + 2)) }
+    {
+        self.put_strings(strings)?;
+        self.put_simple(test, exit)
+    }
+
+    // Puts the code of a test of fields.
+    fn put_header(
+        &mut self,
+        how: Match,
+        scope: Scope,
+        selection: &Selection,
+        names: &[Vec<Segment>],
+        keys: &[Vec<Segment>],
+        exit: Exit,
+    ) -> Result<(), AllocError>
+        requires { IsBoundedHeader (selected_form selection.now) (templates_of names.now) (templates_of keys.now) }
+        ensures code { OnOk result (Puts self.old self.new (test_code self.old.tables.now (length self.old.instructions.items) (header how scope (selected_form selection.now) (templates_of names.now) (templates_of keys.now)) exit.asked exit.target)) }
+        ensures room { OnOk result (length self.new.instructions.items ≡ length self.old.instructions.items + test_length (header how scope (selected_form selection.now) (templates_of names.now) (templates_of keys.now))) }
+    {
+        self.put_strings(names)?;
+        self.put_strings(selection.params())?;
+        let test = match_fields(how, scope, selection, names.len() as u16, keys.len() as u32);
+        self.put_tested(keys, test, exit)
+    }
+
+    // Puts the code of a test of texts.
+    fn put_texts(
+        &mut self,
+        how: Match,
+        sources: &[Vec<Segment>],
+        keys: &[Vec<Segment>],
+        exit: Exit,
+    ) -> Result<(), AllocError>
+        requires { AreBoundedLists (templates_of sources.now) (templates_of keys.now) }
+        ensures code { OnOk result (Puts self.old self.new (test_code self.old.tables.now (length self.old.instructions.items) (string how (templates_of sources.now) (templates_of keys.now)) exit.asked exit.target)) }
+        ensures room { OnOk result (length self.new.instructions.items ≡ length self.old.instructions.items + test_length (string how (templates_of sources.now) (templates_of keys.now))) }
+    {
+        self.put_strings(sources)?;
+        let test = match_texts(how, sources.len() as u16, keys.len() as u32);
+        self.put_tested(keys, test, exit)
+    }
+
     /// Puts the code of a test, which jumps as the exit says.
     #[cycle(tests)]
     pub fn put_test(&mut self, test: &Test, exit: Exit) -> Result<(), AllocError>
@@ -143,13 +199,7 @@ impl<'t, 's> Coder<'t, 's> {
     {
         match test {
             Test::Constant(value) => self.put_simple(push_bool(*value), exit),
-            Test::Not(inner) => {
-                let turned = Exit {
-                    asked: !exit.asked,
-                    target: exit.target,
-                };
-                self.put_test(inner, turned)
-            }
+            Test::Not(inner) => self.put_test(inner, exit.turned()),
             Test::AllOf(first, others) => {
                 let list = self.list_exit(first, others, false, exit);
                 self.put_test(first, list.before(others))?;
@@ -168,33 +218,28 @@ impl<'t, 's> Coder<'t, 's> {
                 selection,
                 names,
                 keys,
-            } => {
-                self.put_strings(names)?;
-                self.put_strings(selection.params())?;
-                self.put_strings(keys)?;
-                let (names, keys) = (names.len() as u16, keys.len() as u32);
-                self.put_simple(
-                    match_fields(*matching, *scope, selection, names, keys),
-                    exit,
-                )
-            }
+            } => self.put_header(*matching, *scope, selection, names, keys, exit),
             Test::Exists(scope, names) => {
-                self.put_strings(names)?;
-                self.put_simple(find_fields(*scope, names.len() as u16), exit)
+                self.put_tested(names, find_fields(*scope, names.len() as u16), exit)
             }
             Test::String {
                 matching,
                 sources,
                 keys,
-            } => {
-                self.put_strings(sources)?;
-                self.put_strings(keys)?;
-                let test = match_texts(*matching, sources.len() as u16, keys.len() as u32);
-                self.put_simple(test, exit)
-            }
+            } => self.put_texts(*matching, sources, keys, exit),
             Test::Size(order, number) => {
                 let place = self.tables.place_of_number(*number) as u32;
                 self.put_simple(push_size(*order, place), exit)
+            }
+            Test::PartSize(order, number) => {
+                let place = self.tables.place_of_number(*number) as u32;
+                self.put_simple(push_part_size(*order, place), exit)
+            }
+            Test::PartBody { matching, keys } => {
+                self.put_tested(keys, match_body(*matching, keys.len() as u32), exit)
+            }
+            Test::PartDigest(keys) => {
+                self.put_tested(keys, match_digest(keys.len() as u32), exit)
             }
         }
     }
@@ -232,6 +277,7 @@ impl<'t, 's> Coder<'t, 's> {
     fn put_command(&mut self, command: &Command) -> Result<(), AllocError>
         requires room { length self.old.instructions.items + command_length (command_form command.now) < 2 ^ 32 }
         requires bounded { IsBoundedCommand (command_form command.now) }
+        requires few { LeavesFew (command_form command.now) }
         ensures code { OnOk result (Puts self.old self.new (command_code self.old.tables.now (length self.old.instructions.items) (command_form command.now))) }
         ensures room { OnOk result (length self.new.instructions.items ≡ length self.old.instructions.items + command_length (command_form command.now)) }
     {
@@ -251,6 +297,12 @@ impl<'t, 's> Coder<'t, 's> {
                 let place = self.tables.place_of_variable(name.as_slice()) as u32;
                 self.put(instruction(Operation::Set, modifiers.number(), place))?;
             }
+            Command::Store(folder) => {
+                self.put_string(folder)?;
+                self.put(instruction(Operation::Store, 0, 0))?;
+            }
+            Command::ForEveryPart(block) => self.put_loop(block)?,
+            Command::Break(loops) => self.put(instruction(Operation::Break, *loops as u8, 0))?,
             Command::Stop => self.put(instruction(Operation::Halt, 0, 0))?,
             Command::If(branches, otherwise) => {
                 let end = self.place() + command_length(command);
@@ -269,11 +321,28 @@ impl<'t, 's> Coder<'t, 's> {
         Ok(())
     }
 
+    // Puts the code of a loop over parts.
+    #[cycle(commands)]
+    fn put_loop(&mut self, body: &[Command]) -> Result<(), AllocError>
+        requires room { length self.old.instructions.items + command_length (for_every_part (commands_form body.now)) < 2 ^ 32 }
+        requires bounded { AreBoundedCommands (commands_form body.now) }
+        requires few { LeaveFew (commands_form body.now) }
+        ensures code { OnOk result (Puts self.old self.new (command_code self.old.tables.now (length self.old.instructions.items) (for_every_part (commands_form body.now)))) }
+        ensures room { OnOk result (length self.new.instructions.items ≡ length self.old.instructions.items + command_length (for_every_part (commands_form body.now))) }
+    {
+        let each = self.place();
+        let next = each + 1 + commands_length(body);
+        self.put(instruction(Operation::Each, 0, next))?;
+        self.put_commands(body)?;
+        self.put(instruction(Operation::Next, 0, each))
+    }
+
     /// Puts the code of commands, one after the other.
     #[cycle(commands)]
     pub fn put_commands(&mut self, commands: &[Command]) -> Result<(), AllocError>
         requires room { length self.old.instructions.items + commands_length (commands_form commands.now) < 2 ^ 32 }
         requires bounded { AreBoundedCommands (commands_form commands.now) }
+        requires few { LeaveFew (commands_form commands.now) }
         ensures code { OnOk result (Puts self.old self.new (commands_code self.old.tables.now (length self.old.instructions.items) (commands_form commands.now))) }
         ensures room { OnOk result (length self.new.instructions.items ≡ length self.old.instructions.items + commands_length (commands_form commands.now)) }
     {

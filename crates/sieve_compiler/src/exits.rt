@@ -10,6 +10,21 @@ pub struct Exit {
     pub target: u32,
 }
 
+impl Exit {
+    ghost use Rattle.std.specs.Prelude.{not};
+
+    /// The same for a test of which this one is the negation.
+    pub fn turned(self) -> Exit
+        ensures asked { result.asked ≡ not self.asked }
+        ensures target { result.target ≡ self.target }
+    {
+        Exit {
+            asked: !self.asked,
+            target: self.target,
+        }
+    }
+}
+
 /// How a list of tests jumps.
 #[derive(Clone, Copy)]
 pub struct ListExit {

@@ -3,7 +3,7 @@ ghost use Rattle.std.specs.Prelude.{◌≡◌, ◌≤◌, length};
 ghost use Rattle.octets.specs.Limits.{max_test_strings};
 ghost use Rattle.sieve_check.specs.Typed.{params_of};
 ghost use Rattle.sieve_check.specs.TypedView.{selected_form};
-ghost use Rattle.sieve_compiler.specs.Coding.{comparator_number, find_fields, instruction, jump_if, kind_number, match_fields, join_texts, match_texts, match_number, push_bool, push_size, scope_number, selector_number};
+ghost use Rattle.sieve_compiler.specs.Coding.{comparator_number, find_fields, instruction, jump_if, kind_number, match_body, match_digest, match_fields, join_texts, match_texts, match_number, push_bool, push_part_size, push_size, scope_number, selector_number};
 
 use crate::exits::Exit;
 use bytecode_format::{Instruction, Operation};
@@ -51,6 +51,16 @@ pub fn push_size(order: Order, place: u32) -> Instruction
     }
 }
 
+/// Compares the size of the current part's content with the number at a place of the table.
+pub fn push_part_size(order: Order, place: u32) -> Instruction
+    ensures { result ≡ push_part_size order place }
+{
+    match order {
+        Order::Over => instruction(Operation::PartSize, 0, place),
+        Order::Under => instruction(Operation::PartSize, 1, place),
+    }
+}
+
 /// Compares what is selected of the fields of so many names in scope with so many keys.
 pub fn match_fields(
     how: Match,
@@ -81,6 +91,20 @@ pub fn match_texts(how: Match, sources: u16, keys: u32) -> Instruction
         b: sources,
         c: keys,
     }
+}
+
+/// Compares the current part's content with so many keys.
+pub fn match_body(how: Match, keys: u32) -> Instruction
+    ensures { result ≡ match_body how keys }
+{
+    instruction(Operation::PartBody, match_number(how), keys)
+}
+
+/// Compares the digest of the current part's content with so many keys.
+pub fn match_digest(keys: u32) -> Instruction
+    ensures { result ≡ match_digest keys }
+{
+    instruction(Operation::PartDigest, 0, keys)
 }
 
 /// Makes one text of so many.

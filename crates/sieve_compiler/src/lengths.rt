@@ -1,6 +1,6 @@
 // How many instructions the code of each piece has.
 //
-// Measuring goes down the whole piece. A piece is measured once for each list of tests around it, and twice
+// Measuring goes down the whole piece. A piece is measured once for each list of tests and each loop around it, and twice
 // for each `if`; these are nested at most 32 deep in a script, so the time stays linear in the script's length.
 ghost use Rattle.std.specs.Prelude.{◌≡◌, ◌<◌, ◌^◌, map, if◌then◌else◌};
 ghost use Rattle.sieve_check.specs.TypedView.{templates_of, test_form, tests_of, command_form, commands_form, branch_forms, else_form};
@@ -38,7 +38,7 @@ pub fn test_length(test: &Test) -> u32
     ensures { result ≡ test_length (test_form test.now) }
 {
     match test {
-        Test::Constant(_) | Test::Size(_, _) => 2,
+        Test::Constant(_) | Test::Size(_, _) | Test::PartSize(_, _) => 2,
         Test::Header {
             selection,
             names,
@@ -47,6 +47,7 @@ pub fn test_length(test: &Test) -> u32
         } => strings_length(names) + strings_length(selection.params()) + strings_length(keys) + 2,
         Test::Exists(_, names) => strings_length(names) + 2,
         Test::String { sources, keys, .. } => strings_length(sources) + strings_length(keys) + 2,
+        Test::PartBody { keys, .. } | Test::PartDigest(keys) => strings_length(keys) + 2,
         Test::Not(inner) => test_length(inner),
         Test::AllOf(first, others) | Test::AnyOf(first, others) => {
             test_length(first) + tests_length(others)
@@ -81,9 +82,10 @@ pub fn command_length(command: &Command) -> u32
     ensures { result ≡ command_length (command_form command.now) }
 {
     match command {
-        Command::Keep | Command::Discard | Command::Stop => 1,
-        Command::FileInto(folder) => string_length(folder) + 1,
+        Command::Keep | Command::Discard | Command::Break(_) | Command::Stop => 1,
+        Command::FileInto(folder) | Command::Store(folder) => string_length(folder) + 1,
         Command::Set { value, .. } => string_length(value) + 1,
+        Command::ForEveryPart(block) => commands_length(block) + 2,
         Command::If(branches, otherwise) => {
             let mut total = 0;
             'branches: for (i, branch) in branches.iter().enumerate() {

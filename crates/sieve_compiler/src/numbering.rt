@@ -97,7 +97,8 @@ impl<'a> Tables<'a> {
                 self.add_strings(keys)
             }
             Test::Exists(_, names) => self.add_strings(names),
-            Test::Size(_, number) => self.numbers.add(*number),
+            Test::PartBody { keys, .. } | Test::PartDigest(keys) => self.add_strings(keys),
+            Test::Size(_, number) | Test::PartSize(_, number) => self.numbers.add(*number),
         }
     }
 
@@ -118,8 +119,9 @@ impl<'a> Tables<'a> {
         ensures { OnOk result (self.new ≡ with_uses self.old (command_uses (command_form command.now))) }
     {
         match command {
-            Command::Keep | Command::Discard | Command::Stop => {}
-            Command::FileInto(folder) => self.add_string(folder)?,
+            Command::Keep | Command::Discard | Command::Break(_) | Command::Stop => {}
+            Command::FileInto(folder) | Command::Store(folder) => self.add_string(folder)?,
+            Command::ForEveryPart(block) => self.add_commands(block)?,
             Command::Set { name, value, .. } => {
                 self.add_string(value)?;
                 self.add_variable(name.as_slice())?;

@@ -5,7 +5,7 @@ use Rattle.sieve_compiler.proofs.tables.Tables.+command_uses.Goals as goal
 
 pub add_command-branches-preserved : goal.add_command-branches-preserved
 add_command-branches-preserved t c =
-    branch_added c.branches.self c.add_test.new.self c.add_commands.new.self c.deref-branch-items.result.now c.branches.branch-index c.branch-item.result c.deref-in-branches.result.now (else_form c.in-If.otherwise)
+    branch_added c.branches.self c.add_test.new.self c.add_commands-in-branches.new.self c.deref-branch-items.result.now c.branches.branch-index c.branch-item.result c.deref-in-branches.result.now (else_form c.in-If.otherwise)
     c.branches-test.true c.branch-item.is c.deref-in-branches.ensures.value c.in_ok-add_test-in-If.ensures c.in_ok-add_commands-in-If.ensures
     ∙ c.branches.invariant
 
@@ -15,5 +15,5 @@ add_commands-commands-preserved t c =
 
 pub add_command-returns-in_ok-add_variable-in-Set : goal.add_command-returns-in_ok-add_variable-in-Set
 add_command-returns-in_ok-add_variable-in-Set t c =
-    set_added c.args.self.now c.add_string-in-Set.new.self c.add_variable.new.self c.args.command.now c.in-Set.modifiers c.in-Set.name c.in-Set.value
+    set_added c.args.self.now c.add_string.new.self c.add_variable.new.self c.args.command.now c.in-Set.modifiers c.in-Set.name c.in-Set.value
     c.as_slice.result.now c.deref-in-Set.result.now c.in-Set.is c.as_slice.ensures c.deref-in-Set.ensures.value c.in_ok-add_string-in-Set.ensures c.in_ok-add_variable-in-Set.ensures
