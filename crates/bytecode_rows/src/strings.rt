@@ -238,7 +238,7 @@ fn refused_indexes_and_stacks(rt: HostRuntime) -> Result<(), Fail> {
     Ok(())
 }
 
-// The fields of each operation: what isn't named is 0; other scopes and selectors haven't come.
+// The fields of each operation: what isn't named is 0, and scopes and selectors stay within their numbers.
 #[test]
 fn refused_fields(rt: HostRuntime) -> Result<(), Fail> {
     let alloc = rt.alloc();

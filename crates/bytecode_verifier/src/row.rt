@@ -108,7 +108,7 @@ const PART: Row = Row {
 /// How many strings a list of a test has.
 const LIST: Range = Range::Between(1, MAX_TEST_STRINGS);
 
-/// The row of an operation in programs of a version, if it has come.
+/// The row of an operation in programs of a version, if they may have it.
 pub fn row_of(_version: u8, operation: Operation) -> Option<Row>
     ensures { result ≡ Rows.row_of _version operation }
 {

@@ -6,14 +6,14 @@ ghost use Rattle.bytecode_verifier.specs.Rules;
 use crate::row::{Row, Table, row_of};
 use bytecode_format::{Instruction, Operation, Program};
 
-/// The row of an octet, if it names an operation that has come.
+/// The row of an octet, if it names an operation of the version.
 pub fn row_named(version: u8, octet: u8) -> Option<Row>
     ensures { result ≡ Rows.row_named version octet }
 {
     row_of(version, Operation::of(octet)?)
 }
 
-/// Whether the operation has come, its fields are in their ranges, and the others are 0.
+/// Whether there is a row, the fields are in its ranges, and the others are 0.
 pub fn is_well_formed(row: Option<Row>, instruction: &Instruction) -> bool
     ensures { result ≡ Rows.is_well_formed row instruction.now }
 {
