@@ -14,7 +14,7 @@ use Rattle.sieve_check.specs.declared.names.Capability.TheVariants.{Variables}
 use Rattle.sieve_check.specs.declared.names.Piece.{Piece}
 use Rattle.sieve_check.specs.declared.names.Piece.TheVariants.{Main, Sub, ContentType, Params}
 use Rattle.sieve_check.specs.declared.names.Tag.{Tag}
-use Rattle.sieve_check.specs.declared.rules.StringFault.TheVariants.{Long}
+use Rattle.sieve_check.specs.declared.string_faults.StringFault.TheVariants.{Long}
 use Rattle.sieve_check.specs.declared.signature.Positional.TheVariants as positional
 use Rattle.sieve_check.specs.declared.signature.Signature.{Signature}
 use Rattle.sieve_check.specs.Bounded.{IsBoundedString, IsBoundedList, AreBoundedLists, HasParams, IsBoundedHeader}

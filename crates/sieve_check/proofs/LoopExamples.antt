@@ -3,7 +3,7 @@ use Rattle.std.proofs.Common.{◌≡◌, ℕ, List, [], ◌∷◌, Option, Some,
 use Rattle.std.specs.Prelude.{codes}
 use Rattle.glob_match.specs.declared.comparator.Comparator.TheVariants.{Octet, Casemap}
 use Rattle.glob_match.specs.declared.match_type.MatchType.TheVariants.{Is, Contains}
-use Rattle.sieve_parser.specs.Tree.{ArgumentTree, text, text_list, amount, label, InvocationTree, invocation, no_test, one_test, CommandsTree, simple, block, no_command, command}
+use Rattle.sieve_parser.specs.Tree.{ArgumentTree, text, text_list, amount, label, invocation, no_test, one_test, CommandsTree, simple, block, no_command, command}
 use Rattle.sieve_check.specs.declared.error.CheckError.TheVariants.{MissingCapability, BadArguments, Limit}
 use Rattle.sieve_check.specs.declared.names.CommandName.TheVariants.{Break, ForEveryPart}
 use Rattle.sieve_check.specs.declared.typed.Order.TheVariants.{Under}

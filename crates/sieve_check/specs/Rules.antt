@@ -19,8 +19,8 @@ use Rattle.sieve_check.specs.declared.names.CommandName.{CommandName}
 use Rattle.sieve_check.specs.declared.names.CommandName.TheVariants.{Require, If, Elsif, Else, Stop, Keep, Discard, FileInto, Set, ForEveryPart, Break, Store}
 use Rattle.sieve_check.specs.declared.names.TestName.{TestName}
 use Rattle.sieve_check.specs.declared.names.TestName.TheVariants.{Constant, Not, AllOf, AnyOf, Header, Exists, Size, String, PartSize, PartBody, PartDigest}
-use Rattle.sieve_check.specs.declared.rules.StringFault.{StringFault}
-use Rattle.sieve_check.specs.declared.rules.StringFault.TheVariants.{Unknown, Long, Wrong, Large}
+use Rattle.sieve_check.specs.declared.string_faults.StringFault.{StringFault}
+use Rattle.sieve_check.specs.declared.string_faults.StringFault.TheVariants.{Unknown, Long, Wrong, Large}
 use Rattle.sieve_check.specs.declared.signature.Tests.{Tests}
 use Rattle.sieve_check.specs.declared.signature.Tests.TheVariants.{Nothing, One, Bracketed}
 use Rattle.sieve_check.specs.declared.signature.Ending.{Ending}

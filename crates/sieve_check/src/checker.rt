@@ -12,18 +12,21 @@ use crate::{forming, rules};
 use sieve_parser::Script;
 use std::alloc::Global;
 
-/// The script with its typed form, where nothing is wrong with it (RFC 5228; RFC 5229, sections 3 and 4).
+/// The script with its typed form, where nothing is wrong with it (RFC 5228; RFC 5229, sections 3 and 4; RFC 5703, sections 3
+/// and 4).
 ///
 /// Commands are looked at in order, each before its tests and these before its block. The first command or test
 /// of which something is wrong is refused, at the number of its identifier's token: as
 /// [`CheckError::UnknownCommand`] where its name isn't known; else as [`CheckError::MissingCapability`] where it
 /// needs a capability that wasn't required; else as [`CheckError::UnknownCapability`] where a `require` names
-/// something else than a capability; else as [`CheckError::BadArguments`] where it stands at a wrong place, or has
+/// something else than a capability; else as [`CheckError::BadArguments`] where it stands at a wrong place (a
+/// `break` where there is no such loop to leave, a `store` or a test of the current part outside of all loops), or has
 /// other arguments, tests or another end than it takes, or expands a string with a reference into a namespace or to a
 /// capture after the last one, or sets what is no name; else as [`CheckError::Limit`] where one of its strings has
 /// too many octets, or the lists of a test have too many strings, or it expands a string of too many segments or with too
-/// long a name, or sets too long a name, or where the script has too many variables with those that it brings. Strings
-/// are expanded where variables were required. [`CheckError::Memory`] comes only where memory was refused.
+/// long a name, or sets too long a name, or opens a loop within as many others as may be open, or where the script has too
+/// many variables with those that it brings. Strings are expanded where variables were required, but for the names of
+/// variables and loops. [`CheckError::Memory`] comes only where memory was refused.
 pub fn check(alloc: Global, script: Script) -> Result<Checked, CheckError>
     ensures script { IfOk result (λ checked. checked.script ≡ script) }
     ensures form { IfOk result (λ checked. IsFormOf (commands_tree script) (commands_form checked.commands)) }

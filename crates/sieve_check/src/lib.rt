@@ -1,11 +1,12 @@
-//! The static rules of Sieve scripts, and the typed form of those that keep them (RFC 5228; RFC 5229).
+//! The static rules of Sieve scripts, and the typed form of those that keep them (RFC 5228; RFC 5229; RFC 5703, sections 3 and 4).
 //!
 //! [`check`] gives a script as [`Checked`], or names the fault that `specs/Rules` says. What a script means, and
 //! its code, go by its typed form alone (`specs/Typed`), which `specs/FormOf` reads off the tree. What each command and
 //! test takes is a table in `specs/Signatures`. `laws` says that a script has a typed form where nothing is wrong with it.
+//! A `break` of the typed form says how many of the loops around it are left, so names of loops stand in scripts alone.
 //! A string of the typed form is its segments: text as it stands and, where `variables` was required, references. Which
-//! variables a typed form has stands in `specs/Variables`, and how large it and its strings and lists are at most in
-//! `specs/Bounded`.
+//! variables a typed form has stands in `specs/Variables`, and how large it and its strings and lists and how deep its
+//! loops are at most in `specs/Bounded`.
 #![tactic(auto)]
 
 mod checked;
@@ -20,6 +21,7 @@ mod references;
 mod rules;
 mod sequence;
 mod signature;
+mod string_faults;
 mod strings;
 mod surroundings;
 mod test_forms;

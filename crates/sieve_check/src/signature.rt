@@ -339,9 +339,9 @@ fn with_params(reading: Reading<'_>) -> Option<Reading<'_>>
 fn with_name(reading: Reading<'_>) -> Option<Reading<'_>>
     ensures { Settles reading.entry (Some Tag.Name) result }
 {
-    let (name, rest) = first_text(reading.positional)?;
+    let (loop_name, rest) = first_text(reading.positional)?;
     Some(Reading {
-        name: Some(name.as_slice()),
+        name: Some(loop_name.as_slice()),
         positional: rest,
         ..reading
     })

@@ -1,0 +1,135 @@
+// What is wrong with the strings of commands and tests.
+ghost use Rattle.std.specs.Prelude.{◌≡◌, ◌+◌, ◌<◌, map, length, nat_lt, not, is_some, MatchOption};
+ghost use Rattle.sieve_parser.specs.View.{argument_tree};
+ghost use Rattle.sieve_check.specs.Rules.{arguments_of, has_many_strings, strings_in, strings_of};
+ghost use Rattle.sieve_check.specs.Signatures.{reading};
+ghost use Rattle.sieve_check.specs.Reading.{all_lists};
+
+use crate::names::capability_named;
+use crate::references::{has_large_references, has_wrong_reference};
+use crate::signature::{Lists, Signature};
+use octets::Octets;
+use sieve_parser::{Argument, Head};
+
+/// The most octets of a string.
+const MAX_STRING: usize = 16_384;
+
+/// The most strings in the lists of one test.
+const MAX_TEST_STRINGS: usize = 512;
+/// What may be wrong with a string.
+#[derive(Clone, Copy, Debug, PartialEq, Eq)]
+pub enum StringFault {
+    /// It is no capability.
+    Unknown,
+    /// It has more octets than the limit.
+    Long,
+    /// It has a reference into a namespace, or to a capture that there can't be.
+    Wrong,
+    /// It has too many segments, or a reference by a name that has too many octets.
+    Large,
+}
+
+impl StringFault {
+    ghost use Rattle.std.specs.Prelude.{◌≡◌, map};
+    ghost use Rattle.std.specs.List.{list_any};
+    ghost use Rattle.sieve_parser.specs.View.{argument_tree};
+    ghost use Rattle.sieve_check.specs.Reading.{all_lists};
+    ghost use Rattle.sieve_check.specs.Rules.{string_has, strings_in, strings_of};
+
+    // Whether this is wrong with the string.
+    fn is_in(self, string: &Octets) -> bool
+        ensures { result ≡ string_has self string.now }
+    {
+        match self {
+            StringFault::Unknown => capability_named(string.as_slice()).is_none(),
+            StringFault::Long => string.len() > MAX_STRING,
+            StringFault::Wrong => has_wrong_reference(string.as_slice()),
+            StringFault::Large => has_large_references(string.as_slice()),
+        }
+    }
+
+    // Whether this is wrong with one of the strings.
+    fn is_in_one(self, strings: &[Octets]) -> bool
+        ensures { result ≡ list_any (string_has self) strings.now }
+    {
+        for string in strings {
+            if self.is_in(string) {
+                return true;
+            }
+        }
+        false
+    }
+
+    // Whether this is wrong with a string of the argument.
+    fn is_in_argument(self, argument: &Argument) -> bool
+        ensures { result ≡ list_any (string_has self) (strings_in (argument_tree argument.now)) }
+    {
+        match argument {
+            Argument::Text(string) => self.is_in(string),
+            Argument::TextList(first, others) => self.is_in(first) || self.is_in_one(others),
+            Argument::Number(_) | Argument::Tag(_) => false,
+        }
+    }
+
+    /// Whether this is wrong with a string of the arguments.
+    pub fn is_in_some(self, arguments: &[Argument]) -> bool
+        ensures { result ≡ list_any (string_has self) (strings_of (map argument_tree arguments.now)) }
+    {
+        for argument in arguments {
+            if self.is_in_argument(argument) {
+                return true;
+            }
+        }
+        false
+    }
+
+    /// Whether this is wrong with a string of the lists.
+    pub fn is_in_lists(self, lists: Lists<'_>) -> bool
+        ensures { result ≡ list_any (string_has self) (strings_of (all_lists lists.entry)) }
+    {
+        self.is_in_some(lists.first)
+            || self.is_in_some(lists.params)
+            || self.is_in_some(lists.others)
+    }
+}
+
+// How many strings the argument has.
+fn string_count(argument: &Argument) -> usize
+    ensures { result ≡ length (strings_in (argument_tree argument.now)) }
+{
+    match argument {
+        Argument::Text(_) => 1,
+        Argument::TextList(_, others) => others.len() + 1,
+        Argument::Number(_) | Argument::Tag(_) => 0,
+    }
+}
+
+// How many strings may still come after those of the arguments, where so many may come with them.
+fn left_after(most: usize, arguments: &[Argument]) -> Option<usize>
+    ensures { MatchOption result (most < length (strings_of (map argument_tree arguments.now))) (λ left. left + length (strings_of (map argument_tree arguments.now)) ≡ most) }
+{
+    let mut left = most;
+    for argument in arguments {
+        left = left.checked_sub(string_count(argument))?;
+    }
+    Some(left)
+}
+
+// How many strings may still come after those of the lists, where so many may come with them.
+fn left_after_lists(most: usize, lists: Lists<'_>) -> Option<usize>
+    ensures { is_some result ≡ not (nat_lt most (length (strings_of (all_lists lists.entry)))) }
+{
+    let left = left_after(most, lists.first)?;
+    let left = left_after(left, lists.params)?;
+    left_after(left, lists.others)
+}
+
+/// Whether the arguments, as the signature reads them, have more strings than one test may have.
+pub fn has_many_strings(signature: Signature, head: &Head) -> bool
+    ensures { result ≡ has_many_strings (reading signature (arguments_of head.now)) }
+{
+    match signature.read(&head.arguments) {
+        Some(reading) => left_after_lists(MAX_TEST_STRINGS, reading.lists()).is_none(),
+        None => false,
+    }
+}
