@@ -65,11 +65,12 @@ impl<'t> Loops<'t> {
     pub fn with(self, name: Option<&'t [u8]>) -> Option<Loops<'t>>
         ensures { MatchOption result (nat_lt (length (open_loops self.entry)) max_loops ≡ false) (λ all. (nat_lt (length (open_loops self.entry)) max_loops ≡ true) × (open_loops all ≡ name_in name.entry ∷ open_loops self.entry)) }
     {
-        if self.number >= MAX_LOOPS {
+        if self.are_full() {
             return None;
         }
+        let [first, second, _] = self.names;
         Some(Loops {
-            names: [name, self.names[0], self.names[1]],
+            names: [name, first, second],
             number: self.number + 1,
         })
     }

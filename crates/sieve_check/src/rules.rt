@@ -153,7 +153,7 @@ fn is_large_command(
 {
     StringFault::Long.is_in_some(&head.arguments)
         || mentions.are_large()
-        || surroundings.opens_many(name, head)
+        || surroundings.opens_many(name)
 }
 
 // What is wrong with a command that is known by that name, by itself.

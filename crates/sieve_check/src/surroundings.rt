@@ -136,7 +136,8 @@ pub struct Surroundings<'t> {
 }
 
 impl<'t> Surroundings<'t> {
-    ghost use Rattle.std.specs.Prelude.{◌≡◌, false, map, option_map};
+    ghost use Rattle.std.specs.Prelude.{◌≡◌, false, List, map, option_map};
+    ghost use Rattle.sieve_parser.specs.Tree.{ArgumentTree};
     ghost use Rattle.sieve_parser.specs.View.{argument_tree, command_tree, invocation_tree};
     ghost use Rattle.sieve_check.specs.Rules.{after_invocation, arguments_of, invocation_of, loops_by, loops_opened, opened_by, strings_of};
     ghost use Rattle.sieve_check.specs.Names.{command_named};
@@ -205,8 +206,8 @@ impl<'t> Surroundings<'t> {
     }
 
     /// Whether the block of a command that is known by that name would have more loops around it than there may be.
-    pub fn opens_many(self, name: CommandName, head: &Head) -> bool
-        ensures { result ≡ opens_many (opened_by name (arguments_of head.now)) (context_of self.entry) }
+    pub fn opens_many(self, name: CommandName) -> bool
+        ensures { (args : List ArgumentTree) → result ≡ opens_many (opened_by name args) (context_of self.entry) }
     {
         match name {
             CommandName::ForEveryPart => self.loops.are_full(),
