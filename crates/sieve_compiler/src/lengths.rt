@@ -1,7 +1,8 @@
 // How many instructions the code of each piece has.
 //
-// Measuring goes down the whole piece. A piece is measured once for each list of tests and each loop around it, and twice
-// for each `if`; these are nested at most 32 deep in a script, so the time stays linear in the script's length.
+// Measuring goes down the whole piece. A piece is measured once for each list of tests and each loop around
+// it, and twice for each `if`; these are nested at most 32 deep in a script, so the time stays linear in the
+// script's length.
 ghost use Rattle.std.specs.Prelude.{◌≡◌, ◌<◌, ◌^◌, map, if◌then◌else◌};
 ghost use Rattle.sieve_check.specs.TypedView.{templates_of, test_form, tests_of, command_form, commands_form, branch_forms, else_form};
 ghost use Rattle.sieve_compiler.specs.Lengths.{string_length, strings_length, test_length, tests_length, leave_length, command_length, commands_length};
