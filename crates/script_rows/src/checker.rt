@@ -144,7 +144,7 @@ fn faults_of_other_commands(rt: HostRuntime) {
         (b"vacation;", 15, 0),
         (b"keep; vacation;", 15, 2),
         (b"fileinto \"a\";", 16, 0),
-        (b"foreverypart {}", 15, 0),
+        (b"foreverypart {}", 16, 0),
         (b"keep {}", 18, 0),
         (b"keep 1;", 18, 0),
         (b"keep true;", 18, 0),

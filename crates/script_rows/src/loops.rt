@@ -171,7 +171,8 @@ fn commands_in_loops(rt: HostRuntime) -> Result<(), Fail> {
         b"require [\"foreverypart\", \"vnd.depot\"]; discard; foreverypart { store \"a\"; break; }";
     assert!(rt; does(alloc, no_keep, MAIL, &[Wanted::Store(b"a", 0)], None)?);
     // Variables last from turn to turn.
-    let counted = b"require [\"foreverypart\", \"variables\", \"fileinto\"]; foreverypart { set \"n\" \"${n}x\"; } fileinto \"${N}\";";
+    let counted =
+        b"require [\"foreverypart\", \"variables\", \"fileinto\"]; foreverypart { set \"n\" \"${n}x\"; } fileinto \"${N}\";";
     assert!(rt; is_filed(alloc, counted, MAIL, b"xxxx")?);
     let empty: &[u8] = b"require \"foreverypart\"; foreverypart {}";
     assert!(rt; does(alloc, empty, b"", &[Wanted::Keep], Some((3, 3)))?);
@@ -203,11 +204,7 @@ fn headers_of_the_current_part(rt: HostRuntime) -> Result<(), Fail> {
         (b"header \"Subject\" \"inner\"", &[Wanted::Keep]),
         (
             b"exists :mime \"Subject\"",
-            &[
-                Wanted::Store(b"f", 0),
-                Wanted::Store(b"f", 3),
-                Wanted::Keep,
-            ],
+            &[Wanted::Store(b"f", 0), Wanted::Store(b"f", 3), Wanted::Keep],
         ),
     ];
     for (test, wanted) in rows {
@@ -279,14 +276,17 @@ fn contents_are_decoded(rt: HostRuntime) -> Result<(), Fail> {
         b"partbody :matches \"foo*\"",
     ];
     for test in rows {
-        let mut script =
-            Vec::from_slice(alloc, b"require [\"foreverypart\", \"vnd.depot\"]; foreverypart { if ")?;
+        let mut script = Vec::from_slice(
+            alloc,
+            b"require [\"foreverypart\", \"vnd.depot\"]; foreverypart { if ",
+        )?;
         script.extend_from_slice(test)?;
         script.extend_from_slice(b" { store \"f\"; } }")?;
         let wanted = [Wanted::Store(b"f", 3), Wanted::Keep];
         assert!(rt; does(alloc, &script, MAIL, &wanted, None)?, "{test:?}");
     }
-    let captures = b"require [\"foreverypart\", \"vnd.depot\", \"variables\", \"fileinto\"]; foreverypart { if partbody :matches \"*b*\" { fileinto \"${1}-${2}\"; } }";
+    let captures =
+        b"require [\"foreverypart\", \"vnd.depot\", \"variables\", \"fileinto\"]; foreverypart { if partbody :matches \"*b*\" { fileinto \"${1}-${2}\"; } }";
     assert!(rt; is_filed(alloc, captures, ABC, b"a-c")?);
     Ok(())
 }
@@ -316,12 +316,28 @@ fn faults(rt: HostRuntime) {
         (b"require \"foreverypart\"; foreverypart;", 18, 3),
         (b"require \"foreverypart\"; foreverypart \"a\" {}", 18, 3),
         (b"require \"foreverypart\"; foreverypart true {}", 18, 3),
-        (b"require \"foreverypart\"; foreverypart :name [\"a\"] {}", 18, 3),
-        (b"require \"foreverypart\"; foreverypart :name \"a\" :name \"a\" {}", 18, 3),
+        (
+            b"require \"foreverypart\"; foreverypart :name [\"a\"] {}",
+            18,
+            3,
+        ),
+        (
+            b"require \"foreverypart\"; foreverypart :name \"a\" :name \"a\" {}",
+            18,
+            3,
+        ),
         (b"require \"foreverypart\"; foreverypart :name 3 {}", 18, 3),
         (b"require \"foreverypart\"; foreverypart :name {}", 18, 3),
-        (b"require \"foreverypart\"; foreverypart { break {} }", 18, 5),
-        (b"require \"foreverypart\"; foreverypart { break \"a\"; }", 18, 5),
+        (
+            b"require \"foreverypart\"; foreverypart { break {} }",
+            18,
+            5,
+        ),
+        (
+            b"require \"foreverypart\"; foreverypart { break \"a\"; }",
+            18,
+            5,
+        ),
         (
             b"require \"foreverypart\"; foreverypart :name \"o\" { break :name \"p\"; }",
             18,
@@ -332,7 +348,11 @@ fn faults(rt: HostRuntime) {
             18,
             7,
         ),
-        (b"require \"foreverypart\"; foreverypart { break :name \"\"; }", 18, 5),
+        (
+            b"require \"foreverypart\"; foreverypart { break :name \"\"; }",
+            18,
+            5,
+        ),
         (b"require \"foreverypart\"; foreverypart {} break;", 18, 6),
         (b"store \"a\";", 16, 0),
         (b"require \"vnd.depot\"; store \"a\";", 18, 3),
@@ -352,9 +372,11 @@ fn faults(rt: HostRuntime) {
 #[test]
 fn no_fourth_loop(rt: HostRuntime) -> Result<(), Fail> {
     let alloc = rt.alloc();
-    let four = b"require \"foreverypart\"; foreverypart { foreverypart { foreverypart { foreverypart {} } } }";
+    let four =
+        b"require \"foreverypart\"; foreverypart { foreverypart { foreverypart { foreverypart {} } } }";
     assert!(rt; all_named(alloc, &[(four, 19, 9)]));
-    let three = b"require \"foreverypart\"; foreverypart { foreverypart { foreverypart { keep; } } foreverypart {} }";
+    let three =
+        b"require \"foreverypart\"; foreverypart { foreverypart { foreverypart { keep; } } foreverypart {} }";
     assert!(rt; does(alloc, three, &chain(alloc, 3)?, &[Wanted::Keep], None)?);
     Ok(())
 }
@@ -386,7 +408,8 @@ fn parts_with_programs(rt: HostRuntime) -> Result<(), Fail> {
 
 #[test]
 fn an_attachment_by_its_name(rt: HostRuntime) -> Result<(), Fail> {
-    let message = b"Content-Type: multipart/mixed; boundary=b\n\n--b\nContent-Disposition: attachment; filename=\"a.txt\"\nContent-Transfer-Encoding: base64\n\nZm9vYmFy\n--b--\n";
+    let message =
+        b"Content-Type: multipart/mixed; boundary=b\n\n--b\nContent-Disposition: attachment; filename=\"a.txt\"\nContent-Transfer-Encoding: base64\n\nZm9vYmFy\n--b--\n";
     let script =
         b"require [\"foreverypart\", \"mime\", \"vnd.depot\"]; foreverypart { if header :mime :param \"filename\" \"Content-Disposition\" \"a.txt\" { store \"att\"; } } discard;";
     let wanted = [Wanted::Store(b"att", 1)];
@@ -405,7 +428,10 @@ fn every_part_of_a_large_message(rt: HostRuntime) -> Result<(), Fail> {
     let report = evaluate(alloc, STORE_EACH, &message)?;
     assert_eq!(rt; report.outcome.actions.len(), 4097);
     let (last, before) = match report.outcome.actions.as_slice() {
-        [.., before, last] => (Wanted::Keep.is(last), Wanted::Store(b"att", 4095).is(before)),
+        [.., before, last] => (
+            Wanted::Keep.is(last),
+            Wanted::Store(b"att", 4095).is(before),
+        ),
         _ => (false, false),
     };
     assert!(rt; last && before);

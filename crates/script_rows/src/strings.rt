@@ -179,17 +179,6 @@ fn faults_of_exists(rt: HostRuntime) {
     assert!(rt; all_named(rt.alloc(), &rows));
 }
 
-// Tags of tests that come later are unknown, whatever was required; so are commands.
-#[test]
-fn what_has_not_come(rt: HostRuntime) {
-    let rows: [(&[u8], u8, usize); 3] = [
-        (b"require \"foreverypart\"; break;", 15, 3),
-        (b"require \"vnd.depot\"; store \"a\";", 15, 3),
-        (b"require \"vnd.depot\"; if partsize :over 1 {}", 15, 4),
-    ];
-    assert!(rt; all_named(rt.alloc(), &rows));
-}
-
 // A text, so many times one after another, between two others.
 #[derive(Clone, Copy)]
 struct Repeated {
