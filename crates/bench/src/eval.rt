@@ -1,5 +1,4 @@
-// Scripts with variables on a message of nothing, and one with a loop on large mails. Programs are made before.
-use crate::attached::run_attached;
+// Scripts with variables on a message of nothing. Programs are made before.
 use bytecode_format::{Instruction, Operation, Program};
 use bytecode_verifier::{Verified, verify};
 use mime_decode::Message;
@@ -72,8 +71,7 @@ pub(crate) fn run(rt: &HostRuntime) -> anyhow::Result<()> {
         "the largest stack of joined texts",
         &largest_stack(alloc)?,
         10,
-    )?;
-    run_attached(rt)
+    )
 }
 
 fn measure(rt: &HostRuntime, name: &str, verified: &Verified, rounds: u64) -> anyhow::Result<()> {
@@ -97,8 +95,7 @@ fn doublings(alloc: Global) -> anyhow::Result<Vec<u8>> {
     Ok(script)
 }
 
-/// The program of a script, verified.
-pub(crate) fn compiled(alloc: Global, script: &[u8]) -> anyhow::Result<Verified> {
+fn compiled(alloc: Global, script: &[u8]) -> anyhow::Result<Verified> {
     let checked = check(alloc, parse(alloc, script)?)?;
     accepted(alloc, compile(alloc, &checked)?)
 }

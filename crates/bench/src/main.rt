@@ -1,7 +1,6 @@
 // Benchmarks, run by hand with a job's name; without one it lists the jobs.
 #![tactic(auto)]
 
-mod attached;
 mod codecs;
 mod compiling;
 mod eval;
