@@ -1,4 +1,5 @@
 pub mod Ahead
+pub mod Among
 pub mod Below
 pub mod Children
 pub mod Delimiters

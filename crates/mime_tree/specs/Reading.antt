@@ -86,6 +86,11 @@ GivesHit preamble opened text place end answer = MatchOption answer (IsQuietEnd 
 
 -- ---- where parts begin
 
+-- the places of open parts are those of parts that were read, of which there are so many
+abbrev pub AreAmong : ℕ → List OpenPart → Type 0
+AreAmong count [] = Unit {0}
+AreAmong count (part ∷ inner) = (part.at < count) × AreAmong count inner
+
 -- a part begins in the text, and few enough levels of parts may be below it
 pub record IsBeginning (text : List ℕ) (beginning : Beginning) : Type 0 where
   pub within : beginning.place ≤ length text

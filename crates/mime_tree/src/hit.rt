@@ -100,12 +100,16 @@ pub(crate) fn next_hit(
         return None;
     }
     let mut lines = Runs::at(text, place);
-    let mut end = end;
+    let mut before = end;
     'lines: while let Some(line) = lines.next_run() {
         if let Some(met) = part_met(opened, &text[line.start..line.end], preamble) {
-            return Some(Hit { end, line, met });
+            return Some(Hit {
+                end: before,
+                line,
+                met,
+            });
         }
-        end = line.end;
+        before = line.end;
     }
     None
 }

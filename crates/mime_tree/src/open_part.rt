@@ -97,6 +97,7 @@ impl OpenPart {
     }
 
     /// What a line of this name is to it, whose first delimiter may not have come yet.
+    #[inline]
     pub(crate) fn mark(&self, name: &[u8], preamble: bool) -> Option<Mark>
         ensures { result ≡ mark_in preamble self.now.boundary name.now }
     {

@@ -4,7 +4,7 @@ ghost use Rattle.octets.specs.Limits.{max_depth, max_message, max_parts};
 ghost use Rattle.header_fields.specs.Header.{header_length};
 ghost use Rattle.mime_tree.specs.PartTree.{tree_of};
 ghost use Rattle.mime_tree.specs.OpenParts.{all_ended, boundaries_in, cut, ended_at, finished, lines_at, message_below, opening, part_read};
-ghost use Rattle.mime_tree.specs.Reading.{BeginsChild, GivesPart, IsBeginning, default_media, wanted, wanted_from};
+ghost use Rattle.mime_tree.specs.Reading.{AreAmong, BeginsChild, GivesPart, IsBeginning, default_media, wanted, wanted_from};
 ghost use Rattle.mime_tree.specs.Refusals.{IsRefusedFor};
 
 use crate::delimiter::Mark;
@@ -58,7 +58,9 @@ fn read_part<'a>(
 ) -> Result<Option<Beginning>, TreeError>
     requires beginning { IsBeginning text.now beginning }
     requires few { vec_len parts.old ≤ max_parts }
+    requires among { AreAmong (vec_len parts.old) opened.old.items }
     ensures next { IfOk result (λ next. GivesPart text.now next) }
+    ensures among { OnOk result (AreAmong (vec_len parts.new) opened.new.items) }
     ensures same { IfOk result (λ next. wanted text.now next opened.new.items parts.new.items ≡ wanted_from text.now beginning opened.old.items parts.old.items) }
     ensures few { OnOk result ((vec_len parts.new ≡ vec_len parts.old + 1) × (vec_len parts.new ≤ max_parts)) }
     ensures refused { IfErr result (λ e. IsRefusedFor e (length (wanted_from text.now beginning opened.old.items parts.old.items))) }
@@ -137,7 +139,9 @@ fn next_part(
 ) -> Option<Beginning>
     requires within { place ≤ length text.now }
     requires before { end ≤ place }
+    requires among { AreAmong (vec_len parts.old) opened.old.items }
     ensures next { GivesPart text.now result }
+    ensures among { AreAmong (vec_len parts.new) opened.new.items }
     ensures same { wanted text.now result opened.new.items parts.new.items ≡ finished true [] place end (lines_at text.now place) opened.old.items parts.old.items }
     ensures len { vec_len parts.new ≡ vec_len parts.old }
 {
@@ -183,7 +187,8 @@ fn child_after(text: &[u8], hit: &Hit, opened: &[OpenPart]) -> Beginning
 
 // Ends the open parts from this one on, the innermost first.
 fn end_parts(parts: &mut Vec<Part>, opened: &mut Vec<OpenPart>, keep: usize, end: usize)
-    requires { keep ≤ vec_len opened.old }
+    requires keep { keep ≤ vec_len opened.old }
+    requires among { AreAmong (vec_len parts.old) opened.old.items }
     ensures parts { parts.new.items ≡ all_ended end (drop keep opened.old.items) parts.old.items }
     ensures opened { opened.new.items ≡ take keep opened.old.items }
     ensures len { vec_len parts.new ≡ vec_len parts.old }
@@ -198,11 +203,11 @@ fn end_parts(parts: &mut Vec<Part>, opened: &mut Vec<OpenPart>, keep: usize, end
 
 // Ends the part at this place among the parts: those after it are below it.
 fn end_part(parts: &mut Vec<Part>, at: usize, end: usize)
+    requires { at < vec_len parts.old }
     ensures parts { parts.new.items ≡ ended_at at end parts.old.items }
     ensures len { vec_len parts.new ≡ vec_len parts.old }
 {
-    let count = parts.len();
-    if let Some(part) = parts.get_mut(at) {
-        part.end(end, count - at - 1);
-    }
+    let below = parts.len() - at - 1;
+    let part = &mut parts[at];
+    part.end(end, below);
 }

@@ -11,7 +11,7 @@ returns-in-Some-part_met c =
     let text = c.args.text.now in
     let was = c.lines.invariant in
     let read = read_of text c.in-Some.line c.lines.lines c.next_run.new.self was.same_text c.in-Some.ensures in
-    run_hit c.args.preamble c.args.opened.now text c.args.place c.args.end c.lines.end c.in-Some.line c.lines.lines c.next_run.new.self c.in-Some-part_met.met was.same_text read was.forward was.so_far c.in-Some-part_met.ensures
+    run_hit c.args.preamble c.args.opened.now text c.args.place c.args.end c.lines.before c.in-Some.line c.lines.lines c.next_run.new.self c.in-Some-part_met.met was.same_text read was.forward was.so_far c.in-Some-part_met.ensures
 
 pub lines-preserved : goal.lines-preserved
 lines-preserved c =
@@ -21,10 +21,10 @@ lines-preserved c =
       same_text = read.same_text;
       forward = omega (arith, read.start, read.after, read.some, was.forward);
       within = omega (arith, read.after, read.within);
-      so_far = λ parts. was.so_far parts ∙ run_passed c.args.preamble c.args.opened.now text c.in-Some.line c.lines.lines c.next_run.new.self c.lines.end parts was.same_text read c.in_default-part_met.ensures;
+      so_far = λ parts. was.so_far parts ∙ run_passed c.args.preamble c.args.opened.now text c.in-Some.line c.lines.lines c.next_run.new.self c.lines.before parts was.same_text read c.in_default-part_met.ensures;
     }
 
 pub returns : goal.returns
 returns c =
     let was = c.lines.invariant in
-    ends_quiet c.args.preamble c.args.opened.now c.args.text.now c.args.place c.args.end c.lines.end c.lines.lines c.next_run.new.self was.same_text c.in_default.ensures was.so_far
+    ends_quiet c.args.preamble c.args.opened.now c.args.text.now c.args.place c.args.end c.lines.before c.lines.lines c.next_run.new.self was.same_text c.in_default.ensures was.so_far

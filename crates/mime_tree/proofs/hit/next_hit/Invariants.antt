@@ -9,8 +9,8 @@ invariant-lines l = record {
   same_text : l.lines.text ≡ l.text;
   forward : l.place ≤ l.lines.place;
   within : l.lines.place ≤ length l.text;
-  so_far : (parts : List Part) → finished l.preamble [] l.place l.initial.end (lines_at l.text l.place) l.opened parts
-      ≡ finished l.preamble [] l.lines.place l.end (lines_at l.text l.lines.place) l.opened parts;
+  so_far : (parts : List Part) → finished l.preamble [] l.place l.end (lines_at l.text l.place) l.opened parts
+      ≡ finished l.preamble [] l.lines.place l.before (lines_at l.text l.lines.place) l.opened parts;
 }
 
 abbrev pub decreases-lines : goal.decreases-lines

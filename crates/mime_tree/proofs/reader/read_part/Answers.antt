@@ -1,6 +1,8 @@
-use Rattle.std.proofs.Common.{◌≡◌, ◌∙◌, [], sym, ap, arith, length}
+use Rattle.std.proofs.Common.{◌≡◌, ◌+◌, ◌∙◌, [], sym, ap, subst, arith, length, vec_len}
 use Rattle.header_fields.specs.Header.{header_length}
-use Rattle.mime_tree.specs.OpenParts.{boundaries_in, cut, lines_at}
+use Rattle.mime_tree.specs.OpenParts.{boundaries_in, cut, lines_at, opening}
+use Rattle.mime_tree.specs.Reading.{AreAmong}
+use Rattle.mime_tree.proofs.Among.{among_more}
 use Rattle.mime_tree.proofs.Below.{wanted_longer}
 use Rattle.mime_tree.proofs.Opening.{message_opened, other_opened}
 use Rattle.mime_tree.proofs.reader.read_part.Goals as goal
@@ -38,3 +40,21 @@ returns-clause-same c =
       opened_as = added.opened;
       parts_as = added.parts;
     }) (sym added.message ∙ c.if-holds_message.false)
+
+pub returns-then-holds_message-clause-among : goal.returns-then-holds_message-clause-among
+returns-then-holds_message-clause-among c =
+    let parts = c.args.parts.now in
+    let opened = c.args.opened.now.items in
+    let new = opening (length parts.items) c.args.beginning.levels c.in_ok-part.part in
+    let added = c.in_ok-holds_message.ensures in
+    subst (λ n. AreAmong n c.add_part.new.opened.items) (sym added.len)
+    (subst (AreAmong (vec_len parts + 1)) (sym added.opened) (among_more (vec_len parts) opened new c.requires.among (omega (arith, parts.ok.0))))
+
+pub next_part-requires-clause-among : goal.next_part-requires-clause-among
+next_part-requires-clause-among c =
+    let parts = c.args.parts.now in
+    let opened = c.args.opened.now.items in
+    let new = opening (length parts.items) c.args.beginning.levels c.in_ok-part.part in
+    let added = c.in_ok-holds_message.ensures in
+    subst (λ n. AreAmong n c.add_part.new.opened.items) (sym added.len)
+    (subst (AreAmong (vec_len parts + 1)) (sym added.opened) (among_more (vec_len parts) opened new c.requires.among (omega (arith, parts.ok.0))))
