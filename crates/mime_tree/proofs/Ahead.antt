@@ -1,15 +1,14 @@
 -- What is ahead of the reader of a message, line by line.
-use Rattle.std.proofs.Common.{◌≡◌, ℕ, ◌+◌, ◌-◌, ◌≤◌, Bool, true, false, ◌&&◌, ◌||◌, add-zero, List, [], ◌∷◌, ◌++◌, refl, sym, ◌∙◌, ap, subst, arith, length, codes, inl, inr, if◌then◌else◌, Option, Some, None}
+use Rattle.std.proofs.Common.{◌≡◌, ℕ, ◌+◌, Bool, true, false, ◌&&◌, ◌||◌, add-zero, List, [], ◌∷◌, ◌++◌, refl, sym, ◌∙◌, ap, arith, length, inl, inr, Option, Some, None}
 use Rattle.std.specs.List.{flat_map}
 use Rattle.std.proofs.lemmas.Bool.{cases_Bool, true≢false}
-use Rattle.std.proofs.lemmas.List.{append_assoc, append-nil, length-append}
-use Rattle.text_lines.specs.Lines.{TextLine, lines_of, line_octets, octets_of, AreLines}
-use Rattle.header_fields.specs.Header.{is_empty, line_length, header_length}
-use Rattle.mime_params.specs.declared.media.MediaType.{MediaType}
-use Rattle.mime_tree.specs.PartTree.{Part, Stretch, is_closing, is_delimiter, ends_child, child_octets, child_at, further_children, multipart_children, parts_of}
+use Rattle.std.proofs.lemmas.List.{append-nil, length-append}
+use Rattle.text_lines.specs.Lines.{TextLine, line_octets, AreLines}
+use Rattle.header_fields.specs.Header.{line_length}
+use Rattle.mime_tree.specs.PartTree.{Part, is_closing, is_delimiter, ends_child, further_children, multipart_children, parts_of}
 use Rattle.mime_tree.specs.Enclosing.{ends_any, first_ends_any, octets_before}
-use Rattle.mime_tree.specs.OpenParts.{OpenPart, boundaries_with, boundaries_in, cut, is_last, meets, meets_any, end_from, children_ahead, parts_ahead, ended_at, all_ended, finished}
-use Rattle.mime_tree.proofs.Enclosing.{one_line, cut_hit, cut_last, cut_on, cut_cut, lines_after, more_end, empty_ends_none, break_ends}
+use Rattle.mime_tree.specs.OpenParts.{OpenPart, boundaries_with, boundaries_in, cut, is_last, meets, meets_any, end_from, children_ahead, ended_at, all_ended, finished}
+use Rattle.mime_tree.proofs.Enclosing.{one_line, cut_hit, cut_last, cut_on, more_end, empty_ends_none}
 
 pub neither : (a b : Bool) → (a || b) ≡ false → (a ≡ false) × (b ≡ false)
 neither true b none = absurd (true≢false none)

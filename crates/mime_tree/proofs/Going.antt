@@ -1,17 +1,16 @@
 -- What the parts become where a line ends some of them.
-use Rattle.std.proofs.Common.{◌≡◌, ℕ, zero, suc, ◌+◌, ◌-◌, ◌<◌, ◌≤◌, Bool, true, false, ◌&&◌, List, [], ◌∷◌, ◌++◌, refl, sym, ◌∙◌, ap, subst, arith, length, take, drop, get_or, set, inl, inr, if◌then◌else◌, Option, Some, None}
+use Rattle.std.proofs.Common.{◌≡◌, ℕ, ◌+◌, Bool, false, ◌&&◌, List, [], ◌∷◌, ◌++◌, refl, sym, ◌∙◌, ap, subst, length, take, drop, get_or, set, inl, inr, if◌then◌else◌, Some, None}
 use Rattle.std.specs.Prelude.{slice_get}
 use Rattle.std.proofs.lemmas.Bool.{cases_Bool}
 use Rattle.std.proofs.lemmas.List.{append_assoc, length-append}
 use Rattle.std.proofs.Math.Seq.{take-append_seam, drop-append_seam}
-use Rattle.text_lines.specs.Lines.{TextLine, lines_of, octets_of, AreLines}
+use Rattle.text_lines.specs.Lines.{TextLine, lines_of, AreLines}
 use Rattle.text_lines.proofs.Broken.{lines_of-octets_of, AreLines-lines_of}
 use Rattle.header_fields.specs.Header.{line_length}
 use Rattle.mime_tree.specs.PartTree.{Part}
 use Rattle.mime_tree.specs.Enclosing.{first_ends_any}
 use Rattle.mime_tree.specs.OpenParts.{OpenPart, boundaries_in, is_last, all_ended, finished, lines_at, parts_begun, break_alone}
 use Rattle.mime_tree.specs.Reading.{IsMark, IsMet, IsHit, BeginsChild, default_media, wanted_from}
-use Rattle.mime_tree.specs.declared.delimiter.Mark.{Mark}
 use Rattle.mime_tree.specs.declared.delimiter.Mark.TheVariants.{Delimiter, Closing}
 use Rattle.mime_tree.specs.declared.hit.Hit.{Hit}
 use Rattle.mime_tree.specs.declared.reader.Beginning.{Beginning}

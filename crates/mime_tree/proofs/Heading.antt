@@ -1,8 +1,7 @@
 -- A part whose header was read, where the multiparts around it may cut it.
-use Rattle.std.proofs.Common.{◌≡◌, ◌≢◌, ℕ, zero, suc, ◌+◌, ◌-◌, ◌<◌, ◌≤◌, Bool, true, false, ◌&&◌, ◌||◌, ◌==◌, add-zero, drop-drop, List, [], ◌∷◌, ◌++◌, refl, sym, ◌∙◌, ap, subst, arith, length, take, drop, codes, inl, inr, if◌then◌else◌, Option, Some, None}
-use Rattle.std.specs.List.{flat_map}
-use Rattle.std.proofs.lemmas.Bool.{cases_Bool, true≢false, false≢true, ne_eqb, eqb-true, eq-eqb}
-use Rattle.std.proofs.lemmas.List.{append_assoc, append-nil, length-append, take_all, length-drop}
+use Rattle.std.proofs.Common.{◌≡◌, ◌≢◌, ℕ, zero, suc, ◌+◌, ◌-◌, ◌≤◌, Bool, true, false, add-zero, drop-drop, List, [], ◌∷◌, ◌++◌, refl, sym, ◌∙◌, ap, subst, arith, length, take, drop, inl, inr, if◌then◌else◌}
+use Rattle.std.proofs.lemmas.Bool.{cases_Bool, ne_eqb, eqb-true, eq-eqb}
+use Rattle.std.proofs.lemmas.List.{append_assoc, length-append, take_all, length-drop}
 use Rattle.std.proofs.Math.Seq.{take-append_seam, drop-append_seam}
 use Rattle.std.specs.List.{slice_range}
 use Rattle.text_lines.specs.Unread.{Unread}
@@ -10,20 +9,16 @@ use Rattle.text_lines.specs.Lines.{TextLine, lines_of, lines_left, line_octets, 
 use Rattle.text_lines.specs.declared.line.Line.{Line}
 use Rattle.text_lines.proofs.Slices.{length-slice}
 use Rattle.header_fields.proofs.Continuations.{length_between}
-use Rattle.text_lines.proofs.Broken.{lines_of-ended, lines_of-octets_of, octets_of-lines_of, AreLines-lines_of}
+use Rattle.text_lines.proofs.Broken.{lines_of-octets_of, AreLines-lines_of}
 use Rattle.header_fields.specs.Header.{is_empty, line_length, header_length, header_of, body_start_of}
 use Rattle.header_fields.proofs.Alone.{header_alone}
 use Rattle.header_fields.proofs.Lengths.{body_start_within}
-use Rattle.octets.specs.Limits.{max_depth}
-use Rattle.octets.specs.Blank.{without_trailing_blanks}
-use Rattle.mime_params.specs.declared.media.MediaType.{MediaType}
-use Rattle.mime_tree.specs.PartTree.{Part, Stretch, part_at, with_below, default_below, children_of, body_stretch, multipart_children, parts_of}
+use Rattle.mime_tree.specs.PartTree.{Part}
 use Rattle.mime_tree.specs.Enclosing.{ends_any, first_ends_any, octets_before}
-use Rattle.mime_tree.specs.OpenParts.{OpenPart, boundaries_with, boundaries_in, cut, is_last, meets_any, end_from, children_ahead, parts_ahead, first_ended, ended_at, all_ended, finished, parts_begun, break_alone}
-use Rattle.mime_tree.proofs.Enclosing.{one_line, cut_hit, cut_last, cut_on, lines_after, body_cut, lines_from}
-use Rattle.mime_tree.proofs.Ahead.{none_meet, empty_ends_no, end_step, end_any, finished_step, finished_any, finished_append, joined, first_outer_none, outer_none}
-use Rattle.mime_tree.proofs.Hits.{break_are, past_break, boundaries_append}
-use Rattle.mime_tree.proofs.Below.{parts_zero, parts_more}
+use Rattle.mime_tree.specs.OpenParts.{OpenPart, boundaries_in, cut, end_from, finished, break_alone}
+use Rattle.mime_tree.proofs.Enclosing.{one_line, cut_hit, cut_last, cut_on, lines_after}
+use Rattle.mime_tree.proofs.Ahead.{none_meet, empty_ends_no, end_step, end_any, finished_step, finished_any}
+use Rattle.mime_tree.proofs.Hits.{break_are, past_break}
 
 -- ---- through the lines of a header
 

@@ -1,16 +1,16 @@
 -- A delimiter or closing line of an open part.
-use Rattle.std.proofs.Common.{◌≡◌, ℕ, ◌+◌, ◌-◌, ◌≤◌, Bool, true, false, ◌&&◌, ◌||◌, add-zero, List, [], ◌∷◌, ◌++◌, refl, sym, ◌∙◌, ap, subst, arith, length, codes, inl, inr, if◌then◌else◌, Option, Some, None}
+use Rattle.std.proofs.Common.{◌≡◌, ℕ, ◌+◌, Bool, true, false, ◌&&◌, add-zero, List, [], ◌∷◌, ◌++◌, refl, sym, ◌∙◌, ap, arith, length, codes, inl, inr, Option, Some, None}
 use Rattle.std.specs.List.{flat_map}
 use Rattle.std.proofs.lemmas.Bool.{cases_Bool, true≢false, false≢true}
 use Rattle.std.proofs.lemmas.List.{append_assoc, append-nil, length-append}
 use Rattle.std.proofs.lemmas.Slice.Eq.{bytes_eq-Decides}
-use Rattle.text_lines.specs.Lines.{TextLine, lines_of, line_octets, octets_of, AreLines}
+use Rattle.text_lines.specs.Lines.{TextLine, AreLines}
 use Rattle.header_fields.specs.Header.{line_length}
 use Rattle.octets.specs.Blank.{without_trailing_blanks}
-use Rattle.mime_tree.specs.PartTree.{Part, Stretch, is_closing, is_delimiter, ends_child, child_octets, child_at, further_children, multipart_children, parts_of}
+use Rattle.mime_tree.specs.PartTree.{Part, Stretch, is_closing, is_delimiter, ends_child, child_at, further_children, multipart_children, parts_of}
 use Rattle.mime_tree.specs.Enclosing.{ends_any, first_ends_any, octets_before}
 use Rattle.mime_tree.specs.OpenParts.{OpenPart, boundaries_with, boundaries_in, cut, is_last, meets_any, end_from, children_ahead, parts_ahead, ended_at, all_ended, finished, parts_begun, break_alone}
-use Rattle.mime_tree.proofs.Enclosing.{one_line, cut_hit, cut_last, cut_on, cut_cut, lines_after, empty_ends_none, break_ends}
+use Rattle.mime_tree.proofs.Enclosing.{one_line, cut_last, cut_on, cut_cut, lines_after, empty_ends_none, break_ends}
 use Rattle.mime_tree.proofs.Ahead.{neither, none_end, empty_ends_no, empty_meets_none, first_more, end_step, no_children, joined, finished_step, finished_append, inner_ended}
 
 -- no line is both

@@ -1,8 +1,8 @@
 -- What a line is to the open parts.
-use Rattle.std.proofs.Common.{◌≡◌, ◌≢◌, ℕ, ◌+◌, ◌-◌, ◌<◌, ◌≤◌, Bool, true, false, ◌&&◌, ◌||◌, ◌==◌, List, [], ◌∷◌, ◌++◌, refl, sym, ◌∙◌, ap, subst, arith, length, take, drop, get_or, codes, inl, inr, if◌then◌else◌, Option, Some, None, MatchOption}
+use Rattle.std.proofs.Common.{◌≡◌, ℕ, ◌+◌, ◌-◌, ◌<◌, ◌≤◌, Bool, true, false, ◌&&◌, ◌||◌, ◌==◌, List, [], ◌∷◌, ◌++◌, refl, sym, ◌∙◌, ap, subst, arith, length, take, drop, get_or, codes, inl, inr, Option, Some, None, MatchOption}
 use Rattle.std.specs.Prelude.{bytes_eq}
 use Rattle.std.proofs.lemmas.Bool.{cases_Bool, eq-eqb, ne_eqb, true≢false}
-use Rattle.std.proofs.lemmas.List.{drop_more, take_more, length-drop, length-take-le, take-append-drop, drop_all, take_all}
+use Rattle.std.proofs.lemmas.List.{drop_more, take_more, length-drop, length-take-le, take-append-drop, drop_all}
 use Rattle.std.specs.List.{slice_range}
 use Rattle.std.specs.Option.{is_some}
 use Rattle.text_lines.specs.Unread.{Unread}
@@ -13,7 +13,7 @@ use Rattle.mime_tree.specs.PartTree.{is_delimiter, is_closing, ends_child}
 use Rattle.mime_tree.specs.Enclosing.{ends_any, first_ends_any}
 use Rattle.mime_tree.specs.OpenParts.{OpenPart, boundaries_with, boundaries_in, is_last, meets, meets_any}
 use Rattle.mime_tree.specs.Runs.{BeginsOtherwise}
-use Rattle.mime_tree.specs.Reading.{NamesOctets, mark_of, mark_in, IsMark, IsMet, GivesMet}
+use Rattle.mime_tree.specs.Reading.{mark_of, mark_in, IsMark, IsMet, GivesMet}
 use Rattle.mime_tree.specs.declared.delimiter.Mark.{Mark}
 use Rattle.mime_tree.specs.declared.delimiter.Mark.TheVariants.{Delimiter, Closing}
 use Rattle.mime_tree.specs.declared.hit.Met.{Met}

@@ -1,14 +1,14 @@
 -- A part that begins, and what is below it.
-use Rattle.std.proofs.Common.{◌≡◌, ◌≢◌, ℕ, zero, suc, ◌+◌, ◌-◌, ◌<◌, ◌≤◌, Bool, true, false, ◌&&◌, ◌||◌, ◌==◌, drop-drop, List, [], ◌∷◌, ◌++◌, refl, sym, ◌∙◌, ap, subst, arith, length, take, drop, codes, inl, inr, if◌then◌else◌, Option, Some, None}
+use Rattle.std.proofs.Common.{◌≡◌, ◌≢◌, ℕ, zero, suc, ◌+◌, ◌-◌, ◌≤◌, Bool, true, false, ◌&&◌, ◌==◌, drop-drop, List, [], ◌∷◌, ◌++◌, refl, sym, ◌∙◌, ap, arith, length, take, drop, codes, inl, inr, if◌then◌else◌, Option, Some, None}
 use Rattle.std.specs.List.{flat_map}
 use Rattle.std.specs.Prelude.{nat_lt}
-use Rattle.std.proofs.lemmas.Bool.{cases_Bool, true≢false, false≢true, ne_eqb, lt-ltb}
+use Rattle.std.proofs.lemmas.Bool.{cases_Bool, false≢true, ne_eqb, lt-ltb}
 use Rattle.std.proofs.lemmas.List.{append_assoc, append-nil}
 use Rattle.std.proofs.lemmas.Slice.Eq.{bytes_eq-Decides}
 use Rattle.std.proofs.Math.Seq.{take-append_seam, drop-append_seam}
 use Rattle.text_lines.specs.Lines.{TextLine, lines_of, octets_of, AreLines}
 use Rattle.text_lines.proofs.Broken.{lines_of-octets_of, octets_of-lines_of, AreLines-lines_of}
-use Rattle.header_fields.specs.Header.{Header, header_length, header_of}
+use Rattle.header_fields.specs.Header.{Header, header_length}
 use Rattle.octets.specs.Limits.{max_depth}
 use Rattle.octets.specs.Ascii.{lowercase_of}
 use Rattle.octets.specs.Blank.{without_trailing_blanks}
@@ -16,7 +16,7 @@ use Rattle.mime_params.specs.MediaValue.{value_named}
 use Rattle.mime_params.specs.declared.media.MediaType.{MediaType}
 use Rattle.mime_tree.specs.PartTree.{Part, Stretch, is_word, is_plain, first_value, media_or, encoding_or_7bit, text_plain, part_at, with_below, default_below, children_between, children_of, body_of, body_stretch, multipart_children, parts_of}
 use Rattle.mime_tree.specs.Enclosing.{octets_before}
-use Rattle.mime_tree.specs.OpenParts.{OpenPart, boundaries_with, boundaries_in, cut, is_last, end_from, children_ahead, parts_ahead, ended_at, finished, parts_begun, part_read, named_boundary, boundary_inside, boundary_of_child, holds_message, lines_at, message_below, opening}
+use Rattle.mime_tree.specs.OpenParts.{OpenPart, boundaries_with, boundaries_in, cut, end_from, children_ahead, parts_ahead, ended_at, finished, parts_begun, part_read, named_boundary, boundary_inside, boundary_of_child, holds_message, lines_at, message_below, opening}
 use Rattle.mime_tree.specs.Reading.{IsBeginning, default_media, wanted_from}
 use Rattle.mime_tree.specs.declared.media.DefaultType.TheVariants.{Text}
 use Rattle.mime_tree.specs.declared.reader.Beginning.{Beginning}

@@ -1,22 +1,21 @@
 -- Runs of lines that end no part.
-use Rattle.std.proofs.Common.{◌≡◌, ◌≢◌, ◌⊎◌, ℕ, ◌+◌, ◌-◌, ◌<◌, ◌≤◌, Bool, true, false, ◌&&◌, ◌||◌, List, [], ◌∷◌, ◌++◌, refl, sym, ◌∙◌, ap, subst, arith, length, drop, codes, inl, inr, if◌then◌else◌, Option, Some, None, MatchOption, add-zero}
+use Rattle.std.proofs.Common.{◌≡◌, ◌≢◌, ◌⊎◌, ℕ, ◌+◌, ◌-◌, ◌<◌, ◌≤◌, Bool, false, ◌&&◌, List, [], ◌∷◌, ◌++◌, refl, sym, ◌∙◌, ap, subst, arith, length, drop, codes, inl, inr, add-zero}
 use Rattle.std.specs.List.{slice_range}
-use Rattle.std.proofs.lemmas.Bool.{cases_Bool, cases_lt, true≢false}
-use Rattle.std.proofs.lemmas.List.{append_assoc, append-nil, drop_all, length-append, length-drop}
+use Rattle.std.proofs.lemmas.Bool.{cases_lt, true≢false}
+use Rattle.std.proofs.lemmas.List.{append-nil, drop_all, length-append, length-drop}
 use Rattle.text_lines.specs.Unread.{Unread}
 use Rattle.text_lines.specs.Lines.{TextLine, lines_of, lines_left, line_octets, octets_of, IsAtEnd, AreLines}
 use Rattle.text_lines.specs.declared.line.Line.{Line}
 use Rattle.text_lines.proofs.Broken.{AreLines-lines_of, octets_of-lines_of}
 use Rattle.text_lines.proofs.Slices.{length-slice}
 use Rattle.header_fields.specs.Header.{line_length}
-use Rattle.mime_tree.specs.PartTree.{Part, is_delimiter, is_closing, ends_child}
+use Rattle.mime_tree.specs.PartTree.{Part}
 use Rattle.mime_tree.specs.OpenParts.{OpenPart, all_ended, is_last, lines_at, meets_any, finished}
 use Rattle.mime_tree.specs.Reading.{AreLeaves, IsMark, IsMet, IsHit, IsQuietEnd}
 use Rattle.mime_tree.specs.Runs.{BeginsOtherwise, AreQuiet, before_last_break, IsOneLine, IsQuiet, IsNextRun}
 use Rattle.mime_tree.specs.declared.delimiter.Mark.{Mark}
 use Rattle.mime_tree.specs.declared.delimiter.Mark.TheVariants.{Delimiter, Closing}
 use Rattle.mime_tree.specs.declared.hit.Met.{Met}
-use Rattle.mime_tree.specs.declared.hit.Hit.{Hit}
 use Rattle.mime_tree.proofs.Delimiters.{no_delimiter}
 use Rattle.mime_tree.proofs.Enclosing.{lines_after}
 use Rattle.mime_tree.proofs.Ahead.{finished_step, none_left}

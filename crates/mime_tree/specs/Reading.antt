@@ -1,9 +1,7 @@
 -- What private functions of the reader are about.
-use Rattle.std.specs.Prelude.{◌≡◌, ℕ, ◌+◌, ◌<◌, ◌≤◌, ◌==◌, ◌&&◌, Bool, true, false, not, List, [], ◌∷◌, ◌++◌, length, take, slice_get, Option, None, Some, MatchOption, bytes_eq, codes, if◌then◌else◌}
-use Rattle.std.specs.Option.{option_copied}
+use Rattle.std.specs.Prelude.{◌≡◌, ℕ, ◌+◌, ◌<◌, ◌≤◌, ◌&&◌, Bool, true, false, not, List, [], ◌∷◌, ◌++◌, length, take, slice_get, Option, None, Some, MatchOption, bytes_eq, codes, if◌then◌else◌}
 use Rattle.octets.specs.Limits.{max_depth}
-use Rattle.text_lines.specs.Lines.{TextLine, lines_of}
-use Rattle.text_lines.specs.declared.line.Line.{Line}
+use Rattle.text_lines.specs.Lines.{TextLine}
 use Rattle.header_fields.specs.Header.{line_length}
 use Rattle.mime_params.specs.declared.media.MediaType.{MediaType}
 use Rattle.mime_tree.specs.PartTree.{Part, is_delimiter, is_closing, text_plain, message_rfc822}

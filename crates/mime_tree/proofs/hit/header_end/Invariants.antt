@@ -1,4 +1,4 @@
-use Rattle.std.proofs.Common.{◌≡◌, ◌≤◌, [], length}
+use Rattle.std.proofs.Common.{◌≡◌, []}
 use Rattle.text_lines.specs.Lines.{lines_of, lines_left}
 use Rattle.header_fields.specs.Header.{header_length}
 use Rattle.mime_tree.specs.OpenParts.{boundaries_in, cut}

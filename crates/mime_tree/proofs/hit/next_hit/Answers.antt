@@ -1,5 +1,4 @@
-use Rattle.std.proofs.Common.{◌∙◌, sym, arith}
-use Rattle.std.specs.List.{slice_range}
+use Rattle.std.proofs.Common.{◌∙◌, arith}
 use Rattle.mime_tree.proofs.Passing.{read_of, run_passed, run_hit, leaves_passed, ends_quiet}
 use Rattle.mime_tree.proofs.hit.next_hit.Goals as goal
 

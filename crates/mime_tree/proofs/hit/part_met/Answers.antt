@@ -1,5 +1,5 @@
-use Rattle.std.proofs.Common.{◌≡◌, ◌+◌, ◌<◌, ◌==◌, ◌&&◌, ◌∙◌, sym, ap, arith, length}
-use Rattle.mime_tree.proofs.Meeting.{nothing_met, met_here, met_later, met_ended, none_before}
+use Rattle.std.proofs.Common.{◌≡◌, ◌+◌, ◌==◌, ◌&&◌, ◌∙◌, sym, ap, length}
+use Rattle.mime_tree.proofs.Meeting.{nothing_met, met_here, met_later, none_before}
 use Rattle.mime_tree.proofs.hit.part_met.Goals as goal
 use Rattle.mime_tree.proofs.hit.part_met.Goals.{then-preamble, else-preamble}
 

@@ -1,4 +1,4 @@
-use Rattle.std.proofs.Common.{◌≡◌, ◌-◌, ◌∙◌, ℕ, List, [], sym, ap, subst, arith, vec_len}
+use Rattle.std.proofs.Common.{◌-◌, ◌∙◌, ℕ, List, [], sym, ap, subst, arith, vec_len}
 use Rattle.octets.specs.Limits.{max_depth}
 use Rattle.mime_tree.specs.PartTree.{parts_of, text_plain}
 use Rattle.mime_tree.specs.Reading.{AreAmong, wanted_from}

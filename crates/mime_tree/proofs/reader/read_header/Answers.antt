@@ -1,4 +1,4 @@
-use Rattle.std.proofs.Common.{◌-◌, ◌≤◌, [], ap, arith, length, take, drop}
+use Rattle.std.proofs.Common.{◌-◌, [], ap, arith, length, take, drop}
 use Rattle.std.proofs.lemmas.List.{length-drop, length-take-le}
 use Rattle.text_lines.specs.Lines.{lines_of}
 use Rattle.text_lines.proofs.Broken.{octets_of-lines_of}

@@ -1,4 +1,4 @@
-use Rattle.std.proofs.Common.{◌≡◌, ◌+◌, ◌∙◌, [], sym, ap, subst, arith, length, vec_len}
+use Rattle.std.proofs.Common.{◌+◌, ◌∙◌, [], sym, ap, subst, arith, length, vec_len}
 use Rattle.header_fields.specs.Header.{header_length}
 use Rattle.mime_tree.specs.OpenParts.{boundaries_in, cut, lines_at, opening}
 use Rattle.mime_tree.specs.Reading.{AreAmong}
