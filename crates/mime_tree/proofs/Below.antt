@@ -1,13 +1,13 @@
 -- A part, and the parts below it.
 use Rattle.std.proofs.Common.{◌≡◌, ◌≢◌, ℕ, ◌+◌, ◌-◌, ◌<◌, ◌≤◌, Bool, false, ◌&&◌, List, [], ◌∷◌, ◌++◌, zero, suc, refl, sym, ◌∙◌, ap, arith, length, take, drop, get_or, set}
 use Rattle.std.specs.List.{flat_map}
-use Rattle.std.proofs.lemmas.List.{drop_more, length-append, take-append-drop}
+use Rattle.std.proofs.lemmas.List.{length-append, take-append-drop}
 use Rattle.octets.specs.Limits.{max_depth}
 use Rattle.mime_params.specs.declared.media.MediaType.{MediaType}
 use Rattle.text_lines.specs.Lines.{TextLine}
 use Rattle.mime_tree.specs.PartTree.{Part, Stretch, part_at, with_below, default_below, children_of, parts_of}
 use Rattle.mime_tree.specs.Enclosing.{octets_before}
-use Rattle.mime_tree.specs.OpenParts.{OpenPart, boundaries_with, boundaries_in, end_from, is_last, lines_at, parts_ahead, first_ended, ended_at, all_ended, finished}
+use Rattle.mime_tree.specs.OpenParts.{OpenPart, boundaries_with, boundaries_in, end_from, is_last, lines_at, parts_ahead, first_ended, ended_at, finished}
 use Rattle.mime_tree.specs.Reading.{default_media, wanted_from}
 use Rattle.mime_tree.specs.declared.reader.Beginning.{Beginning}
 
@@ -30,12 +30,6 @@ pub length-ended_at : (at end : ℕ) (parts : List Part) → length (ended_at at
 length-ended_at at end parts =
     length-append (take at parts) (first_ended end (drop at parts)) ∙ ap (λ n. length (take at parts) + n) (length-first_ended end (drop at parts))
     ∙ sym (length-append (take at parts) (drop at parts)) ∙ ap length (take-append-drop at parts)
-
--- where the parts from a place on were ended, the one before it is
-pub ended_more : (opened : List OpenPart) (left end : ℕ) (this : OpenPart) (parts : List Part) → left < length opened → this ≡ get_or opened left this
-    → all_ended end (drop left opened) parts ≡ ended_at this.at end (all_ended end (drop (left + 1) opened) parts)
-ended_more opened left end this parts lt is =
-    ap (λ os. all_ended end os parts) (drop_more opened left this lt ∙ ap (λ (o : OpenPart). o ∷ drop (left + 1) opened) (sym is))
 
 -- ---- the parts of a stretch
 

@@ -161,12 +161,6 @@ header_taken around lines =
 abbrev pub header_from : List (List ℕ) → ℕ → ℕ → List TextLine → ℕ
 header_from around place end lines = if first_ends_any around lines then end else place + header_length (cut around lines)
 
-pub header_begins : (around : List (List ℕ)) (lines : List TextLine) → header_from around 0 0 lines ≡ header_length (cut around lines)
-header_begins around lines = elim (cases_Bool (first_ends_any around lines)) [
-  | inl hit ↦ rw (hit, first_nothing around lines hit) refl
-  | inr later ↦ rw later (omega arith)
-]
-
 header_here : (around : List (List ℕ)) (place end : ℕ) (line : TextLine) (lines : List TextLine) → ends_any around line.content ≡ false
     → header_from around place end (line ∷ lines) ≡ place + header_length (cut around (line ∷ lines))
 header_here around place end line lines other = ap (λ b. if b then end else place + header_length (cut around (line ∷ lines))) other
@@ -214,9 +208,6 @@ header_stops around place end line lines are empty =
       no_content : (content : List ℕ) → length content ≡ 0 → content ≡ []
       no_content [] e = refl
       no_content (octet ∷ content) e = absurd (omega arith)
-
-pub header_ended : (around : List (List ℕ)) (place end : ℕ) → header_from around place end [] ≡ place
-header_ended around place end = add-zero place
 
 pub header_hits : (around : List (List ℕ)) (place end : ℕ) (line : TextLine) (lines : List TextLine) → ends_any around line.content ≡ true → header_from around place end (line ∷ lines) ≡ end
 header_hits around place end line lines hit = header_hit around place end (line ∷ lines) hit

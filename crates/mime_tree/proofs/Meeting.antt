@@ -1,8 +1,8 @@
 -- What a line is to the open parts.
-use Rattle.std.proofs.Common.{◌≡◌, ℕ, ◌+◌, ◌-◌, ◌<◌, ◌≤◌, Bool, true, false, ◌&&◌, ◌||◌, ◌==◌, List, [], ◌∷◌, ◌++◌, refl, sym, ◌∙◌, ap, subst, arith, length, take, drop, get_or, codes, inl, inr, Option, Some, None, MatchOption}
+use Rattle.std.proofs.Common.{◌≡◌, ℕ, ◌+◌, ◌-◌, ◌<◌, Bool, true, false, ◌&&◌, ◌||◌, ◌==◌, List, [], ◌∷◌, ◌++◌, refl, sym, ◌∙◌, ap, subst, arith, length, take, drop, get_or, codes, inl, inr, Option, Some, None, MatchOption}
 use Rattle.std.specs.Prelude.{bytes_eq}
 use Rattle.std.proofs.lemmas.Bool.{cases_Bool, eq-eqb, ne_eqb, true≢false}
-use Rattle.std.proofs.lemmas.List.{drop_more, take_more, length-drop, length-take-le, take-append-drop, drop_all}
+use Rattle.std.proofs.lemmas.List.{drop_more, take_more, length-drop, length-take-le, take-append-drop}
 use Rattle.std.specs.List.{slice_range}
 use Rattle.std.specs.Option.{is_some}
 use Rattle.text_lines.specs.Unread.{Unread}
@@ -148,9 +148,6 @@ none_before preamble waits opened place part line name lt is same named none bef
       and_false : (b : Bool) → (b && false) ≡ false
       and_false true = refl
       and_false false = refl
-
-pub met_ended : (preamble : Bool) (opened : List OpenPart) (place : ℕ) (line : List ℕ) → length opened ≤ place → meets_any preamble (drop place opened) line ≡ false
-met_ended preamble opened place line le = ap (λ os. meets_any preamble os line) (drop_all place opened le)
 
 -- ---- lines that end a child
 

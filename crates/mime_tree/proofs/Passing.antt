@@ -60,9 +60,6 @@ read_of text run old new same next =
       kind = subst (λ (t : List ℕ). IsOneLine next.lines (slice_range t run.start run.end) ⊎ IsQuiet next.lines (slice_range t run.start run.end)) same next.kind;
     }
 
-pub read_falls : (text : List ℕ) (run : Line) (old new : Unread) → Read text run old new → length text - new.place < length text - old.place
-read_falls text run old new read = omega (arith, read.start, read.some, read.within, read.after)
-
 -- ---- lines that meet no part
 
 -- none of the lines does

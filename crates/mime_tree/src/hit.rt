@@ -92,8 +92,7 @@ pub(crate) fn next_hit(
     end: usize,
     preamble: bool,
 ) -> Option<Hit>
-    requires within { place ≤ length text.now }
-    requires before { end ≤ place }
+    requires { place ≤ length text.now }
     ensures { GivesHit preamble opened.now text.now place end result }
 {
     if are_leaves(opened) {

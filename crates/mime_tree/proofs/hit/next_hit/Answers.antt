@@ -3,7 +3,7 @@ use Rattle.mime_tree.proofs.Passing.{read_of, run_passed, run_hit, leaves_passed
 use Rattle.mime_tree.proofs.hit.next_hit.Goals as goal
 
 pub returns-then-are_leaves : goal.returns-then-are_leaves
-returns-then-are_leaves c = leaves_passed c.args.preamble c.args.opened.now c.args.text.now c.args.place c.args.end c.requires.within (c.are_leaves.ensures c.if-are_leaves.true)
+returns-then-are_leaves c = leaves_passed c.args.preamble c.args.opened.now c.args.text.now c.args.place c.args.end c.requires (c.are_leaves.ensures c.if-are_leaves.true)
 
 pub returns-in-Some-part_met : goal.returns-in-Some-part_met
 returns-in-Some-part_met c =
