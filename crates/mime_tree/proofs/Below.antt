@@ -1,25 +1,35 @@
 -- A part, and the parts below it.
-use Rattle.std.proofs.Common.{◌≡◌, ◌≢◌, ℕ, ◌+◌, ◌-◌, ◌<◌, ◌≤◌, List, [], ◌∷◌, ◌++◌, zero, suc, refl, sym, ◌∙◌, ap, arith, length, take, drop, get_or, set}
+use Rattle.std.proofs.Common.{◌≡◌, ◌≢◌, ℕ, ◌+◌, ◌-◌, ◌<◌, ◌≤◌, Bool, false, ◌&&◌, List, [], ◌∷◌, ◌++◌, zero, suc, refl, sym, ◌∙◌, ap, arith, length, take, drop, get_or, set}
 use Rattle.std.specs.List.{flat_map}
-use Rattle.std.proofs.lemmas.List.{append_assoc, length-append, take-append-drop}
-use Rattle.std.proofs.Math.Seq.{take-append_seam, drop-append_seam}
+use Rattle.std.proofs.lemmas.List.{length-append, take-append-drop}
 use Rattle.octets.specs.Limits.{max_depth}
 use Rattle.mime_params.specs.declared.media.MediaType.{MediaType}
+use Rattle.text_lines.specs.Lines.{TextLine}
 use Rattle.mime_tree.specs.PartTree.{Part, Stretch, part_at, with_below, default_below, children_of, parts_of}
-use Rattle.mime_tree.specs.Refusals.{IsRefusedFor}
-use Rattle.mime_tree.specs.declared.error.TreeError.{TreeError}
-use Rattle.mime_tree.specs.declared.error.TreeError.TheVariants.{Memory, MessageTooLarge, TooManyParts}
-use Rattle.mime_tree.specs.Reading.{first_with_below, with_below_at}
+use Rattle.mime_tree.specs.Enclosing.{octets_before}
+use Rattle.mime_tree.specs.OpenParts.{OpenPart, boundaries_with, boundaries_in, end_from, is_last, lines_at, parts_ahead, first_ended, ended_at, finished}
+use Rattle.mime_tree.specs.Reading.{default_media, wanted_from}
+use Rattle.mime_tree.specs.declared.reader.Beginning.{Beginning}
 
-pub below_set : (parts : List Part) (at : ℕ) (old new : Part) → at < length parts → old ≡ get_or parts at old → new ≡ record old { below = length parts - at - 1 }
-    → set parts at new ≡ with_below_at at parts
-below_set [] at old new lt is made = absurd (omega arith)
-below_set (part ∷ parts) zero old new lt is made =
+pub ended_set : (parts : List Part) (at end : ℕ) (old new : Part) → at < length parts → old ≡ get_or parts at old
+    → new ≡ record old { below = length parts - at - 1; raw = take (end - old.place) old.raw } → set parts at new ≡ ended_at at end parts
+ended_set [] at end old new lt is made = absurd (omega arith)
+ended_set (part ∷ parts) zero end old new lt is made =
     let rest : length (part ∷ parts) - 0 - 1 ≡ length parts = omega arith in
-    ap (λ (p : Part). p ∷ parts) (made ∙ ap (λ (p : Part). record p { below = length (part ∷ parts) - 0 - 1 }) is ∙ ap (λ n. record part { below = n }) rest)
-below_set (part ∷ parts) (suc at) old new lt is made =
+    ap (λ (p : Part). p ∷ parts) (made ∙ ap (λ (p : Part). record p { below = length (part ∷ parts) - 0 - 1; raw = take (end - p.place) p.raw }) is
+    ∙ ap (λ n. record part { below = n; raw = take (end - part.place) part.raw }) rest)
+ended_set (part ∷ parts) (suc at) end old new lt is made =
     let rest : length (part ∷ parts) - suc at - 1 ≡ length parts - at - 1 = omega arith in
-    ap (λ (ps : List Part). part ∷ ps) (below_set parts at old new (omega arith) is (made ∙ ap (λ n. record old { below = n }) rest))
+    ap (λ (ps : List Part). part ∷ ps) (ended_set parts at end old new (omega arith) is (made ∙ ap (λ n. record old { below = n; raw = take (end - old.place) old.raw }) rest))
+
+length-first_ended : (end : ℕ) (parts : List Part) → length (first_ended end parts) ≡ length parts
+length-first_ended end [] = refl
+length-first_ended end (part ∷ parts) = refl
+
+pub length-ended_at : (at end : ℕ) (parts : List Part) → length (ended_at at end parts) ≡ length parts
+length-ended_at at end parts =
+    length-append (take at parts) (first_ended end (drop at parts)) ∙ ap (λ n. length (take at parts) + n) (length-first_ended end (drop at parts))
+    ∙ sym (length-append (take at parts) (drop at parts)) ∙ ap length (take-append-drop at parts)
 
 -- ---- the parts of a stretch
 
@@ -39,54 +49,25 @@ unfolding parts_of
 some_part zero default stretch = omega arith
 some_part (suc levels) default stretch = omega arith
 
--- parts are at least as many as the stretches that they begin in
-pub stretches_fewer : (levels : ℕ) (default : MediaType) (stretches : List Stretch) → length stretches ≤ length (flat_map (parts_of levels default) stretches)
-stretches_fewer levels default [] = omega arith
-stretches_fewer levels default (stretch ∷ stretches) =
-    omega (arith, some_part levels default stretch, stretches_fewer levels default stretches, length-append (parts_of levels default stretch) (flat_map (parts_of levels default) stretches))
+-- ---- how many they become
 
--- a part and those below it, behind others
-pub below_appended : (old : List Part) (part : Part) (below : List Part) → with_below_at (length old) ((old ++ part ∷ []) ++ below) ≡ old ++ with_below part below
-below_appended old part below =
-    rw (append_assoc, take-append_seam, drop-append_seam) refl
+pub finished_longer : (preamble : Bool) (opened : List OpenPart) (around : List (List ℕ)) (place end : ℕ) (lines : List TextLine) (parts : List Part) → length parts ≤ length (finished preamble around place end lines opened parts)
+finished_longer preamble [] around place end lines parts = omega arith
+finished_longer preamble (part ∷ inner) around place end lines parts =
+    let within = finished preamble (boundaries_with part.boundary around) place end lines inner parts in
+    let ahead = parts_ahead (is_last inner && preamble) part around place lines in
+    omega (
+      arith,
+      finished_longer preamble inner (boundaries_with part.boundary around) place end lines parts,
+      length-append within ahead,
+      length-ended_at part.at (end_from around place end lines) (within ++ ahead),
+    )
 
--- ---- refusals
-
-pub refused_more : (e : TreeError) (few many : ℕ) → few ≤ many → IsRefusedFor e few → IsRefusedFor e many
-refused_more Memory few many le is = tt
-refused_more MessageTooLarge few many le is = is
-refused_more TooManyParts few many le is = omega arith
-
--- ---- a part that was read, with those below it
-
-pub parts_alone : (levels : ℕ) (default : MediaType) (stretch : Stretch) (part : Part) → levels ≡ 0 → part ≡ part_at (max_depth - levels) default stretch
-    → part ∷ [] ≡ parts_of levels default stretch
-parts_alone levels default stretch part none is =
-    ap (λ (p : Part). p ∷ []) (rw none at is) ∙ sym (parts_zero default stretch) ∙ ap (λ n. parts_of n default stretch) (sym none)
-
-pub parts_made : (levels : ℕ) (default : MediaType) (stretch : Stretch) (part : Part) (inner : MediaType) (children : List Stretch)
-    → levels ≢ 0 → part ≡ part_at (max_depth - levels) default stretch → inner ≡ default_below part.media → children ≡ children_of part
-    → parts_of levels default stretch ≡ with_below part (flat_map (parts_of (levels - 1) inner) children)
-parts_made levels default stretch part inner children some is inner_is children_is =
-    rw (inner_is, children_is, is) (parts_more levels default stretch some)
-
-pub children_fewer : (levels : ℕ) (default : MediaType) (stretch : Stretch) (part : Part) → levels ≢ 0 → part ≡ part_at (max_depth - levels) default stretch
-    → length (children_of part) ≤ length (parts_of levels default stretch)
-children_fewer levels default stretch part some is =
-    let made = parts_made levels default stretch part (default_below part.media) (children_of part) some is refl refl in
-    omega (arith, ap length made, stretches_fewer (levels - 1) (default_below part.media) (children_of part))
-
-length-first : (parts : List Part) → length (first_with_below parts) ≡ length parts
-length-first [] = refl
-length-first (part ∷ parts) = refl
-
-pub length-with_below_at : (at : ℕ) (parts : List Part) → length (with_below_at at parts) ≡ length parts
-length-with_below_at at parts =
-    length-append (take at parts) (first_with_below (drop at parts)) ∙ ap (λ n. length (take at parts) + n) (length-first (drop at parts))
-    ∙ sym (length-append (take at parts) (drop at parts)) ∙ ap length (take-append-drop at parts)
-
-pub parts_read : (old pushed read new : List Part) (part : Part) (below tree : List Part) (at : ℕ) → at ≡ length old → pushed ≡ old ++ part ∷ [] → read ≡ pushed ++ below
-    → new ≡ with_below_at at read → tree ≡ with_below part below → new ≡ old ++ tree
-parts_read old pushed read new part below tree at at_is pushed_is read_is new_is tree_is =
-    new_is ∙ ap (λ n. with_below_at n read) at_is ∙ ap (with_below_at (length old)) (read_is ∙ ap (λ (xs : List Part). xs ++ below) pushed_is)
-    ∙ below_appended old part below ∙ ap (λ (xs : List Part). old ++ xs) (sym tree_is)
+-- where a part begins, another one comes
+pub wanted_longer : (text : List ℕ) (beginning : Beginning) (opened : List OpenPart) (parts : List Part) → length parts < length (wanted_from text beginning opened parts)
+wanted_longer text beginning opened parts =
+    let lines = lines_at text beginning.place in
+    let stretch : Stretch = record { place = beginning.place; octets = octets_before (boundaries_in [] opened) lines } in
+    let default = default_media beginning.default in
+    let begun = parts_of beginning.levels default stretch in
+    omega (arith, finished_longer false opened [] beginning.place beginning.end lines (parts ++ begun), length-append parts begun, some_part beginning.levels default stretch)

@@ -1,5 +1,5 @@
 -- The lines that stand between the parts of a multipart.
-use Rattle.std.proofs.Common.{◌≡◌, ◌≢◌, ℕ, false, List, [], ◌∷◌, ◌++◌, refl, sym, ◌∙◌, ap, reverse, length, drop, codes, inl, inr, Decides}
+use Rattle.std.proofs.Common.{◌≡◌, ◌≢◌, ℕ, Bool, true, false, Some, None, List, [], ◌∷◌, ◌++◌, refl, sym, ◌∙◌, ap, reverse, length, drop, codes, inl, inr, Decides}
 use Rattle.std.specs.Prelude.{bytes_eq}
 use Rattle.std.proofs.lemmas.Bool.{cases_Bool}
 use Rattle.std.proofs.lemmas.Bool.Decides.{same_from_decides}
@@ -7,7 +7,9 @@ use Rattle.std.proofs.lemmas.Slice.Eq.{bytes_eq-Decides}
 use Rattle.std.proofs.lemmas.List.{reverse-append, append_cancel_right, take-append-drop}
 use Rattle.octets.specs.Blank.{is_blank, without_leading_blanks, without_trailing_blanks}
 use Rattle.header_fields.proofs.Trimming.{trailing_taken}
-use Rattle.mime_tree.specs.PartTree.{is_delimiter, is_closing}
+use Rattle.mime_tree.specs.PartTree.{is_delimiter}
+use Rattle.mime_tree.specs.Reading.{mark_of}
+use Rattle.mime_tree.specs.declared.delimiter.Mark.TheVariants.{Closing}
 
 -- an octet before the blanks that a text ends with
 leading_before : (octet : ℕ) (text : List ℕ) → is_blank octet ≡ false → without_leading_blanks (text ++ octet ∷ []) ≡ without_leading_blanks text ++ octet ∷ []
@@ -39,14 +41,21 @@ delimiter_after boundary line after is =
     rw (is, trimmed_after 45 (45 ∷ after) refl, trimmed_after 45 after refl) refl
 
 -- names with two dashes behind them
-pub closing_after : (boundary line after name : List ℕ) → line ≡ 45 ∷ 45 ∷ after → without_trailing_blanks after ≡ name ++ codes "--" → bytes_eq name boundary ≡ is_closing boundary line
-closing_after boundary line after name is trimmed =
-    let longer : Decides (bytes_eq (without_trailing_blanks after) (boundary ++ codes "--")) (name ≡ boundary) =
-    (λ e. append_cancel_right name boundary (codes "--") (sym trimmed ∙ (bytes_eq-Decides _ _).0 e), λ e. (bytes_eq-Decides _ _).1 (trimmed ∙ ap (λ n. n ++ codes "--") e)) in
-    same_from_decides _ _ (bytes_eq-Decides name boundary) longer ∙ delimiter_after (boundary ++ codes "--") line after is
+pub closed_name : (boundary name closed : List ℕ) → name ≡ closed ++ codes "--" → bytes_eq closed boundary ≡ bytes_eq name (boundary ++ codes "--")
+closed_name boundary name closed is =
+    let longer : Decides (bytes_eq name (boundary ++ codes "--")) (closed ≡ boundary) =
+    (λ e. append_cancel_right closed boundary (codes "--") (sym is ∙ (bytes_eq-Decides _ _).0 e), λ e. (bytes_eq-Decides _ _).1 (is ∙ ap (λ n. n ++ codes "--") e)) in
+    same_from_decides _ _ (bytes_eq-Decides closed boundary) longer
 
-pub not_closing_after : (boundary line after : List ℕ) → line ≡ 45 ∷ 45 ∷ after → ((name : List ℕ) → without_trailing_blanks after ≢ name ++ codes "--") → false ≡ is_closing boundary line
-not_closing_after boundary line after is other = elim (cases_Bool (bytes_eq (without_trailing_blanks after) (boundary ++ codes "--"))) [
+pub not_closed : (boundary name : List ℕ) → ((closed : List ℕ) → name ≢ closed ++ codes "--") → bytes_eq name (boundary ++ codes "--") ≡ false
+not_closed boundary name other = elim (cases_Bool (bytes_eq name (boundary ++ codes "--"))) [
   | inl same ↦ absurd (other boundary ((bytes_eq-Decides _ _).0 same))
-  | inr differs ↦ sym differs ∙ delimiter_after (boundary ++ codes "--") line after is
+  | inr differs ↦ differs
 ]
+
+-- what a line of a name is
+pub marks_closing : (preamble : Bool) (boundary name : List ℕ) → bytes_eq name boundary ≡ false → preamble ≡ false → bytes_eq name (boundary ++ codes "--") ≡ true → Some Closing ≡ mark_of preamble boundary name
+marks_closing preamble boundary name other begun closing = rw (other, begun, closing) refl
+
+pub marks_nothing : (preamble : Bool) (boundary name : List ℕ) → bytes_eq name boundary ≡ false → preamble ≡ false → bytes_eq name (boundary ++ codes "--") ≡ false → None ≡ mark_of preamble boundary name
+marks_nothing preamble boundary name other begun going = rw (other, begun, going) refl

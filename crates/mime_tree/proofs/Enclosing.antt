@@ -15,15 +15,12 @@ use Rattle.mime_params.specs.declared.media.MediaType.{MediaType}
 use Rattle.octets.specs.Limits.{max_depth}
 use Rattle.octets.specs.Blank.{without_trailing_blanks}
 use Rattle.mime_tree.specs.Enclosing.{Enclosed, IsEnded, boundary_between, boundary_of, enclosed_of, ends_any, first_ends_any, octets_before}
+use Rattle.mime_tree.specs.OpenParts.{cut}
 use Rattle.mime_tree.proofs.Delimiters.{no_delimiter}
-
--- the lines that are left of lines which are cut at some boundaries
-abbrev cut : List (List ℕ) → List TextLine → List TextLine
-cut around lines = lines_of (octets_before around lines)
 
 -- ---- lines that are cut
 
-abbrev one_line : List ℕ → List TextLine
+abbrev pub one_line : List ℕ → List TextLine
 one_line [] = []
 one_line (octet ∷ octets) = record { content = octet ∷ octets; break = [] } ∷ []
 
@@ -38,16 +35,16 @@ lines_of_content line lines are = of_content line.content (no_feeds are) where
   of_content (octet ∷ content) none = only_line (octet ∷ content) (omega arith) none
 
 -- the first of them ends a part
-cut_hit : (around : List (List ℕ)) (line : TextLine) (lines : List TextLine) → ends_any around line.content ≡ true → cut around (line ∷ lines) ≡ []
+pub cut_hit : (around : List (List ℕ)) (line : TextLine) (lines : List TextLine) → ends_any around line.content ≡ true → cut around (line ∷ lines) ≡ []
 cut_hit around line lines hit = rw hit refl
 
 -- the one after the first does
-cut_last : (around : List (List ℕ)) (line : TextLine) (lines : List TextLine) → AreLines (line ∷ lines)
+pub cut_last : (around : List (List ℕ)) (line : TextLine) (lines : List TextLine) → AreLines (line ∷ lines)
     → ends_any around line.content ≡ false → first_ends_any around lines ≡ true → cut around (line ∷ lines) ≡ one_line line.content
 cut_last around line lines are other hit = rw (other, hit) (lines_of_content line lines are)
 
 -- neither does
-cut_on : (around : List (List ℕ)) (line : TextLine) (lines : List TextLine) → AreLines (line ∷ lines)
+pub cut_on : (around : List (List ℕ)) (line : TextLine) (lines : List TextLine) → AreLines (line ∷ lines)
     → ends_any around line.content ≡ false → first_ends_any around lines ≡ false → cut around (line ∷ lines) ≡ line ∷ cut around lines
 cut_on around line lines (inl (ended, more)) other later =
     rw (other, later)
@@ -57,7 +54,7 @@ cut_on around line lines (inr (last, none)) other later =
 
 -- ---- a cut within a cut
 
-empty_ends_none : (boundary : List ℕ) → ends_child boundary [] ≡ false
+pub empty_ends_none : (boundary : List ℕ) → ends_child boundary [] ≡ false
 empty_ends_none boundary =
     rw (← no_delimiter boundary [] (λ rest e. cc), ← no_delimiter (boundary ++ codes "--") [] (λ rest e. cc)) refl
 
@@ -65,11 +62,11 @@ first_of_one : (boundary content : List ℕ) → first_ends_child boundary (one_
 first_of_one boundary [] = sym (empty_ends_none boundary)
 first_of_one boundary (octet ∷ content) = refl
 
-or_false : (b : Bool) → (b || false) ≡ b
+pub or_false : (b : Bool) → (b || false) ≡ b
 or_false true = refl
 or_false false = refl
 
-or_true : (b : Bool) → (b || true) ≡ true
+pub or_true : (b : Bool) → (b || true) ≡ true
 or_true true = refl
 or_true false = refl
 
@@ -83,12 +80,12 @@ first_of_cut boundary around (line ∷ lines) are other =
       | inr later ↦ ap (first_ends_child boundary) (cut_on around line lines are other later) ∙ sym mine
     ]
 
-lines_after : (line : TextLine) (lines : List TextLine) → AreLines (line ∷ lines) → AreLines lines
+pub lines_after : (line : TextLine) (lines : List TextLine) → AreLines (line ∷ lines) → AreLines lines
 lines_after line lines (inl (ended, more)) = more
 lines_after line lines (inr (last, none)) = rw none tt
 
 -- with one more boundary, what ends a part still does
-more_end : (boundary : List ℕ) (around : List (List ℕ)) (lines : List TextLine) → first_ends_any around lines ≡ true → first_ends_any (boundary ∷ around) lines ≡ true
+pub more_end : (boundary : List ℕ) (around : List (List ℕ)) (lines : List TextLine) → first_ends_any around lines ≡ true → first_ends_any (boundary ∷ around) lines ≡ true
 more_end boundary around [] hit = hit
 more_end boundary around (line ∷ lines) hit = rw hit (or_true (ends_child boundary line.content))
 
@@ -117,7 +114,7 @@ cut_cut boundary around (line ∷ lines) are =
 -- ---- lines and their places
 
 -- the lines after the first, by their place in the text
-lines_from : (text : List ℕ) (place : ℕ) (line : TextLine) (lines : List TextLine) → lines_of (drop place text) ≡ line ∷ lines → lines_of (drop (place + line_length line) text) ≡ lines
+pub lines_from : (text : List ℕ) (place : ℕ) (line : TextLine) (lines : List TextLine) → lines_of (drop place text) ≡ line ∷ lines → lines_of (drop (place + line_length line) text) ≡ lines
 lines_from text place line lines first =
     let are : AreLines (line ∷ lines) = subst AreLines first (AreLines-lines_of (drop place text)) in
     let whole : line_octets line ++ octets_of lines ≡ drop place text = sym (ap octets_of first) ∙ octets_of-lines_of (drop place text) in
@@ -127,7 +124,7 @@ lines_from text place line lines first =
     ap lines_of (sym (drop-drop (line_length line) place text) ∙ rest) ∙ lines_of-octets_of lines (lines_after line lines are)
 
 -- the line's break, before the lines after it
-break_from : (text : List ℕ) (place : ℕ) (line : TextLine) (lines : List TextLine) → lines_of (drop place text) ≡ line ∷ lines
+pub break_from : (text : List ℕ) (place : ℕ) (line : TextLine) (lines : List TextLine) → lines_of (drop place text) ≡ line ∷ lines
     → drop (place + length line.content) text ≡ line.break ++ octets_of lines
 break_from text place line lines first =
     let whole : line.content ++ (line.break ++ octets_of lines) ≡ drop place text = sym (append_assoc line.content line.break (octets_of lines)) ∙ sym (ap octets_of first) ∙ octets_of-lines_of (drop place text) in
@@ -138,7 +135,7 @@ no_last : (before : List ℕ) → [] ≢ before ++ 13 ∷ []
 no_last [] e = cc
 no_last (octet ∷ before) e = cc
 
-break_ends : (line : TextLine) → IsEndedLine line → IsEndedLine (record { content = []; break = line.break })
+pub break_ends : (line : TextLine) → IsEndedLine line → IsEndedLine (record { content = []; break = line.break })
 break_ends line ended = record {
   no_feed = All-nil IsNotFeed;
   ended = elim ended.ended [
@@ -253,7 +250,7 @@ body_of_one text around place (octet ∷ content) all none =
     let long : header_length (only ∷ []) ≡ length (octet ∷ content) = rw some (omega arith) in
     rw long (drop-length (octet ∷ content) ∙ sym none)
 
-body_cut : (text : List ℕ) (around : List (List ℕ)) (lines : List TextLine) (place : ℕ) → lines_of (drop place text) ≡ lines
+pub body_cut : (text : List ℕ) (around : List (List ℕ)) (lines : List TextLine) (place : ℕ) → lines_of (drop place text) ≡ lines
     → drop (header_length (cut around lines)) (octets_before around lines) ≡ octets_before around (lines_of (drop (place + header_length (cut around lines)) text))
 body_cut text around [] place here = sym (ap (λ n. octets_before around (lines_of (drop n text))) (add-zero place) ∙ ap (octets_before around) here)
 body_cut text around (line ∷ lines) place here =

@@ -1,5 +1,5 @@
 -- Where the parts of a message stand.
-use Rattle.std.proofs.Common.{◌≡◌, ℕ, ◌+◌, ◌-◌, ◌<◌, ◌≤◌, zero, suc, List, [], ◌∷◌, ◌++◌, Some, refl, sym, ◌∙◌, ap, subst, arith, length, inl, inr}
+use Rattle.std.proofs.Common.{◌≡◌, ℕ, ◌+◌, ◌-◌, ◌<◌, ◌≤◌, zero, suc, List, [], ◌∷◌, ◌++◌, Some, refl, sym, ◌∙◌, ap, subst, arith, get_or, length, inl, inr}
 use Rattle.std.specs.Prelude.{slice_get, slice_range}
 use Rattle.std.specs.List.{flat_map}
 use Rattle.std.proofs.lemmas.Bool.{cases_lt}
@@ -12,6 +12,7 @@ use Rattle.header_fields.specs.Extent.{IsHeader, fields_extent}
 use Rattle.header_fields.proofs.Lengths.{body_start_within, values_fit}
 use Rattle.mime_params.specs.declared.media.MediaType.{MediaType}
 use Rattle.mime_tree.specs.PartTree.{Part, Stretch, text_plain, default_below, children_of, part_at, with_below, parts_of, tree_of}
+use Rattle.mime_tree.specs.Readable.{IsTree}
 use Rattle.mime_tree.specs.Order.{AreApart, parts_extent, Nests, IsInMessage, IsWhole}
 use Rattle.mime_tree.proofs.Ranges.{IsIn, in_itself, in_through, AreIn, raw_stretch, children_stand}
 use Rattle.mime_tree.proofs.Below.{parts_more}
@@ -208,3 +209,12 @@ tree_whole octets part is =
 
 pub tree_nests : (octets : List ℕ) (place : ℕ) (part : Part) → slice_get (tree_of octets) place ≡ Some part → Nests (tree_of octets) place part
 tree_nests octets = parts_nest (max_depth - 1) text_plain (message octets)
+
+-- the header of a part of a tree is no longer than it
+pub tree_headers : (parts : List Part) → IsTree parts → (place : ℕ) (part : Part) → place < length parts → part ≡ get_or parts place part → part.header.body_start ≤ length part.raw
+tree_headers parts is place part lt here =
+    fit_there (message is.octets) parts place part (subst (AllFit (message is.octets)) (sym is.tree) (parts_fit (max_depth - 1) (omega arith) text_plain (message is.octets))) lt here where
+      fit_there : (whole : Stretch) (parts : List Part) (place : ℕ) (part : Part) → AllFit whole parts → place < length parts → part ≡ get_or parts place part → part.header.body_start ≤ length part.raw
+      fit_there whole [] place part fit lt here = absurd (omega arith)
+      fit_there whole (first ∷ parts) zero part fit lt here = subst (λ (p : Part). p.header.body_start ≤ length p.raw) (sym here) fit.0.header
+      fit_there whole (first ∷ parts) (suc place) part fit lt here = fit_there whole parts place part fit.1 (omega arith) here

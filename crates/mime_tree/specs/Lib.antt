@@ -6,4 +6,5 @@ pub mod Runs
 pub mod Order
 pub mod Enclosing
 -- what private functions of the reader are about
+pub mod OpenParts
 pub mod Reading

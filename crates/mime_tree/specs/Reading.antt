@@ -1,56 +1,121 @@
-use Rattle.std.specs.Prelude.{◌≡◌, ℕ, zero, suc, ◌+◌, ◌≤◌, List, [], ◌∷◌, ◌++◌, length, take, drop, slice_range, flat_map, Option, MatchOption}
-use Rattle.octets.specs.Limits.{max_message}
-use Rattle.text_lines.specs.Unread.{Unread}
-use Rattle.text_lines.specs.Lines.{lines_left}
-use Rattle.mime_tree.specs.PartTree.{Stretch, child_at, child_octets, further_children, text_plain, message_rfc822, Part, children_of, default_below, with_below, parts_of}
+-- What private functions of the reader are about.
+use Rattle.std.specs.Prelude.{◌≡◌, ℕ, ◌+◌, ◌<◌, ◌≤◌, ◌&&◌, Bool, true, false, not, List, [], ◌∷◌, ◌++◌, length, take, slice_get, Option, None, Some, MatchOption, bytes_eq, codes, if◌then◌else◌}
+use Rattle.octets.specs.Limits.{max_depth}
+use Rattle.text_lines.specs.Lines.{TextLine}
+use Rattle.header_fields.specs.Header.{line_length}
 use Rattle.mime_params.specs.declared.media.MediaType.{MediaType}
-use Rattle.mime_tree.specs.declared.split.Ending.{Ending}
+use Rattle.mime_tree.specs.PartTree.{Part, is_delimiter, is_closing, text_plain, message_rfc822}
+use Rattle.mime_tree.specs.Enclosing.{first_ends_any}
+use Rattle.mime_tree.specs.OpenParts.{OpenPart, boundaries_in, finished, is_last, lines_at, meets_any, parts_begun}
+use Rattle.mime_tree.specs.declared.delimiter.Mark.{Mark}
+use Rattle.mime_tree.specs.declared.delimiter.Mark.TheVariants.{Delimiter, Closing}
+use Rattle.mime_tree.specs.declared.hit.Met.{Met}
+use Rattle.mime_tree.specs.declared.hit.Hit.{Hit}
+use Rattle.mime_tree.specs.declared.reader.Beginning.{Beginning}
 use Rattle.mime_tree.specs.declared.media.DefaultType.{DefaultType}
 use Rattle.mime_tree.specs.declared.media.DefaultType.TheVariants.{Text, Message}
-
--- a stretch of a message that is small enough
-abbrev pub IsWithinLimit : Stretch → Type 0
-IsWithinLimit stretch = stretch.place + length stretch.octets ≤ max_message
-
--- the children from the one on that begins with the first line that wasn't given yet, of a text that begins at a place
-abbrev pub children_left : List ℕ → ℕ → Unread → List Stretch
-children_left boundary base unread =
-    child_at boundary (base + unread.place) (lines_left unread) ∷ further_children boundary (base + unread.place) (lines_left unread)
-
--- the next of the children that are expected begins here
-pub record BeginsChild (boundary text : List ℕ) (expected : ℕ → List Stretch) (start : ℕ) (new : Unread) : Type 0 where
-  pub same_text : new.text ≡ text
-  pub here : new.place ≡ start
-  pub within : start ≤ length text
-  pub left : (base : ℕ) → expected base ≡ children_left boundary base new
-
--- where the next child begins, or nothing where none is expected
-abbrev pub GivesChild : List ℕ → List ℕ → (ℕ → List Stretch) → Option ℕ → Unread → Type 0
-GivesChild boundary text expected answer new =
-    MatchOption answer ((base : ℕ) → expected base ≡ []) (λ start. BeginsChild boundary text expected start new)
-
--- the child of the lines that weren't given ends here, and where the next one begins is known
-pub record IsChildEnd (boundary text : List ℕ) (start : ℕ) (old : Unread) (ending : Ending) (new : Unread) : Type 0 where
-  pub after : start ≤ ending.end
-  pub within : ending.end ≤ length text
-  pub octets : slice_range text start ending.end ≡ child_octets boundary (lines_left old)
-  pub next : GivesChild boundary text (λ base. further_children boundary (base + old.place) (lines_left old)) ending.next new
 
 -- the media type of a part that has no Content-Type
 abbrev pub default_media : DefaultType → MediaType
 default_media Text = text_plain
 default_media Message = message_rfc822
 
--- the parts below a part, where so many levels of parts may be below it
-abbrev pub parts_below : ℕ → Part → List Part
-parts_below zero part = []
-parts_below (suc levels) part = flat_map (parts_of levels (default_below part.media)) (children_of part)
+-- ---- lines that end parts
 
--- the first of these parts has the others below it
-abbrev pub first_with_below : List Part → List Part
-first_with_below [] = []
-first_with_below (part ∷ parts) = with_below part parts
+-- the octets by which a line is compared with boundaries; without them it is the delimiter of none
+abbrev pub NamesOctets : List ℕ → Option (List ℕ) → Type 0
+NamesOctets line None = (boundary : List ℕ) → is_delimiter boundary line ≡ false
+NamesOctets line (Some name) = (boundary : List ℕ) → is_delimiter boundary line ≡ bytes_eq name boundary
 
--- the part at a place has those after it below it
-abbrev pub with_below_at : ℕ → List Part → List Part
-with_below_at at parts = take at parts ++ first_with_below (drop at parts)
+-- what a line of this name is to the multipart of this boundary
+abbrev pub mark_of : Bool → List ℕ → List ℕ → Option Mark
+mark_of preamble boundary name =
+    if bytes_eq name boundary then Some Delimiter
+    else if not preamble && bytes_eq name (boundary ++ codes "--") then Some Closing
+    else None
+
+abbrev pub mark_in : Bool → Option (List ℕ) → List ℕ → Option Mark
+mark_in preamble None name = None
+mark_in preamble (Some boundary) name = mark_of preamble boundary name
+
+-- a line is this of the multipart of this boundary
+abbrev pub IsMark : Bool → List ℕ → List ℕ → Mark → Type 0
+IsMark preamble boundary line Delimiter = is_delimiter boundary line ≡ true
+IsMark preamble boundary line Closing = (is_closing boundary line ≡ true) × (preamble ≡ false)
+
+-- the line meets one of the open parts, and none of those around that
+pub record IsMet (preamble : Bool) (opened : List OpenPart) (line : List ℕ) (met : Met) : Type 0 where
+  pub outer : List OpenPart
+  pub this : OpenPart
+  pub inner : List OpenPart
+  pub all : opened ≡ outer ++ this ∷ inner
+  pub place : met.place ≡ length outer
+  pub none : meets_any false outer line ≡ false
+  pub boundary : List ℕ
+  pub has : this.boundary ≡ Some boundary
+  pub mark : IsMark (is_last inner && preamble) boundary line met.mark
+
+abbrev pub GivesMet : Bool → List OpenPart → List ℕ → Option Met → Type 0
+GivesMet preamble opened line answer = MatchOption answer (meets_any preamble opened line ≡ false) (λ met. IsMet preamble opened line met)
+
+abbrev pub AreLeaves : List OpenPart → Type 0
+AreLeaves [] = Unit {0}
+AreLeaves (part ∷ inner) = (part.boundary ≡ None) × AreLeaves inner
+
+-- the lines from a place to this one end no part, where these are open
+pub record IsHit (preamble : Bool) (opened : List OpenPart) (text : List ℕ) (place end : ℕ) (hit : Hit) : Type 0 where
+  pub line : TextLine
+  pub here : place ≤ hit.line.start
+  pub some : hit.line.start < hit.line.stop
+  pub within : hit.line.stop ≤ length text
+  pub lines : lines_at text hit.line.start ≡ line ∷ lines_at text hit.line.stop
+  pub content : hit.line.end ≡ hit.line.start + length line.content
+  pub after : hit.line.stop ≡ hit.line.start + line_length line
+  pub same : (parts : List Part) → finished preamble [] place end (lines_at text place) opened parts ≡ finished preamble [] hit.line.start hit.end (lines_at text hit.line.start) opened parts
+  pub met : IsMet preamble opened line.content hit.met
+
+-- no line from a place on ends a part
+abbrev pub IsQuietEnd : Bool → List OpenPart → List ℕ → ℕ → ℕ → Type 0
+IsQuietEnd preamble opened text place end =
+    (parts : List Part) → finished preamble [] place end (lines_at text place) opened parts ≡ finished preamble [] (length text) (length text) [] opened parts
+
+abbrev pub GivesHit : Bool → List OpenPart → List ℕ → ℕ → ℕ → Option Hit → Type 0
+GivesHit preamble opened text place end answer = MatchOption answer (IsQuietEnd preamble opened text place end) (λ hit. IsHit preamble opened text place end hit)
+
+-- ---- where parts begin
+
+-- the places of open parts are those of parts that were read, of which there are so many
+abbrev pub AreAmong : ℕ → List OpenPart → Type 0
+AreAmong count [] = Unit {0}
+AreAmong count (part ∷ inner) = (part.at < count) × AreAmong count inner
+
+-- a part begins in the text, and few enough levels of parts may be below it
+pub record IsBeginning (text : List ℕ) (beginning : Beginning) : Type 0 where
+  pub within : beginning.place ≤ length text
+  pub before : beginning.end ≤ beginning.place
+  pub levels : beginning.levels < max_depth
+
+abbrev pub GivesPart : List ℕ → Option Beginning → Type 0
+GivesPart text answer = MatchOption answer (Unit {0}) (λ beginning. IsBeginning text beginning)
+
+-- what the parts so far become, where a part begins here and these are open
+abbrev pub wanted_from : List ℕ → Beginning → List OpenPart → List Part → List Part
+wanted_from text beginning opened parts =
+    let lines = lines_at text beginning.place in
+    finished false [] beginning.place beginning.end lines opened
+    (parts ++ parts_begun (boundaries_in [] opened) beginning.levels (default_media beginning.default) beginning.place lines)
+
+-- where no further part begins, they are all
+abbrev pub wanted : List ℕ → Option Beginning → List OpenPart → List Part → List Part
+wanted text None opened parts = parts
+wanted text (Some beginning) opened parts = wanted_from text beginning opened parts
+
+-- the child after a delimiter line of the last open part
+pub record BeginsChild (text : List ℕ) (hit : Hit) (opened : List OpenPart) (beginning : Beginning) : Type 0 where
+  pub end : beginning.end ≡ hit.line.end
+  pub part : OpenPart
+  pub is : slice_get opened hit.met.place ≡ Some part
+  pub levels : beginning.levels ≡ part.levels
+  pub few : beginning.levels < max_depth
+  pub default : default_media beginning.default ≡ part.default
+  pub place : beginning.place ≡ (if first_ends_any (boundaries_in [] (take hit.met.place opened)) (lines_at text hit.line.stop) then hit.line.end else hit.line.stop)

@@ -1,32 +1,44 @@
 // The lines that stand between the parts of a multipart.
 ghost use Rattle.std.specs.Prelude.{◌≡◌, ◌≢◌, ◌∷◌, MatchOption, List, ℕ};
-ghost use Rattle.octets.specs.Blank.{without_trailing_blanks};
-ghost use Rattle.mime_tree.specs.PartTree.{is_delimiter, is_closing};
+ghost use Rattle.std.specs.Option.{option_copied};
+ghost use Rattle.mime_tree.specs.Reading.{NamesOctets, mark_of};
 
 use octets::trim_trailing_blanks;
 
-/// Whether a line is the delimiter of this boundary.
-#[inline]
-pub(crate) fn is_delimiter(line: &[u8], boundary: &[u8]) -> bool
-    ensures { result ≡ is_delimiter boundary.now line.now }
-{
-    let Some(after) = after_dashes(line) else {
-        return false;
-    };
-    trim_trailing_blanks(after) == boundary
+/// What a line is to a multipart.
+#[derive(Clone, Copy, Debug)]
+pub(crate) enum Mark {
+    /// A line before another child.
+    Delimiter,
+    /// The line after the last child.
+    Closing,
 }
 
-/// Whether a line is the closing one of this boundary.
+/// What a line names: the octets between the two dashes that it begins with and the blanks that it ends with.
 #[inline]
-pub(crate) fn is_closing(line: &[u8], boundary: &[u8]) -> bool
-    ensures { result ≡ is_closing boundary.now line.now }
+pub(crate) fn name_of(line: &[u8]) -> Option<&[u8]>
+    ensures { NamesOctets line.now (option_copied result) }
 {
     let Some(after) = after_dashes(line) else {
-        return false;
+        return None;
     };
-    match trim_trailing_blanks(after).strip_suffix(b"--") {
-        Some(name) => name == boundary,
-        None => false,
+    Some(trim_trailing_blanks(after))
+}
+
+/// What a line of this name is to the multipart of this boundary. Before its first delimiter a multipart has no closing line.
+#[inline]
+pub(crate) fn mark_of(name: &[u8], boundary: &[u8], preamble: bool) -> Option<Mark>
+    ensures { result ≡ mark_of preamble boundary.now name.now }
+{
+    if name == boundary {
+        return Some(Mark::Delimiter);
+    }
+    if preamble {
+        return None;
+    }
+    match name.strip_suffix(b"--") {
+        Some(closed) if closed == boundary => Some(Mark::Closing),
+        _ => None,
     }
 }
 

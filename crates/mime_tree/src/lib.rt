@@ -1,17 +1,19 @@
 //! The parts of a mail message (RFC 2046, section 5; RFC 2045, sections 5 and 6).
 //!
 //! [`Tree::read`] reads any octets that aren't too many and have no more parts than may be. What the parts of a message are
-//! stands in `specs/PartTree`, and where they stand in it in `specs/Order` and the laws.
+//! stands in `specs/PartTree`, and where they stand in it in `specs/Order` and the laws. The lines of a message are gone over
+//! once, from the first to the last: a law says that this tells where each part ends.
 #![tactic(auto)]
 
 mod delimiter;
 mod error;
+mod hit;
 pub mod laws;
 mod media;
+mod open_part;
 mod part;
+mod reader;
 mod run;
-mod split;
-mod stretch;
 mod tree;
 
 pub use error::TreeError;

@@ -1,16 +1,16 @@
 // A part of a message.
-ghost use Rattle.std.specs.Prelude.{◌≡◌, ◌+◌, ◌≤◌, length, IfOk, IfErr};
-ghost use Rattle.mime_tree.specs.PartTree.{body_of, part_at, default_below, children_of};
-ghost use Rattle.mime_tree.specs.Refusals.{IsRefusedFor};
+ghost use Rattle.std.specs.Prelude.{◌≡◌, ◌-◌, ◌≤◌, length, take, IfOk, IfErr};
+ghost use Rattle.std.specs.Option.{option_map};
+ghost use Rattle.mime_tree.specs.PartTree.{body_of, default_below};
+ghost use Rattle.mime_tree.specs.OpenParts.{boundary_inside, holds_message, part_read};
 ghost use Rattle.mime_tree.specs.Reading.{default_media};
 
 use crate::error::TreeError;
 use crate::media::{DefaultType, encoding_of, is_plain, is_word, media_of};
-use crate::split::children_in;
-use crate::stretch::Stretch;
 use header_fields::Header;
-use mime_params::{MediaType, TransferEncoding};
-use std::alloc::Global;
+use mime_params::{MediaType, TransferEncoding, param};
+use octets::trim_trailing_blanks;
+use std::alloc::{AllocError, Global};
 use std::marker::Model;
 
 /// A part of a message, over octets that are lent.
@@ -33,39 +33,46 @@ impl<'a> Model for Part<'a> {
     ghost Value = { Part };
 
     ghost view = { λ p. record { depth = p.depth; below = p.below; place = p.place; raw = p.raw.now; header = p.header; media = p.media; encoding = p.encoding } };
-
-    ghost use Rattle.std.specs.Prelude.{◌≤◌, length};
-    ghost use Rattle.mime_tree.specs.Reading.{IsWithinLimit};
-
-    ghost invariant = { λ p. (p.header.body_start ≤ length p.raw.now) × IsWithinLimit (record { place = p.place; octets = p.raw.now }) };
 }
 
 impl<'a> Part<'a> {
-    /// The part of this depth that a stretch is, without those below it.
+    /// The part of this depth that begins at this place with these octets, of which so many are its header's. It isn't known yet
+    /// where it ends, nor how many parts are below it.
     ///
     /// `Memory` comes only where memory was refused.
     pub(crate) fn read(
         alloc: Global,
         depth: usize,
         default: DefaultType,
-        stretch: &Stretch<'a>,
+        place: usize,
+        rest: &'a [u8],
+        header: usize,
     ) -> Result<Part<'a>, TreeError>
-        ensures part { IfOk result (λ part. part ≡ part_at depth (default_media default) stretch.now) }
+        requires { header ≤ length rest.now }
+        ensures part { IfOk result (λ part. part ≡ part_read depth (default_media default) place rest.now header) }
         ensures refused { IfErr result (λ e. e ≡ TreeError.Memory) }
     {
-        let raw = stretch.octets();
-        let header = Header::read(alloc, raw)?;
+        let header = Header::read(alloc, &rest[..header])?;
         let media = media_of(alloc, header.fields(), default)?;
         let encoding = encoding_of(alloc, header.fields())?;
         Ok(Part {
             depth,
             below: 0,
-            place: stretch.place(),
-            raw,
+            place,
+            raw: rest,
             header,
             media,
             encoding,
         })
+    }
+
+    /// Ends it at a place of the message, with so many parts below it.
+    pub(crate) fn end(&mut self, end: usize, below: usize)
+        ensures { self.new ≡ record self.old { below = below; raw = take (end - self.old.place) self.old.raw } }
+    {
+        let length = end.saturating_sub(self.place).min(self.raw.len());
+        self.raw = &self.raw[..length];
+        self.below = below;
     }
 
     /// Its depth, the message's own being 1.
@@ -82,26 +89,30 @@ impl<'a> Part<'a> {
         self.below
     }
 
-    // Says how many parts are below it.
-    pub(crate) fn set_below(&mut self, below: usize)
-        ensures { self.new ≡ record self.old { below = below } }
+    /// The boundary between its children, if it can have several.
+    pub(crate) fn boundary(&self, alloc: Global) -> Result<Option<Vec<u8>>, AllocError>
+        ensures { IfOk result (λ boundary. option_map (λ v. v.items) boundary ≡ boundary_inside self.now) }
     {
-        self.below = below;
+        if !is_plain(self.encoding) || !is_word(self.media.main.as_slice(), b"multipart") {
+            return Ok(None);
+        }
+        let Some(value) = param(&self.media.params, b"boundary") else {
+            return Ok(None);
+        };
+        let boundary = trim_trailing_blanks(value);
+        if boundary.is_empty() {
+            return Ok(None);
+        }
+        Ok(Some(boundary.to_vec(alloc)?))
     }
 
-    /// Its children, where so many levels of parts may be below it.
-    ///
-    /// `TooManyParts` comes only where they are more than [`MAX_PARTS`](crate::MAX_PARTS), and `Memory` only where memory was
-    /// refused.
-    pub(crate) fn children(&self, alloc: Global) -> Result<Vec<Stretch<'a>>, TreeError>
-        ensures children { IfOk result (λ children. children.items ≡ children_of self.now) }
-        ensures refused { IfErr result (λ e. IsRefusedFor e (length (children_of self.now))) }
+    /// Whether its body is a message, its only child.
+    pub(crate) fn holds_message(&self) -> bool
+        ensures { result ≡ holds_message self.now }
     {
-        if !is_plain(self.encoding) {
-            return Ok(Vec::new(alloc));
-        }
-        let start = self.header.body_start();
-        children_in(alloc, &self.media, self.place + start, &self.raw[start..])
+        is_plain(self.encoding)
+            && is_word(self.media.main.as_slice(), b"message")
+            && is_word(self.media.sub.as_slice(), b"rfc822")
     }
 
     /// The media type of a child of it that has no Content-Type.
@@ -126,6 +137,7 @@ impl<'a> Part<'a> {
 
     /// Its octets after its header.
     pub(crate) fn body(&self) -> &'a [u8]
+        requires { self.now.header.body_start ≤ length self.now.raw }
         ensures { result.now ≡ body_of self.now }
     {
         &self.raw[self.header.body_start()..]

@@ -29,13 +29,15 @@ impl<'a> Model for Runs<'a> {
 }
 
 impl<'a> Runs<'a> {
+    ghost use Rattle.std.specs.Prelude.{◌≤◌, length};
     ghost use Rattle.mime_tree.specs.Runs.{GivesRun};
 
-    /// The runs of the text, of which none was given yet.
-    pub(crate) fn new(text: &'a [u8]) -> Runs<'a>
-        ensures { result ≡ record { text = text.now; place = 0 } }
+    /// The runs of the text from a place on.
+    pub(crate) fn at(text: &'a [u8], place: usize) -> Runs<'a>
+        requires { place ≤ length text.now }
+        ensures { result ≡ record { text = text.now; place = place } }
     {
-        Runs { text, place: 0 }
+        Runs { text, place }
     }
 
     /// The next run: where its first line starts, where its last line ends, and where that line's break does.

@@ -1,17 +1,14 @@
 // The tree of a message's parts.
-ghost use Rattle.std.specs.Prelude.{◌≡◌, ◌+◌, ◌-◌, ◌<◌, ◌≤◌, ◌++◌, length, flat_map, vec_len, IfOk, IfErr, OnOk};
+ghost use Rattle.std.specs.Prelude.{◌≡◌, ◌<◌, length, IfOk, IfErr};
 ghost use Rattle.std.specs.List.{HoldsAt};
-ghost use Rattle.octets.specs.Limits.{max_depth, max_message, max_parts};
-ghost use Rattle.mime_tree.specs.PartTree.{parts_of, tree_of, body_of};
+ghost use Rattle.mime_tree.specs.PartTree.{tree_of, body_of};
 ghost use Rattle.mime_tree.specs.Readable.{IsReadable, IsTree};
-ghost use Rattle.mime_tree.specs.Refusals.{IsRefusedFor, IsTreeRefusal};
-ghost use Rattle.mime_tree.specs.Reading.{default_media, with_below_at};
+ghost use Rattle.mime_tree.specs.Refusals.{IsTreeRefusal};
 
+use crate::MAX_MESSAGE;
 use crate::error::TreeError;
-use crate::media::DefaultType;
 use crate::part::Part;
-use crate::stretch::Stretch;
-use crate::{MAX_DEPTH, MAX_MESSAGE, MAX_PARTS};
+use crate::reader::message_parts;
 use header_fields::Header;
 use mime_params::{MediaType, TransferEncoding};
 use std::alloc::Global;
@@ -116,85 +113,4 @@ impl<'a> Tree<'a> {
     {
         self.parts[part].encoding()
     }
-}
-
-// The parts of a message.
-fn message_parts<'a>(alloc: Global, octets: &'a [u8]) -> Result<Vec<Part<'a>>, TreeError>
-    requires { length octets.now ≤ max_message }
-    ensures parts { IfOk result (λ parts. (parts.items ≡ tree_of octets.now) × (length parts.items ≤ max_parts)) }
-    ensures refused { IfErr result (λ e. IsRefusedFor e (length (tree_of octets.now))) }
-{
-    let mut parts = Vec::new(alloc);
-    read_parts(
-        alloc,
-        MAX_DEPTH - 1,
-        DefaultType::Text,
-        &Stretch::new(0, octets),
-        &mut parts,
-    )?;
-    parts.shrink_to_fit();
-    Ok(parts)
-}
-
-// Appends the parts of a stretch, where so many levels of parts may be below it.
-#[cycle(parts)]
-fn read_parts<'a>(
-    alloc: Global,
-    levels: usize,
-    default: DefaultType,
-    stretch: &Stretch<'a>,
-    parts: &mut Vec<Part<'a>>,
-) -> Result<(), TreeError>
-    requires levels { levels < max_depth }
-    requires few { vec_len parts.old ≤ max_parts }
-    ensures read { OnOk result (parts.new.items ≡ parts.old.items ++ parts_of levels (default_media default) stretch.now) }
-    ensures few { OnOk result (vec_len parts.new ≤ max_parts) }
-    ensures refused { IfErr result (λ e. IsRefusedFor e (vec_len parts.old + length (parts_of levels (default_media default) stretch.now))) }
-{
-    let at = parts.len();
-    if at == MAX_PARTS {
-        return Err(TreeError::TooManyParts);
-    }
-    let part = Part::read(alloc, MAX_DEPTH - levels, default, stretch)?;
-    if levels == 0 {
-        parts.push(part)?;
-        return Ok(());
-    }
-    let children = part.children(alloc)?;
-    let default = part.default_below();
-    parts.push(part)?;
-    read_children(alloc, levels - 1, default, &children, parts)?;
-    set_below(parts, at);
-    Ok(())
-}
-
-// Appends the parts of each of these stretches, where so many levels of parts may be below it.
-#[cycle(parts)]
-fn read_children<'a>(
-    alloc: Global,
-    levels: usize,
-    default: DefaultType,
-    children: &[Stretch<'a>],
-    parts: &mut Vec<Part<'a>>,
-) -> Result<(), TreeError>
-    requires levels { levels < max_depth }
-    requires few { vec_len parts.old ≤ max_parts }
-    ensures read { OnOk result (parts.new.items ≡ parts.old.items ++ flat_map (parts_of levels (default_media default)) children.now) }
-    ensures few { OnOk result (vec_len parts.new ≤ max_parts) }
-    ensures refused { IfErr result (λ e. IsRefusedFor e (vec_len parts.old + length (flat_map (parts_of levels (default_media default)) children.now))) }
-{
-    for child in children {
-        read_parts(alloc, levels, default, child, parts)?;
-    }
-    Ok(())
-}
-
-// Says of the part at this place that those after it are below it.
-fn set_below(parts: &mut Vec<Part>, at: usize)
-    requires { at < vec_len parts.old }
-    ensures { parts.new.items ≡ with_below_at at parts.old.items }
-{
-    let below = parts.len() - at - 1;
-    let part = &mut parts[at];
-    part.set_below(below);
 }
