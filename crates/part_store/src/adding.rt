@@ -27,7 +27,7 @@ pub(crate) enum Adding {
 pub(crate) fn put_entries<S: Alter>(
     tx: &mut Transaction<'_, S>,
     user: &str,
-    entries: &[NewEntry],
+    entries: &[NewEntry<'_>],
 ) -> Result<Adding, Error>
     requires { 0 < length entries.now }
     ensures same_reference { tx.new.conn.ghost_name ≡ tx.old.conn.ghost_name }
@@ -57,7 +57,7 @@ fn claim_and_file<S: Alter>(
     user: &str,
     last: u32,
     program: Option<Vec<u8>>,
-    entries: &[NewEntry],
+    entries: &[NewEntry<'_>],
 ) -> Result<bool, Error>
     requires some { 0 < length entries.now }
     requires room { last + length entries.now ≤ max_entry_number }
@@ -124,7 +124,7 @@ fn file_all<S: Alter>(
     tx: &mut Transaction<'_, S>,
     user: &str,
     last: u32,
-    entries: &[NewEntry],
+    entries: &[NewEntry<'_>],
 ) -> Result<bool, Error>
     requires some { 0 < length entries.now }
     requires room { last + length entries.now ≤ max_entry_number }

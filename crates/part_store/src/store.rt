@@ -260,7 +260,7 @@ impl<S: Alter> PartStore<S> {
     /// Adds the entries, of which there is at least one, in order, under the user's next numbers, and answers the first of
     /// these. Refuses `Memory`, `NumberFull` exactly where the numbers that are left don't suffice, else `Collision` exactly where
     /// another content, stored or earlier among the entries, has the digest of one and other octets, and `Database`.
-    pub fn add_entries(&mut self, user: &str, entries: &[NewEntry]) -> Result<u32, StoreError>
+    pub fn add_entries(&mut self, user: &str, entries: &[NewEntry<'_>]) -> Result<u32, StoreError>
         requires { 0 < length entries.now }
         ensures made { HasCleanDisk (state S.Store self.new) → OnOk result (Makes (with_entries user.now (map draft_of entries.now)) (state S.Store self.old) (state S.Store self.new)) }
         ensures first { HasCleanDisk (state S.Store self.new) → IfOk result (λ first. (before : _) → Stands (state S.Store self.old).now before → first ≡ before.lasts user.now + 1) }
