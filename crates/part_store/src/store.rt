@@ -260,6 +260,8 @@ impl<S: Alter> PartStore<S> {
     /// Adds the entries, of which there is at least one, in order, under the user's next numbers, and answers the first of
     /// these. Refuses `Memory`, `NumberFull` exactly where the numbers that are left don't suffice, else `Collision` exactly where
     /// another content, stored or earlier among the entries, has the digest of one and other octets, and `Database`.
+    ///
+    /// A store that a failure has shut stays shut, adds nothing, and refuses `Memory` or `Database`.
     pub fn add_entries(&mut self, user: &str, entries: &[NewEntry<'_>]) -> Result<u32, StoreError>
         requires { 0 < length entries.now }
         ensures made { HasCleanDisk (state S.Store self.new) → OnOk result (Makes (with_entries user.now (map draft_of entries.now)) (state S.Store self.old) (state S.Store self.new)) }
@@ -268,9 +270,12 @@ impl<S: Alter> PartStore<S> {
         ensures apart { HasCleanDisk (state S.Store self.new) → OnOk result ((before : _) → Stands (state S.Store self.old).now before → Collides (state S.Store self.old).now.trees (map draft_of entries.now) → ⊥) }
         ensures full { HasCleanDisk (state S.Store self.new) → IfErr result (λ e. e ≡ NumberFull → (before : _) → Stands (state S.Store self.old).now before → HasRoom before user.now (length entries.now) → ⊥) }
         ensures collision { HasCleanDisk (state S.Store self.new) → IfErr result (λ e. e ≡ Collision → (before : _) → Stands (state S.Store self.old).now before → HasRoom before user.now (length entries.now) × Collides (state S.Store self.old).now.trees (map draft_of entries.now)) }
+        ensures open { HasCleanDisk (state S.Store self.new) → OnOk result (IsTrue (state S.Store self.old).is_open) }
+        ensures begun { HasCleanDisk (state S.Store self.new) → IfErr result (λ e. (e ≡ NumberFull) ⊎ (e ≡ Collision) → IsTrue (state S.Store self.old).is_open) }
+        ensures shut { HasCleanDisk (state S.Store self.new) → IsTrue (state S.Store self.new).is_open → IsTrue (state S.Store self.old).is_open }
         ensures spared { HasCleanDisk (state S.Store self.new) → OnErr result (Spares (state S.Store self.old) (state S.Store self.new)) }
         ensures refused { IfErr result (λ e. (e ≡ Memory) ⊎ ((e ≡ NumberFull) ⊎ ((e ≡ Collision) ⊎ (e ≡ Database)))) }
-        ensures survives { Survives (state S.Store self.old) (state S.Store self.new) (λ trees. (before : _) → Stands (state S.Store self.old).now before → StandsFor trees (with_entries user.now (map draft_of entries.now) before)) }
+        ensures survives { Survives (state S.Store self.old) (state S.Store self.new) (λ trees. IsTrue (state S.Store self.old).is_open × ((before : _) → Stands (state S.Store self.old).now before → StandsFor trees (with_entries user.now (map draft_of entries.now) before))) }
     {
         if !self.conn.is_autocommit() {
             return Err(StoreError::Database);
