@@ -332,7 +332,7 @@ impl<S: Alter> PartStore<S> {
         ensures absent { HasCleanDisk (state S.Store self.new) → IfErr result (λ e. e ≡ NoSuchEntry → (before : _) → Stands (state S.Store self.old).now before → HasNone before user.now number) }
         ensures spared { HasCleanDisk (state S.Store self.new) → OnErr result (Spares (state S.Store self.old) (state S.Store self.new)) }
         ensures refused { IfErr result (λ e. (e ≡ Memory) ⊎ ((e ≡ NoSuchEntry) ⊎ (e ≡ Database))) }
-        ensures survives { Survives (state S.Store self.old) (state S.Store self.new) (λ trees. (before : _) → Stands (state S.Store self.old).now before → StandsFor trees (without_entry user.now number before)) }
+        ensures survives { Survives (state S.Store self.old) (state S.Store self.new) (λ trees. (before : _) → Stands (state S.Store self.old).now before → ((x : _) × IsEntryAt before user.now number x) × StandsFor trees (without_entry user.now number before)) }
     {
         if !self.conn.is_autocommit() {
             return Err(StoreError::Database);
