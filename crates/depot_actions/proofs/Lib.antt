@@ -1,3 +1,11 @@
 pub mod Hexadecimal
 pub mod Readings
 pub mod ReadBack
+pub mod Outputs
+pub mod Commands
+pub mod Numbering
+pub mod Keeping
+pub mod Delivering
+pub mod Folding
+pub mod NoCause
+mod Examples

@@ -1,4 +1,9 @@
-//! Octets as texts, and where the octets of an answer go.
+//! The depot: what users have filed, and their filters.
+//!
+//! A [`Depot`] carries out the commands of users (`specs/DepotState`): it stores filters, delivers messages by them, lists, exports and
+//! removes entries. Each call is one step of the definition, or is refused for a cause that the definition names (`specs/Causes`)
+//! and changes nothing; so what a depot holds after any calls is what the accepted ones make of it, one after another
+//! (`specs/History`, [`laws`]). What the actions of a filter file stands in `specs/Drafts`, and who may be a user in `specs/Users`.
 //!
 //! [`encode`] writes octets in an [`Encoding`], and [`decode`] reads them back: exactly the octets that the
 //! text reads as, or `NotCanonical` where there are none.
@@ -7,10 +12,23 @@
 //! have failed (`specs/Device`); [`OfWrite`] makes a sink of a writer.
 #![tactic(auto)]
 
+mod checking;
+mod delivery;
+mod depot;
 mod encoding;
+mod entries;
+mod exporting;
+mod kept_parts;
 pub mod laws;
+mod naming;
+mod refusing;
+mod rows;
 mod sink;
+mod stored_part;
+mod user;
 
+pub use depot::Depot;
 pub use encoding::{Encoding, decode, encode};
 pub use refusals::Refusal;
 pub use sink::{DeviceFailed, MAX_TRIES, OfWrite, Sink};
+pub use user::{MAX_USER, is_user_name};

@@ -10,6 +10,7 @@ use Rattle.part_store.specs.Changes.{contents_tree}
 use Rattle.part_store.specs.Entries.{Draft, Entry, Entries, entry_of, numbered}
 use Rattle.part_store.specs.Filing.{CanFile, Collides, Files, FilesAll, IsNext, IsOther}
 use Rattle.part_store.specs.Standing.{HasContent, Stands, draft_of}
+use Rattle.part_store.specs.declared.entry.Kind.TheVariants.{Message}
 use Rattle.part_store.specs.declared.entry.NewEntry.{NewEntry}
 
 -- ---- lists
@@ -147,12 +148,20 @@ collides user last count drafts later whole d old mid clean is so_far other befo
 
 -- ---- the entries of a list
 
-pub drafts_more : (entries : List NewEntry) (place : ℕ) (entry : NewEntry) → place < length entries → entry ≡ get_or entries place entry
-    → map draft_of (take (place + 1) entries) ≡ map draft_of (take place entries) ++ draft_of entry ∷ []
-drafts_more entries place entry lt is = map_more draft_of entries place entry lt ∙ ap (λ x. map draft_of (take place entries) ++ draft_of x ∷ []) (sym is)
+-- what a list of entries has at a place past its end
+abbrev pub no_entry : NewEntry
+no_entry = record { folder = record { ref_ptr = (0, 0); now = [] }; kind = Message; name = record { ref_ptr = (0, 0); now = [] }; media = record { ref_ptr = (0, 0); now = [] }; octets = record { ref_ptr = (0, 0); now = [] } }
 
-pub drafts_split : (entries : List NewEntry) (place : ℕ) (entry : NewEntry) → place < length entries → entry ≡ get_or entries place entry
-    → map draft_of entries ≡ map draft_of (take place entries) ++ draft_of entry ∷ map draft_of (drop (place + 1) entries)
-drafts_split entries place entry lt is =
-    ap (map draft_of) (sym (take-append-drop place entries) ∙ ap (λ rest. take place entries ++ rest) (drop_more entries place entry lt ∙ ap (λ x. x ∷ drop (place + 1) entries) (sym is)))
-    ∙ map-append draft_of (take place entries) (entry ∷ drop (place + 1) entries)
+-- the entry at a place
+abbrev pub entry_at : List NewEntry → ℕ → NewEntry
+entry_at entries place = get_or entries place no_entry
+
+pub drafts_more : (entries : List NewEntry) (place : ℕ) → place < length entries
+    → map draft_of (take (place + 1) entries) ≡ map draft_of (take place entries) ++ draft_of (entry_at entries place) ∷ []
+drafts_more entries place lt = map_more draft_of entries place no_entry lt
+
+pub drafts_split : (entries : List NewEntry) (place : ℕ) → place < length entries
+    → map draft_of entries ≡ map draft_of (take place entries) ++ draft_of (entry_at entries place) ∷ map draft_of (drop (place + 1) entries)
+drafts_split entries place lt =
+    ap (map draft_of) (sym (take-append-drop place entries) ∙ ap (λ rest. take place entries ++ rest) (drop_more entries place no_entry lt))
+    ∙ map-append draft_of (take place entries) (entry_at entries place ∷ drop (place + 1) entries)

@@ -59,6 +59,15 @@ query_keeps sql params old new e (inl (inl h)) = either_keeps old new (not_run s
 query_keeps sql params old new e (inl (inr h)) = either_keeps old new (show_fails sql _ old new h.0 e h.0.returning h.2)
 query_keeps sql params old new e (inr h) = unchanged_keeps old new h.5
 
+shows_open : (sql : List ℕ) (params : Row) (old new : State) (c : Compiled) (rows : List Row) (returning : Option Returning) → ShowsRows old new sql c params rows returning → IsTrue old.is_open
+shows_open sql params old new c rows None h = h.3.0.was_open
+shows_open sql params old new c rows (Some what) h = h.1.shown.was_open
+
+-- what a query shows, it shows of an open connection
+pub shown_open : (sql : List ℕ) (params : Row) (old new : State) (rows : List Row) → Shown sql params old new rows → IsTrue old.is_open
+unfolding Shown
+shown_open sql params old new rows (c, it, shows) = shows_open sql _ old new c rows c.returning shows
+
 pub stays : (s : State) → KeepsCommit s s
 stays s = record { was_open = λ h. h; committed = λ _. refl }
 

@@ -104,7 +104,7 @@ NamesDigest db user number digest = (r : Row) × Has (db entries_tree) r × (is_
 
 -- an entry that is to be made, as the definitions see it
 abbrev pub draft_of : NewEntry → Draft
-draft_of entry = record { folder = entry.folder.items; kind = entry.kind; name = entry.name.items; media = entry.media.items; octets = entry.octets.items }
+draft_of entry = record { folder = entry.folder.now; kind = entry.kind; name = entry.name.now; media = entry.media.now; octets = entry.octets.now }
 
 -- In a transaction: where no entry names the digest any more, what is under it is gone, and else nothing has changed.
 pub record IsTidied (digest : List ℕ) (old new : State) : Type 0 where

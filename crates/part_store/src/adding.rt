@@ -27,11 +27,13 @@ pub(crate) enum Adding {
 pub(crate) fn put_entries<S: Alter>(
     tx: &mut Transaction<'_, S>,
     user: &str,
-    entries: &[NewEntry],
+    entries: &[NewEntry<'_>],
 ) -> Result<Adding, Error>
     requires { 0 < length entries.now }
     ensures same_reference { tx.new.conn.ghost_name ≡ tx.old.conn.ghost_name }
     ensures adds { HasCleanDisk (state S.Store tx.new.conn.now) → IfOk result (Adds user.now (map draft_of entries.now) (state S.Store tx.old.conn.now) (state S.Store tx.new.conn.now)) }
+    ensures open { HasCleanDisk (state S.Store tx.new.conn.now) → OnOk result (IsTrue (state S.Store tx.old.conn.now).is_open) }
+    ensures shut { HasCleanDisk (state S.Store tx.new.conn.now) → IsTrue (state S.Store tx.new.conn.now).is_open → IsTrue (state S.Store tx.old.conn.now).is_open }
     ensures inside { HasCleanDisk (state S.Store tx.new.conn.now) → IfOk result (λ adding. IsFrom adding → IsTrue (state S.Store tx.new.conn.now).in_transaction) }
     ensures kept { HasCleanDisk (state S.Store tx.new.conn.now) → (state S.Store tx.old.conn.now).now.schema ≡ store_schema → KeepsCommit (state S.Store tx.old.conn.now) (state S.Store tx.new.conn.now) }
     ensures survives { Survives (state S.Store tx.old.conn.now) (state S.Store tx.new.conn.now) (λ _. ⊥) }
@@ -57,7 +59,7 @@ fn claim_and_file<S: Alter>(
     user: &str,
     last: u32,
     program: Option<Vec<u8>>,
-    entries: &[NewEntry],
+    entries: &[NewEntry<'_>],
 ) -> Result<bool, Error>
     requires some { 0 < length entries.now }
     requires room { last + length entries.now ≤ max_entry_number }
@@ -90,6 +92,8 @@ fn user_of<S: Alter>(
 ) -> Result<(u32, Option<Vec<u8>>), Error>
     ensures same_reference { tx.new.conn.ghost_name ≡ tx.old.conn.ghost_name }
     ensures told { HasCleanDisk (state S.Store tx.new.conn.now) → IfOk result (λ found. (before : _) → Stands (state S.Store tx.old.conn.now).now before → (found.0 ≡ before.lasts user.now) × (option_map (λ v. v.items) found.1 ≡ before.programs user.now)) }
+    ensures open { HasCleanDisk (state S.Store tx.new.conn.now) → OnOk result (IsTrue (state S.Store tx.old.conn.now).is_open) }
+    ensures shut { HasCleanDisk (state S.Store tx.new.conn.now) → IsTrue (state S.Store tx.new.conn.now).is_open → IsTrue (state S.Store tx.old.conn.now).is_open }
     ensures same { HasCleanDisk (state S.Store tx.new.conn.now) → OnOk result (Stays (state S.Store tx.old.conn.now) (state S.Store tx.new.conn.now)) }
     ensures kept { HasCleanDisk (state S.Store tx.new.conn.now) → (state S.Store tx.old.conn.now).now.schema ≡ store_schema → KeepsCommit (state S.Store tx.old.conn.now) (state S.Store tx.new.conn.now) }
     ensures survives { Survives (state S.Store tx.old.conn.now) (state S.Store tx.new.conn.now) (λ _. ⊥) }
@@ -124,7 +128,7 @@ fn file_all<S: Alter>(
     tx: &mut Transaction<'_, S>,
     user: &str,
     last: u32,
-    entries: &[NewEntry],
+    entries: &[NewEntry<'_>],
 ) -> Result<bool, Error>
     requires some { 0 < length entries.now }
     requires room { last + length entries.now ≤ max_entry_number }

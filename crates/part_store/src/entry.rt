@@ -8,19 +8,19 @@ pub enum Kind {
     Part,
 }
 
-/// An entry that is to be made.
-#[derive(Debug, Drop)]
-pub struct NewEntry {
+/// An entry that is to be made. Its texts and its content are lent.
+#[derive(Clone, Copy, Debug)]
+pub struct NewEntry<'a> {
     /// The folder, as octets.
-    pub folder: Vec<u8>,
+    pub folder: &'a [u8],
     /// Whether it is a message or a part.
     pub kind: Kind,
     /// The name, as octets.
-    pub name: Vec<u8>,
+    pub name: &'a [u8],
     /// The media type, as octets.
-    pub media: Vec<u8>,
+    pub media: &'a [u8],
     /// The content.
-    pub octets: Vec<u8>,
+    pub octets: &'a [u8],
 }
 
 /// An entry that is there, without its content.

@@ -37,7 +37,7 @@ fn stock<S: Alter>(tx: &mut Transaction<'_, S>, digest: &[u8], octets: &[u8]) ->
 /// Whether other octets are under the digest of one of the entries.
 pub(crate) fn any_differs<S: Alter>(
     tx: &mut Transaction<'_, S>,
-    entries: &[NewEntry],
+    entries: &[NewEntry<'_>],
 ) -> Result<bool, Error>
     ensures same_reference { tx.new.conn.ghost_name ≡ tx.old.conn.ghost_name }
     ensures other { HasCleanDisk (state S.Store tx.new.conn.now) → IfOk result (λ found. found ≡ true → (before : _) → Stands (state S.Store tx.old.conn.now).now before → Collides (state S.Store tx.old.conn.now).now.trees (map draft_of entries.now)) }
@@ -46,8 +46,8 @@ pub(crate) fn any_differs<S: Alter>(
     ensures survives { Survives (state S.Store tx.old.conn.now) (state S.Store tx.new.conn.now) (λ _. ⊥) }
 {
     for entry in entries {
-        let digest = Sha256::digest(entry.octets.as_slice());
-        if differs(tx, &digest, entry.octets.as_slice())? {
+        let digest = Sha256::digest(entry.octets);
+        if differs(tx, &digest, entry.octets)? {
             return Ok(true);
         }
     }
@@ -89,29 +89,29 @@ pub(crate) fn file_entry<S: Alter>(
     tx: &mut Transaction<'_, S>,
     user: &str,
     number: u32,
-    entry: &NewEntry,
+    entry: &NewEntry<'_>,
 ) -> Result<bool, Error>
     ensures same_reference { tx.new.conn.ghost_name ≡ tx.old.conn.ghost_name }
     ensures filed { HasCleanDisk (state S.Store tx.new.conn.now) → IfOk result (λ done. done ≡ true → (before : _) → Stands (state S.Store tx.old.conn.now).now before → IsNext before (entry_of user.now number (draft_of entry.now))
-        → Files (entry_of user.now number (draft_of entry.now)) (sha256 entry.now.octets.items) before (state S.Store tx.old.conn.now) (state S.Store tx.new.conn.now)) }
-    ensures other { HasCleanDisk (state S.Store tx.new.conn.now) → IfOk result (λ done. done ≡ false → (before : _) → Stands (state S.Store tx.old.conn.now).now before → IsOther (state S.Store tx.old.conn.now).now.trees (sha256 entry.now.octets.items) entry.now.octets.items) }
+        → Files (entry_of user.now number (draft_of entry.now)) (sha256 entry.now.octets.now) before (state S.Store tx.old.conn.now) (state S.Store tx.new.conn.now)) }
+    ensures other { HasCleanDisk (state S.Store tx.new.conn.now) → IfOk result (λ done. done ≡ false → (before : _) → Stands (state S.Store tx.old.conn.now).now before → IsOther (state S.Store tx.old.conn.now).now.trees (sha256 entry.now.octets.now) entry.now.octets.now) }
     ensures inside { HasCleanDisk (state S.Store tx.new.conn.now) → IfOk result (λ done. done ≡ true → IsTrue (state S.Store tx.new.conn.now).in_transaction) }
     ensures schema { HasCleanDisk (state S.Store tx.new.conn.now) → OnOk result ((state S.Store tx.old.conn.now).now.schema ≡ store_schema → (state S.Store tx.new.conn.now).now.schema ≡ store_schema) }
     ensures kept { HasCleanDisk (state S.Store tx.new.conn.now) → (state S.Store tx.old.conn.now).now.schema ≡ store_schema → KeepsCommit (state S.Store tx.old.conn.now) (state S.Store tx.new.conn.now) }
     ensures survives { Survives (state S.Store tx.old.conn.now) (state S.Store tx.new.conn.now) (λ _. ⊥) }
 {
-    let digest = Sha256::digest(entry.octets.as_slice());
-    if !stock(tx, &digest, entry.octets.as_slice())? {
+    let digest = Sha256::digest(entry.octets);
+    if !stock(tx, &digest, entry.octets)? {
         return Ok(false);
     }
     entries::add(
         tx,
         user,
         number,
-        entry.folder.as_slice(),
+        entry.folder,
         kind_number(entry.kind),
-        entry.name.as_slice(),
-        entry.media.as_slice(),
+        entry.name,
+        entry.media,
         &digest,
     )?;
     Ok(true)

@@ -260,7 +260,9 @@ impl<S: Alter> PartStore<S> {
     /// Adds the entries, of which there is at least one, in order, under the user's next numbers, and answers the first of
     /// these. Refuses `Memory`, `NumberFull` exactly where the numbers that are left don't suffice, else `Collision` exactly where
     /// another content, stored or earlier among the entries, has the digest of one and other octets, and `Database`.
-    pub fn add_entries(&mut self, user: &str, entries: &[NewEntry]) -> Result<u32, StoreError>
+    ///
+    /// A store that a failure has shut stays shut, adds nothing, and refuses `Memory` or `Database`.
+    pub fn add_entries(&mut self, user: &str, entries: &[NewEntry<'_>]) -> Result<u32, StoreError>
         requires { 0 < length entries.now }
         ensures made { HasCleanDisk (state S.Store self.new) → OnOk result (Makes (with_entries user.now (map draft_of entries.now)) (state S.Store self.old) (state S.Store self.new)) }
         ensures first { HasCleanDisk (state S.Store self.new) → IfOk result (λ first. (before : _) → Stands (state S.Store self.old).now before → first ≡ before.lasts user.now + 1) }
@@ -268,9 +270,12 @@ impl<S: Alter> PartStore<S> {
         ensures apart { HasCleanDisk (state S.Store self.new) → OnOk result ((before : _) → Stands (state S.Store self.old).now before → Collides (state S.Store self.old).now.trees (map draft_of entries.now) → ⊥) }
         ensures full { HasCleanDisk (state S.Store self.new) → IfErr result (λ e. e ≡ NumberFull → (before : _) → Stands (state S.Store self.old).now before → HasRoom before user.now (length entries.now) → ⊥) }
         ensures collision { HasCleanDisk (state S.Store self.new) → IfErr result (λ e. e ≡ Collision → (before : _) → Stands (state S.Store self.old).now before → HasRoom before user.now (length entries.now) × Collides (state S.Store self.old).now.trees (map draft_of entries.now)) }
+        ensures open { HasCleanDisk (state S.Store self.new) → OnOk result (IsTrue (state S.Store self.old).is_open) }
+        ensures begun { HasCleanDisk (state S.Store self.new) → IfErr result (λ e. (e ≡ NumberFull) ⊎ (e ≡ Collision) → IsTrue (state S.Store self.old).is_open) }
+        ensures shut { HasCleanDisk (state S.Store self.new) → IsTrue (state S.Store self.new).is_open → IsTrue (state S.Store self.old).is_open }
         ensures spared { HasCleanDisk (state S.Store self.new) → OnErr result (Spares (state S.Store self.old) (state S.Store self.new)) }
         ensures refused { IfErr result (λ e. (e ≡ Memory) ⊎ ((e ≡ NumberFull) ⊎ ((e ≡ Collision) ⊎ (e ≡ Database)))) }
-        ensures survives { Survives (state S.Store self.old) (state S.Store self.new) (λ trees. (before : _) → Stands (state S.Store self.old).now before → StandsFor trees (with_entries user.now (map draft_of entries.now) before)) }
+        ensures survives { Survives (state S.Store self.old) (state S.Store self.new) (λ trees. IsTrue (state S.Store self.old).is_open × ((before : _) → Stands (state S.Store self.old).now before → StandsFor trees (with_entries user.now (map draft_of entries.now) before))) }
     {
         if !self.conn.is_autocommit() {
             return Err(StoreError::Database);
@@ -327,7 +332,7 @@ impl<S: Alter> PartStore<S> {
         ensures absent { HasCleanDisk (state S.Store self.new) → IfErr result (λ e. e ≡ NoSuchEntry → (before : _) → Stands (state S.Store self.old).now before → HasNone before user.now number) }
         ensures spared { HasCleanDisk (state S.Store self.new) → OnErr result (Spares (state S.Store self.old) (state S.Store self.new)) }
         ensures refused { IfErr result (λ e. (e ≡ Memory) ⊎ ((e ≡ NoSuchEntry) ⊎ (e ≡ Database))) }
-        ensures survives { Survives (state S.Store self.old) (state S.Store self.new) (λ trees. (before : _) → Stands (state S.Store self.old).now before → StandsFor trees (without_entry user.now number before)) }
+        ensures survives { Survives (state S.Store self.old) (state S.Store self.new) (λ trees. (before : _) → Stands (state S.Store self.old).now before → ((x : _) × IsEntryAt before user.now number x) × StandsFor trees (without_entry user.now number before)) }
     {
         if !self.conn.is_autocommit() {
             return Err(StoreError::Database);

@@ -19,6 +19,7 @@ pub(crate) fn first_of(rows: Vec<Row>) -> Option<Row>
 pub(crate) fn find<S: Alter>(tx: &mut Transaction<'_, S>, user: &str) -> Result<Option<Row>, Error>
     ensures same_reference { tx.new.conn.ghost_name ≡ tx.old.conn.ghost_name }
     ensures step { HasCleanDisk (state S.Store tx.new.conn.now) → IfOk result (λ found. Steps (Reads (λ db. IsFound users_tree (equals 1 (Text user.now)) (columns (2 ∷ 3 ∷ [])) db found)) (state S.Store tx.old.conn.now) (state S.Store tx.new.conn.now)) }
+    ensures open { HasCleanDisk (state S.Store tx.new.conn.now) → OnOk result (IsTrue (state S.Store tx.old.conn.now).is_open) }
     ensures kept { HasCleanDisk (state S.Store tx.new.conn.now) → OnErr result (KeepsCommit (state S.Store tx.old.conn.now) (state S.Store tx.new.conn.now)) }
     ensures survives { Survives (state S.Store tx.old.conn.now) (state S.Store tx.new.conn.now) (λ _. ⊥) }
 {

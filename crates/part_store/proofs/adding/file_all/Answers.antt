@@ -3,7 +3,7 @@ use Rattle.std.proofs.lemmas.List.{length-map, length-take}
 use Rattle.sqlite.specs.State.{HasCleanDisk}
 use Rattle.sqlite.specs.Held.{state}
 use Rattle.part_store.specs.Standing.{draft_of}
-use Rattle.part_store.proofs.FiledAll.{collides, drafts_more, drafts_split, one_more}
+use Rattle.part_store.proofs.FiledAll.{collides, drafts_more, drafts_split, entry_at, one_more}
 use Rattle.part_store.proofs.adding.file_all.Goals as goal
 
 pub returns-then-not-branch-clause-other : goal.returns-then-not-branch-clause-other
@@ -14,8 +14,8 @@ returns-then-not-branch-clause-other g c clean _ =
     let entries = c.args.entries.now in
     let place = c.loop-entry.entry-index in
     let failed : c.in_ok-file_entry.field-0 ≡ false = search rules in
-    collides c.args.user.now c.args.last (length entries) (map draft_of (take place entries)) (map draft_of (drop (place + 1) entries)) (map draft_of entries) (draft_of c.entry-item.result) old mid early
-    (drafts_split entries place c.entry-item.result c.loop-entry-test.true c.entry-item.is) c.loop-entry.invariant.so_far (c.in_ok-file_entry.ensures.other clean failed)
+    collides c.args.user.now c.args.last (length entries) (map draft_of (take place entries)) (map draft_of (drop (place + 1) entries)) (map draft_of entries) (draft_of (entry_at entries place)) old mid early
+    (drafts_split entries place c.loop-entry-test.true) c.loop-entry.invariant.so_far (c.in_ok-file_entry.ensures.other clean failed)
 
 pub loop-entry-preserved : goal.loop-entry-preserved
 loop-entry-preserved g c =
@@ -30,7 +30,7 @@ loop-entry-preserved g c =
     record {
       same_reference = c.file_entry.ensures.same_reference ∙ c.loop-entry.invariant.same_reference;
       number = omega (arith, c.loop-entry.invariant.number);
-      so_far = one_more c.args.user.now c.args.last (length entries) (c.loop-entry.number + 1) drafts (map draft_of (take (place + 1) entries)) (draft_of c.entry-item.result) old mid new
-          (omega (arith, long, c.loop-entry-test.true)) (omega (arith, long, c.loop-entry.invariant.number)) (drafts_more entries place c.entry-item.result c.loop-entry-test.true c.entry-item.is) c.loop-entry.invariant.so_far
+      so_far = one_more c.args.user.now c.args.last (length entries) (c.loop-entry.number + 1) drafts (map draft_of (take (place + 1) entries)) (draft_of (entry_at entries place)) old mid new
+          (omega (arith, long, c.loop-entry-test.true)) (omega (arith, long, c.loop-entry.invariant.number)) (drafts_more entries place c.loop-entry-test.true) c.loop-entry.invariant.so_far
           c.file_entry.ensures.survives (λ clean. c.in_ok-file_entry.ensures.filed clean done) (λ clean. c.in_ok-file_entry.ensures.inside clean done) (λ clean. c.in_ok-file_entry.ensures.schema clean) c.file_entry.ensures.kept;
     }

@@ -2,7 +2,7 @@ use Rattle.std.proofs.Common.{◌≡◌, ◌+◌, true, map, take, drop, rules, 
 use Rattle.sqlite.specs.State.{HasCleanDisk}
 use Rattle.sqlite.specs.Held.{state}
 use Rattle.part_store.specs.Standing.{draft_of}
-use Rattle.part_store.proofs.FiledAll.{drafts_split}
+use Rattle.part_store.proofs.FiledAll.{drafts_split, entry_at}
 use Rattle.part_store.proofs.Unmoved.{differs_from_stored}
 use Rattle.part_store.proofs.filing.any_differs.Goals as goal
 
@@ -14,6 +14,6 @@ returns-then-branch-clause-other g c clean _ =
     let entries = c.args.entries.now in
     let place = c.loop-entry.entry-index in
     let found : c.in_ok-differs.field-0 ≡ true = search rules in
-    let other = rw (c.as_slice-in-loop-entry.ensures.value, c.digest-digest.ensures, c.as_slice.ensures.value) at (c.in_ok-differs.ensures.other clean found) in
-    differs_from_stored old mid (map draft_of (take place entries)) (map draft_of (drop (place + 1) entries)) (map draft_of entries) (draft_of c.entry-item.result) (c.loop-entry.invariant.so_far.stays early)
-    (drafts_split entries place c.entry-item.result c.loop-entry-test.true c.entry-item.is) other
+    let other = rw (c.digest-digest.ensures) at (c.in_ok-differs.ensures.other clean found) in
+    differs_from_stored old mid (map draft_of (take place entries)) (map draft_of (drop (place + 1) entries)) (map draft_of entries) (draft_of (entry_at entries place)) (c.loop-entry.invariant.so_far.stays early)
+    (drafts_split entries place c.loop-entry-test.true) other

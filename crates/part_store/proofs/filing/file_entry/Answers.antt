@@ -12,8 +12,8 @@ returns-clause-filed g c clean _ before stands next =
     let mid = state g.S.Store c.stock.new.tx.conn.now in
     let new = state g.S.Store c.add.new.tx.conn.now in
     let early : HasCleanDisk mid = omega (arith, c.add.ensures.survives.clean) in
-    let adds = rw (c.as_slice-3.ensures.value, c.kind_number.ensures, c.as_slice-4.ensures.value, c.as_slice-5.ensures.value, c.digest-digest.ensures, c.as_slice.ensures.value) at (c.in_ok-add.ensures.step clean) in
-    let stocks = rw (c.as_slice-2.ensures.value, c.digest-digest.ensures, c.as_slice.ensures.value) at (c.in_ok-stock.ensures.stocked early) in
+    let adds = rw (c.kind_number.ensures, c.digest-digest.ensures) at (c.in_ok-add.ensures.step clean) in
+    let stocks = rw (c.digest-digest.ensures) at (c.in_ok-stock.ensures.stocked early) in
     let done : c.in_ok-stock.field-0 ≡ true = search rules in
     files old mid new (entry_of c.args.user.now c.args.number (draft_of c.args.entry.now)) _ before stands next (stocks done before stands) adds
 

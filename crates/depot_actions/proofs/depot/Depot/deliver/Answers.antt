@@ -1,0 +1,91 @@
+use Rattle.std.proofs.Common.{◌≡◌, IsTrue, IfOk, IfErr, arith, length, map, option_map, rules, subst}
+use Rattle.std.proofs.lemmas.Result.{IfOk-at_ok, IfOk-weaker, IfErr-weaker}
+use Rattle.std.proofs.lemmas.Grind.{common_steps}
+use Rattle.sqlite.specs.Held.{state}
+use Rattle.sqlite.specs.State.{HasCleanDisk, Survives}
+use Rattle.sqlite.proofs.StateLemmas.{survives_then}
+use Rattle.mime_decode.proofs.MailLemmas.{octets_are}
+use Rattle.part_store.specs.Standing.{listed}
+use Rattle.depot_actions.specs.Causes.{HasCause}
+use Rattle.depot_actions.specs.DepotState.{Deliver, Does, Listed, MayLeave}
+use Rattle.depot_actions.specs.Users.{is_user_name}
+use Rattle.depot_actions.proofs.Commands.{ok_before}
+use Rattle.depot_actions.proofs.Delivering.{delivered, no_actions, may_be_filed, nothing_delivered, some_actions, unfiled_cause}
+use Rattle.depot_actions.proofs.depot.Depot.deliver.Goals as goal
+
+pub file_all-requires-clause-octets : goal.file_all-requires-clause-octets
+file_all-requires-clause-octets g c = rw c.in_ok-mail.ensures.read.1 (octets_are c.args.message.now)
+
+pub returns-then-is_empty-clause-done : goal.returns-then-is_empty-clause-done
+returns-then-is_empty-clause-done g c clean =
+    let old = state g.S.Store c.self.inside.store in
+    let mid = state g.S.Store c.program_of.new.self in
+    let user = c.args.user.now in
+    let message = c.args.message.now in
+    let actions = c.in_ok-actions.actions.items in
+    let named : IsTrue (is_user_name user) = search rules in
+    let zero : length actions ≡ 0 = grind (arith, common_steps) in
+    let early : HasCleanDisk mid = clean in
+    let are = rw c.in_ok-mail.ensures.read.1 at c.in_ok-actions.ensures.actions in
+    let found = ok_before c.program_of.result c.map_err.result _ c.in_ok-program.program c.map_err.ensures.cases c.map_err.ensures.variant c.in_ok-program.was in
+    let told = IfOk-at_ok _ found (c.program_of.ensures.told early) in
+    subst (λ h. Does (Deliver user message) (Listed (map listed c.new.result.items)) (state g.S.Store h) mid) c.self.view_is
+    (rw c.new.ensures.items
+    (nothing_delivered old mid mid user message (option_map (λ v. v.items) c.in_ok-program.program) actions named c.in_ok-mail.ensures.read.0 are told (c.program_of.ensures.spared early) (no_actions actions zero)))
+
+pub returns-clause-done : goal.returns-clause-done
+returns-clause-done g c clean =
+    let old = state g.S.Store c.self.inside.store in
+    let mid = state g.S.Store c.program_of.new.self in
+    let new = state g.S.Store c.file_all.new.store in
+    let user = c.args.user.now in
+    let message = c.args.message.now in
+    let actions = c.deref.result.now in
+    let named : IsTrue (is_user_name user) = search rules in
+    let some = some_actions (length actions) _ c.is_empty.result c.is_empty.ensures c.if-is_empty.false c.deref.ensures.len in
+    let early : HasCleanDisk mid = omega (arith, c.file_all.ensures.survives.clean) in
+    let are = rw (c.in_ok-mail.ensures.read.1, ← c.deref.ensures.value) at c.in_ok-actions.ensures.actions in
+    let found = ok_before c.program_of.result c.map_err.result _ c.in_ok-program.program c.map_err.ensures.cases c.map_err.ensures.variant c.in_ok-program.was in
+    let told = IfOk-at_ok _ found (c.program_of.ensures.told early) in
+    let added = rw c.in_ok-mail.ensures.read.1 at (c.file_all.ensures.added clean) in
+    subst (λ h. IfOk c.file_all.result (λ rows. Does (Deliver user message) (Listed (map listed rows.items)) (state g.S.Store h) new)) c.self.view_is
+    (IfOk-weaker c.file_all.result _ _ (λ rows h.
+    delivered old mid new user message (option_map (λ v. v.items) c.in_ok-program.program) actions named c.in_ok-mail.ensures.read.0 are told (c.program_of.ensures.spared early) some (map listed rows.items) h.0 h.1) added)
+
+pub returns-clause-refused : goal.returns-clause-refused
+returns-clause-refused g c clean =
+    let old = state g.S.Store c.self.inside.store in
+    let mid = state g.S.Store c.program_of.new.self in
+    let new = state g.S.Store c.file_all.new.store in
+    let user = c.args.user.now in
+    let message = c.args.message.now in
+    let actions = c.deref.result.now in
+    let named : IsTrue (is_user_name user) = search rules in
+    let early : HasCleanDisk mid = omega (arith, c.file_all.ensures.survives.clean) in
+    let are = rw (c.in_ok-mail.ensures.read.1, ← c.deref.ensures.value) at c.in_ok-actions.ensures.actions in
+    let found = ok_before c.program_of.result c.map_err.result _ c.in_ok-program.program c.map_err.ensures.cases c.map_err.ensures.variant c.in_ok-program.was in
+    let told = IfOk-at_ok _ found (c.program_of.ensures.told early) in
+    let unfiled = rw c.in_ok-mail.ensures.read.1 at (c.file_all.ensures.refused clean) in
+    subst (λ h. IfErr c.file_all.result (λ e. HasCause e (Deliver user message) (state g.S.Store h))) c.self.view_is
+    (IfErr-weaker c.file_all.result _ _ (λ e h.
+    unfiled_cause old mid new user message (option_map (λ v. v.items) c.in_ok-program.program) actions named c.in_ok-mail.ensures.read.0 are told (c.program_of.ensures.spared early) e h) unfiled)
+
+pub returns-clause-survives : goal.returns-clause-survives
+returns-clause-survives g c =
+    let old = state g.S.Store c.self.inside.store in
+    let mid = state g.S.Store c.program_of.new.self in
+    let new = state g.S.Store c.file_all.new.store in
+    let user = c.args.user.now in
+    let message = c.args.message.now in
+    let actions = c.deref.result.now in
+    let named : IsTrue (is_user_name user) = search rules in
+    let some = some_actions (length actions) _ c.is_empty.result c.is_empty.ensures c.if-is_empty.false c.deref.ensures.len in
+    let are = rw (c.in_ok-mail.ensures.read.1, ← c.deref.ensures.value) at c.in_ok-actions.ensures.actions in
+    let found = ok_before c.program_of.result c.map_err.result _ c.in_ok-program.program c.map_err.ensures.cases c.map_err.ensures.variant c.in_ok-program.was in
+    let survives = rw c.in_ok-mail.ensures.read.1 at c.file_all.ensures.survives in
+    subst (λ h. Survives (state g.S.Store h) new (MayLeave (Deliver user message) (state g.S.Store h))) c.self.view_is
+    (survives_then old mid new _ _ (MayLeave (Deliver user message) old) (λ clean db none. absurd none) (λ clean db may.
+    let early : HasCleanDisk mid = omega (arith, survives.clean) in
+    let told = IfOk-at_ok _ found (c.program_of.ensures.told early) in
+    may_be_filed old mid new user message (option_map (λ v. v.items) c.in_ok-program.program) actions named c.in_ok-mail.ensures.read.0 are told (c.program_of.ensures.spared early) some db may)
+    c.program_of.ensures.survives survives)

@@ -1,0 +1,16 @@
+use Rattle.std.proofs.Common.{IsTrue, rules, subst}
+use Rattle.sqlite.specs.Held.{state}
+use Rattle.sqlite.specs.State.{Survives}
+use Rattle.depot_actions.specs.DepotState.{MayLeave, Remove}
+use Rattle.depot_actions.specs.Users.{is_user_name}
+use Rattle.depot_actions.proofs.Commands.{removal_left, survives_more}
+use Rattle.depot_actions.proofs.depot.Depot.remove.Goals as goal
+
+pub returns-clause-survives : goal.returns-clause-survives
+returns-clause-survives g c =
+    let old = state g.S.Store c.self.inside.store in
+    let new = state g.S.Store c.remove_entry.new.self in
+    let user = c.args.user.now in
+    let named : IsTrue (is_user_name user) = search rules in
+    subst (λ h. Survives (state g.S.Store h) new (MayLeave (Remove user c.args.number) (state g.S.Store h))) c.self.view_is
+    (survives_more old new _ _ (λ trees left. removal_left old new user named c.args.number trees left) c.remove_entry.ensures.survives)

@@ -1,0 +1,32 @@
+use Rattle.std.proofs.Common.{◌∙◌, IsTrue, OnOk, rules, subst}
+use Rattle.std.proofs.lemmas.Result.{on_ok_weaker}
+use Rattle.sqlite.specs.Held.{state}
+use Rattle.sqlite.specs.State.{Survives}
+use Rattle.depot_actions.specs.DepotState.{Does, Done, MayLeave, SetScript}
+use Rattle.depot_actions.specs.Users.{is_user_name}
+use Rattle.depot_actions.proofs.Commands.{ok_as, script_done, script_left, survives_more}
+use Rattle.depot_actions.proofs.depot.Depot.set_script.Goals as goal
+
+pub returns-clause-done : goal.returns-clause-done
+returns-clause-done g c clean =
+    let old = state g.S.Store c.self.inside.store in
+    let new = state g.S.Store c.set_program.new.self in
+    let user = c.args.user.now in
+    let script = c.args.script.now in
+    let named : IsTrue (is_user_name user) = search rules in
+    let found = c.in_ok-octets.ensures.compiled in
+    subst (λ h. OnOk c.map_err.result (Does (SetScript user script) Done (state g.S.Store h) new)) c.self.view_is
+    (ok_as c.set_program.result c.map_err.result _ c.map_err.ensures.variant
+    (on_ok_weaker c.set_program.result (script_done old new user named script c.deref.result.now found.0 found.1 (c.deref.ensures.value ∙ found.2)) (c.set_program.ensures.made clean)))
+
+pub returns-clause-survives : goal.returns-clause-survives
+returns-clause-survives g c =
+    let old = state g.S.Store c.self.inside.store in
+    let new = state g.S.Store c.set_program.new.self in
+    let user = c.args.user.now in
+    let script = c.args.script.now in
+    let named : IsTrue (is_user_name user) = search rules in
+    let found = c.in_ok-octets.ensures.compiled in
+    subst (λ h. Survives (state g.S.Store h) new (MayLeave (SetScript user script) (state g.S.Store h))) c.self.view_is
+    (survives_more old new _ _ (λ trees left. script_left old new user named script c.deref.result.now found.0 found.1 (c.deref.ensures.value ∙ found.2) trees left)
+    c.set_program.ensures.survives)

@@ -1,0 +1,100 @@
+-- The commands of a depot: what each replies, and what it leaves. What a depot holds is the `Entries` of its store: the entries, and of each user
+-- the program, if he has one, and the last number that was given.
+use Rattle.std.specs.Prelude.{◌≡◌, ℕ, ◌+◌, IsTrue, List, [], ◌∷◌, length, map, Option, None, Some}
+use Rattle.sqlite.specs.State.{State}
+use Rattle.sqlite_trees.specs.Tree.{Trees}
+use Rattle.bytecode_format.specs.Code.{Code}
+use Rattle.bytecode_format.specs.Spelling.{spelling}
+use Rattle.bytecode_format.specs.declared.action.Action.{Action}
+use Rattle.bytecode_format.specs.declared.action.Action.TheVariants.{Keep}
+use Rattle.mime_decode.specs.Mail.{Mail, IsReadable, mail_of}
+use Rattle.sieve_vm.specs.Ending.{IsOutcome}
+use Rattle.sieve_engine.specs.Execution.{IsChecked}
+use Rattle.sieve_engine.specs.Evaluation.{IsCompiled}
+use Rattle.part_store.specs.Entries.{Draft, Entries, Entry, Listing, entries_of, listing_of, numbered, with_entries, with_program, without_entry}
+use Rattle.part_store.specs.Filing.{HasRoom}
+use Rattle.part_store.specs.Standing.{IsEntryAt, Stands, StandsFor}
+use Rattle.depot_actions.specs.Drafts.{drafts_of}
+use Rattle.depot_actions.specs.Texts.{text_of}
+use Rattle.depot_actions.specs.Users.{is_user_name}
+use Rattle.depot_actions.specs.declared.encoding.Encoding.{Encoding}
+
+-- what a depot is asked for, by a user: to store the code of a script, or a program; to file a message; for the list of his
+-- entries; for his program; for the text of an entry's octets in an encoding; and to remove an entry
+pub data Command : Type 0 where
+  SetScript : List ℕ → List ℕ → Command
+  SetCode : List ℕ → List ℕ → Command
+  Deliver : List ℕ → List ℕ → Command
+  ListAll : List ℕ → Command
+  ProgramOf : List ℕ → Command
+  Export : List ℕ → ℕ → Encoding → Command
+  Remove : List ℕ → ℕ → Command
+
+-- what it replies: that it is done; entries; a program, if there is one; or a text
+pub data Reply : Type 0 where
+  Done : Reply
+  Listed : List Listing → Reply
+  Program : Option (List ℕ) → Reply
+  Text : List ℕ → Reply
+
+abbrev pub user_of : Command → List ℕ
+user_of (SetScript user script) = user
+user_of (SetCode user program) = user
+user_of (Deliver user message) = user
+user_of (ListAll user) = user
+user_of (ProgramOf user) = user
+user_of (Export user number encoding) = user
+user_of (Remove user number) = user
+
+-- the actions on a message are the final ones of the user's program, or Keep where he has none
+abbrev pub AreActions : Option (List ℕ) → Mail → List Action → Type 0
+AreActions None mail actions = actions ≡ Keep ∷ []
+AreActions (Some program) mail actions = (code : Code) × (charged : ℕ) × IsChecked program code × IsOutcome code mail actions charged
+
+-- the drafts become the user's entries under his next numbers; where there is none nothing changes
+abbrev pub filed : List ℕ → List Draft → Entries → Entries
+filed user [] before = before
+filed user (draft ∷ drafts) before = with_entries user (draft ∷ drafts) before
+
+-- a message is delivered: an entry for each final action, in order, under the next numbers
+pub record Delivers (before : Entries) (user message : List ℕ) (reply : Reply) (after : Entries) : Type 0 where
+  pub readable : IsReadable message
+  pub actions : List Action
+  pub are : AreActions (before.programs user) (mail_of message) actions
+  pub room : HasRoom before user (length actions)
+  pub listed : reply ≡ Listed (map listing_of (numbered user (before.lasts user + 1) (drafts_of (mail_of message) actions)))
+  pub filed : after ≡ filed user (drafts_of (mail_of message) actions) before
+
+-- What a command replies, and what it leaves: a script's code, or a program, is the user's program; a message is delivered; an entry is
+-- gone, and the last number stays; and the others change nothing.
+abbrev pub Steps : Entries → Command → Reply → Entries → Type 0
+Steps before (SetScript user script) reply after = (code : Code) × IsCompiled script code × (reply ≡ Done) × (after ≡ with_program user (spelling code) before)
+Steps before (SetCode user program) reply after = (code : Code) × IsChecked program code × (reply ≡ Done) × (after ≡ with_program user program before)
+Steps before (Deliver user message) reply after = Delivers before user message reply after
+Steps before (ListAll user) reply after = (reply ≡ Listed (map listing_of (entries_of user before))) × (after ≡ before)
+Steps before (ProgramOf user) reply after = (reply ≡ Program (before.programs user)) × (after ≡ before)
+Steps before (Export user number encoding) reply after =
+    (entry : Entry) × IsEntryAt before user number entry × (reply ≡ Text (text_of encoding entry.octets)) × (after ≡ before)
+Steps before (Remove user number) reply after = (entry : Entry) × IsEntryAt before user number entry × (reply ≡ Done) × (after ≡ without_entry user number before)
+
+-- a depot that holds this accepts the command with this reply, and holds that afterwards
+pub record Accepts (before : Entries) (command : Command) (reply : Reply) (after : Entries) : Type 0 where
+  pub named : IsTrue (is_user_name (user_of command))
+  pub step : Steps before command reply after
+
+-- ---- on a store
+
+-- the tables stand for what a command leaves, and what was committed before still is
+pub record Leaves (after : Entries) (old new : State) : Type 0 where
+  pub stands : Stands new.now after
+  pub committed : old.committed ≡ old.now → new.committed ≡ new.now
+
+-- the store does the command with this reply; a failure after that may have shut it
+abbrev pub Does : Command → Reply → State → State → Type 0
+Does command reply old new =
+    (before : Entries) → Stands old.now before → (after : Entries) × Accepts before command reply after × (IsTrue new.is_open → Leaves after old new)
+
+-- tables that stand for what the command leaves: with the step that the store itself makes, all that a crash may leave
+abbrev pub MayLeave : Command → State → Trees → Type 0
+MayLeave command old trees =
+    (before : Entries) → Stands old.now before → (reply : Reply) × (after : Entries) × Accepts before command reply after × StandsFor trees after

@@ -1,0 +1,36 @@
+// Scripts and programs that are to be stored.
+ghost use Rattle.std.specs.Prelude.{◌≡◌, IfErr, IfOk, OnOk};
+ghost use Rattle.bytecode_format.specs.Code.{Code};
+ghost use Rattle.bytecode_format.specs.Spelling.{spelling};
+ghost use Rattle.sieve_engine.specs.Evaluation.{IsCompiled, IsScriptRefusal};
+ghost use Rattle.sieve_engine.specs.Execution.{IsChecked, IsProgramRefusal};
+
+use refusals::Refusal;
+use sieve_engine::{check_program, compile_script};
+use std::alloc::Global;
+
+/// The octets of a script's code.
+///
+/// # Errors
+///
+/// What the script is refused for. `Memory` where an allocation was refused.
+pub(crate) fn code_octets(alloc: Global, script: &[u8]) -> Result<Vec<u8>, Refusal>
+    ensures compiled { IfOk result (λ octets. (code : Code) × IsCompiled script.now code × (octets.items ≡ spelling code)) }
+    ensures refused { IfErr result (λ e. IsScriptRefusal script.now e) }
+{
+    let program = compile_script(alloc, script)?;
+    Ok(program.write(alloc)?)
+}
+
+/// Checks that octets spell an accepted program.
+///
+/// # Errors
+///
+/// What the program is refused for. `Memory` where an allocation was refused.
+pub(crate) fn check_code(alloc: Global, program: &[u8]) -> Result<(), Refusal>
+    ensures checked { OnOk result ((code : Code) × IsChecked program.now code) }
+    ensures refused { IfErr result (λ e. IsProgramRefusal program.now e) }
+{
+    let _verified = check_program(alloc, program)?;
+    Ok(())
+}

@@ -1,0 +1,108 @@
+// What a delivery files, and how.
+ghost use Rattle.std.specs.Prelude.{◌≡◌, ◌<◌, ◌⊎◌, [], ◌∷◌, All, IfErr, IfOk, IsTrue, OnErr, length, map, option_map};
+ghost use Rattle.bytecode_format.specs.declared.action.Action.TheVariants.{Keep};
+ghost use Rattle.sieve_vm.specs.Stores.{NamesPart};
+ghost use Rattle.sqlite.specs.Held.{state};
+ghost use Rattle.sqlite.specs.State.{HasCleanDisk, Survives};
+ghost use Rattle.part_store.specs.Entries.{Entries};
+ghost use Rattle.part_store.specs.Standing.{Spares, Stands, draft_of, listed};
+ghost use Rattle.refusals.specs.declared.refusal.Refusal.TheVariants.{Memory, Database};
+ghost use Rattle.depot_actions.specs.DepotState.{AreActions};
+ghost use Rattle.depot_actions.specs.Drafts.{drafts_of};
+ghost use Rattle.depot_actions.specs.Filing.{Adds, IsUnfiled, MayFile};
+
+use crate::entries::new_entries;
+use crate::kept_parts::kept_parts;
+use crate::refusing::refused;
+use crate::rows::{set_numbers, unnumbered_rows};
+use bytecode_format::Action;
+use mime_decode::Message;
+use part_store::{EntryRow, NewEntry, PartStore};
+use refusals::Refusal;
+use sieve_engine::check_program;
+use sieve_vm::run;
+use sqlite::Alter;
+use std::alloc::{AllocError, Global};
+
+/// The final actions of a user's program on a message, or Keep where he has none.
+///
+/// # Errors
+///
+/// `Database` where the program no longer reads and verifies. `Memory` where an allocation was refused.
+pub(crate) fn actions_of(
+    alloc: Global,
+    program: Option<Vec<u8>>,
+    message: &Message,
+) -> Result<Vec<Action>, Refusal>
+    ensures actions { IfOk result (λ actions. AreActions (option_map (λ v. v.items) program) message.now actions.items) }
+    ensures parts { IfOk result (λ actions. All (NamesPart message.now) actions.items) }
+    ensures refused { IfErr result (λ e. (e ≡ Memory) ⊎ (e ≡ Database)) }
+{
+    let Some(program) = program else {
+        return Ok(keep_alone(alloc)?);
+    };
+    match check_program(alloc, &program) {
+        Ok(verified) => {
+            let _size = message.size();
+            Ok(run(alloc, &verified, message)?.actions)
+        }
+        Err(Refusal::Memory) => Err(Refusal::Memory),
+        Err(_) => Err(Refusal::Database),
+    }
+}
+
+// Keep and no other action.
+fn keep_alone(alloc: Global) -> Result<Vec<Action>, AllocError>
+    ensures { IfOk result (λ actions. actions.items ≡ Keep ∷ []) }
+{
+    let mut actions = Vec::new(alloc);
+    actions.push(Action::Keep)?;
+    Ok(actions)
+}
+
+/// Files an entry for each of the actions, of which there is at least one. The rows of the entries.
+///
+/// # Errors
+///
+/// `NumberFull`, `Collision` and `Database` of the store, and `Memory` where an allocation was refused. Nothing is filed then.
+pub(crate) fn file_all<S: Alter>(
+    store: &mut PartStore<S>,
+    alloc: Global,
+    user: &str,
+    octets: &[u8],
+    message: &Message,
+    actions: &[Action],
+) -> Result<Vec<EntryRow>, Refusal>
+    requires some { 0 < length actions.now }
+    requires parts { All (NamesPart message.now) actions.now }
+    requires octets { message.now.octets ≡ octets.now }
+    ensures added { HasCleanDisk (state S.Store store.new) → IfOk result (λ rows. IsTrue (state S.Store store.old).is_open × ((before : Entries) → Stands (state S.Store store.old).now before → Adds user.now (drafts_of message.now actions.now) (map listed rows.items) (state S.Store store.old) (state S.Store store.new) before)) }
+    ensures shut { HasCleanDisk (state S.Store store.new) → IsTrue (state S.Store store.new).is_open → IsTrue (state S.Store store.old).is_open }
+    ensures spared { HasCleanDisk (state S.Store store.new) → OnErr result (Spares (state S.Store store.old) (state S.Store store.new)) }
+    ensures refused { HasCleanDisk (state S.Store store.new) → IfErr result (λ e. IsUnfiled e user.now (drafts_of message.now actions.now) (state S.Store store.old)) }
+    ensures survives { Survives (state S.Store store.old) (state S.Store store.new) (MayFile user.now (drafts_of message.now actions.now) (state S.Store store.old)) }
+{
+    let kept = kept_parts(alloc, message, actions)?;
+    let entries = new_entries(alloc, octets, &kept, actions)?;
+    add_all(store, alloc, user, &entries)
+}
+
+// Adds entries, of which there is at least one. Their rows are made before, so that nothing is added where memory is refused.
+fn add_all<S: Alter>(
+    store: &mut PartStore<S>,
+    alloc: Global,
+    user: &str,
+    entries: &[NewEntry<'_>],
+) -> Result<Vec<EntryRow>, Refusal>
+    requires some { 0 < length entries.now }
+    ensures added { HasCleanDisk (state S.Store store.new) → IfOk result (λ rows. IsTrue (state S.Store store.old).is_open × ((before : Entries) → Stands (state S.Store store.old).now before → Adds user.now (map draft_of entries.now) (map listed rows.items) (state S.Store store.old) (state S.Store store.new) before)) }
+    ensures shut { HasCleanDisk (state S.Store store.new) → IsTrue (state S.Store store.new).is_open → IsTrue (state S.Store store.old).is_open }
+    ensures spared { HasCleanDisk (state S.Store store.new) → OnErr result (Spares (state S.Store store.old) (state S.Store store.new)) }
+    ensures refused { HasCleanDisk (state S.Store store.new) → IfErr result (λ e. IsUnfiled e user.now (map draft_of entries.now) (state S.Store store.old)) }
+    ensures survives { Survives (state S.Store store.old) (state S.Store store.new) (MayFile user.now (map draft_of entries.now) (state S.Store store.old)) }
+{
+    let mut rows = unnumbered_rows(alloc, entries)?;
+    let first = store.add_entries(user, entries).map_err(refused)?;
+    set_numbers(&mut rows, first);
+    Ok(rows)
+}

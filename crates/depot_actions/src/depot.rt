@@ -1,0 +1,252 @@
+//! The depot and its calls.
+ghost use Rattle.std.specs.Prelude.{◌≡◌, ◌≢◌, ◌⊎◌, List, ℕ, map, option_map, IfOk, IfErr, OnOk, OnErr};
+ghost use Rattle.sqlite.specs.Held.{state};
+ghost use Rattle.sqlite.specs.State.{HasCleanDisk, Survives};
+ghost use Rattle.sqlite.specs.Steps.{over_memory};
+ghost use Rattle.part_store.specs.Entries.{no_entries};
+ghost use Rattle.part_store.specs.Opening.{IsReady};
+ghost use Rattle.part_store.specs.Standing.{Spares, Stands, listed};
+ghost use Rattle.refusals.specs.declared.refusal.Refusal.TheVariants.{Memory, Database, Write};
+ghost use Rattle.depot_actions.specs.Causes.{HasCause};
+ghost use Rattle.depot_actions.specs.DepotState.{Deliver, Does, Done, Export, ListAll, Listed, MayLeave, Program, ProgramOf, Remove, SetCode, SetScript, Text};
+ghost use Rattle.depot_actions.specs.Device.{HasBroken, HasTaken};
+
+use crate::checking::{check_code, code_octets};
+use crate::delivery::{actions_of, file_all};
+use crate::encoding::{Encoding, encode};
+use crate::exporting::put;
+use crate::refusing::refused;
+use crate::sink::{DeviceFailed, Sink};
+use crate::user::is_user_name;
+use mime_decode::Message;
+use part_store::{EntryRow, PartStore};
+use refusals::Refusal;
+use sqlite::{Alter, File, FileStore, MemStore};
+use std::alloc::Global;
+use std::marker::Model;
+
+/// What users have filed, and their filters, in a store of theirs.
+///
+/// A contract sees the state of the store; `specs/DepotState` says what each command replies and leaves, `specs/Causes` why one is
+/// refused. A refused command changes nothing.
+pub struct Depot<S: Alter> {
+    store: PartStore<S>,
+}
+
+impl<S: Alter> Model for Depot<S> {
+    ghost use Rattle.sqlite.specs.Held.{Held, held_code};
+
+    ghost Value = { Held S };
+
+    ghost coded = { held_code S.code };
+
+    ghost view = { λ d. d.store };
+}
+
+impl<S: Alter + Drop> Drop for Depot<S> {
+    fn drop(self) {
+        let Depot { store: _ } = self;
+    }
+}
+
+impl<S: Alter> Depot<S> {
+    /// The depot of a store.
+    pub fn adopt(store: PartStore<S>) -> Depot<S>
+        ensures { result ≡ store }
+    {
+        Depot { store }
+    }
+
+    /// Gives the store back.
+    pub fn release(self) -> PartStore<S>
+        ensures { result ≡ self }
+    {
+        let Depot { store } = self;
+        store
+    }
+
+    /// Stores the code of a script as the user's filter, in place of the one before.
+    ///
+    /// # Errors
+    ///
+    /// `UserName`; then what the script is refused for; then `Database`. `Memory` where an allocation was refused.
+    pub fn set_script(&mut self, alloc: Global, user: &str, script: &[u8]) -> Result<(), Refusal>
+        ensures done { HasCleanDisk (state S.Store self.new) → OnOk result (Does (SetScript user.now script.now) Done (state S.Store self.old) (state S.Store self.new)) }
+        ensures spared { HasCleanDisk (state S.Store self.new) → OnErr result (Spares (state S.Store self.old) (state S.Store self.new)) }
+        ensures refused { HasCleanDisk (state S.Store self.new) → IfErr result (λ e. HasCause e (SetScript user.now script.now) (state S.Store self.old)) }
+        ensures survives { Survives (state S.Store self.old) (state S.Store self.new) (MayLeave (SetScript user.now script.now) (state S.Store self.old)) }
+    {
+        if !is_user_name(user) {
+            return Err(Refusal::UserName);
+        }
+        let octets = code_octets(alloc, script)?;
+        self.store.set_program(user, &octets).map_err(refused)
+    }
+
+    /// Stores a filter program as the user's, in place of the one before.
+    ///
+    /// # Errors
+    ///
+    /// `UserName`; then what the program is refused for; then `Database`. `Memory` where an allocation was refused.
+    pub fn set_code(&mut self, alloc: Global, user: &str, program: &[u8]) -> Result<(), Refusal>
+        ensures done { HasCleanDisk (state S.Store self.new) → OnOk result (Does (SetCode user.now program.now) Done (state S.Store self.old) (state S.Store self.new)) }
+        ensures spared { HasCleanDisk (state S.Store self.new) → OnErr result (Spares (state S.Store self.old) (state S.Store self.new)) }
+        ensures refused { HasCleanDisk (state S.Store self.new) → IfErr result (λ e. HasCause e (SetCode user.now program.now) (state S.Store self.old)) }
+        ensures survives { Survives (state S.Store self.old) (state S.Store self.new) (MayLeave (SetCode user.now program.now) (state S.Store self.old)) }
+    {
+        if !is_user_name(user) {
+            return Err(Refusal::UserName);
+        }
+        check_code(alloc, program)?;
+        self.store.set_program(user, program).map_err(refused)
+    }
+
+    /// Runs the user's filter on a message, and files an entry for each of its final actions, in their order; where he has no filter the
+    /// message is kept. The rows of the new entries.
+    ///
+    /// # Errors
+    ///
+    /// `UserName`; then `MessageTooLarge` or `TooManyParts`; then, of what is read, `Database`, also where the stored filter no longer reads
+    /// and verifies; then `NumberFull`, `Collision` and `Database` of what is written. `Memory` where an allocation was refused.
+    pub fn deliver(
+        &mut self,
+        alloc: Global,
+        user: &str,
+        message: &[u8],
+    ) -> Result<Vec<EntryRow>, Refusal>
+        ensures done { HasCleanDisk (state S.Store self.new) → IfOk result (λ rows. Does (Deliver user.now message.now) (Listed (map listed rows.items)) (state S.Store self.old) (state S.Store self.new)) }
+        ensures spared { HasCleanDisk (state S.Store self.new) → OnErr result (Spares (state S.Store self.old) (state S.Store self.new)) }
+        ensures refused { HasCleanDisk (state S.Store self.new) → IfErr result (λ e. HasCause e (Deliver user.now message.now) (state S.Store self.old)) }
+        ensures survives { Survives (state S.Store self.old) (state S.Store self.new) (MayLeave (Deliver user.now message.now) (state S.Store self.old)) }
+    {
+        if !is_user_name(user) {
+            return Err(Refusal::UserName);
+        }
+        let mail = Message::read(alloc, message)?;
+        let program = self.store.program_of(user).map_err(refused)?;
+        let actions = actions_of(alloc, program, &mail)?;
+        if actions.is_empty() {
+            return Ok(Vec::new(alloc));
+        }
+        file_all(&mut self.store, alloc, user, message, &mail, &actions)
+    }
+
+    /// The rows of the user's entries, by their numbers.
+    ///
+    /// # Errors
+    ///
+    /// `UserName`, then `Database`. `Memory` where an allocation was refused.
+    pub fn list(&mut self, user: &str) -> Result<Vec<EntryRow>, Refusal>
+        ensures done { HasCleanDisk (state S.Store self.new) → IfOk result (λ rows. Does (ListAll user.now) (Listed (map listed rows.items)) (state S.Store self.old) (state S.Store self.new)) }
+        ensures spared { HasCleanDisk (state S.Store self.new) → Spares (state S.Store self.old) (state S.Store self.new) }
+        ensures refused { HasCleanDisk (state S.Store self.new) → IfErr result (λ e. HasCause e (ListAll user.now) (state S.Store self.old)) }
+        ensures survives { Survives (state S.Store self.old) (state S.Store self.new) (λ _. ⊥) }
+    {
+        if !is_user_name(user) {
+            return Err(Refusal::UserName);
+        }
+        self.store.entries_of(user).map_err(refused)
+    }
+
+    /// The octets of the user's filter program, or none where he has none.
+    ///
+    /// # Errors
+    ///
+    /// `UserName`, then `Database`. `Memory` where an allocation was refused.
+    pub fn program_of(&mut self, user: &str) -> Result<Option<Vec<u8>>, Refusal>
+        ensures done { HasCleanDisk (state S.Store self.new) → IfOk result (λ found. Does (ProgramOf user.now) (Program (option_map (λ v. v.items) found)) (state S.Store self.old) (state S.Store self.new)) }
+        ensures spared { HasCleanDisk (state S.Store self.new) → Spares (state S.Store self.old) (state S.Store self.new) }
+        ensures refused { HasCleanDisk (state S.Store self.new) → IfErr result (λ e. HasCause e (ProgramOf user.now) (state S.Store self.old)) }
+        ensures survives { Survives (state S.Store self.old) (state S.Store self.new) (λ _. ⊥) }
+    {
+        if !is_user_name(user) {
+            return Err(Refusal::UserName);
+        }
+        self.store.program_of(user).map_err(refused)
+    }
+
+    /// Writes the octets of the user's entry of this number, in an encoding, and nothing else.
+    ///
+    /// # Errors
+    ///
+    /// `UserName`, then `NoSuchEntry` where he has none of that number, and `Database`; nothing was written then. `Memory` where an
+    /// allocation was refused; nothing was written. `Write` where a call of the writer failed; a prefix was written.
+    pub fn export<W: Sink>(
+        &mut self,
+        alloc: Global,
+        user: &str,
+        number: u32,
+        encoding: Encoding,
+        writer: &mut W,
+    ) -> Result<(), Refusal>
+        ensures done { OnOk result ((text : List ℕ) × HasTaken text (W.output writer.old) (W.output writer.new)
+            × (HasCleanDisk (state S.Store self.new) → Does (Export user.now number encoding) (Text text) (state S.Store self.old) (state S.Store self.new))) }
+        ensures stopped { IfErr result (λ e. e ≡ Write → (text : List ℕ) × HasBroken text (W.output writer.old) (W.output writer.new)
+            × (HasCleanDisk (state S.Store self.new) → Does (Export user.now number encoding) (Text text) (state S.Store self.old) (state S.Store self.new))) }
+        ensures unwritten { IfErr result (λ e. e ≢ Write → W.output writer.new ≡ W.output writer.old) }
+        ensures spared { HasCleanDisk (state S.Store self.new) → Spares (state S.Store self.old) (state S.Store self.new) }
+        ensures refused { HasCleanDisk (state S.Store self.new) → IfErr result (λ e. HasCause e (Export user.now number encoding) (state S.Store self.old)) }
+        ensures survives { Survives (state S.Store self.old) (state S.Store self.new) (λ _. ⊥) }
+    {
+        if !is_user_name(user) {
+            return Err(Refusal::UserName);
+        }
+        let octets = self.store.bytes_of(user, number).map_err(refused)?;
+        let text = encode(alloc, encoding, &octets)?;
+        match put(writer, &text) {
+            Ok(()) => Ok(()),
+            Err(DeviceFailed) => Err(Refusal::Write),
+        }
+    }
+
+    /// Removes the user's entry of this number. The number isn't given again.
+    ///
+    /// # Errors
+    ///
+    /// `UserName`, then `NoSuchEntry` where he has none of that number, and `Database`. `Memory` where an allocation was refused.
+    pub fn remove(&mut self, user: &str, number: u32) -> Result<(), Refusal>
+        ensures done { HasCleanDisk (state S.Store self.new) → OnOk result (Does (Remove user.now number) Done (state S.Store self.old) (state S.Store self.new)) }
+        ensures spared { HasCleanDisk (state S.Store self.new) → OnErr result (Spares (state S.Store self.old) (state S.Store self.new)) }
+        ensures refused { HasCleanDisk (state S.Store self.new) → IfErr result (λ e. HasCause e (Remove user.now number) (state S.Store self.old)) }
+        ensures survives { Survives (state S.Store self.old) (state S.Store self.new) (MayLeave (Remove user.now number) (state S.Store self.old)) }
+    {
+        if !is_user_name(user) {
+            return Err(Refusal::UserName);
+        }
+        self.store.remove_entry(user, number).map_err(refused)
+    }
+}
+
+impl Depot<MemStore> {
+    /// An empty depot in memory.
+    ///
+    /// # Errors
+    ///
+    /// `Memory` where an allocation was refused, `Database` where the database fails.
+    pub fn in_memory(alloc: Global) -> Result<Depot<MemStore>, Refusal>
+        ensures empty { IfOk result (λ d. Stands (state over_memory d).now no_entries) }
+        ensures refused { IfErr result (λ e. (e ≡ Memory) ⊎ (e ≡ Database)) }
+    {
+        match PartStore::in_memory(alloc) {
+            Ok(store) => Ok(Depot { store }),
+            Err(error) => Err(refused(error)),
+        }
+    }
+}
+
+impl Depot<FileStore<File>> {
+    /// The depot in the file at a path, which is made if it isn't there.
+    ///
+    /// # Errors
+    ///
+    /// `Memory` where an allocation was refused; `Database` where the file can't be opened, is no database, or is open elsewhere.
+    pub fn open(rt: &HostRuntime, path: &str) -> Result<Depot<FileStore<File>>, Refusal>
+        ensures ready { IfOk result IsReady }
+        ensures refused { IfErr result (λ e. (e ≡ Memory) ⊎ (e ≡ Database)) }
+    {
+        match PartStore::open(rt, path) {
+            Ok(store) => Ok(Depot { store }),
+            Err(error) => Err(refused(error)),
+        }
+    }
+}

@@ -1,0 +1,79 @@
+// The names and media types of parts (RFC 2183, section 2.3; RFC 2045, section 5.1).
+ghost use Rattle.std.specs.Prelude.{◌≡◌, IfOk, MatchOption, None, Some, codes, option_map};
+ghost use Rattle.mime_tree.specs.PartTree.{first_value};
+ghost use Rattle.mime_decode.specs.Mail.{Part};
+ghost use Rattle.depot_actions.specs.Drafts.{file_name_in, media_text, name_of};
+
+use header_fields::{Field, name_is, unfold};
+use mime_params::{MediaType, ValueError, param, read_disposition};
+use octets::to_lowercase;
+use std::alloc::{AllocError, Global};
+
+/// The name of a part with these fields and this media type. An error comes only where an allocation was refused.
+pub(crate) fn part_name(
+    alloc: Global,
+    fields: &[Field],
+    media: &MediaType,
+) -> Result<Vec<u8>, AllocError>
+    ensures { (part : Part) → part.fields ≡ fields.now → part.media ≡ media.now → IfOk result (λ name. name.items ≡ name_of part) }
+{
+    if let Some(name) = file_name(alloc, fields)? {
+        return Ok(name);
+    }
+    match param(&media.params, b"name") {
+        Some(name) => name.to_vec(alloc),
+        None => Ok(Vec::new(alloc)),
+    }
+}
+
+/// A media type without its parameters, in lower case. An error comes only where an allocation was refused.
+pub(crate) fn media_text(alloc: Global, media: &MediaType) -> Result<Vec<u8>, AllocError>
+    ensures { IfOk result (λ text. text.items ≡ media_text media.now) }
+{
+    let mut text = to_lowercase(alloc, media.main.as_slice())?.into_vec();
+    text.push(b'/')?;
+    text.extend_from_slice(to_lowercase(alloc, media.sub.as_slice())?.as_slice())?;
+    Ok(text)
+}
+
+// The file name that the first Content-Disposition has.
+fn file_name(alloc: Global, fields: &[Field]) -> Result<Option<Vec<u8>>, AllocError>
+    ensures { IfOk result (λ name. option_map (λ v. v.items) name ≡ file_name_in (first_value (codes "Content-Disposition") fields.now)) }
+{
+    match first_named(fields, b"Content-Disposition") {
+        Some(field) => file_name_of(alloc, unfold(alloc, field)?.as_slice()),
+        None => Ok(None),
+    }
+}
+
+// The file name that the value of a Content-Disposition has.
+fn file_name_of(alloc: Global, value: &[u8]) -> Result<Option<Vec<u8>>, AllocError>
+    ensures { IfOk result (λ name. option_map (λ v. v.items) name ≡ file_name_in (Some value.now)) }
+{
+    let Some(disposition) = read_disposition(alloc, value).map_err(refused)? else {
+        return Ok(None);
+    };
+    match param(&disposition.params, b"filename") {
+        Some(name) => Ok(Some(name.to_vec(alloc)?)),
+        None => Ok(None),
+    }
+}
+
+// The first field of this name.
+fn first_named<'f, 'a>(fields: &'f [Field<'a>], name: &[u8]) -> Option<&'f Field<'a>>
+    ensures { MatchOption result (first_value name.now fields.now ≡ None) (λ field. first_value name.now fields.now ≡ Some field.now.value) }
+{
+    for field in fields {
+        if name_is(field, name) {
+            return Some(field);
+        }
+    }
+    None
+}
+
+// Nothing else keeps a value from being read.
+fn refused(error: ValueError) -> AllocError {
+    match error {
+        ValueError::Memory => AllocError,
+    }
+}
