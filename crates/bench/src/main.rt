@@ -3,6 +3,7 @@
 
 mod codecs;
 mod compiling;
+mod deliver;
 mod eval;
 mod filters;
 mod headers;
@@ -24,6 +25,7 @@ fn main(rt: HostRuntime) -> anyhow::Result<()> {
     match words.next() {
         Some(job) if job.as_str() == "codecs" => codecs::run(&rt),
         Some(job) if job.as_str() == "compile" => compiling::run(&rt),
+        Some(job) if job.as_str() == "deliver" => deliver::run(&rt),
         Some(job) if job.as_str() == "eval" => eval::run(&rt),
         Some(job) if job.as_str() == "filter" => filters::run(&rt),
         Some(job) if job.as_str() == "headers" => headers::run(&rt),
@@ -41,6 +43,7 @@ fn main(rt: HostRuntime) -> anyhow::Result<()> {
         _ => {
             println!(rt; "codecs")?;
             println!(rt; "compile")?;
+            println!(rt; "deliver")?;
             println!(rt; "eval")?;
             println!(rt; "filter")?;
             println!(rt; "headers")?;

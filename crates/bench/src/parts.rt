@@ -2,6 +2,7 @@
 // messages that are all delimiters, boundaries or levels, each beside a multipart of plain lines of about the same size.
 use crate::codecs::rate_of;
 use lanes_base64_mime::decode_mime;
+use memchr::memmem;
 use mime_decode::{Message, digest_of};
 use mime_tree::Tree;
 use std::alloc::{AllocError, Global};
@@ -21,7 +22,11 @@ pub(crate) fn run(rt: &HostRuntime) -> anyhow::Result<()> {
 fn attachments_at_work(rt: &HostRuntime) -> anyhow::Result<()> {
     let mail = attachments(rt.alloc())?;
     let rate = tree_rate(rt, &mail)?;
-    println!(rt; "{} octets: tree {rate} MB/s", mail.len())?;
+    let finding = finding_rate(rt, &mail)?;
+    println!(rt;
+        "{} octets: tree {rate} MB/s, finding what may be delimiters {finding} MB/s",
+        mail.len()
+    )?;
     let start = Instant::now(rt)?;
     for _ in 0..ROUNDS {
         digest_all(rt.alloc(), &mail)?;
@@ -42,7 +47,7 @@ fn attachments_at_work(rt: &HostRuntime) -> anyhow::Result<()> {
 }
 
 // The digests of all contents, as a message gives them.
-fn digest_all(alloc: Global, mail: &[u8]) -> anyhow::Result<()> {
+pub(crate) fn digest_all(alloc: Global, mail: &[u8]) -> anyhow::Result<()> {
     let message = Message::read(alloc, mail)?;
     for part in 0..message.parts() {
         let _digest = message.digest(alloc, part)?;
@@ -61,7 +66,7 @@ fn decode_and_digest(alloc: Global, mail: &[u8]) -> anyhow::Result<()> {
 }
 
 // Eight parts of so many lines of base64 each.
-fn attachments(alloc: Global) -> Result<Vec<u8>, AllocError> {
+pub(crate) fn attachments(alloc: Global) -> Result<Vec<u8>, AllocError> {
     let mut mail = Vec::from_slice(alloc, b"Content-Type: multipart/mixed; boundary=b\r\n\r\n")?;
     for _ in 0..8 {
         mail.extend_from_slice(b"--b\r\nContent-Transfer-Encoding: base64\r\n\r\n")?;
@@ -71,6 +76,18 @@ fn attachments(alloc: Global) -> Result<Vec<u8>, AllocError> {
     }
     mail.extend_from_slice(b"--b--\r\n")?;
     Ok(mail)
+}
+
+// How fast the octets are gone over that begin a delimiter line, by a library alone.
+fn finding_rate(rt: &HostRuntime, mail: &[u8]) -> anyhow::Result<u64> {
+    let start = Instant::now(rt)?;
+    let mut found: usize = 0;
+    for _ in 0..ROUNDS {
+        found = found.saturating_add(memmem::find_iter(mail, b"\n--").count());
+    }
+    let time = start.elapsed(rt)?.as_micros();
+    println!(rt; "{found} found")?;
+    Ok(rate_of(mail.len(), ROUNDS, time))
 }
 
 fn shapes_at_work(rt: &HostRuntime) -> anyhow::Result<()> {
@@ -89,6 +106,12 @@ fn shapes_at_work(rt: &HostRuntime) -> anyhow::Result<()> {
     let mut nested = levels(alloc)?;
     add_lines(&mut nested, b"--b\n", 1_000_000)?;
     shape(rt, "31 nested multiparts over 1,000,000 lines --b", &nested)?;
+    let mut text = levels(alloc)?;
+    let line = b"Zm9vYmFyZm9vYmFyZm9vYmFyZm9vYmFyZm9vYmFyZm9vYmFyZm9vYmFyZm9vYmFyZm9vYmFyZm9v\r\n";
+    add_lines(&mut text, line, 8 * LINES)?;
+    shape(rt, "31 nested multiparts over 10 MB of base64", &text)?;
+    let one = lines_after(alloc, MULTIPART, line, 8 * LINES)?;
+    shape(rt, "one multipart over 10 MB of base64", &one)?;
     let boundary = lines_after(alloc, b"", b"b", 60_000)?;
     let mut long = Vec::from_slice(alloc, b"Content-Type: multipart/mixed; boundary=")?;
     long.extend_from_slice(&boundary)?;

@@ -33,21 +33,25 @@ fn fill(
 
 // Adds an entry of 1 kB that no other has.
 fn add(alloc: Global, store: &mut PartStore<MemStore>, number: u32) -> Result<(), StoreError> {
-    let entries = [entry(alloc, number)?];
-    store.add_entries("ann", &entries)?;
+    let octets = content(alloc, number)?;
+    store.add_entries("ann", &[entry(&octets)])?;
     Ok(())
 }
 
-fn entry(alloc: Global, number: u32) -> Result<NewEntry, AllocError> {
+fn content(alloc: Global, number: u32) -> Result<Vec<u8>, AllocError> {
     let mut octets = vec![in alloc; b'x'; 1_020]?;
     octets.extend_from_slice(&number.to_be_bytes())?;
-    Ok(NewEntry {
-        folder: b"INBOX".to_vec(alloc)?,
+    Ok(octets)
+}
+
+fn entry(octets: &[u8]) -> NewEntry<'_> {
+    NewEntry {
+        folder: b"INBOX",
         kind: Kind::Message,
-        name: b"".to_vec(alloc)?,
-        media: b"message/rfc822".to_vec(alloc)?,
+        name: b"",
+        media: b"message/rfc822",
         octets,
-    })
+    }
 }
 
 // What further calls cost, and the next number.
@@ -82,10 +86,14 @@ pub(crate) fn file(rt: &HostRuntime, path: &str) -> anyhow::Result<()> {
     println!(rt; "opened in {} us", start.elapsed(rt)?.as_micros())?;
     let start = Instant::now(rt)?;
     for number in 0..100u32 {
-        let mut entries = Vec::new(rt.alloc());
+        let mut contents = Vec::new(rt.alloc());
         for place in 0..100u32 {
             let own = number.wrapping_mul(100).wrapping_add(place);
-            entries.push(entry(rt.alloc(), own)?)?;
+            contents.push(content(rt.alloc(), own)?)?;
+        }
+        let mut entries = Vec::new(rt.alloc());
+        for octets in &contents {
+            entries.push(entry(octets))?;
         }
         if !entries.is_empty() {
             store.add_entries("ann", &entries)?;

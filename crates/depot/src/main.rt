@@ -1,11 +1,12 @@
-// Hands the words and the system to the command line.
+// Hands the words and the system to the command line, and its errands to the depot that they name.
 #![tactic(auto)]
 
 mod streams;
 
 use crate::streams::hold_closed;
-use depot_actions::{OfWrite, Sink};
-use depot_cli::{Refusal, System, explain, run, tell};
+use depot_actions::{Depot, OfWrite, Sink};
+use depot_cli::{Came, Errand, Refusal, System, explain, perform, run, tell};
+use sqlite::{File, FileStore};
 use std::io::ErrorKind;
 use std::process::ExitCode;
 use std::{env, io, process};
@@ -26,13 +27,34 @@ fn start<O: Sink, E: Sink>(rt: &HostRuntime, out: &mut O, err: &mut E) -> u8 {
         Ok(words) => match texts(rt, &words) {
             Ok(texts) => {
                 let mut host = System::new(rt, process::id(rt.process()));
-                run(rt.alloc(), &texts, &mut host, out, err)
+                match run(rt.alloc(), &texts, &mut host, out, err) {
+                    Came::Status(status) => status,
+                    Came::OnDepot(errand) => carry(rt, &errand, out, err),
+                }
             }
             Err(_) => tell(err, &Refusal::Memory),
         },
         Err(fault) if fault.kind() == ErrorKind::OutOfMemory => tell(err, &Refusal::Memory),
         Err(_) => explain(err, "error: a word isn't UTF-8\n"),
     }
+}
+
+// Carries an errand to the depot in its file, and gives the status.
+fn carry<O: Sink, E: Sink>(rt: &HostRuntime, errand: &Errand<'_>, out: &mut O, err: &mut E) -> u8 {
+    match Depot::open(rt, errand.name) {
+        Ok(opened) => {
+            let mut depot = opened;
+            let status = perform(rt.alloc(), errand.task(), &mut depot, out, err);
+            close(depot);
+            status
+        }
+        Err(refusal) => tell(err, &refusal),
+    }
+}
+
+// Closes a depot, which copies its log into the file. Where that fails the log stays, and the next open copies it.
+fn close(depot: Depot<FileStore<File>>) {
+    let _ = depot.release().release().close();
 }
 
 // The words of the process.

@@ -1,11 +1,11 @@
 -- What comes of words, from what comes of their parts.
-use Rattle.std.proofs.Common.{◌≡◌, ◌≤◌, ◌⊎◌, ℕ, zero, suc, Bool, true, false, List, [], ◌∷◌, inl, inr, refl, arith}
+use Rattle.std.proofs.Common.{◌≡◌, ◌≢◌, ◌≤◌, ◌⊎◌, ℕ, zero, suc, Bool, true, false, List, [], ◌∷◌, inl, inr, refl, arith}
 use Rattle.clap.specs.Words.{App, Text, takes}
 use Rattle.clap.specs.declared.error.kind.ErrorKind.{ErrorKind}
 use Rattle.clap.specs.declared.error.kind.ErrorKind.TheVariants.{OutOfMemory}
 use Rattle.depot_cli.specs.Jobs.{HasAnswered, HasRefused, HasStopped, HasTold, World}
 use Rattle.depot_cli.specs.Host.{HostState, Origin}
-use Rattle.depot_cli.specs.Running.{HasExplained, HasOutcome, HasRead, HasRun, HaveRead, IsNoLine, KeepsOthers, refused, usage}
+use Rattle.depot_cli.specs.Running.{HasExplained, HasNoLine, HasOutcome, HasRead, HaveRead, IsNoLine, KeepsOthers, refused, usage}
 use Rattle.depot_cli.specs.Words.{IsDepot}
 use Rattle.refusals.specs.declared.refusal.Refusal.TheVariants.{Memory}
 use Rattle.depot_cli.specs.declared.job.Job.{Job}
@@ -34,7 +34,7 @@ pub no_line : {words : List Text} {kind : ErrorKind} → (app : App) × IsDepot 
 no_line {words} {kind} taken other = (taken.0, taken.1, not_taken (takes taken.0 words) kind taken.2 other)
 
 -- words that say no command were explained, or memory was refused
-pub explained : {words : List Text} {status : ℕ} {old new : World} → IsNoLine words → KeepsOthers old new
-    → ((status ≡ refused) × HasTold Memory old.err new.err) ⊎ ((status ≡ usage) × HasExplained old.err new.err) → HasRun words status old new
-explained none others (inl told) = inr (inl (told.0, others, told.1))
-explained none others (inr text) = inr (inr (text.0, none, others, text.1))
+pub explained : {words : List Text} {kind : ErrorKind} {status : ℕ} {old new : World} → (app : App) × IsDepot app × (takes app words ≡ true → kind ≡ OutOfMemory) → KeepsOthers old new
+    → ((status ≡ refused) × HasTold Memory old.err new.err) ⊎ ((kind ≢ OutOfMemory) × (status ≡ usage) × HasExplained old.err new.err) → HasNoLine words status old new
+explained taken others (inl told) = inl (told.0, others, told.1)
+explained taken others (inr text) = inr (text.1, no_line taken text.0, others, text.2)

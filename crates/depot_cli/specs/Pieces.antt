@@ -12,6 +12,7 @@ use Rattle.depot_cli.specs.declared.piece.Setting.TheVariants as settings
 -- the text of a piece
 abbrev pub piece_text : Piece → List ℕ
 piece_text (pieces.Text text) = text.now
+piece_text (pieces.Octets octets) = octets.now
 piece_text (pieces.Quoted octets) = quoted octets.now
 piece_text (pieces.Lines text) = escaped settings.Text text.now
 piece_text (pieces.Number n) = decimal n

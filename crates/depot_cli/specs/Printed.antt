@@ -5,8 +5,15 @@ use Rattle.std.specs.Fmt.{decimal, digit_glyph}
 use Rattle.std.specs.Prelude.{false}
 use Rattle.bytecode_format.specs.declared.action.Action.{Action}
 use Rattle.bytecode_format.specs.declared.action.Action.TheVariants.{Keep, File, Store}
-use Rattle.octets.specs.Ascii.{lowercase_of}
 use Rattle.mime_params.specs.declared.media.MediaType.{MediaType}
+use Rattle.part_store.specs.Entries.{Listing}
+use Rattle.part_store.specs.declared.entry.Kind.{Kind}
+use Rattle.part_store.specs.declared.entry.Kind.TheVariants.{Message, Part as Piece}
+use Rattle.depot_actions.specs.DepotState.{Command, Reply, SetScript, SetCode, Deliver, ListAll, Export, Remove, Listed}
+use Rattle.depot_actions.specs.DepotState.{Text as Written}
+use Rattle.depot_actions.specs.Drafts.{media_text}
+use Rattle.depot_cli.specs.declared.entries.Detail.{Detail}
+use Rattle.depot_cli.specs.declared.entries.Detail.TheVariants.{Brief, Full}
 use Rattle.mime_decode.specs.Content.{digest_of}
 use Rattle.mime_decode.specs.Mail.{Part}
 use Rattle.refusals.specs.Lines.{refusal_text}
@@ -58,10 +65,6 @@ charge_text charged limit = codes "charged " ++ decimal charged ++ codes " of " 
 abbrev pub report_text : List Action → ℕ → ℕ → List ℕ
 report_text actions charged limit = actions_text actions ++ line (charge_text charged limit)
 
--- a media type in lower case
-abbrev pub media_text : MediaType → List ℕ
-media_text media = lowercase_of media.main ++ codes "/" ++ lowercase_of media.sub
-
 -- a part of a message: its place, its depth, its media type, how many octets its content has, and their digest
 abbrev pub part_text : ℕ → ℕ → MediaType → List ℕ → List ℕ
 part_text place depth media content =
@@ -87,3 +90,39 @@ wrote_text octets = codes "wrote " ++ decimal octets ++ codes " octets"
 -- the line of a refusal
 abbrev pub refusal_line : Refusal → List ℕ
 refusal_line refusal = line (refusal_text refusal)
+
+-- ---- what a depot replies
+
+abbrev pub kind_text : Kind → List ℕ
+kind_text Message = codes "message"
+kind_text Piece = codes "part"
+
+-- an entry: its number, its kind and its folder; in full also its name, its media type and the number of its octets
+abbrev pub entry_text : Detail → Listing → List ℕ
+entry_text Brief entry = decimal entry.number ++ codes " " ++ kind_text entry.kind ++ codes " " ++ quoted entry.folder
+entry_text Full entry =
+    decimal entry.number ++ codes " " ++ kind_text entry.kind ++ codes " " ++ quoted entry.folder ++ codes " " ++ quoted entry.name ++ codes " " ++ entry.media ++ codes " "
+    ++ decimal entry.octets
+
+-- a line for each entry, or one that there is none
+abbrev pub entries_text : Detail → List Listing → List ℕ
+entries_text detail [] = line (codes "none")
+entries_text detail (entry ∷ entries) = flat_map (λ e. line (entry_text detail e)) (entry ∷ entries)
+
+-- that a filter was stored
+abbrev pub stored_text : List ℕ
+stored_text = line (codes "stored")
+
+-- that an entry was removed
+abbrev pub removed_text : ℕ → List ℕ
+removed_text number = line (codes "removed " ++ decimal number)
+
+-- what is printed of a reply; no depot gives other replies to these commands, nor are others asked for
+abbrev pub reply_text : Command → Reply → List ℕ
+reply_text (SetScript user script) reply = stored_text
+reply_text (SetCode user program) reply = stored_text
+reply_text (Deliver user message) (Listed entries) = entries_text Brief entries
+reply_text (ListAll user) (Listed entries) = entries_text Full entries
+reply_text (Export user number encoding) (Written text) = text
+reply_text (Remove user number) reply = removed_text number
+reply_text _ reply = []

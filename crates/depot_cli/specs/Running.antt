@@ -1,5 +1,5 @@
 -- What comes of the words of a command line.
-use Rattle.std.specs.Prelude.{◌≡◌, ◌⊎◌, ℕ, ◌+◌, ◌<◌, ◌≤◌, false, List, [], ◌∷◌, length, IfSome, slice_index_or}
+use Rattle.std.specs.Prelude.{◌≡◌, ◌⊎◌, ℕ, ◌+◌, ◌<◌, ◌≤◌, Bool, true, false, List, [], ◌∷◌, length, IfSome, slice_index_or}
 use Rattle.std.specs.Borrow.{Bor}
 use Rattle.clap.specs.Words.{App, Text, subcommand_of, takes}
 use Rattle.bytecode_format.specs.Code.{Code}
@@ -17,9 +17,14 @@ use Rattle.refusals.specs.declared.refusal.Refusal.TheVariants.{Memory, MessageT
 use Rattle.depot_cli.specs.declared.job.Job.{Job}
 use Rattle.depot_cli.specs.declared.job.Job.TheVariants as jobs
 use Rattle.depot_cli.specs.declared.line.CommandLine.{CommandLine}
-use Rattle.depot_cli.specs.declared.line.CommandLine.TheVariants.{NoWords, Check, Compile, Verify, Run, Eval, Parts, Encode, Decode}
+use Rattle.depot_cli.specs.declared.line.CommandLine.TheVariants.{NoWords, Check, Compile, Verify, Run, Eval, Parts, Encode, Decode, Script, Code as CodeOf, Deliver, List as ListAll, Export, Remove}
+use Rattle.depot_cli.specs.declared.errand.Errand.{Errand}
+use Rattle.depot_cli.specs.declared.errand.Order.{Order}
+use Rattle.depot_cli.specs.declared.errand.Order.TheVariants as orders
+use Rattle.depot_cli.specs.declared.running.Came.{Came}
+use Rattle.depot_cli.specs.declared.running.Came.TheVariants as comes
 use Rattle.depot_cli.specs.declared.running.Inputs.{Inputs}
-use Rattle.depot_cli.specs.declared.running.Inputs.TheVariants.{One, Two}
+use Rattle.depot_cli.specs.declared.running.Inputs.TheVariants.{None, One, Two}
 
 -- ---- what is read
 
@@ -34,9 +39,16 @@ origins_of (Eval script message) = file script.now ∷ file message.now ∷ []
 origins_of (Parts message) = file message.now ∷ []
 origins_of (Encode encoding) = standard ∷ []
 origins_of (Decode encoding) = standard ∷ []
+origins_of (Script depot user script) = file script.now ∷ []
+origins_of (CodeOf depot user program) = file program.now ∷ []
+origins_of (Deliver depot user message) = file message.now ∷ []
+origins_of (ListAll depot user) = []
+origins_of (Export depot user number encoding) = []
+origins_of (Remove depot user number) = []
 
 -- the same of what the code says that it reads; nothing public rests on this
 abbrev pub origins_in : Inputs → List Origin
+origins_in None = []
 origins_in (One first) = origin_of first ∷ []
 origins_in (Two first second) = origin_of first ∷ origin_of second ∷ []
 
@@ -87,7 +99,17 @@ keeping_code =
 abbrev pub input : List (List ℕ) → ℕ → List ℕ
 input inputs place = slice_index_or inputs place []
 
--- the job of a command, with the octets that were read
+-- the command is on a depot
+abbrev pub is_on_depot : CommandLine → Bool
+is_on_depot (Script depot user script) = true
+is_on_depot (CodeOf depot user program) = true
+is_on_depot (Deliver depot user message) = true
+is_on_depot (ListAll depot user) = true
+is_on_depot (Export depot user number encoding) = true
+is_on_depot (Remove depot user number) = true
+is_on_depot _ = false
+
+-- the job of a command, with the octets that were read; a command on a depot has none
 abbrev pub IsJobOf : CommandLine → List (List ℕ) → Job → Type 0
 IsJobOf NoWords inputs job = (program message : Bor (List ℕ)) × (job ≡ jobs.Run program message) × (program.now ≡ spelling keeping_code) × (message.now ≡ input inputs 0)
 IsJobOf (Check name) inputs job = (script : Bor (List ℕ)) × (job ≡ jobs.Check script) × (script.now ≡ input inputs 0)
@@ -99,6 +121,27 @@ IsJobOf (Eval name other) inputs job = (script message : Bor (List ℕ)) × (job
 IsJobOf (Parts name) inputs job = (message : Bor (List ℕ)) × (job ≡ jobs.Parts message) × (message.now ≡ input inputs 0)
 IsJobOf (Encode encoding) inputs job = (octets : Bor (List ℕ)) × (job ≡ jobs.Encode encoding octets) × (octets.now ≡ input inputs 0)
 IsJobOf (Decode encoding) inputs job = (text : Bor (List ℕ)) × (job ≡ jobs.Decode encoding text) × (text.now ≡ input inputs 0)
+IsJobOf _ inputs job = ⊥
+
+-- the file of the depot that a command is on
+abbrev pub IsDepotOf : CommandLine → Text → Type 0
+IsDepotOf (Script depot user script) name = name ≡ depot.now
+IsDepotOf (CodeOf depot user program) name = name ≡ depot.now
+IsDepotOf (Deliver depot user message) name = name ≡ depot.now
+IsDepotOf (ListAll depot user) name = name ≡ depot.now
+IsDepotOf (Export depot user number encoding) name = name ≡ depot.now
+IsDepotOf (Remove depot user number) name = name ≡ depot.now
+IsDepotOf _ name = ⊥
+
+-- what a command asks of it; the octets that it reads come to that
+abbrev pub IsOrderOf : CommandLine → Order → Type 0
+IsOrderOf (Script depot user script) order = order ≡ orders.Script user
+IsOrderOf (CodeOf depot user program) order = order ≡ orders.Code user
+IsOrderOf (Deliver depot user message) order = order ≡ orders.Deliver user
+IsOrderOf (ListAll depot user) order = order ≡ orders.List user
+IsOrderOf (Export depot user number encoding) order = order ≡ orders.Export user number encoding
+IsOrderOf (Remove depot user number) order = order ≡ orders.Remove user number
+IsOrderOf _ order = ⊥
 
 -- ---- what comes of it
 
@@ -125,6 +168,16 @@ pub record HasWorked (line : CommandLine) (status : ℕ) (old new : World) : Typ
   pub is_job : IsJobOf line inputs job
   pub outcome : HasOutcome job status (world mid old.out old.err) new
 
+-- what a command on a depot reads was read, and nothing else was done: the errand is the depot's name, and what is asked of it with these octets
+pub record HasCalled (line : CommandLine) (errand : Errand) (old new : World) : Type 0 where
+  pub inputs : List (List ℕ)
+  pub read : HaveRead (origins_of line) inputs old.host new.host
+  pub name : IsDepotOf line errand.name.now
+  pub order : IsOrderOf line errand.order
+  pub octets : errand.octets.items ≡ input inputs 0
+  pub out : new.out ≡ old.out
+  pub err : new.err ≡ old.err
+
 -- what a command reads was not read, and the refusal was told
 pub record HasNotWorked (line : CommandLine) (status : ℕ) (old new : World) : Type 0 where
   pub refusal : Refusal
@@ -132,6 +185,11 @@ pub record HasNotWorked (line : CommandLine) (status : ℕ) (old new : World) : 
   pub told : HasTold refusal old.err new.err
   pub out : new.out ≡ old.out
   pub is_refused : status ≡ refused
+
+-- what comes of a command: it was carried out with a status, or its refusal was told; or it is an errand to a depot
+abbrev pub HasCome : CommandLine → Came → World → World → Type 0
+HasCome line (comes.Status status) old new = HasWorked line status old new ⊎ HasNotWorked line status old new
+HasCome line (comes.OnDepot errand) old new = HasCalled line errand old new
 
 -- the words say this command
 abbrev pub IsLine : List Text → CommandLine → Type 0
@@ -149,8 +207,13 @@ HasExplained old new = (text : List ℕ) × (HasTaken (shown text) old new ⊎ H
 abbrev pub KeepsOthers : World → World → Type 0
 KeepsOthers old new = (new.host ≡ old.host) × (new.out ≡ old.out)
 
--- what comes of words: the command that they say is carried out, or memory was refused while they were read, or they say none
-abbrev pub HasRun : List Text → ℕ → World → World → Type 0
-HasRun words status old new =
-    ((line : CommandLine) × IsLine words line × (HasWorked line status old new ⊎ HasNotWorked line status old new))
-    ⊎ (((status ≡ refused) × KeepsOthers old new × HasTold Memory old.err new.err) ⊎ ((status ≡ usage) × IsNoLine words × KeepsOthers old new × HasExplained old.err new.err))
+-- what comes of words that say no command: memory was refused while they were read, or it was explained
+abbrev pub HasNoLine : List Text → ℕ → World → World → Type 0
+HasNoLine words status old new =
+    ((status ≡ refused) × KeepsOthers old new × HasTold Memory old.err new.err) ⊎ ((status ≡ usage) × IsNoLine words × KeepsOthers old new × HasExplained old.err new.err)
+
+-- what comes of words: their command is carried out, or they say none
+abbrev pub HasRun : List Text → Came → World → World → Type 0
+HasRun words came old new =
+    ((line : CommandLine) × IsLine words line × HasCome line came old new)
+    ⊎ ((status : ℕ) × (came ≡ comes.Status status) × HasNoLine words status old new)

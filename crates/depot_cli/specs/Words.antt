@@ -1,13 +1,15 @@
 -- The commands, and what a command line says.
-use Rattle.std.specs.Prelude.{◌≡◌, ◌≢◌, List, [], ◌∷◌, Option, Some, IfSome, codes, if◌then◌else◌, map, true, unwrap_or}
+use Rattle.std.specs.Prelude.{◌≡◌, ◌≢◌, ℕ, pos, ◌<◌, ◌^◌, List, [], ◌∷◌, Option, Some, IfSome, codes, if◌then◌else◌, map, true, unwrap_or}
 use Rattle.std.specs.Borrow.{Bor}
 use Rattle.std.specs.Str.{bytes_eq}
+use Rattle.std.specs.Str.Parse.{IsNumeral, digits_value, without_leading_plus}
 use Rattle.clap.specs.Words.{App, Row, Rule, Text, first_of, new_app, new_rule, with_rule, with_subcommand}
 use Rattle.clap.specs.declared.builder.value_parser.ValueParser.TheVariants as parsers
 use Rattle.depot_actions.specs.declared.encoding.Encoding.{Encoding}
 use Rattle.depot_actions.specs.declared.encoding.Encoding.TheVariants.{Raw, Base64, Base64Mime, Base32, Base32Hex, Base16, Qp}
 use Rattle.depot_cli.specs.declared.line.CommandLine.{CommandLine}
-use Rattle.depot_cli.specs.declared.line.CommandLine.TheVariants.{NoWords, Check, Compile, Verify, Run, Eval, Parts, Encode, Decode}
+use Rattle.depot_cli.specs.declared.line.CommandLine.TheVariants.{NoWords, Check, Compile, Verify, Run, Eval, Parts, Encode, Decode, Script, Code, Deliver, List as ListAll, Export, Remove}
+use Rattle.octets.specs.Limits.{max_entry_number}
 
 -- an argument that has to be there
 abbrev pub required_rule : Text → Rule
@@ -61,6 +63,38 @@ encode_app names = with_rule (new_app (codes "encode")) (encoding_rule names)
 abbrev pub decode_app : Texts → App
 decode_app names = with_rule (new_app (codes "decode")) (encoding_rule names)
 
+-- a command on the depot of a user
+abbrev pub user_app : Text → App
+user_app name = with_rule (with_rule (new_app name) (required_rule (codes "DB"))) (required_rule (codes "USER"))
+
+-- script DB USER SCRIPT
+abbrev pub script_app : App
+script_app = with_rule (user_app (codes "script")) (required_rule (codes "SCRIPT"))
+
+-- code DB USER PROGRAM
+abbrev pub code_app : App
+code_app = with_rule (user_app (codes "code")) (required_rule (codes "PROGRAM"))
+
+-- deliver DB USER MESSAGE
+abbrev pub deliver_app : App
+deliver_app = with_rule (user_app (codes "deliver")) (required_rule (codes "MESSAGE"))
+
+-- list DB USER
+abbrev pub list_app : App
+list_app = user_app (codes "list")
+
+-- an argument that has to be there, and to be the number of an entry
+abbrev pub number_rule : Rule
+number_rule = record (required_rule (codes "NUMBER")) { parser = Some (parsers.Signed (pos 1) (pos max_entry_number)) }
+
+-- export DB USER NUMBER ENCODING
+abbrev pub export_app : Texts → App
+export_app names = with_rule (with_rule (user_app (codes "export")) number_rule) (encoding_rule names)
+
+-- remove DB USER NUMBER
+abbrev pub remove_app : App
+remove_app = with_rule (user_app (codes "remove")) number_rule
+
 -- the program with the commands that take a script alone
 abbrev pub scripts_app : App
 scripts_app = with_subcommand (with_subcommand (new_app (codes "depot")) check_app.top) compile_app.top
@@ -73,9 +107,21 @@ filters_app = with_subcommand (with_subcommand scripts_app verify_app.top) run_a
 abbrev pub mail_app : App
 mail_app = with_subcommand (with_subcommand filters_app eval_app.top) parts_app.top
 
--- the program with its commands, where these are the names of the encodings
+-- the program with all commands that need no depot, where these are the names of the encodings
+abbrev pub codecs_app : Texts → App
+codecs_app names = with_subcommand (with_subcommand mail_app (encode_app names).top) (decode_app names).top
+
+-- the program with those, and the commands that store filters
+abbrev pub filing_app : Texts → App
+filing_app names = with_subcommand (with_subcommand (codecs_app names) script_app.top) code_app.top
+
+-- the program with those, and the commands that file and list
+abbrev pub delivery_app : Texts → App
+delivery_app names = with_subcommand (with_subcommand (filing_app names) deliver_app.top) list_app.top
+
+-- the program with its commands
 abbrev pub depot_app : Texts → App
-depot_app names = with_subcommand (with_subcommand mail_app (encode_app names).top) (decode_app names).top
+depot_app names = with_subcommand (with_subcommand (delivery_app names) (export_app names).top) remove_app.top
 
 -- the program with its commands
 abbrev pub IsDepot : App → Type 0
@@ -100,9 +146,33 @@ encoding_named name =
 abbrev pub IsCommand : Text → Option (Text × List Row) → List Row → Type 0
 IsCommand name matches rows = matches ≡ Some (name, rows)
 
+-- the text is decimal digits, perhaps after a plus sign, of a number of 32 bits
+abbrev pub IsNumberText : Text → Type 0
+IsNumberText text = IsNumeral 10 (without_leading_plus text) × (digits_value 10 (without_leading_plus text) < 2 ^ 32)
+
+-- the number that a text is; 0 stands for any text that is none, which no command line of the program has
+pub record IsNumber (text : Text) (number : ℕ) : Type 0 where
+  pub value : IsNumberText text → number ≡ digits_value 10 (without_leading_plus text)
+  pub none : (IsNumberText text → ⊥) → number ≡ 0
+
+-- the name isn't that of a command on a message, a script or a program, nor of one that encodes or decodes
+abbrev pub IsNoMailCommand : Text → Type 0
+IsNoMailCommand name =
+    (name ≢ codes "check") × (name ≢ codes "compile") × (name ≢ codes "verify") × (name ≢ codes "run") × (name ≢ codes "eval") × (name ≢ codes "parts") × (name ≢ codes "encode") × (name ≢ codes "decode")
+
+-- nor of a command on a depot
+abbrev pub IsNoDepotCommand : Text → Type 0
+IsNoDepotCommand name =
+    (name ≢ codes "script") × (name ≢ codes "code") × (name ≢ codes "deliver") × (name ≢ codes "list") × (name ≢ codes "export") × (name ≢ codes "remove")
+
+-- the depot and the user of a command
+pub record IsOf (rows : List Row) (depot user : Text) : Type 0 where
+  pub is_depot : depot ≡ argument (codes "DB") rows
+  pub is_user : user ≡ argument (codes "USER") rows
+
 -- the command line says what the matches say: which command there is, and its arguments
 abbrev pub Says : CommandLine → Option (Text × List Row) → Type 0
-Says NoWords matches = IfSome matches (λ m. (m.0 ≢ codes "check") × (m.0 ≢ codes "compile") × (m.0 ≢ codes "verify") × (m.0 ≢ codes "run") × (m.0 ≢ codes "eval") × (m.0 ≢ codes "parts") × (m.0 ≢ codes "encode") × (m.0 ≢ codes "decode"))
+Says NoWords matches = IfSome matches (λ m. IsNoMailCommand m.0 × IsNoDepotCommand m.0)
 Says (Check script) matches = (rows : List Row) × IsCommand (codes "check") matches rows × (script.now ≡ argument (codes "SCRIPT") rows)
 Says (Compile script out) matches =
     (rows : List Row) × IsCommand (codes "compile") matches rows × (script.now ≡ argument (codes "SCRIPT") rows) × (out.now ≡ argument (codes "OUT") rows)
@@ -116,3 +186,15 @@ Says (Encode encoding) matches =
     (rows : List Row) × IsCommand (codes "encode") matches rows × (encoding ≡ encoding_named (argument (codes "ENCODING") rows))
 Says (Decode encoding) matches =
     (rows : List Row) × IsCommand (codes "decode") matches rows × (encoding ≡ encoding_named (argument (codes "ENCODING") rows))
+Says (Script depot user script) matches =
+    (rows : List Row) × IsCommand (codes "script") matches rows × IsOf rows depot.now user.now × (script.now ≡ argument (codes "SCRIPT") rows)
+Says (Code depot user program) matches =
+    (rows : List Row) × IsCommand (codes "code") matches rows × IsOf rows depot.now user.now × (program.now ≡ argument (codes "PROGRAM") rows)
+Says (Deliver depot user message) matches =
+    (rows : List Row) × IsCommand (codes "deliver") matches rows × IsOf rows depot.now user.now × (message.now ≡ argument (codes "MESSAGE") rows)
+Says (ListAll depot user) matches = (rows : List Row) × IsCommand (codes "list") matches rows × IsOf rows depot.now user.now
+Says (Export depot user number encoding) matches =
+    (rows : List Row) × IsCommand (codes "export") matches rows × IsOf rows depot.now user.now × IsNumber (argument (codes "NUMBER") rows) number
+    × (encoding ≡ encoding_named (argument (codes "ENCODING") rows))
+Says (Remove depot user number) matches =
+    (rows : List Row) × IsCommand (codes "remove") matches rows × IsOf rows depot.now user.now × IsNumber (argument (codes "NUMBER") rows) number

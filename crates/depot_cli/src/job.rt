@@ -22,7 +22,7 @@ use sieve_engine::{Report, check_program, check_script, compile_script, evaluate
 use std::alloc::Global;
 
 /// The status of a command that was done and whose answer was written whole.
-const SUCCESS: u8 = 0;
+pub(crate) const SUCCESS: u8 = 0;
 
 /// The status of a command that was refused, or whose answer broke off.
 const REFUSED: u8 = 1;

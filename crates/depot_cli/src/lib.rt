@@ -3,10 +3,13 @@
 //! [`run`] goes from the words to the status (`specs/Running`). What it needs of its surroundings is a [`Host`], which opens and makes
 //! files: a contract sees what it was asked for, and what it gave. [`System`] is the host of a real system. [`line_of`] says what the
 //! words say (`specs/Words`); [`read_limited`] reads a [`Source`] up to a limit (`specs/LimitedReading`); [`answer`] carries out a
-//! [`Job`]: it writes exactly the answer, or the line of the refusal (`specs/Jobs`, `specs/Printed`). Writing takes no memory, and what
+//! [`Job`], [`perform`] a [`Task`] on a depot: each writes exactly the answer, or the line of the refusal (`specs/Jobs`, `specs/Tasks`,
+//! `specs/Printed`). Writing takes no memory, and what
 //! a sink that failed has got is a prefix of the text.
 #![tactic(auto)]
 
+mod entries;
+mod errand;
 mod gathering;
 mod host;
 mod job;
@@ -20,12 +23,15 @@ mod reading;
 mod running;
 mod source;
 mod system;
+mod task;
 
+pub use errand::{Errand, Order};
 pub use host::{Host, Input};
 pub use job::{Job, answer, tell};
 pub use line::{CommandLine, line_of};
 pub use reading::read_limited;
 pub use refusals::Refusal;
-pub use running::{explain, run};
+pub use running::{Came, explain, run};
 pub use source::{OfRead, Source};
 pub use system::System;
+pub use task::{Task, perform};

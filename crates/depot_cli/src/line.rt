@@ -1,11 +1,11 @@
 // What the words of the command line say.
-ghost use Rattle.std.specs.Prelude.{◌≡◌, IfOk, IfErr, codes, map, true, false};
+ghost use Rattle.std.specs.Prelude.{◌≡◌, IfOk, IfErr, Some, codes, map, true, false};
 ghost use Rattle.clap.specs.Words.{FailsBy, app_of, fault_of, first_value, found_of, kind_of, rows_of, subcommand_of, subcommand_rows_of, takes, rule_of, App};
 ghost use Rattle.clap.specs.declared.error.kind.ErrorKind.TheVariants.{OutOfMemory};
 ghost use Rattle.clap.specs.declared.builder.command.Command.TheViews.{out-Command as fields_of};
-ghost use Rattle.depot_cli.specs.Words.{AreEncodings, IsDepot, Says, argument as text_of, check_app, compile_app, decode_app, depot_app, encode_app, encoding_named, encoding_rule, eval_app, filters_app, mail_app, parts_app, required_rule, run_app, scripts_app, verify_app};
+ghost use Rattle.depot_cli.specs.Words.{AreEncodings, IsDepot, IsNoMailCommand, IsNumber, Says, argument as text_of, check_app, code_app, codecs_app, compile_app, decode_app, deliver_app, delivery_app, depot_app, encode_app, encoding_named, encoding_rule, eval_app, export_app, filing_app, filters_app, list_app, mail_app, number_rule, parts_app, remove_app, required_rule, run_app, script_app, scripts_app, user_app, verify_app};
 
-use clap::{Arg, ArgMatches, Command, Error};
+use clap::{Arg, ArgMatches, Command, Error, value_parser};
 use depot_actions::Encoding;
 use std::alloc::{AllocError, Global};
 
@@ -15,21 +15,76 @@ pub enum CommandLine<'a> {
     /// No words: the program that keeps every message, on standard input.
     NoWords,
     /// Whether a script has a fault.
-    Check { script: &'a str },
+    Check {
+        script: &'a str,
+    },
     /// A script as a program, into a file.
-    Compile { script: &'a str, out: &'a str },
+    Compile {
+        script: &'a str,
+        out: &'a str,
+    },
     /// Whether a program is accepted, and what it may charge.
-    Verify { program: &'a str },
+    Verify {
+        program: &'a str,
+    },
     /// What a program does with a message.
-    Run { program: &'a str, message: &'a str },
+    Run {
+        program: &'a str,
+        message: &'a str,
+    },
     /// What a script does with a message.
-    Eval { script: &'a str, message: &'a str },
+    Eval {
+        script: &'a str,
+        message: &'a str,
+    },
     /// The parts of a message.
-    Parts { message: &'a str },
+    Parts {
+        message: &'a str,
+    },
     /// The text of standard input's octets in an encoding.
-    Encode { encoding: Encoding },
+    Encode {
+        encoding: Encoding,
+    },
     /// The octets that standard input reads as in an encoding.
-    Decode { encoding: Encoding },
+    Decode {
+        encoding: Encoding,
+    },
+    /// A script's code as a user's filter, in the depot of a file.
+    Script {
+        depot: &'a str,
+        user: &'a str,
+        script: &'a str,
+    },
+    /// A program as a user's filter.
+    Code {
+        depot: &'a str,
+        user: &'a str,
+        program: &'a str,
+    },
+    /// A message for a user, filed as his filter says.
+    Deliver {
+        depot: &'a str,
+        user: &'a str,
+        message: &'a str,
+    },
+    /// A user's entries.
+    List {
+        depot: &'a str,
+        user: &'a str,
+    },
+    /// The octets of a user's entry in an encoding.
+    Export {
+        depot: &'a str,
+        user: &'a str,
+        number: u32,
+        encoding: Encoding,
+    },
+    /// A user's entry, taken away.
+    Remove {
+        depot: &'a str,
+        user: &'a str,
+        number: u32,
+    },
 }
 
 /// The names of the encodings.
@@ -92,7 +147,56 @@ fn line_in<'a>(matches: &ArgMatches<'a>) -> CommandLine<'a>
         Some(("decode", found)) => CommandLine::Decode {
             encoding: encoding_named(argument(found, "ENCODING")),
         },
+        Some((name, found)) => depot_line_in(name, found),
+        None => CommandLine::NoWords,
+    }
+}
+
+// What the matches of a command on a depot say.
+fn depot_line_in<'a>(name: &str, found: &ArgMatches<'a>) -> CommandLine<'a>
+    ensures { IsNoMailCommand name.now → Says result (Some (name.now, rows_of (found_of found.now))) }
+{
+    let depot = argument(found, "DB");
+    let user = argument(found, "USER");
+    match name {
+        "script" => CommandLine::Script {
+            depot,
+            user,
+            script: argument(found, "SCRIPT"),
+        },
+        "code" => CommandLine::Code {
+            depot,
+            user,
+            program: argument(found, "PROGRAM"),
+        },
+        "deliver" => CommandLine::Deliver {
+            depot,
+            user,
+            message: argument(found, "MESSAGE"),
+        },
+        "list" => CommandLine::List { depot, user },
+        "export" => CommandLine::Export {
+            depot,
+            user,
+            number: number(argument(found, "NUMBER")),
+            encoding: encoding_named(argument(found, "ENCODING")),
+        },
+        "remove" => CommandLine::Remove {
+            depot,
+            user,
+            number: number(argument(found, "NUMBER")),
+        },
         _ => CommandLine::NoWords,
+    }
+}
+
+// The number that a text is. Only numbers of entries come here.
+fn number(text: &str) -> u32
+    ensures { IsNumber text.now result }
+{
+    match text.parse::<u32>() {
+        Ok(number) => number,
+        Err(_) => 0,
     }
 }
 
@@ -128,6 +232,36 @@ fn encodings() -> &'static [&'static str]
 // The program with its commands.
 fn depot_command<'a>(alloc: Global, names: &'a [&'a str]) -> Result<Command<'a>, AllocError>
     ensures app { IfOk result (λ c. app_of c ≡ depot_app names.entry) }
+    ensures local { IfOk result (λ c. (fields_of c).has_globals ≡ false) }
+{
+    delivery_command(alloc, names)?
+        .subcommand(export_command(alloc, names)?)?
+        .subcommand(remove_command(alloc)?)
+}
+
+// The program with all commands but those on entries that are there.
+fn delivery_command<'a>(alloc: Global, names: &'a [&'a str]) -> Result<Command<'a>, AllocError>
+    ensures app { IfOk result (λ c. app_of c ≡ delivery_app names.entry) }
+    ensures local { IfOk result (λ c. (fields_of c).has_globals ≡ false) }
+{
+    filing_command(alloc, names)?
+        .subcommand(deliver_command(alloc)?)?
+        .subcommand(list_command(alloc)?)
+}
+
+// The program with the commands that need no depot, and those that store filters.
+fn filing_command<'a>(alloc: Global, names: &'a [&'a str]) -> Result<Command<'a>, AllocError>
+    ensures app { IfOk result (λ c. app_of c ≡ filing_app names.entry) }
+    ensures local { IfOk result (λ c. (fields_of c).has_globals ≡ false) }
+{
+    codecs_command(alloc, names)?
+        .subcommand(script_command(alloc)?)?
+        .subcommand(code_command(alloc)?)
+}
+
+// The program with the commands that need no depot.
+fn codecs_command<'a>(alloc: Global, names: &'a [&'a str]) -> Result<Command<'a>, AllocError>
+    ensures app { IfOk result (λ c. app_of c ≡ codecs_app names.entry) }
     ensures local { IfOk result (λ c. (fields_of c).has_globals ≡ false) }
 {
     mail_command(alloc)?
@@ -252,6 +386,117 @@ fn decode_command<'a>(alloc: Global, names: &'a [&'a str]) -> Result<Command<'a>
     Command::new(alloc, "decode")
         .about("Writes the octets that the text on standard input stands for")
         .arg(encoding_name(alloc, names))
+}
+
+// A command on the depot of a user.
+fn user_command<'a>(
+    alloc: Global,
+    name: &'static str,
+    about: &'static str,
+) -> Result<Command<'a>, AllocError>
+    ensures app { IfOk result (λ c. app_of c ≡ user_app name.now) }
+    ensures local { IfOk result (λ c. (fields_of c).has_globals ≡ false) }
+{
+    Command::new(alloc, name)
+        .about(about)
+        .arg(depot_file(alloc))?
+        .arg(user_name(alloc))
+}
+
+// The command script.
+fn script_command<'a>(alloc: Global) -> Result<Command<'a>, AllocError>
+    ensures app { IfOk result (λ c. app_of c ≡ script_app) }
+    ensures local { IfOk result (λ c. (fields_of c).has_globals ≡ false) }
+{
+    user_command(
+        alloc,
+        "script",
+        "Stores a Sieve script, compiled, as the filter of a user",
+    )?
+    .arg(script_file(alloc))
+}
+
+// The command code.
+fn code_command<'a>(alloc: Global) -> Result<Command<'a>, AllocError>
+    ensures app { IfOk result (λ c. app_of c ≡ code_app) }
+    ensures local { IfOk result (λ c. (fields_of c).has_globals ≡ false) }
+{
+    user_command(
+        alloc,
+        "code",
+        "Stores a filter program (bytecode) as the filter of a user",
+    )?
+    .arg(program_file(alloc))
+}
+
+// The command deliver.
+fn deliver_command<'a>(alloc: Global) -> Result<Command<'a>, AllocError>
+    ensures app { IfOk result (λ c. app_of c ≡ deliver_app) }
+    ensures local { IfOk result (λ c. (fields_of c).has_globals ≡ false) }
+{
+    user_command(
+        alloc,
+        "deliver",
+        "Files a message, or parts of it, as the filter of a user says",
+    )?
+    .arg(message_file(alloc))
+}
+
+// The command list.
+fn list_command<'a>(alloc: Global) -> Result<Command<'a>, AllocError>
+    ensures app { IfOk result (λ c. app_of c ≡ list_app) }
+    ensures local { IfOk result (λ c. (fields_of c).has_globals ≡ false) }
+{
+    user_command(alloc, "list", "Lists the entries of a user")
+}
+
+// The command export.
+fn export_command<'a>(alloc: Global, names: &'a [&'a str]) -> Result<Command<'a>, AllocError>
+    ensures app { IfOk result (λ c. app_of c ≡ export_app names.entry) }
+    ensures local { IfOk result (λ c. (fields_of c).has_globals ≡ false) }
+{
+    user_command(alloc, "export", "Writes the octets of an entry as a text")?
+        .arg(entry_number(alloc))?
+        .arg(encoding_name(alloc, names))
+}
+
+// The command remove.
+fn remove_command<'a>(alloc: Global) -> Result<Command<'a>, AllocError>
+    ensures app { IfOk result (λ c. app_of c ≡ remove_app) }
+    ensures local { IfOk result (λ c. (fields_of c).has_globals ≡ false) }
+{
+    user_command(alloc, "remove", "Removes an entry")?.arg(entry_number(alloc))
+}
+
+// The argument DB.
+fn depot_file<'a>(alloc: Global) -> Arg<'a>
+    ensures rule { rule_of result ≡ required_rule (codes "DB") }
+    ensures local { result.global ≡ false }
+{
+    Arg::new(alloc, "DB")
+        .required(true)
+        .help("The file of the depot, which is made if it isn't there")
+}
+
+// The argument USER.
+fn user_name<'a>(alloc: Global) -> Arg<'a>
+    ensures rule { rule_of result ≡ required_rule (codes "USER") }
+    ensures local { result.global ≡ false }
+{
+    Arg::new(alloc, "USER").required(true).help(
+        "The name of a user: 1 to 64 of a to z, 0 to 9, dot, underscore and hyphen",
+    )
+}
+
+// The argument NUMBER.
+fn entry_number<'a>(alloc: Global) -> Arg<'a>
+    ensures rule { rule_of result ≡ number_rule }
+    ensures local { result.global ≡ false }
+{
+    Arg::new(alloc, "NUMBER")
+        .required(true)
+        .value_parser(value_parser!(u32).range(1..))
+        .help("The number of an entry")
 }
 
 // The argument ENCODING.

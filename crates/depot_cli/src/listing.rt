@@ -5,7 +5,8 @@ ghost use Rattle.std.specs.List.{HoldsAt};
 ghost use Rattle.mime_decode.specs.Content.{digest_of};
 ghost use Rattle.mime_decode.specs.Mail.{IsReadable, mail_of};
 ghost use Rattle.sieve_engine.specs.Execution.{IsUnread};
-ghost use Rattle.depot_cli.specs.Printed.{line, media_text, part_text, parts_text};
+ghost use Rattle.depot_actions.specs.Drafts.{media_text};
+ghost use Rattle.depot_cli.specs.Printed.{line, part_text, parts_text};
 ghost use Rattle.octets.specs.Ascii.{lowercase_of};
 
 use itoa::Buffer;

@@ -5,6 +5,8 @@
 pub enum Piece<'a> {
     /// A text as it is.
     Text(&'a str),
+    /// Octets as they are.
+    Octets(&'a [u8]),
     /// Octets between quotes.
     Quoted(&'a [u8]),
     /// Lines of a text that may have been written by anyone.

@@ -39,6 +39,7 @@ fn gather_piece<O: Sink>(
 {
     match piece {
         Piece::Text(text) => gather(line, out, text.as_bytes()),
+        Piece::Octets(octets) => gather(line, out, octets),
         Piece::Quoted(octets) => gather_quoted(line, out, octets),
         Piece::Lines(text) => gather_escaped(line, out, Setting::Text, text.as_bytes()),
         Piece::Number(n) => gather(line, out, Buffer::new().format(*n).as_bytes()),

@@ -1,11 +1,14 @@
 // From the words of a command line to its status.
-ghost use Rattle.std.specs.Prelude.{◌≡◌, ◌≤◌, ◌⊎◌, List, ℕ, [], ◌∷◌, IfErr, IfOk, map};
+ghost use Rattle.std.specs.Prelude.{◌≡◌, ◌≢◌, ◌≤◌, ◌⊎◌, List, ℕ, [], ◌∷◌, false, IfErr, IfOk, MatchOption, map};
+ghost use Rattle.clap.specs.Words.{kind_of};
+ghost use Rattle.clap.specs.declared.error.kind.ErrorKind.TheVariants.{OutOfMemory};
 ghost use Rattle.bytecode_format.specs.Spelling.{spelling};
 ghost use Rattle.depot_cli.specs.Host.{HostState, origin_of};
 ghost use Rattle.depot_cli.specs.Jobs.{HasTold, world};
 ghost use Rattle.refusals.specs.declared.refusal.Refusal.TheVariants.{Memory};
-ghost use Rattle.depot_cli.specs.Running.{HasExplained, HasNotRead, HasNotWorked, HasRead, HasRun, HasWorked, HaveNotRead, HaveRead, IsJobOf, input, keeping_code, origins_in, origins_of, refused, usage};
+ghost use Rattle.depot_cli.specs.Running.{HasCome, HasExplained, HasNotRead, HasRead, HasRun, HaveNotRead, HaveRead, IsDepotOf, IsJobOf, IsOrderOf, input, is_on_depot, keeping_code, origins_in, origins_of, refused, usage};
 
+use crate::errand::{Errand, Order};
 use crate::host::{Host, Input};
 use crate::job::{Job, answer, tell};
 use crate::line::{CommandLine, line_of};
@@ -33,14 +36,25 @@ const KEEPS_ALL: &[u8] = &[
 /// What a command reads, in the order of its words.
 #[derive(Clone, Copy, Debug)]
 pub enum Inputs<'a> {
+    /// Nothing.
+    None,
     /// The octets of one file, or of standard input.
     One(Input<'a>),
     /// Those of two.
     Two(Input<'a>, Input<'a>),
 }
 
-/// Carries out what the words say, of which the first is the program's name, and gives the status: 0 for success, 1 for a refusal or
-/// an answer that broke off, 2 for words that aren't those of a command, and for help.
+/// What came of words.
+#[derive(Debug, Drop)]
+pub enum Came<'a> {
+    /// The status: 0 for success, 1 for a refusal or an answer that broke off, 2 for words that aren't those of a command, and for help.
+    Status(u8),
+    /// The words say a command on a depot. What it reads was read, and nothing was done yet.
+    OnDepot(Errand<'a>),
+}
+
+/// Carries out what the words say, of which the first is the program's name; but a command on a depot is handed back, for whoever opens
+/// the depot to perform.
 ///
 /// What the command reads is read in the order of its words, before anything is done with it; each at most one octet past the limit.
 /// Where it can't be read, the refusal is told, and nothing after it is opened. Then the job is answered, with these octets.
@@ -50,14 +64,13 @@ pub fn run<'a, H: Host, O: Sink, E: Sink>(
     host: &mut H,
     out: &mut O,
     err: &mut E,
-) -> u8
+) -> Came<'a>
     ensures { HasRun (map (λ w. w.now) words.entry.now) result
         (world (H.state host.old) (O.output out.old) (E.output err.old)) (world (H.state host.new) (O.output out.new) (E.output err.new)) }
 {
     match line_of(alloc, words) {
         Ok(line) => carry_out(alloc, line, host, out, err),
-        Err(fault) if fault.kind() == ErrorKind::OutOfMemory => tell(err, &Refusal::Memory),
-        Err(fault) => explain_fault(alloc, fault, err),
+        Err(fault) => Came::Status(explain_fault(alloc, fault, err)),
     }
 }
 
@@ -74,33 +87,72 @@ pub fn explain<E: Sink>(err: &mut E, text: &str) -> u8
 // Writes why the words aren't those of a command, or the help that they ask for.
 fn explain_fault<E: Sink>(alloc: Global, fault: Error, err: &mut E) -> u8
     ensures { ((result ≡ refused) × HasTold Memory (E.output err.old) (E.output err.new))
-        ⊎ ((result ≡ usage) × HasExplained (E.output err.old) (E.output err.new)) }
+        ⊎ ((kind_of fault ≢ OutOfMemory) × (result ≡ usage) × HasExplained (E.output err.old) (E.output err.new)) }
 {
+    if fault.kind() == ErrorKind::OutOfMemory {
+        return tell(err, &Refusal::Memory);
+    }
     match format!(in alloc; "{fault}") {
         Ok(text) => explain(err, text.as_str()),
         Err(_) => tell(err, &Refusal::Memory),
     }
 }
 
-// Reads what a command reads, and answers its job.
-fn carry_out<H: Host, O: Sink, E: Sink>(
+// Reads what a command reads, and answers its job, or hands its order back.
+fn carry_out<'a, H: Host, O: Sink, E: Sink>(
     alloc: Global,
-    line: CommandLine<'_>,
+    line: CommandLine<'a>,
     host: &mut H,
     out: &mut O,
     err: &mut E,
-) -> u8
-    ensures { HasWorked line.entry result
-        (world (H.state host.old) (O.output out.old) (E.output err.old)) (world (H.state host.new) (O.output out.new) (E.output err.new))
-        ⊎ HasNotWorked line.entry result
+) -> Came<'a>
+    ensures { HasCome line.entry result
         (world (H.state host.old) (O.output out.old) (E.output err.old)) (world (H.state host.new) (O.output out.new) (E.output err.new)) }
 {
     match read_inputs(alloc, inputs_of(line), host) {
-        Ok((first, second)) => {
-            let job = job_of(line, &first, &second);
-            answer(alloc, job, host, out, err)
-        }
-        Err(refusal) => tell(err, &refusal),
+        Ok((first, second)) => match order_of(line) {
+            Some((name, order)) => Came::OnDepot(Errand {
+                name,
+                order,
+                octets: first,
+            }),
+            None => {
+                let job = job_of(line, &first, &second);
+                Came::Status(answer(alloc, job, host, out, err))
+            }
+        },
+        Err(refusal) => Came::Status(tell(err, &refusal)),
+    }
+}
+
+// The depot that a command is on, and what it asks of it.
+fn order_of<'a>(line: CommandLine<'a>) -> Option<(&'a str, Order<'a>)>
+    ensures { MatchOption result (is_on_depot line.entry ≡ false) (λ found. IsDepotOf line.entry found.0.now × IsOrderOf line.entry found.1) }
+{
+    match line {
+        CommandLine::Script { depot, user, .. } => Some((depot, Order::Script { user })),
+        CommandLine::Code { depot, user, .. } => Some((depot, Order::Code { user })),
+        CommandLine::Deliver { depot, user, .. } => Some((depot, Order::Deliver { user })),
+        CommandLine::List { depot, user } => Some((depot, Order::List { user })),
+        CommandLine::Export {
+            depot,
+            user,
+            number,
+            encoding,
+        } => Some((
+            depot,
+            Order::Export {
+                user,
+                number,
+                encoding,
+            },
+        )),
+        CommandLine::Remove {
+            depot,
+            user,
+            number,
+        } => Some((depot, Order::Remove { user, number })),
+        _ => None,
     }
 }
 
@@ -112,29 +164,33 @@ fn inputs_of<'a>(line: CommandLine<'a>) -> Inputs<'a>
         CommandLine::NoWords | CommandLine::Encode { .. } | CommandLine::Decode { .. } => {
             Inputs::One(Input::Standard)
         }
-        CommandLine::Check { script } | CommandLine::Compile { script, .. } => {
-            Inputs::One(Input::File(script))
+        CommandLine::Check { script }
+        | CommandLine::Compile { script, .. }
+        | CommandLine::Script { script, .. } => Inputs::One(Input::File(script)),
+        CommandLine::Verify { program } | CommandLine::Code { program, .. } => {
+            Inputs::One(Input::File(program))
         }
-        CommandLine::Verify { program } => Inputs::One(Input::File(program)),
-        CommandLine::Parts { message } => Inputs::One(Input::File(message)),
+        CommandLine::Parts { message } | CommandLine::Deliver { message, .. } => {
+            Inputs::One(Input::File(message))
+        }
         CommandLine::Run { program, message } => {
             Inputs::Two(Input::File(program), Input::File(message))
         }
         CommandLine::Eval { script, message } => {
             Inputs::Two(Input::File(script), Input::File(message))
         }
+        CommandLine::List { .. } | CommandLine::Export { .. } | CommandLine::Remove { .. } => {
+            Inputs::None
+        }
     }
 }
 
-// The job of a command with the octets that it reads, the second ones empty where it reads once.
+// The job of a command with the octets that it reads, the second ones empty where it reads once. Commands on a depot have none, and don't
+// come here.
 fn job_of<'a>(line: CommandLine<'a>, first: &'a [u8], second: &'a [u8]) -> Job<'a>
-    ensures { (inputs : List (List ℕ)) → first.entry.now ≡ input inputs 0 → second.entry.now ≡ input inputs 1 → IsJobOf line.entry inputs result }
+    ensures { (inputs : List (List ℕ)) → first.entry.now ≡ input inputs 0 → second.entry.now ≡ input inputs 1 → is_on_depot line.entry ≡ false → IsJobOf line.entry inputs result }
 {
     match line {
-        CommandLine::NoWords => Job::Run {
-            program: keeping_program(),
-            message: first,
-        },
         CommandLine::Check { .. } => Job::Check { script: first },
         CommandLine::Compile { script, out } => Job::Compile {
             script: first,
@@ -159,6 +215,10 @@ fn job_of<'a>(line: CommandLine<'a>, first: &'a [u8], second: &'a [u8]) -> Job<'
             encoding,
             text: first,
         },
+        _ => Job::Run {
+            program: keeping_program(),
+            message: first,
+        },
     }
 }
 
@@ -169,7 +229,7 @@ fn keeping_program() -> &'static [u8]
     KEEPS_ALL
 }
 
-// The octets of what a command reads, the second ones empty where it reads once.
+// The octets of what a command reads, the second ones empty where it reads once, and both where it reads nothing.
 fn read_inputs<H: Host>(
     alloc: Global,
     inputs: Inputs<'_>,
@@ -180,6 +240,7 @@ fn read_inputs<H: Host>(
     ensures refused { IfErr result (λ e. HaveNotRead e (origins_in inputs.entry) (H.state host.old) (H.state host.new)) }
 {
     match inputs {
+        Inputs::None => Ok((Vec::new(alloc), Vec::new(alloc))),
         Inputs::One(first) => Ok((read_input(alloc, first, host)?, Vec::new(alloc))),
         Inputs::Two(first, second) => {
             let first = read_input(alloc, first, host)?;

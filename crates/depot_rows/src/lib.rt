@@ -4,7 +4,11 @@
 #[cfg(test)]
 mod answers;
 #[cfg(test)]
+mod depot;
+#[cfg(test)]
 mod devices;
+#[cfg(test)]
+mod history;
 #[cfg(test)]
 mod readings;
 #[cfg(test)]

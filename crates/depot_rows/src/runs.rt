@@ -1,8 +1,9 @@
 // From words to answers, over a shelf.
 
 use crate::shelf::{Asked, Known, Shelf};
-use depot_actions::OfWrite;
-use depot_cli::run;
+use depot_actions::{Depot, OfWrite, Sink};
+use depot_cli::{Came, Errand, perform, run, tell};
+use std::alloc::Global;
 use std::io;
 
 const SCRIPT: Known<'static> = Known {
@@ -17,7 +18,7 @@ const MESSAGE: Known<'static> = Known {
 
 /// What came of words.
 #[derive(Drop)]
-struct Came {
+struct Seen {
     status: u8,
     out: Vec<u8>,
     err: Vec<u8>,
@@ -26,19 +27,33 @@ struct Came {
     faults: u64,
 }
 
+// Carries an errand to an empty depot in memory, and gives the status.
+fn carry<O: Sink, E: Sink>(alloc: Global, errand: &Errand<'_>, out: &mut O, err: &mut E) -> u8 {
+    match Depot::in_memory(alloc) {
+        Ok(opened) => {
+            let mut depot = opened;
+            perform(alloc, errand.task(), &mut depot, out, err)
+        }
+        Err(refusal) => tell(err, &refusal),
+    }
+}
+
 // Runs words on a shelf with a script and a message.
-fn come(rt: &HostRuntime, words: &[&str], room: usize) -> Came {
+fn come(rt: &HostRuntime, words: &[&str], room: usize) -> Seen {
     let mut host = Shelf::new(rt.alloc(), SCRIPT, MESSAGE, b"MZXW6YTBOI======", room);
     let mut out = OfWrite::new(Vec::new(rt.alloc()));
     let mut err = OfWrite::new(Vec::new(rt.alloc()));
-    let status = run(rt.alloc(), words, &mut host, &mut out, &mut err);
+    let status = match run(rt.alloc(), words, &mut host, &mut out, &mut err) {
+        Came::Status(status) => status,
+        Came::OnDepot(errand) => carry(rt.alloc(), &errand, &mut out, &mut err),
+    };
     let Shelf {
         asked,
         given,
         faults,
         ..
     } = host;
-    Came {
+    Seen {
         status,
         out: out.inner,
         err: err.inner,
@@ -133,6 +148,76 @@ fn what_is_read_made_and_printed(rt: HostRuntime) -> io::Result<()> {
         ),
     ] {
         let came = come(&rt, words, room);
+        assert_eq!(rt; came.status, status, "{words:?}");
+        assert!(rt; came.out.as_slice() == out.as_bytes(), "{words:?}");
+        assert!(rt; came.err.as_slice() == err.as_bytes(), "{words:?}");
+        let list = format!(in rt.alloc(); "{:?}", came.asked)?;
+        assert!(rt; list.as_str() == asked, "{words:?}: {list}");
+    }
+    Ok(())
+}
+
+#[test]
+fn commands_on_a_depot(rt: HostRuntime) -> io::Result<()> {
+    for (words, status, out, err, asked) in [
+        (
+            ["depot", "script", "d", "ann", "s"].as_slice(),
+            0,
+            "stored\n",
+            "",
+            "[Opened(\"s\")]",
+        ),
+        (
+            ["depot", "code", "d", "ann", "s"].as_slice(),
+            1,
+            "",
+            "refused 20 Spelling\n",
+            "[Opened(\"s\")]",
+        ),
+        (
+            ["depot", "deliver", "d", "ann", "m"].as_slice(),
+            0,
+            "1 message \"INBOX\"\n",
+            "",
+            "[Opened(\"m\")]",
+        ),
+        (
+            ["depot", "deliver", "d", "Ann", "x"].as_slice(),
+            1,
+            "",
+            "refused 46 Read\n",
+            "[Opened(\"x\")]",
+        ),
+        (
+            ["depot", "list", "d", "ann"].as_slice(),
+            0,
+            "none\n",
+            "",
+            "[]",
+        ),
+        (
+            ["depot", "list", "d", "Ann"].as_slice(),
+            1,
+            "",
+            "refused 44 UserName\n",
+            "[]",
+        ),
+        (
+            ["depot", "export", "d", "ann", "1", "raw"].as_slice(),
+            1,
+            "",
+            "refused 40 NoSuchEntry\n",
+            "[]",
+        ),
+        (
+            ["depot", "remove", "d", "ann", "4294967295"].as_slice(),
+            1,
+            "",
+            "refused 40 NoSuchEntry\n",
+            "[]",
+        ),
+    ] {
+        let came = come(&rt, words, 0);
         assert_eq!(rt; came.status, status, "{words:?}");
         assert!(rt; came.out.as_slice() == out.as_bytes(), "{words:?}");
         assert!(rt; came.err.as_slice() == err.as_bytes(), "{words:?}");

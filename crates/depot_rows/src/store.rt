@@ -4,24 +4,28 @@ use sqlite::MemStore;
 use std::alloc::{AllocError, Global};
 use std::test::Fail;
 
-fn entry(alloc: Global, folder: &[u8], name: &[u8], octets: &[u8]) -> Result<NewEntry, AllocError> {
-    Ok(NewEntry {
-        folder: folder.to_vec(alloc)?,
+fn entry<'a>(folder: &'a [u8], name: &'a [u8], octets: &'a [u8]) -> NewEntry<'a> {
+    NewEntry {
+        folder,
         kind: Kind::Part,
-        name: name.to_vec(alloc)?,
-        media: b"text/plain".to_vec(alloc)?,
-        octets: octets.to_vec(alloc)?,
-    })
+        name,
+        media: b"text/plain",
+        octets,
+    }
+}
+
+// So many numbers, each in four octets.
+fn numbers(alloc: Global, count: u32) -> Result<Vec<u8>, AllocError> {
+    let mut octets = Vec::new(alloc);
+    for number in 0..count {
+        octets.extend_from_slice(&number.to_be_bytes())?;
+    }
+    Ok(octets)
 }
 
 // The first number that an entry with these octets is given.
-fn put(
-    alloc: Global,
-    store: &mut PartStore<MemStore>,
-    user: &str,
-    octets: &[u8],
-) -> Result<u32, StoreError> {
-    let entries = [entry(alloc, b"INBOX", b"a", octets)?];
+fn put(store: &mut PartStore<MemStore>, user: &str, octets: &[u8]) -> Result<u32, StoreError> {
+    let entries = [entry(b"INBOX", b"a", octets)];
     store.add_entries(user, &entries)
 }
 
@@ -29,7 +33,7 @@ fn put(
 fn put_all(
     store: &mut PartStore<MemStore>,
     user: &str,
-    entries: &[NewEntry],
+    entries: &[NewEntry<'_>],
 ) -> Result<u32, StoreError> {
     if entries.is_empty() {
         return Err(StoreError::NoSuchEntry);
@@ -63,12 +67,12 @@ fn programs(rt: HostRuntime) -> Result<(), Fail> {
 fn numbers_are_given_once(rt: HostRuntime) -> Result<(), Fail> {
     let alloc = rt.alloc();
     let mut store = PartStore::in_memory(alloc)?;
-    assert_eq!(rt; put(alloc, &mut store, "ann", b"foobar")?, 1);
-    assert_eq!(rt; put(alloc, &mut store, "ann", b"")?, 2);
-    assert_eq!(rt; put(alloc, &mut store, "bob", b"foobar")?, 1);
+    assert_eq!(rt; put(&mut store, "ann", b"foobar")?, 1);
+    assert_eq!(rt; put(&mut store, "ann", b"")?, 2);
+    assert_eq!(rt; put(&mut store, "bob", b"foobar")?, 1);
     store.set_program("ann", b"two")?;
     store.remove_entry("ann", 2)?;
-    assert_eq!(rt; put(alloc, &mut store, "ann", b"x\0'\xff")?, 3);
+    assert_eq!(rt; put(&mut store, "ann", b"x\0'\xff")?, 3);
     assert!(rt; holds(&mut store, "ann", 1, b"foobar"));
     assert!(rt; holds(&mut store, "ann", 3, b"x\0'\xff"));
     assert!(rt; matches!(store.bytes_of("ann", 2), Err(StoreError::NoSuchEntry)));
@@ -76,7 +80,7 @@ fn numbers_are_given_once(rt: HostRuntime) -> Result<(), Fail> {
     assert!(rt; holds(&mut store, "bob", 1, b"foobar"));
     store.remove_entry("bob", 1)?;
     assert!(rt; matches!(store.remove_entry("bob", 1), Err(StoreError::NoSuchEntry)));
-    assert_eq!(rt; put(alloc, &mut store, "bob", b"foobar")?, 2);
+    assert_eq!(rt; put(&mut store, "bob", b"foobar")?, 2);
     let program = store.program_of("ann")?;
     assert!(rt; program.is_some_and(|program| program.as_slice() == b"two".as_slice()));
     Ok(())
@@ -87,9 +91,9 @@ fn entries_share_octets(rt: HostRuntime) -> Result<(), Fail> {
     let alloc = rt.alloc();
     let mut store = PartStore::in_memory(alloc)?;
     let entries = [
-        entry(alloc, b"", b"", b"same")?,
-        entry(alloc, b"\0'\"\xff", b"a", b"same")?,
-        entry(alloc, b"INBOX", b"b", b"other")?,
+        entry(b"", b"", b"same"),
+        entry(b"\0'\"\xff", b"a", b"same"),
+        entry(b"INBOX", b"b", b"other"),
     ];
     assert_eq!(rt; store.add_entries("ann", &entries)?, 1);
     assert_eq!(rt; store.add_entries("bob", &entries)?, 1);
@@ -122,9 +126,9 @@ fn the_last_number(rt: HostRuntime) -> Result<(), Fail> {
         "INSERT INTO users (user, last, program) VALUES ('dan', 4294967293, x'00')",
     )?;
     let three = [
-        entry(alloc, b"", b"", b"1")?,
-        entry(alloc, b"", b"", b"2")?,
-        entry(alloc, b"", b"", b"3")?,
+        entry(b"", b"", b"1"),
+        entry(b"", b"", b"2"),
+        entry(b"", b"", b"3"),
     ];
     assert!(rt;
         matches!(
@@ -132,15 +136,10 @@ fn the_last_number(rt: HostRuntime) -> Result<(), Fail> {
             Err(StoreError::NumberFull)
         )
     );
-    assert_eq!(rt; put(alloc, &mut store, "dan", b"1")?, 4_294_967_294);
-    assert_eq!(rt; put(alloc, &mut store, "dan", b"2")?, 4_294_967_295);
-    assert!(rt;
-        matches!(
-            put(alloc, &mut store, "dan", b"3"),
-            Err(StoreError::NumberFull)
-        )
-    );
-    assert_eq!(rt; put(alloc, &mut store, "ann", b"3")?, 1);
+    assert_eq!(rt; put(&mut store, "dan", b"1")?, 4_294_967_294);
+    assert_eq!(rt; put(&mut store, "dan", b"2")?, 4_294_967_295);
+    assert!(rt; matches!(put(&mut store, "dan", b"3"), Err(StoreError::NumberFull)));
+    assert_eq!(rt; put(&mut store, "ann", b"3")?, 1);
     assert!(rt; holds(&mut store, "dan", 4_294_967_295, b"2"));
     let program = store.program_of("dan")?;
     assert!(rt; program.is_some_and(|program| program.as_slice() == b"\0".as_slice()));
@@ -164,10 +163,7 @@ fn other_octets_under_a_digest(rt: HostRuntime) -> Result<(), Fail> {
     )?;
     let mut store = laid(store, ENTRY)?;
     assert!(rt; holds(&mut store, "bob", 1, b"foobaz"));
-    let entries = [
-        entry(alloc, b"", b"", b"first")?,
-        entry(alloc, b"", b"", b"foobar")?,
-    ];
+    let entries = [entry(b"", b"", b"first"), entry(b"", b"", b"foobar")];
     assert!(rt;
         matches!(
             store.add_entries("ann", &entries),
@@ -175,9 +171,9 @@ fn other_octets_under_a_digest(rt: HostRuntime) -> Result<(), Fail> {
         )
     );
     assert!(rt; matches!(store.bytes_of("ann", 1), Err(StoreError::NoSuchEntry)));
-    assert_eq!(rt; put(alloc, &mut store, "ann", b"first")?, 1);
+    assert_eq!(rt; put(&mut store, "ann", b"first")?, 1);
     store.remove_entry("bob", 1)?;
-    assert_eq!(rt; put(alloc, &mut store, "ann", b"foobar")?, 2);
+    assert_eq!(rt; put(&mut store, "ann", b"foobar")?, 2);
     assert!(rt; holds(&mut store, "ann", 2, b"foobar"));
     Ok(())
 }
@@ -186,9 +182,10 @@ fn other_octets_under_a_digest(rt: HostRuntime) -> Result<(), Fail> {
 fn ten_thousand_entries(rt: HostRuntime) -> Result<(), Fail> {
     let alloc = rt.alloc();
     let mut store = PartStore::in_memory(alloc)?;
+    let numbers = numbers(alloc, 10_000)?;
     let mut entries = Vec::new(alloc);
-    for number in 0..10_000u32 {
-        entries.push(entry(alloc, b"folder", b"", &number.to_be_bytes())?)?;
+    for number in numbers.chunks_exact(4) {
+        entries.push(entry(b"folder", b"", number))?;
     }
     assert_eq!(rt; put_all(&mut store, "ann", &entries)?, 1);
     assert_eq!(rt; put_all(&mut store, "bob", &entries)?, 1);
@@ -206,8 +203,8 @@ fn a_large_content(rt: HostRuntime) -> Result<(), Fail> {
     for number in 0..15_000_000u32 {
         octets.extend_from_slice(&number.to_be_bytes())?;
     }
-    assert_eq!(rt; put(alloc, &mut store, "ann", &octets)?, 1);
-    assert_eq!(rt; put(alloc, &mut store, "ann", &octets)?, 2);
+    assert_eq!(rt; put(&mut store, "ann", &octets)?, 1);
+    assert_eq!(rt; put(&mut store, "ann", &octets)?, 2);
     store.remove_entry("ann", 1)?;
     assert!(rt; holds(&mut store, "ann", 2, &octets));
     Ok(())
@@ -227,9 +224,9 @@ fn listings(rt: HostRuntime) -> Result<(), Fail> {
     let alloc = rt.alloc();
     let mut store = PartStore::in_memory(alloc)?;
     let entries = [
-        entry(alloc, b"z", b"first", b"same")?,
-        entry(alloc, b"\0'\"\xff", b"", b"")?,
-        entry(alloc, b"a", b"third", b"same")?,
+        entry(b"z", b"first", b"same"),
+        entry(b"\0'\"\xff", b"", b""),
+        entry(b"a", b"third", b"same"),
     ];
     assert_eq!(rt; store.add_entries("ann", &entries)?, 1);
     assert_eq!(rt; store.add_entries("bob", &entries)?, 1);
@@ -251,13 +248,14 @@ fn listings(rt: HostRuntime) -> Result<(), Fail> {
 fn a_long_listing(rt: HostRuntime) -> Result<(), Fail> {
     let alloc = rt.alloc();
     let mut store = PartStore::in_memory(alloc)?;
+    let numbers = numbers(alloc, 10_000)?;
     let mut entries = Vec::new(alloc);
-    for number in 0..10_000u32 {
-        entries.push(entry(alloc, &number.to_le_bytes(), b"", b"x")?)?;
+    for number in numbers.chunks_exact(4) {
+        entries.push(entry(number, b"", b"x"))?;
     }
     assert_eq!(rt; put_all(&mut store, "ann", &entries)?, 1);
     let rows = store.entries_of("ann")?;
     assert_eq!(rt; rows.len(), 10_000);
-    assert!(rt; shows(&rows[9_999], 10_000, &9_999u32.to_le_bytes(), 1));
+    assert!(rt; shows(&rows[9_999], 10_000, &9_999u32.to_be_bytes(), 1));
     Ok(())
 }

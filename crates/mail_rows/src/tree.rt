@@ -644,7 +644,7 @@ fn all_agree(alloc: Global, count: u32, feed: &[u8]) -> Result<bool, TreeError> 
 #[test]
 fn all_messages_of_few_lines(rt: HostRuntime) -> Result<(), Fail> {
     let alloc = rt.alloc();
-    for count in 0..7u32 {
+    for count in 0..8u32 {
         assert!(rt; all_agree(alloc, count, b"\n")?);
     }
     for count in 0..6u32 {

@@ -1,0 +1,31 @@
+use Rattle.std.proofs.Common.{◌≡◌, inl, map, refl}
+use Rattle.part_store.specs.Standing.{listed}
+use Rattle.depot_actions.specs.DepotState.{Listed, ListAll, Text}
+use Rattle.depot_actions.specs.DepotState as depot
+use Rattle.depot_cli.proofs.TaskLemmas.{finished, stopped}
+use Rattle.depot_cli.proofs.task.perform.Goals as goal
+
+pub returns-in-Ok-deliver : goal.returns-in-Ok-deliver
+returns-in-Ok-deliver g c =
+    let ok = rw c.deref.ensures.value at c.put_entries.ensures.ok in
+    let err = rw c.deref.ensures.value at c.put_entries.ensures.err in
+    rw c.in-Deliver.is (finished c.put_entries.result (depot.Deliver c.in-Deliver.user.now c.in-Deliver.message.now) (Listed (map listed c.in-Ok-deliver.rows.items))
+    c.finish-in-Ok-deliver.result _ _ c.in-Ok-deliver.ensures.done ok err c.finish-in-Ok-deliver.ensures.ok c.finish-in-Ok-deliver.ensures.err)
+
+pub returns-in-Ok-list : goal.returns-in-Ok-list
+returns-in-Ok-list g c =
+    let ok = rw c.deref-in-Ok-list.ensures.value at c.put_entries-in-Ok-list.ensures.ok in
+    let err = rw c.deref-in-Ok-list.ensures.value at c.put_entries-in-Ok-list.ensures.err in
+    rw c.in-List.is (finished c.put_entries-in-Ok-list.result (ListAll c.in-List.user.now) (Listed (map listed c.in-Ok-list.rows.items))
+    c.finish-in-Ok-list.result _ _ c.in-Ok-list.ensures.done ok err c.finish-in-Ok-list.ensures.ok c.finish-in-Ok-list.ensures.err)
+
+pub returns-in-Ok-export : goal.returns-in-Ok-export
+returns-in-Ok-export g c =
+    let written = c.in-Ok-export.ensures.done in
+    rw c.in-Export.is (inl (refl, (Text written.0, written.2, written.1, refl)))
+
+pub returns-in-Err-export : goal.returns-in-Err-export
+returns-in-Err-export g c =
+    let all = c.in-Err-export.ensures in
+    rw c.in-Export.is (stopped c.in-Err-export.refusal (depot.Export c.in-Export.user.now c.in-Export.number c.in-Export.encoding) c.tell-in-Err-export.result _ _
+    (λ is. let broke = all.stopped is in (Text broke.0, broke.2, broke.1)) all.unwritten (λ clean. (all.refused clean, all.spared clean)) c.tell-in-Err-export.ensures.status c.tell-in-Err-export.ensures.told)

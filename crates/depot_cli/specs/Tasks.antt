@@ -1,0 +1,69 @@
+-- What tasks ask of a depot, and what performing one does.
+use Rattle.std.specs.Prelude.{◌≡◌, ◌⊎◌, ℕ, List}
+use Rattle.sqlite.specs.State.{HasCleanDisk, State}
+use Rattle.part_store.specs.Standing.{Spares}
+use Rattle.depot_actions.specs.Causes.{HasCause}
+use Rattle.depot_actions.specs.DepotState.{Command, Does, Reply, SetScript, SetCode, ListAll}
+use Rattle.depot_actions.specs.DepotState as depot
+use Rattle.depot_actions.specs.Device.{HasBroken, HasTaken, Output}
+use Rattle.refusals.specs.declared.refusal.Refusal.{Refusal}
+use Rattle.refusals.specs.declared.refusal.Refusal.TheVariants.{Write}
+use Rattle.depot_cli.specs.Jobs.{HasTold}
+use Rattle.depot_cli.specs.Printed.{reply_text}
+use Rattle.depot_cli.specs.declared.errand.Order.{Order}
+use Rattle.depot_cli.specs.declared.errand.Order.TheVariants as orders
+use Rattle.depot_cli.specs.declared.task.Task.{Task}
+use Rattle.depot_cli.specs.declared.task.Task.TheVariants.{Script, Code, Deliver, List as ListEntries, Export, Remove}
+
+-- what a task asks of the depot
+abbrev pub command_of : Task → Command
+command_of (Script user script) = SetScript user.now script.now
+command_of (Code user program) = SetCode user.now program.now
+command_of (Deliver user message) = depot.Deliver user.now message.now
+command_of (ListEntries user) = ListAll user.now
+command_of (Export user number encoding) = depot.Export user.now number encoding
+command_of (Remove user number) = depot.Remove user.now number
+
+-- what an order asks of the depot, with the octets that come to it
+abbrev pub command_in : Order → List ℕ → Command
+command_in (orders.Script user) octets = SetScript user.now octets
+command_in (orders.Code user) octets = SetCode user.now octets
+command_in (orders.Deliver user) octets = depot.Deliver user.now octets
+command_in (orders.List user) octets = ListAll user.now
+command_in (orders.Export user number encoding) octets = depot.Export user.now number encoding
+command_in (orders.Remove user number) octets = depot.Remove user.now number
+
+-- ---- what performing does
+
+-- what a task works with: the store of the depot, standard output and standard error
+pub record Desk : Type 1 where
+  pub store : State
+  pub out : Output
+  pub err : Output
+
+abbrev pub desk : State → Output → Output → Desk
+desk store out err = record { store = store; out = out; err = err }
+
+-- the depot did the command with this reply, as long as its disk returns what was written
+abbrev pub HasDone : Command → Reply → State → State → Type 0
+HasDone command reply old new = HasCleanDisk new → Does command reply old new
+
+-- and the reply was written whole
+abbrev pub HasReplied : Command → Desk → Desk → Type 0
+HasReplied command old new =
+    (reply : Reply) × HasDone command reply old.store new.store × HasTaken (reply_text command reply) old.out new.out × (new.err ≡ old.err)
+
+-- or broke off, which the command outlasts
+abbrev pub HasBrokenOff : Command → Desk → Desk → Type 0
+HasBrokenOff command old new =
+    (reply : Reply) × HasDone command reply old.store new.store × HasBroken (reply_text command reply) old.out new.out × HasTold Write old.err new.err
+
+-- the depot refused the command, and is as it was
+abbrev pub HasDeclined : Command → Desk → Desk → Type 0
+HasDeclined command old new =
+    (refusal : Refusal) × (HasCleanDisk new.store → HasCause refusal command old.store × Spares old.store new.store) × HasTold refusal old.err new.err × (new.out ≡ old.out)
+
+-- a command was performed, with this status: 0 for a reply that was written whole, else 1
+abbrev pub HasPerformed : Command → ℕ → Desk → Desk → Type 0
+HasPerformed command status old new =
+    ((status ≡ 0) × HasReplied command old new) ⊎ ((status ≡ 1) × (HasBrokenOff command old new ⊎ HasDeclined command old new))
