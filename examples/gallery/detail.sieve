@@ -1,0 +1,12 @@
+# Plus-addressing: mail to ann+shop@example.org goes into the folder shop. Delivered-To counts before To and Cc.
+require ["variables", "fileinto"];
+
+if header :matches ["Delivered-To", "To", "Cc"] "ann+*@example.org" {
+    set :lower "detail" "${1}";
+} elsif header :matches ["To", "Cc"] "*<ann+*@example.org>*" {
+    set :lower "detail" "${2}";
+}
+# what has a further @ in it was taken out of several addresses
+if not string :matches "${detail}" ["", "*@*"] {
+    fileinto "${detail}";
+}
