@@ -5,4 +5,5 @@ pub mod Drafts
 pub mod DepotState
 pub mod Causes
 pub mod History
+-- how what actions ask for is filed; nothing public rests on this
 pub mod Filing
