@@ -1,4 +1,4 @@
-// What holds of every budget.
+//! What holds of every budget.
 ghost use Rattle.std.specs.Prelude.{ℕ, ◌^◌, ◌<◌, ◌≤◌};
 ghost use Rattle.octets.specs.Limits.{max_message, max_parts};
 ghost use Rattle.bytecode_cost.specs.Sums.{Sums, IsBudget, budget_at};

@@ -235,6 +235,22 @@ fn refused_indexes_and_stacks(rt: HostRuntime) -> Result<(), Fail> {
             wanted
         );
     }
+    assert_eq!(rt;
+        answer(alloc, &[], &[literal(0), halt])?.as_str(),
+        "refused 21 Index at 0"
+    );
+    Ok(())
+}
+
+#[test]
+fn stack_full_of_texts(rt: HostRuntime) -> Result<(), Fail> {
+    let alloc = rt.alloc();
+    let mut instructions = vec![in alloc; literal(0); ROOM as usize + 1]?;
+    instructions.push(plain(Operation::Halt))?;
+    assert_eq!(rt;
+        answer(alloc, &[b"x"], &instructions)?.as_str(),
+        "refused 27 Stack at 1024"
+    );
     Ok(())
 }
 

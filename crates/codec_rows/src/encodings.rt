@@ -34,6 +34,25 @@ fn foobar_and_back(rt: HostRuntime) {
 }
 
 #[test]
+fn one_octet_and_back(rt: HostRuntime) {
+    let alloc = rt.alloc();
+    for (encoding, text) in [
+        (Encoding::Raw, "f"),
+        (Encoding::Base64, "Zg=="),
+        (Encoding::Base64Mime, "Zg==\r\n"),
+        (Encoding::Base32, "MY======"),
+        (Encoding::Base32Hex, "CO======"),
+        (Encoding::Base16, "66"),
+        (Encoding::Qp, "f"),
+    ] {
+        let written = encode(alloc, encoding, b"f").expect(&rt, NO_MEMORY);
+        assert!(rt; written.as_slice() == text.as_bytes(), "{text}");
+        let read = decode(alloc, encoding, text.as_bytes()).expect(&rt, NO_MEMORY);
+        assert!(rt; read.as_slice() == b"f".as_slice(), "{text}");
+    }
+}
+
+#[test]
 fn texts_that_read_as_nothing(rt: HostRuntime) {
     let alloc = rt.alloc();
     for (encoding, text) in [

@@ -5,7 +5,7 @@ mod streams;
 
 use crate::streams::hold_closed;
 use depot_actions::{Depot, OfWrite, Sink};
-use depot_cli::{Came, Errand, Refusal, System, explain, perform, run, tell};
+use depot_cli::{Errand, Next, Refusal, System, perform, run, tell, tell_usage};
 use sqlite::{File, FileStore};
 use std::io::ErrorKind;
 use std::process::ExitCode;
@@ -28,14 +28,14 @@ fn start<O: Sink, E: Sink>(rt: &HostRuntime, out: &mut O, err: &mut E) -> u8 {
             Ok(texts) => {
                 let mut host = System::new(rt, process::id(rt.process()));
                 match run(rt.alloc(), &texts, &mut host, out, err) {
-                    Came::Status(status) => status,
-                    Came::OnDepot(errand) => carry(rt, &errand, out, err),
+                    Next::Exit(status) => status,
+                    Next::Perform(errand) => carry(rt, &errand, out, err),
                 }
             }
             Err(_) => tell(err, &Refusal::Memory),
         },
         Err(fault) if fault.kind() == ErrorKind::OutOfMemory => tell(err, &Refusal::Memory),
-        Err(_) => explain(err, "error: a word isn't UTF-8\n"),
+        Err(_) => tell_usage(err, "error: a word isn't UTF-8\n"),
     }
 }
 

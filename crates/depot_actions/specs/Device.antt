@@ -1,6 +1,8 @@
 -- What is known of a sink, and what calls do to it.
 use Rattle.std.specs.Prelude.{◌≡◌, ℕ, zero, suc, ◌+◌, ◌-◌, ◌^◌, min, List, Option, ◌++◌}
 use Rattle.std.specs.Io.KnownBytes.{Appends, Keeps}
+use Rattle.refusals.specs.declared.refusal.Refusal.{Refusal}
+use Rattle.refusals.specs.declared.refusal.Refusal.TheVariants.{Memory, Write}
 
 -- a count after so many more; counts stop at 2^64 - 1
 abbrev pub counted : ℕ → ℕ → ℕ
@@ -29,3 +31,16 @@ pub record HasBroken (octets : List ℕ) (old new : Output) : Type 0 where
   pub whole : octets ≡ prefix ++ rest
   pub written : Appends old.written new.written prefix
   pub faults : new.faults ≡ counted 1 old.faults
+
+-- the sink took the first of these octets, and no call failed
+pub record HasBegun (octets : List ℕ) (old new : Output) : Type 0 where
+  pub prefix : List ℕ
+  pub rest : List ℕ
+  pub whole : octets ≡ prefix ++ rest
+  pub taken : HasTaken prefix old new
+
+-- why a sink didn't take all of these octets: one call failed, or memory was refused between two calls
+abbrev pub HasStopped : Refusal → List ℕ → Output → Output → Type 0
+HasStopped Write octets old new = HasBroken octets old new
+HasStopped Memory octets old new = HasBegun octets old new
+HasStopped _ octets old new = ⊥

@@ -1,5 +1,5 @@
 -- Octets as texts (RFC 4648; RFC 2045, sections 6.7 and 6.8), and texts as octets.
-use Rattle.std.specs.Prelude.{◌≡◌, ℕ, List}
+use Rattle.std.specs.Prelude.{◌≡◌, ◌%◌, ℕ, List, length}
 use Rattle.base64.specs.Engines.{standard}
 use Rattle.base64.specs.GeneralPurpose.{encode_of}
 use Rattle.hex.specs.Hex.{encode_upper}
@@ -22,6 +22,17 @@ text_of Base32 octets = encoding_of alphabet.Base32 octets
 text_of Base32Hex octets = encoding_of alphabet.Base32Hex octets
 text_of Base16 octets = encode_upper octets
 text_of Qp octets = qp.encoding_of octets
+
+-- Octets whose text comes first, whatever octets follow them: whole groups of 24 or 40 bits (RFC 4648, sections 4 and 6), or whole lines of 76
+-- characters (RFC 2045, section 6.8). In quoted-printable what follows decides where a line ends.
+abbrev pub IsPiece : Encoding → List ℕ → Type 0
+IsPiece Raw octets = Unit {0}
+IsPiece Base64 octets = length octets % 3 ≡ 0
+IsPiece Base64Mime octets = length octets % 57 ≡ 0
+IsPiece Base32 octets = length octets % 5 ≡ 0
+IsPiece Base32Hex octets = length octets % 5 ≡ 0
+IsPiece Base16 octets = Unit {0}
+IsPiece Qp octets = ⊥
 
 -- A text reads as octets: in MIME base64 by their bits, whatever stands between them; in quoted-printable line by line; in
 -- base16 where it is their text but for the case of letters; else where it is their text.

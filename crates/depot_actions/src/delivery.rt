@@ -43,6 +43,7 @@ pub(crate) fn actions_of(
     };
     match check_program(alloc, &program) {
         Ok(verified) => {
+            // What holds of every message is known where it is asked.
             let _size = message.size();
             Ok(run(alloc, &verified, message)?.actions)
         }

@@ -9,14 +9,14 @@ ghost use Rattle.part_store.specs.Standing.{Spares, Stands, listed};
 ghost use Rattle.refusals.specs.declared.refusal.Refusal.TheVariants.{Memory, Database, Write};
 ghost use Rattle.depot_actions.specs.Causes.{HasCause};
 ghost use Rattle.depot_actions.specs.DepotState.{Deliver, Does, Done, Export, ListAll, Listed, MayLeave, Program, ProgramOf, Remove, SetCode, SetScript, Text};
-ghost use Rattle.depot_actions.specs.Device.{HasBroken, HasTaken};
+ghost use Rattle.depot_actions.specs.Device.{HasBegun, HasBroken, HasTaken};
 
 use crate::checking::{check_code, code_octets};
 use crate::delivery::{actions_of, file_all};
-use crate::encoding::{Encoding, encode};
-use crate::exporting::put;
+use crate::encoding::Encoding;
+use crate::exporting::put_text;
 use crate::refusing::refused;
-use crate::sink::{DeviceFailed, Sink};
+use crate::sink::Sink;
 use crate::user::is_user_name;
 use mime_decode::Message;
 use part_store::{EntryRow, PartStore};
@@ -165,12 +165,13 @@ impl<S: Alter> Depot<S> {
         self.store.program_of(user).map_err(refused)
     }
 
-    /// Writes the octets of the user's entry of this number, in an encoding, and nothing else.
+    /// Writes the octets of the user's entry of this number, in an encoding, and nothing else. The octets are read whole, and
+    /// encoded and written a few thousand at a time.
     ///
     /// # Errors
     ///
     /// `UserName`, then `NoSuchEntry` where he has none of that number, and `Database`; nothing was written then. `Memory` where an
-    /// allocation was refused; nothing was written. `Write` where a call of the writer failed; a prefix was written.
+    /// allocation was refused, and `Write` where a call of the writer failed; a prefix was written.
     pub fn export<W: Sink>(
         &mut self,
         alloc: Global,
@@ -183,7 +184,9 @@ impl<S: Alter> Depot<S> {
             × (HasCleanDisk (state S.Store self.new) → Does (Export user.now number encoding) (Text text) (state S.Store self.old) (state S.Store self.new))) }
         ensures stopped { IfErr result (λ e. e ≡ Write → (text : List ℕ) × HasBroken text (W.output writer.old) (W.output writer.new)
             × (HasCleanDisk (state S.Store self.new) → Does (Export user.now number encoding) (Text text) (state S.Store self.old) (state S.Store self.new))) }
-        ensures unwritten { IfErr result (λ e. e ≢ Write → W.output writer.new ≡ W.output writer.old) }
+        ensures begun { IfErr result (λ e. e ≡ Memory → (W.output writer.new ≡ W.output writer.old) ⊎ ((text : List ℕ) × HasBegun text (W.output writer.old) (W.output writer.new)
+            × (HasCleanDisk (state S.Store self.new) → Does (Export user.now number encoding) (Text text) (state S.Store self.old) (state S.Store self.new)))) }
+        ensures unwritten { IfErr result (λ e. e ≢ Write → e ≢ Memory → W.output writer.new ≡ W.output writer.old) }
         ensures spared { HasCleanDisk (state S.Store self.new) → Spares (state S.Store self.old) (state S.Store self.new) }
         ensures refused { HasCleanDisk (state S.Store self.new) → IfErr result (λ e. HasCause e (Export user.now number encoding) (state S.Store self.old)) }
         ensures survives { Survives (state S.Store self.old) (state S.Store self.new) (λ _. ⊥) }
@@ -192,11 +195,7 @@ impl<S: Alter> Depot<S> {
             return Err(Refusal::UserName);
         }
         let octets = self.store.bytes_of(user, number).map_err(refused)?;
-        let text = encode(alloc, encoding, &octets)?;
-        match put(writer, &text) {
-            Ok(()) => Ok(()),
-            Err(DeviceFailed) => Err(Refusal::Write),
-        }
+        put_text(alloc, encoding, &octets, writer)
     }
 
     /// Removes the user's entry of this number. The number isn't given again.

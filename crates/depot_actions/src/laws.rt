@@ -1,5 +1,5 @@
 //! What holds of the definitions alone.
-ghost use Rattle.std.specs.Prelude.{◌≡◌, ℕ, List};
+ghost use Rattle.std.specs.Prelude.{◌≡◌, ◌++◌, ℕ, List};
 ghost use Rattle.octet_lanes.specs.Encoding.{IsOctets};
 ghost use Rattle.sqlite.specs.Held.{Held, state};
 ghost use Rattle.part_store.specs.Entries.{Entries};
@@ -7,7 +7,7 @@ ghost use Rattle.part_store.specs.Standing.{Stands};
 ghost use Rattle.depot_actions.specs.Causes.{IsFull, IsNamed, NamesNone};
 ghost use Rattle.depot_actions.specs.DepotState.{Accepts, Command, Reply};
 ghost use Rattle.depot_actions.specs.History.{AreAnswered, AreSteps, Call};
-ghost use Rattle.depot_actions.specs.Texts.{Reads, text_of};
+ghost use Rattle.depot_actions.specs.Texts.{IsPiece, Reads, text_of};
 ghost use Rattle.depot_actions.specs.declared.encoding.Encoding.{Encoding};
 
 use sqlite::Alter;
@@ -20,6 +20,11 @@ pub fn reads_at_most_one()
 /// What was written is read back.
 pub fn reads_what_was_written()
     ensures { (encoding : Encoding) (octets : List ℕ) → IsOctets octets → Reads encoding (text_of encoding octets) octets }
+{}
+
+/// The text of octets is that of a piece of them, then that of the others.
+pub fn text_is_the_texts_of_its_pieces()
+    ensures { (encoding : Encoding) (piece rest : List ℕ) → IsPiece encoding piece → text_of encoding (piece ++ rest) ≡ text_of encoding piece ++ text_of encoding rest }
 {}
 
 /// Whatever calls a depot is given, it then stands for what the accepted ones make of what it stood for, one after another.

@@ -9,7 +9,7 @@
 //! text reads as, or `NotCanonical` where there are none.
 //!
 //! A [`Sink`] takes octets. A contract sees the octets that it took, where they are told, and how many of its calls
-//! have failed (`specs/Device`); [`OfWrite`] makes a sink of a writer.
+//! have failed (`specs/Device`); [`OfWrite`] makes a sink of a writer, and [`put`] writes all of some octets to one.
 #![tactic(auto)]
 
 mod checking;
@@ -29,6 +29,7 @@ mod user;
 
 pub use depot::Depot;
 pub use encoding::{Encoding, decode, encode};
+pub use exporting::put;
 pub use refusals::Refusal;
 pub use sink::{DeviceFailed, MAX_TRIES, OfWrite, Sink};
 pub use user::{MAX_USER, is_user_name};

@@ -1,4 +1,4 @@
--- What calls of a sink come to, one after another.
+-- What calls of a sink come to where lines are gathered, and texts are written in turn.
 use Rattle.std.proofs.Common.{◌≡◌, ◌∙◌, ◌+◌, ◌-◌, ◌≤◌, ◌<◌, ap, refl, ℕ, suc, zero, List, [], ◌∷◌, ◌++◌, sym, subst, arith, length, take, drop, take_all, length-drop, get_or, append_assoc, append-nil, take-append-drop, Result, Ok, Err, OnErr}
 use Rattle.std.specs.List.{flat_map}
 use Rattle.std.proofs.KnownBytes.{Appends-kept, Appends-nil, Appends-trans}
@@ -7,73 +7,8 @@ use Rattle.std.proofs.lemmas.List.Concat.{flat_map-cons}
 use Rattle.std.proofs.lemmas.Grind.{flat_map-append}
 use Rattle.std.proofs.lemmas.List.{take_more}
 use Rattle.depot_cli.specs.Gathering.{Gathering, HasGathered, gathering}
-use Rattle.depot_actions.specs.Device.{HasBroken, HasFailed, HasTaken, Output, counted}
-
--- what holds anyway holds of an error
-pub on_err : {T E P : Type 0} (r : Result T E) → P → OnErr r P
-on_err (Ok x) p = tt
-on_err (Err e) p = p
-
--- nothing is taken by doing nothing
-pub taken_none : (s : Output) → HasTaken [] s s
-taken_none s = record { written = Appends-nil s.written; faults = refl }
-
--- the rest of a text from a place on, whole
-pub rest_whole : (done : ℕ) (text : List ℕ) → take (length text - done) (drop done text) ≡ drop done text
-rest_whole done text = take_all (length text - done) (drop done text) (let l = length-drop done text in omega (arith, l))
-
--- octets of the rest lie within the text
-pub next_within : (text : List ℕ) (done n : ℕ) → done ≤ length text → n ≤ length (take (length text - done) (drop done text)) → done + n ≤ length text
-next_within text done n within fits =
-    let l = length-drop done text in
-    let small : n ≤ length (drop done text) = subst (λ octets. n ≤ length octets) (rest_whole done text) fits in
-    omega (arith, l)
-
-module _ {s0 s1 s2 : Output} where
-  -- a text was taken, and then another
-  pub taken_both : (xs ys : List ℕ) → HasTaken xs s0 s1 → HasTaken ys s1 s2 → HasTaken (xs ++ ys) s0 s2
-  taken_both xs ys first later = record {
-    written = Appends-trans s0.written s1.written s2.written xs ys first.written later.written;
-    faults = later.faults ∙ first.faults;
-  }
-
-  -- a text was taken, and the sink broke in the next one
-  pub broken_later : (xs ys : List ℕ) → HasTaken xs s0 s1 → HasBroken ys s1 s2 → HasBroken (xs ++ ys) s0 s2
-  broken_later xs ys first later = record {
-    prefix = xs ++ later.prefix;
-    rest = later.rest;
-    whole = ap (λ text. xs ++ text) later.whole ∙ sym (append_assoc xs later.prefix later.rest);
-    written = Appends-trans s0.written s1.written s2.written xs later.prefix first.written later.written;
-    faults = later.faults ∙ ap (counted 1) first.faults;
-  }
-
-  -- the first octets of a text were taken, and then a call failed
-  pub broken_at_place : (text : List ℕ) (done : ℕ) → HasTaken (take done text) s0 s1 → HasFailed s1 s2 → HasBroken text s0 s2
-  broken_at_place text done first failed = record {
-    prefix = take done text;
-    rest = drop done text;
-    whole = sym (take-append-drop done text);
-    written = Appends-kept s0.written s1.written s2.written (take done text) first.written failed.written;
-    faults = failed.faults ∙ ap (counted 1) first.faults;
-  }
-
-  -- the first octets of a text were taken, and then some of the rest
-  pub taken_next : (text : List ℕ) (done n : ℕ) → HasTaken (take done text) s0 s1 → HasTaken (take n (take (length text - done) (drop done text))) s1 s2 → HasTaken (take (done + n) text) s0 s2
-  taken_next text done n first later =
-      rw (take-add done n text)
-      (taken_both (take done text) (take n (drop done text)) first (subst (λ octets. HasTaken (take n octets) s1 s2) (rest_whole done text) later))
-
--- the sink broke in a text, before what follows it
-pub broken_first : {s0 s1 : Output} (xs ys : List ℕ) → HasBroken xs s0 s1 → HasBroken (xs ++ ys) s0 s1
-broken_first xs ys first = record {
-  prefix = first.prefix;
-  rest = first.rest ++ ys;
-  whole = ap (λ text. text ++ ys) first.whole ∙ append_assoc first.prefix first.rest ys;
-  written = first.written;
-  faults = first.faults;
-}
-
--- ---- lines that are gathered
+use Rattle.depot_actions.specs.Device.{HasBroken, HasTaken, Output}
+use Rattle.depot_actions.proofs.Outputs.{broken_first, broken_later, rest_whole, taken_both, taken_none}
 
 -- nothing is gathered by doing nothing
 pub gathered_none : (s : Gathering) → HasGathered [] s s

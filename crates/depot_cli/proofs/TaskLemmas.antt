@@ -1,10 +1,10 @@
 -- What comes of a task, from what the depot did and what was written.
-use Rattle.std.proofs.Common.{◌≡◌, ◌≢◌, ◌⊎◌, ℕ, List, inl, inr, refl, subst, Result, Ok, Err, OnOk, OnErr}
+use Rattle.std.proofs.Common.{◌≡◌, ◌≢◌, ◌⊎◌, ℕ, inl, inr, refl, subst, Result, Ok, Err, OnOk, OnErr}
 use Rattle.sqlite.specs.State.{HasCleanDisk}
 use Rattle.part_store.specs.Standing.{Spares}
-use Rattle.depot_actions.specs.Causes.{HasCause}
+use Rattle.depot_actions.specs.Causes.{HasCause, IsExport}
 use Rattle.depot_actions.specs.DepotState.{Command, Reply}
-use Rattle.depot_actions.specs.Device.{HasBroken, HasTaken}
+use Rattle.depot_actions.specs.Device.{HasBegun, HasBroken, HasTaken}
 use Rattle.refusals.specs.declared.refusal.Refusal.{Refusal}
 use Rattle.refusals.specs.declared.refusal.Refusal.TheVariants.{Memory, MessageTooLarge, TooManyParts, NotCanonical, Lexical, ScriptTooLong, Syntax, TooDeep, UnknownCommand, MissingCapability, UnknownCapability, BadArguments, Limit, Spelling, Index, Form, End, Loop, Jump, NoPart, Stack, NoSuchEntry, NumberFull, Collision, Database, UserName, Write, Read}
 use Rattle.depot_cli.specs.Jobs.{HasTold}
@@ -18,43 +18,49 @@ pub finished : {T E : Type 0} (written : Result T E) (command : Command) (reply 
 finished (Ok x) command reply status old new done taken broken ok err = inl (ok.0, (reply, done, taken, ok.1))
 finished (Err e) command reply status old new done taken broken ok err = inr (err.0, inl (reply, done, broken, err.1))
 
-is_write : (e : Refusal) → (e ≡ Write) ⊎ (e ≢ Write)
-is_write Memory = inr (λ is. cc is)
-is_write MessageTooLarge = inr (λ is. cc is)
-is_write TooManyParts = inr (λ is. cc is)
-is_write NotCanonical = inr (λ is. cc is)
-is_write (Lexical place) = inr (λ is. cc is)
-is_write ScriptTooLong = inr (λ is. cc is)
-is_write (Syntax place) = inr (λ is. cc is)
-is_write (TooDeep place) = inr (λ is. cc is)
-is_write (UnknownCommand place) = inr (λ is. cc is)
-is_write (MissingCapability place) = inr (λ is. cc is)
-is_write (UnknownCapability place) = inr (λ is. cc is)
-is_write (BadArguments place) = inr (λ is. cc is)
-is_write (Limit place) = inr (λ is. cc is)
-is_write Spelling = inr (λ is. cc is)
-is_write (Index place) = inr (λ is. cc is)
-is_write (Form place) = inr (λ is. cc is)
-is_write (End place) = inr (λ is. cc is)
-is_write (Loop place) = inr (λ is. cc is)
-is_write (Jump place) = inr (λ is. cc is)
-is_write (NoPart place) = inr (λ is. cc is)
-is_write (Stack place) = inr (λ is. cc is)
-is_write NoSuchEntry = inr (λ is. cc is)
-is_write NumberFull = inr (λ is. cc is)
-is_write Collision = inr (λ is. cc is)
-is_write Database = inr (λ is. cc is)
-is_write UserName = inr (λ is. cc is)
-is_write Write = inl refl
-is_write Read = inr (λ is. cc is)
+-- whether a refusal is one that may come after some of an export was written
+comes_late : (e : Refusal) → (e ≡ Write) ⊎ (e ≡ Memory) ⊎ ((e ≢ Write) × (e ≢ Memory))
+comes_late Memory = inr (inl refl)
+comes_late MessageTooLarge = inr (inr (λ is. cc is, λ is. cc is))
+comes_late TooManyParts = inr (inr (λ is. cc is, λ is. cc is))
+comes_late NotCanonical = inr (inr (λ is. cc is, λ is. cc is))
+comes_late (Lexical place) = inr (inr (λ is. cc is, λ is. cc is))
+comes_late ScriptTooLong = inr (inr (λ is. cc is, λ is. cc is))
+comes_late (Syntax place) = inr (inr (λ is. cc is, λ is. cc is))
+comes_late (TooDeep place) = inr (inr (λ is. cc is, λ is. cc is))
+comes_late (UnknownCommand place) = inr (inr (λ is. cc is, λ is. cc is))
+comes_late (MissingCapability place) = inr (inr (λ is. cc is, λ is. cc is))
+comes_late (UnknownCapability place) = inr (inr (λ is. cc is, λ is. cc is))
+comes_late (BadArguments place) = inr (inr (λ is. cc is, λ is. cc is))
+comes_late (Limit place) = inr (inr (λ is. cc is, λ is. cc is))
+comes_late Spelling = inr (inr (λ is. cc is, λ is. cc is))
+comes_late (Index place) = inr (inr (λ is. cc is, λ is. cc is))
+comes_late (Form place) = inr (inr (λ is. cc is, λ is. cc is))
+comes_late (End place) = inr (inr (λ is. cc is, λ is. cc is))
+comes_late (Loop place) = inr (inr (λ is. cc is, λ is. cc is))
+comes_late (Jump place) = inr (inr (λ is. cc is, λ is. cc is))
+comes_late (NoPart place) = inr (inr (λ is. cc is, λ is. cc is))
+comes_late (Stack place) = inr (inr (λ is. cc is, λ is. cc is))
+comes_late NoSuchEntry = inr (inr (λ is. cc is, λ is. cc is))
+comes_late NumberFull = inr (inr (λ is. cc is, λ is. cc is))
+comes_late Collision = inr (inr (λ is. cc is, λ is. cc is))
+comes_late Database = inr (inr (λ is. cc is, λ is. cc is))
+comes_late UserName = inr (inr (λ is. cc is, λ is. cc is))
+comes_late Write = inl refl
+comes_late Read = inr (inr (λ is. cc is, λ is. cc is))
 
--- an export stopped: a call of the writer failed, or it was refused and nothing was written
-pub stopped : (e : Refusal) (command : Command) (status : ℕ) (old new : Desk)
+-- an export stopped: a call of the writer failed, memory was refused for a piece, or it was refused and nothing was written
+pub stopped : (e : Refusal) (command : Command) (status : ℕ) (old new : Desk) → IsExport command
     → (e ≡ Write → (reply : Reply) × HasDone command reply old.store new.store × HasBroken (reply_text command reply) old.out new.out)
-    → (e ≢ Write → new.out ≡ old.out)
+    → (e ≡ Memory → (new.out ≡ old.out) ⊎ ((reply : Reply) × HasDone command reply old.store new.store × HasBegun (reply_text command reply) old.out new.out))
+    → (e ≢ Write → e ≢ Memory → new.out ≡ old.out)
     → (HasCleanDisk new.store → HasCause e command old.store × Spares old.store new.store)
     → status ≡ 1 → HasTold e old.err new.err → HasPerformed command status old new
-stopped e command status old new broke unwritten refused one told = elim (is_write e) [
+stopped e command status old new export broke begun unwritten refused one told = elim (comes_late e) [
   | inl is ↦ let b = broke is in inr (one, inl (b.0, b.1, b.2, subst (λ r. HasTold r old.err new.err) is told))
-  | inr other ↦ inr (one, inr (e, refused, told, unwritten other))
+  | inr (inl is) ↦ elim (begun is) [
+    | inl same ↦ inr (one, inr (inr (e, refused, told, same)))
+    | inr b ↦ inr (one, inr (inl (export, b.0, b.1, b.2, subst (λ r. HasTold r old.err new.err) is told)))
+  ]
+  | inr (inr other) ↦ inr (one, inr (inr (e, refused, told, unwritten other.0 other.1)))
 ]

@@ -1,5 +1,5 @@
 -- What jobs answer, why they are refused, and what answering does.
-use Rattle.std.specs.Prelude.{◌≡◌, ◌⊎◌, ℕ, List, length}
+use Rattle.std.specs.Prelude.{◌≡◌, ◌≢◌, ◌⊎◌, ℕ, List, length, Option, None, Some}
 use Rattle.octet_lanes.specs.Encoding.{IsOctets}
 use Rattle.depot_actions.specs.Device.{HasBroken, HasTaken, Output}
 use Rattle.depot_actions.specs.Texts.{IsUnread, Reads, text_of}
@@ -12,19 +12,21 @@ use Rattle.sieve_check.specs.Typed.{CommandForms}
 use Rattle.sieve_engine.specs.Evaluation.{IsCompiled, IsEvaluation, IsEvaluationRefusal, IsScript, IsScriptRefusal}
 use Rattle.sieve_engine.specs.Execution as engine
 use Rattle.sieve_engine.specs.Execution.{IsChecked, IsExecution, IsProgramRefusal, IsRefusal}
+use Rattle.sieve_explain.specs.Explaining.{Explains}
 use Rattle.mime_decode.specs.Mail.{IsReadable, mail_of}
 use Rattle.depot_cli.specs.Host.{HasMade, HasNotMade, HostState}
 use Rattle.depot_cli.specs.Printed.{line, ok_text, parts_text, refusal_line, report_text, wrote_text}
 use Rattle.refusals.specs.declared.refusal.Refusal.{Refusal}
 use Rattle.refusals.specs.declared.refusal.Refusal.TheVariants as refusals
 use Rattle.depot_cli.specs.declared.job.Job.{Job}
-use Rattle.depot_cli.specs.declared.job.Job.TheVariants.{Check, Compile, Verify, Run, Eval, Parts, Encode, Decode}
+use Rattle.depot_cli.specs.declared.job.Job.TheVariants.{Check, Explain, Compile, Verify, Run, Eval, Parts, Encode, Decode}
 
 -- The text of a job's answer: that the script has no fault, how many octets its program has, the budget of the accepted program, the
 -- lines of the run, those of the message's parts, or the octets and nothing else. The script's program was made a file; no other job
 -- asks anything of the host.
 abbrev pub IsAnswer : Job → List ℕ → HostState → HostState → Type 0
 IsAnswer (Check script) text old new = (form : CommandForms) × IsScript script.now form × (text ≡ line ok_text) × (new ≡ old)
+IsAnswer (Explain script name) text old new = (form : CommandForms) × IsScript script.now form × (text ≡ line ok_text) × (new ≡ old)
 IsAnswer (Compile script name out) text old new =
     (code : Code) × IsCompiled script.now code × (text ≡ line (wrote_text (length (spelling code)))) × HasMade out.now name.now (spelling code) old new
 IsAnswer (Verify program) text old new = (code : Code) × IsChecked program.now code × (text ≡ line (budget_text (budget_of code))) × (new ≡ old)
@@ -36,9 +38,21 @@ IsAnswer (Parts message) text old new = IsReadable message.now × (text ≡ part
 IsAnswer (Encode encoding octets) text old new = (text ≡ text_of encoding octets.now) × (new ≡ old)
 IsAnswer (Decode encoding text) octets old new = IsOctets octets × Reads encoding text.now octets × (new ≡ old)
 
+-- What a job finds, beside its refusal: a script's fault in words, which goes to standard output.
+abbrev pub IsFinding : Job → List ℕ → Refusal → HostState → HostState → Type 0
+IsFinding (Explain script name) text refusal old new =
+    (refusal ≢ refusals.Memory) × IsScriptRefusal script.now refusal × Explains name.now script.now refusal text × (new ≡ old)
+IsFinding _ text refusal old new = ⊥
+
+-- the text of a job's answer, with none; or that of a finding, with its refusal
+abbrev pub IsShown : Job → List ℕ → Option Refusal → HostState → HostState → Type 0
+IsShown job text None old new = IsAnswer job text old new
+IsShown job text (Some refusal) old new = IsFinding job text refusal old new
+
 -- The first refusal of a job's octets, of which the host isn't asked anything; or the job's file could not be made.
 abbrev pub IsJobRefusal : Job → Refusal → HostState → HostState → Type 0
 IsJobRefusal (Check script) refusal old new = IsScriptRefusal script.now refusal × (new ≡ old)
+IsJobRefusal (Explain script name) refusal old new = (refusal ≡ refusals.Memory) × (new ≡ old)
 IsJobRefusal (Compile script name out) refusal old new =
     (IsScriptRefusal script.now refusal × (new ≡ old))
     ⊎ ((code : Code) × IsCompiled script.now code × HasNotMade refusal out.now name.now old new)
@@ -68,9 +82,15 @@ HasTold refusal old new = HasTaken (refusal_line refusal) old new ⊎ HasBroken 
 abbrev pub HasAnswered : Job → World → World → Type 0
 HasAnswered job old new = (text : List ℕ) × IsAnswer job text old.host new.host × HasTaken text old.out new.out × (new.err ≡ old.err)
 
--- the job was done, but its answer broke off
+-- what the job found was written whole, and its refusal was told
+abbrev pub HasFound : Job → World → World → Type 0
+HasFound job old new =
+    (text : List ℕ) × (refusal : Refusal) × IsFinding job text refusal old.host new.host × HasTaken text old.out new.out × HasTold refusal old.err new.err
+
+-- the job was done, but its answer, or what it found, broke off
 abbrev pub HasStopped : Job → World → World → Type 0
-HasStopped job old new = (text : List ℕ) × IsAnswer job text old.host new.host × HasBroken text old.out new.out × HasTold refusals.Write old.err new.err
+HasStopped job old new =
+    (text : List ℕ) × (found : Option Refusal) × IsShown job text found old.host new.host × HasBroken text old.out new.out × HasTold refusals.Write old.err new.err
 
 -- the job was refused
 abbrev pub HasRefused : Job → World → World → Type 0

@@ -1,8 +1,9 @@
 -- The text of the pieces of a line, and of what an answer is made of.
-use Rattle.std.specs.Prelude.{ℕ, List, string_bytes}
+use Rattle.std.specs.Prelude.{ℕ, List, Option, None, Some, string_bytes}
 use Rattle.std.specs.List.{flat_map}
 use Rattle.std.specs.Fmt.{decimal}
 use Rattle.depot_cli.specs.Printed.{escaped, line, ok_text, quoted, report_text, wrote_text}
+use Rattle.refusals.specs.declared.refusal.Refusal.{Refusal}
 use Rattle.depot_cli.specs.declared.job.Lines.{Lines}
 use Rattle.depot_cli.specs.declared.job.Lines.TheVariants as lines
 use Rattle.depot_cli.specs.declared.piece.Piece.{Piece}
@@ -24,7 +25,13 @@ pieces_text = flat_map piece_text
 -- the text of what an answer is made of
 abbrev pub lines_text : Lines → List ℕ
 lines_text lines.NoFault = line ok_text
+lines_text (lines.Fault text refusal) = text.items
 lines_text (lines.Wrote octets) = line (wrote_text octets)
 lines_text (lines.Budget text) = line (string_bytes text)
 lines_text (lines.Octets octets) = octets.items
 lines_text (lines.Report report) = report_text report.outcome.actions.items report.outcome.charged report.limit
+
+-- the refusal that goes with it, if there is one
+abbrev pub refusal_in : Lines → Option Refusal
+refusal_in (lines.Fault text refusal) = Some refusal
+refusal_in _ = None

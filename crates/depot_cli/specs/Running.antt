@@ -8,7 +8,7 @@ use Rattle.bytecode_format.specs.Spelling.{spelling}
 use Rattle.bytecode_format.specs.declared.operation.Operation.TheVariants.{Keep, Halt}
 use Rattle.depot_actions.specs.Device.{HasBroken, HasTaken, Output, counted}
 use Rattle.depot_cli.specs.Host.{HostState, Origin, file, opens, origin_of, standard, with_call, with_faults}
-use Rattle.depot_cli.specs.Jobs.{HasAnswered, HasRefused, HasStopped, HasTold, World, world}
+use Rattle.depot_cli.specs.Jobs.{HasAnswered, HasFound, HasRefused, HasStopped, HasTold, World, world}
 use Rattle.depot_cli.specs.Limits.{max_input}
 use Rattle.depot_cli.specs.Printed.{shown}
 use Rattle.depot_cli.specs.Words.{IsDepot, Says}
@@ -17,12 +17,12 @@ use Rattle.refusals.specs.declared.refusal.Refusal.TheVariants.{Memory, MessageT
 use Rattle.depot_cli.specs.declared.job.Job.{Job}
 use Rattle.depot_cli.specs.declared.job.Job.TheVariants as jobs
 use Rattle.depot_cli.specs.declared.line.CommandLine.{CommandLine}
-use Rattle.depot_cli.specs.declared.line.CommandLine.TheVariants.{NoWords, Check, Compile, Verify, Run, Eval, Parts, Encode, Decode, Script, Code as CodeOf, Deliver, List as ListAll, Export, Remove}
+use Rattle.depot_cli.specs.declared.line.CommandLine.TheVariants.{NoWords, Check, Explain, Compile, Verify, Run, Eval, Parts, Encode, Decode, Script, Code as CodeOf, Deliver, List as ListAll, Export, Remove}
 use Rattle.depot_cli.specs.declared.errand.Errand.{Errand}
 use Rattle.depot_cli.specs.declared.errand.Order.{Order}
 use Rattle.depot_cli.specs.declared.errand.Order.TheVariants as orders
-use Rattle.depot_cli.specs.declared.running.Came.{Came}
-use Rattle.depot_cli.specs.declared.running.Came.TheVariants as comes
+use Rattle.depot_cli.specs.declared.running.Next.{Next}
+use Rattle.depot_cli.specs.declared.running.Next.TheVariants as next
 use Rattle.depot_cli.specs.declared.running.Inputs.{Inputs}
 use Rattle.depot_cli.specs.declared.running.Inputs.TheVariants.{None, One, Two}
 
@@ -32,6 +32,7 @@ use Rattle.depot_cli.specs.declared.running.Inputs.TheVariants.{None, One, Two}
 abbrev pub origins_of : CommandLine → List Origin
 origins_of NoWords = standard ∷ []
 origins_of (Check script) = file script.now ∷ []
+origins_of (Explain script) = file script.now ∷ []
 origins_of (Compile script out) = file script.now ∷ []
 origins_of (Verify program) = file program.now ∷ []
 origins_of (Run program message) = file program.now ∷ file message.now ∷ []
@@ -113,6 +114,7 @@ is_on_depot _ = false
 abbrev pub IsJobOf : CommandLine → List (List ℕ) → Job → Type 0
 IsJobOf NoWords inputs job = (program message : Bor (List ℕ)) × (job ≡ jobs.Run program message) × (program.now ≡ spelling keeping_code) × (message.now ≡ input inputs 0)
 IsJobOf (Check name) inputs job = (script : Bor (List ℕ)) × (job ≡ jobs.Check script) × (script.now ≡ input inputs 0)
+IsJobOf (Explain name) inputs job = (script : Bor (List ℕ)) × (from : Bor Text) × (job ≡ jobs.Explain script from) × (script.now ≡ input inputs 0) × (from.now ≡ name.now)
 IsJobOf (Compile name out) inputs job =
     (script : Bor (List ℕ)) × (from to : Bor Text) × (job ≡ jobs.Compile script from to) × (script.now ≡ input inputs 0) × (from.now ≡ name.now) × (to.now ≡ out.now)
 IsJobOf (Verify name) inputs job = (program : Bor (List ℕ)) × (job ≡ jobs.Verify program) × (program.now ≡ input inputs 0)
@@ -157,7 +159,7 @@ usage = 2
 
 -- a job was answered with this status
 abbrev pub HasOutcome : Job → ℕ → World → World → Type 0
-HasOutcome job status old new = ((status ≡ success) × HasAnswered job old new) ⊎ ((status ≡ refused) × (HasStopped job old new ⊎ HasRefused job old new))
+HasOutcome job status old new = ((status ≡ success) × HasAnswered job old new) ⊎ ((status ≡ refused) × (HasFound job old new ⊎ (HasStopped job old new ⊎ HasRefused job old new)))
 
 -- what a command reads was read, and its job was answered with this status
 pub record HasWorked (line : CommandLine) (status : ℕ) (old new : World) : Type 0 where
@@ -169,7 +171,7 @@ pub record HasWorked (line : CommandLine) (status : ℕ) (old new : World) : Typ
   pub outcome : HasOutcome job status (world mid old.out old.err) new
 
 -- what a command on a depot reads was read, and nothing else was done: the errand is the depot's name, and what is asked of it with these octets
-pub record HasCalled (line : CommandLine) (errand : Errand) (old new : World) : Type 0 where
+pub record HasPrepared (line : CommandLine) (errand : Errand) (old new : World) : Type 0 where
   pub inputs : List (List ℕ)
   pub read : HaveRead (origins_of line) inputs old.host new.host
   pub name : IsDepotOf line errand.name.now
@@ -187,9 +189,9 @@ pub record HasNotWorked (line : CommandLine) (status : ℕ) (old new : World) : 
   pub is_refused : status ≡ refused
 
 -- what comes of a command: it was carried out with a status, or its refusal was told; or it is an errand to a depot
-abbrev pub HasCome : CommandLine → Came → World → World → Type 0
-HasCome line (comes.Status status) old new = HasWorked line status old new ⊎ HasNotWorked line status old new
-HasCome line (comes.OnDepot errand) old new = HasCalled line errand old new
+abbrev pub LeadsTo : CommandLine → Next → World → World → Type 0
+LeadsTo line (next.Exit status) old new = HasWorked line status old new ⊎ HasNotWorked line status old new
+LeadsTo line (next.Perform errand) old new = HasPrepared line errand old new
 
 -- the words say this command
 abbrev pub IsLine : List Text → CommandLine → Type 0
@@ -199,21 +201,25 @@ IsLine words line = (app : App) × IsDepot app × Says line (subcommand_of app w
 abbrev pub IsNoLine : List Text → Type 0
 IsNoLine words = (app : App) × IsDepot app × (takes app words ≡ false)
 
--- a text for the user was written, or the sink broke while it was
-abbrev pub HasExplained : Output → Output → Type 0
-HasExplained old new = (text : List ℕ) × (HasTaken (shown text) old new ⊎ HasBroken (shown text) old new)
+-- this text for the user was written, or the sink broke while it was
+abbrev pub HasShown : List ℕ → Output → Output → Type 0
+HasShown text old new = HasTaken (shown text) old new ⊎ HasBroken (shown text) old new
+
+-- the user was told by some text how to use the program
+abbrev pub HasToldUsage : Output → Output → Type 0
+HasToldUsage old new = (text : List ℕ) × HasShown text old new
 
 -- nothing but standard error was touched
 abbrev pub KeepsOthers : World → World → Type 0
 KeepsOthers old new = (new.host ≡ old.host) × (new.out ≡ old.out)
 
--- what comes of words that say no command: memory was refused while they were read, or it was explained
+-- what comes of words that say no command: memory was refused while they were read, or the user was told
 abbrev pub HasNoLine : List Text → ℕ → World → World → Type 0
 HasNoLine words status old new =
-    ((status ≡ refused) × KeepsOthers old new × HasTold Memory old.err new.err) ⊎ ((status ≡ usage) × IsNoLine words × KeepsOthers old new × HasExplained old.err new.err)
+    ((status ≡ refused) × KeepsOthers old new × HasTold Memory old.err new.err) ⊎ ((status ≡ usage) × IsNoLine words × KeepsOthers old new × HasToldUsage old.err new.err)
 
 -- what comes of words: their command is carried out, or they say none
-abbrev pub HasRun : List Text → Came → World → World → Type 0
-HasRun words came old new =
-    ((line : CommandLine) × IsLine words line × HasCome line came old new)
-    ⊎ ((status : ℕ) × (came ≡ comes.Status status) × HasNoLine words status old new)
+abbrev pub HasRun : List Text → Next → World → World → Type 0
+HasRun words after old new =
+    ((line : CommandLine) × IsLine words line × LeadsTo line after old new)
+    ⊎ ((status : ℕ) × (after ≡ next.Exit status) × HasNoLine words status old new)

@@ -2,12 +2,12 @@
 use Rattle.std.specs.Prelude.{◌≡◌, ◌⊎◌, ℕ, List}
 use Rattle.sqlite.specs.State.{HasCleanDisk, State}
 use Rattle.part_store.specs.Standing.{Spares}
-use Rattle.depot_actions.specs.Causes.{HasCause}
+use Rattle.depot_actions.specs.Causes.{HasCause, IsExport}
 use Rattle.depot_actions.specs.DepotState.{Command, Does, Reply, SetScript, SetCode, ListAll}
 use Rattle.depot_actions.specs.DepotState as depot
-use Rattle.depot_actions.specs.Device.{HasBroken, HasTaken, Output}
+use Rattle.depot_actions.specs.Device.{HasBegun, HasBroken, HasTaken, Output}
 use Rattle.refusals.specs.declared.refusal.Refusal.{Refusal}
-use Rattle.refusals.specs.declared.refusal.Refusal.TheVariants.{Write}
+use Rattle.refusals.specs.declared.refusal.Refusal.TheVariants.{Memory, Write}
 use Rattle.depot_cli.specs.Jobs.{HasTold}
 use Rattle.depot_cli.specs.Printed.{reply_text}
 use Rattle.depot_cli.specs.declared.errand.Order.{Order}
@@ -58,6 +58,11 @@ abbrev pub HasBrokenOff : Command → Desk → Desk → Type 0
 HasBrokenOff command old new =
     (reply : Reply) × HasDone command reply old.store new.store × HasBroken (reply_text command reply) old.out new.out × HasTold Write old.err new.err
 
+-- or memory was refused for the next piece of an export, of which the first were written
+abbrev pub HasRunOut : Command → Desk → Desk → Type 0
+HasRunOut command old new =
+    IsExport command × (reply : Reply) × HasDone command reply old.store new.store × HasBegun (reply_text command reply) old.out new.out × HasTold Memory old.err new.err
+
 -- the depot refused the command, and is as it was
 abbrev pub HasDeclined : Command → Desk → Desk → Type 0
 HasDeclined command old new =
@@ -66,4 +71,4 @@ HasDeclined command old new =
 -- a command was performed, with this status: 0 for a reply that was written whole, else 1
 abbrev pub HasPerformed : Command → ℕ → Desk → Desk → Type 0
 HasPerformed command status old new =
-    ((status ≡ 0) × HasReplied command old new) ⊎ ((status ≡ 1) × (HasBrokenOff command old new ⊎ HasDeclined command old new))
+    ((status ≡ 0) × HasReplied command old new) ⊎ ((status ≡ 1) × (HasBrokenOff command old new ⊎ HasRunOut command old new ⊎ HasDeclined command old new))

@@ -8,7 +8,7 @@ use Rattle.clap.specs.declared.builder.value_parser.ValueParser.TheVariants as p
 use Rattle.depot_actions.specs.declared.encoding.Encoding.{Encoding}
 use Rattle.depot_actions.specs.declared.encoding.Encoding.TheVariants.{Raw, Base64, Base64Mime, Base32, Base32Hex, Base16, Qp}
 use Rattle.depot_cli.specs.declared.line.CommandLine.{CommandLine}
-use Rattle.depot_cli.specs.declared.line.CommandLine.TheVariants.{NoWords, Check, Compile, Verify, Run, Eval, Parts, Encode, Decode, Script, Code, Deliver, List as ListAll, Export, Remove}
+use Rattle.depot_cli.specs.declared.line.CommandLine.TheVariants.{NoWords, Check, Explain, Compile, Verify, Run, Eval, Parts, Encode, Decode, Script, Code, Deliver, List as ListAll, Export, Remove}
 use Rattle.octets.specs.Limits.{max_entry_number}
 
 -- an argument that has to be there
@@ -18,6 +18,10 @@ required_rule name = record (new_rule name) { required = true }
 -- check SCRIPT
 abbrev pub check_app : App
 check_app = with_rule (new_app (codes "check")) (required_rule (codes "SCRIPT"))
+
+-- explain SCRIPT
+abbrev pub explain_app : App
+explain_app = with_rule (new_app (codes "explain")) (required_rule (codes "SCRIPT"))
 
 -- compile SCRIPT OUT
 abbrev pub compile_app : App
@@ -95,9 +99,13 @@ export_app names = with_rule (with_rule (user_app (codes "export")) number_rule)
 abbrev pub remove_app : App
 remove_app = with_rule (user_app (codes "remove")) number_rule
 
+-- the program with the commands that look for faults
+abbrev pub checks_app : App
+checks_app = with_subcommand (with_subcommand (new_app (codes "depot")) check_app.top) explain_app.top
+
 -- the program with the commands that take a script alone
 abbrev pub scripts_app : App
-scripts_app = with_subcommand (with_subcommand (new_app (codes "depot")) check_app.top) compile_app.top
+scripts_app = with_subcommand checks_app compile_app.top
 
 -- the program with those, and the commands that take filter programs
 abbrev pub filters_app : App
@@ -158,7 +166,7 @@ pub record IsNumber (text : Text) (number : ℕ) : Type 0 where
 -- the name isn't that of a command on a message, a script or a program, nor of one that encodes or decodes
 abbrev pub IsNoMailCommand : Text → Type 0
 IsNoMailCommand name =
-    (name ≢ codes "check") × (name ≢ codes "compile") × (name ≢ codes "verify") × (name ≢ codes "run") × (name ≢ codes "eval") × (name ≢ codes "parts") × (name ≢ codes "encode") × (name ≢ codes "decode")
+    (name ≢ codes "check") × (name ≢ codes "explain") × (name ≢ codes "compile") × (name ≢ codes "verify") × (name ≢ codes "run") × (name ≢ codes "eval") × (name ≢ codes "parts") × (name ≢ codes "encode") × (name ≢ codes "decode")
 
 -- nor of a command on a depot
 abbrev pub IsNoDepotCommand : Text → Type 0
@@ -174,6 +182,7 @@ pub record IsOf (rows : List Row) (depot user : Text) : Type 0 where
 abbrev pub Says : CommandLine → Option (Text × List Row) → Type 0
 Says NoWords matches = IfSome matches (λ m. IsNoMailCommand m.0 × IsNoDepotCommand m.0)
 Says (Check script) matches = (rows : List Row) × IsCommand (codes "check") matches rows × (script.now ≡ argument (codes "SCRIPT") rows)
+Says (Explain script) matches = (rows : List Row) × IsCommand (codes "explain") matches rows × (script.now ≡ argument (codes "SCRIPT") rows)
 Says (Compile script out) matches =
     (rows : List Row) × IsCommand (codes "compile") matches rows × (script.now ≡ argument (codes "SCRIPT") rows) × (out.now ≡ argument (codes "OUT") rows)
 Says (Eval script message) matches =

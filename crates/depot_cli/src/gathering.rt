@@ -5,25 +5,13 @@ ghost use Rattle.depot_actions.specs.Device.{HasBroken, HasTaken};
 ghost use Rattle.depot_cli.specs.Gathering.{HasGathered, gathering};
 
 use arrayvec::ArrayVec;
-use depot_actions::{DeviceFailed, Sink};
+use depot_actions::{DeviceFailed, Sink, put};
 
 /// How many octets of a line wait for the others: as many as a pipe takes in one piece. A longer line goes out in several calls.
 const MAX_WAITING: usize = 4_096;
 
 /// The octets of a line that wait for the others.
 pub type Line = ArrayVec<u8, MAX_WAITING>;
-
-/// Writes the octets, as they are, in as few calls as the sink takes them.
-pub fn put<O: Sink>(out: &mut O, octets: &[u8]) -> Result<(), DeviceFailed>
-    ensures ok { OnOk result (HasTaken octets.now (O.output out.old) (O.output out.new)) }
-    ensures err { OnErr result (HasBroken octets.now (O.output out.old) (O.output out.new)) }
-{
-    let mut done = 0;
-    'pieces: while done < octets.len() {
-        done += out.write(&octets[done..])?;
-    }
-    Ok(())
-}
 
 /// Adds octets to a line. What it has no room for goes out with those that wait.
 pub fn gather<O: Sink>(line: &mut Line, out: &mut O, octets: &[u8]) -> Result<(), DeviceFailed>

@@ -1,24 +1,28 @@
 // Jobs and their answers.
-ghost use Rattle.std.specs.Prelude.{◌≡◌, ◌≤◌, ◌⊎◌, IfErr, IfOk, OnErr, OnOk, string_bytes};
+ghost use Rattle.std.specs.Prelude.{◌≡◌, ◌≢◌, ◌≤◌, ◌⊎◌, IfErr, IfOk, MatchOption, OnErr, OnOk, string_bytes};
 ghost use Rattle.bytecode_cost.specs.Text.{budget_text};
 ghost use Rattle.bytecode_format.specs.Code.{Code};
 ghost use Rattle.bytecode_format.specs.Spelling.{spelling};
 ghost use Rattle.bytecode_verifier.specs.Budget.{budget_of};
-ghost use Rattle.sieve_engine.specs.Evaluation.{IsCompiled, IsScriptRefusal};
+ghost use Rattle.sieve_check.specs.Typed.{CommandForms};
+ghost use Rattle.sieve_engine.specs.Evaluation.{IsCompiled, IsScript, IsScriptRefusal};
+ghost use Rattle.sieve_explain.specs.Explaining.{Explains};
+ghost use Rattle.refusals.specs.declared.refusal.Refusal.TheVariants.{Memory};
 ghost use Rattle.sieve_engine.specs.Execution.{IsChecked, IsProgramRefusal};
 ghost use Rattle.depot_actions.specs.Device.{HasBroken, HasTaken};
-ghost use Rattle.depot_cli.specs.Jobs.{HasAnswered, HasRefused, HasStopped, HasTold, IsAnswer, IsJobRefusal, world};
-ghost use Rattle.depot_cli.specs.Pieces.{lines_text};
+ghost use Rattle.depot_cli.specs.Jobs.{HasAnswered, HasFound, HasRefused, HasStopped, HasTold, IsJobRefusal, IsShown, world};
+ghost use Rattle.depot_cli.specs.Pieces.{lines_text, refusal_in};
+ghost use Rattle.depot_cli.specs.Printed.{line, ok_text};
 
-use crate::gathering::put;
 use crate::host::Host;
 use crate::listing::parts_lines;
 use crate::making::make_file;
 use crate::piece::Piece;
 use crate::printing::{put_line, put_pieces, put_refusal, put_report};
-use depot_actions::{DeviceFailed, Encoding, Sink, decode, encode};
+use depot_actions::{DeviceFailed, Encoding, Sink, decode, encode, put};
 use refusals::Refusal;
 use sieve_engine::{Report, check_program, check_script, compile_script, evaluate, execute};
+use sieve_explain::explanation;
 use std::alloc::Global;
 
 /// The status of a command that was done and whose answer was written whole.
@@ -33,6 +37,12 @@ pub enum Job<'a> {
     /// Whether a script has a fault.
     Check {
         script: &'a [u8],
+    },
+    /// Whether a script has a fault, and what it is, in words.
+    Explain {
+        script: &'a [u8],
+        /// The name of the script's file.
+        name: &'a str,
     },
     /// A script as a program, into a file.
     Compile {
@@ -77,6 +87,8 @@ pub enum Job<'a> {
 pub enum Lines {
     /// A script has no fault.
     NoFault,
+    /// A script's fault, in words, and its refusal.
+    Fault(Vec<u8>, Refusal),
     /// So many octets were written to a file.
     Wrote(usize),
     /// The text of an accepted program's budget.
@@ -88,6 +100,8 @@ pub enum Lines {
 }
 
 /// Carries out a job: writes its answer to `out` and gives 0, or writes the line of its refusal to `err` and gives 1.
+///
+/// What is wrong with a script that is to be explained goes to `out`, and then the line of its refusal to `err`, with 1.
 ///
 /// Writing follows the job and takes no memory. Where `out` fails, a prefix of the answer is written there, what the job did stands,
 /// the line of `Write` is written to `err`, and the status is 1. Where `err` fails, a prefix of the line is written there.
@@ -105,18 +119,33 @@ pub fn answer<H: Host, O: Sink, E: Sink>(
         (world (H.state host.old) (O.output out.old) (E.output err.old)) (world (H.state host.new) (O.output out.new) (E.output err.new))
         × (err.new ≡ err.old) }
     ensures failed { result ≡ 1 →
-        HasStopped job.entry
+        HasFound job.entry
+        (world (H.state host.old) (O.output out.old) (E.output err.old)) (world (H.state host.new) (O.output out.new) (E.output err.new))
+        ⊎ (HasStopped job.entry
         (world (H.state host.old) (O.output out.old) (E.output err.old)) (world (H.state host.new) (O.output out.new) (E.output err.new))
         ⊎ (HasRefused job.entry
         (world (H.state host.old) (O.output out.old) (E.output err.old)) (world (H.state host.new) (O.output out.new) (E.output err.new))
-        × (out.new ≡ out.old)) }
+        × (out.new ≡ out.old))) }
 {
     match carry_out(alloc, job, host) {
         Ok(lines) => match put_lines(out, &lines) {
-            Ok(()) => SUCCESS,
+            Ok(()) => tell_found(err, &lines),
             Err(DeviceFailed) => tell(err, &Refusal::Write),
         },
         Err(refusal) => tell(err, &refusal),
+    }
+}
+
+// Tells the refusal that goes with lines, where there is one, and gives the status.
+fn tell_found<E: Sink>(err: &mut E, lines: &Lines) -> u8
+    ensures { MatchOption (refusal_in lines.now)
+        ((result ≡ 0) × (err.new ≡ err.old))
+        (λ refusal. (result ≡ 1) × HasTold refusal (E.output err.old) (E.output err.new)) }
+{
+    match lines {
+        Lines::Fault(_, refusal) => tell(err, refusal),
+        Lines::NoFault | Lines::Wrote(_) | Lines::Budget(_) | Lines::Report(_) | Lines::Octets(_) =>
+            SUCCESS,
     }
 }
 
@@ -131,7 +160,7 @@ pub fn tell<E: Sink>(err: &mut E, refusal: &Refusal) -> u8
 
 // What the job comes to, with all that its lines are made of.
 fn carry_out<H: Host>(alloc: Global, job: Job<'_>, host: &mut H) -> Result<Lines, Refusal>
-    ensures answered { IfOk result (λ lines. IsAnswer job.entry (lines_text lines) (H.state host.old) (H.state host.new)) }
+    ensures shown { IfOk result (λ lines. IsShown job.entry (lines_text lines) (refusal_in lines) (H.state host.old) (H.state host.new)) }
     ensures refused { IfErr result (λ refusal. IsJobRefusal job.entry refusal (H.state host.old) (H.state host.new)) }
 {
     match job {
@@ -139,6 +168,7 @@ fn carry_out<H: Host>(alloc: Global, job: Job<'_>, host: &mut H) -> Result<Lines
             let _checked = check_script(alloc, script)?;
             Ok(Lines::NoFault)
         }
+        Job::Explain { script, name } => explain_script(alloc, script, name),
         Job::Compile { script, name, out } => {
             let program = program_octets(alloc, script)?;
             make_file(alloc, host, out, name, &program)?;
@@ -150,6 +180,23 @@ fn carry_out<H: Host>(alloc: Global, job: Job<'_>, host: &mut H) -> Result<Lines
         Job::Parts { message } => Ok(Lines::Octets(parts_lines(alloc, message)?)),
         Job::Encode { encoding, octets } => Ok(Lines::Octets(encode(alloc, encoding, octets)?)),
         Job::Decode { encoding, text } => Ok(Lines::Octets(decode(alloc, encoding, text)?)),
+    }
+}
+
+// Whether a script has a fault, and what it is, in words.
+fn explain_script(alloc: Global, script: &[u8], name: &str) -> Result<Lines, Refusal>
+    ensures shown { IfOk result (λ lines. MatchOption (refusal_in lines)
+        ((form : CommandForms) × IsScript script.now form × (lines_text lines ≡ line ok_text))
+        (λ refusal. (refusal ≢ Memory) × IsScriptRefusal script.now refusal × Explains name.now script.now refusal (lines_text lines))) }
+    ensures refused { IfErr result (λ e. e ≡ Memory) }
+{
+    match check_script(alloc, script) {
+        Ok(_checked) => Ok(Lines::NoFault),
+        Err(Refusal::Memory) => Err(Refusal::Memory),
+        Err(refusal) => {
+            let text = explanation(alloc, name, script, &refusal)?;
+            Ok(Lines::Fault(text, refusal))
+        }
     }
 }
 
@@ -178,6 +225,7 @@ fn put_lines<O: Sink>(out: &mut O, lines: &Lines) -> Result<(), DeviceFailed>
 {
     match lines {
         Lines::NoFault => put_line(out, "ok"),
+        Lines::Fault(text, _) => put(out, text),
         Lines::Wrote(octets) => put_pieces(
             out,
             &[

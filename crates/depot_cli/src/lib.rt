@@ -8,9 +8,12 @@
 //! a sink that failed has got is a prefix of the text.
 #![tactic(auto)]
 
+mod arguments;
+mod commands;
 mod entries;
 mod errand;
 mod gathering;
+mod help;
 mod host;
 mod job;
 mod line;
@@ -31,7 +34,7 @@ pub use job::{Job, answer, tell};
 pub use line::{CommandLine, line_of};
 pub use reading::read_limited;
 pub use refusals::Refusal;
-pub use running::{Came, explain, run};
+pub use running::{Next, run, tell_usage};
 pub use source::{OfRead, Source};
 pub use system::System;
 pub use task::{Task, perform};

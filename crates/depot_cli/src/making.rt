@@ -2,9 +2,8 @@
 ghost use Rattle.std.specs.Prelude.{IfErr, OnOk};
 ghost use Rattle.depot_cli.specs.Host.{HasMade, HasNotMade};
 
-use crate::gathering::put;
 use crate::host::Host;
-use depot_actions::DeviceFailed;
+use depot_actions::{DeviceFailed, put};
 use refusals::Refusal;
 use std::alloc::Global;
 

@@ -6,7 +6,7 @@ ghost use Rattle.bytecode_format.specs.Spelling.{spelling};
 ghost use Rattle.depot_cli.specs.Host.{HostState, origin_of};
 ghost use Rattle.depot_cli.specs.Jobs.{HasTold, world};
 ghost use Rattle.refusals.specs.declared.refusal.Refusal.TheVariants.{Memory};
-ghost use Rattle.depot_cli.specs.Running.{HasCome, HasExplained, HasNotRead, HasRead, HasRun, HaveNotRead, HaveRead, IsDepotOf, IsJobOf, IsOrderOf, input, is_on_depot, keeping_code, origins_in, origins_of, refused, usage};
+ghost use Rattle.depot_cli.specs.Running.{LeadsTo, HasNotRead, HasRead, HasRun, HasShown, HasToldUsage, HaveNotRead, HaveRead, IsDepotOf, IsJobOf, IsOrderOf, input, is_on_depot, keeping_code, origins_in, origins_of, refused, usage};
 
 use crate::errand::{Errand, Order};
 use crate::host::{Host, Input};
@@ -44,13 +44,13 @@ pub enum Inputs<'a> {
     Two(Input<'a>, Input<'a>),
 }
 
-/// What came of words.
+/// What is to be done next.
 #[derive(Debug, Drop)]
-pub enum Came<'a> {
-    /// The status: 0 for success, 1 for a refusal or an answer that broke off, 2 for words that aren't those of a command, and for help.
-    Status(u8),
-    /// The words say a command on a depot. What it reads was read, and nothing was done yet.
-    OnDepot(Errand<'a>),
+pub enum Next<'a> {
+    /// To end with a status: 0 for success, 1 for a refusal or an answer that broke off, 2 for words that aren't those of a command, and for help.
+    Exit(u8),
+    /// To perform an errand on a depot. What it reads was read, and nothing was done yet.
+    Perform(Errand<'a>),
 }
 
 /// Carries out what the words say, of which the first is the program's name; but a command on a depot is handed back, for whoever opens
@@ -64,36 +64,36 @@ pub fn run<'a, H: Host, O: Sink, E: Sink>(
     host: &mut H,
     out: &mut O,
     err: &mut E,
-) -> Came<'a>
+) -> Next<'a>
     ensures { HasRun (map (λ w. w.now) words.entry.now) result
         (world (H.state host.old) (O.output out.old) (E.output err.old)) (world (H.state host.new) (O.output out.new) (E.output err.new)) }
 {
     match line_of(alloc, words) {
         Ok(line) => carry_out(alloc, line, host, out, err),
-        Err(fault) => Came::Status(explain_fault(alloc, fault, err)),
+        Err(fault) => Next::Exit(tell_fault(alloc, fault, err)),
     }
 }
 
 /// Writes a text for the user, in which all octets but printable characters and line breaks are escaped, and gives the status of
 /// words that aren't those of a command.
-pub fn explain<E: Sink>(err: &mut E, text: &str) -> u8
+pub fn tell_usage<E: Sink>(err: &mut E, text: &str) -> u8
     ensures status { result ≡ usage }
-    ensures explained { HasExplained (E.output err.old) (E.output err.new) }
+    ensures told { HasShown text.now (E.output err.old) (E.output err.new) }
 {
     let _ = put_text(err, text);
     USAGE
 }
 
 // Writes why the words aren't those of a command, or the help that they ask for.
-fn explain_fault<E: Sink>(alloc: Global, fault: Error, err: &mut E) -> u8
+fn tell_fault<E: Sink>(alloc: Global, fault: Error, err: &mut E) -> u8
     ensures { ((result ≡ refused) × HasTold Memory (E.output err.old) (E.output err.new))
-        ⊎ ((kind_of fault ≢ OutOfMemory) × (result ≡ usage) × HasExplained (E.output err.old) (E.output err.new)) }
+        ⊎ ((kind_of fault ≢ OutOfMemory) × (result ≡ usage) × HasToldUsage (E.output err.old) (E.output err.new)) }
 {
     if fault.kind() == ErrorKind::OutOfMemory {
         return tell(err, &Refusal::Memory);
     }
     match format!(in alloc; "{fault}") {
-        Ok(text) => explain(err, text.as_str()),
+        Ok(text) => tell_usage(err, text.as_str()),
         Err(_) => tell(err, &Refusal::Memory),
     }
 }
@@ -105,23 +105,23 @@ fn carry_out<'a, H: Host, O: Sink, E: Sink>(
     host: &mut H,
     out: &mut O,
     err: &mut E,
-) -> Came<'a>
-    ensures { HasCome line.entry result
+) -> Next<'a>
+    ensures { LeadsTo line.entry result
         (world (H.state host.old) (O.output out.old) (E.output err.old)) (world (H.state host.new) (O.output out.new) (E.output err.new)) }
 {
     match read_inputs(alloc, inputs_of(line), host) {
         Ok((first, second)) => match order_of(line) {
-            Some((name, order)) => Came::OnDepot(Errand {
+            Some((name, order)) => Next::Perform(Errand {
                 name,
                 order,
                 octets: first,
             }),
             None => {
                 let job = job_of(line, &first, &second);
-                Came::Status(answer(alloc, job, host, out, err))
+                Next::Exit(answer(alloc, job, host, out, err))
             }
         },
-        Err(refusal) => Came::Status(tell(err, &refusal)),
+        Err(refusal) => Next::Exit(tell(err, &refusal)),
     }
 }
 
@@ -165,6 +165,7 @@ fn inputs_of<'a>(line: CommandLine<'a>) -> Inputs<'a>
             Inputs::One(Input::Standard)
         }
         CommandLine::Check { script }
+        | CommandLine::Explain { script }
         | CommandLine::Compile { script, .. }
         | CommandLine::Script { script, .. } => Inputs::One(Input::File(script)),
         CommandLine::Verify { program } | CommandLine::Code { program, .. } => {
@@ -185,13 +186,21 @@ fn inputs_of<'a>(line: CommandLine<'a>) -> Inputs<'a>
     }
 }
 
-// The job of a command with the octets that it reads, the second ones empty where it reads once. Commands on a depot have none, and don't
-// come here.
+// The job of a command that isn't on a depot, with the octets that it reads, the second ones empty where it reads once.
 fn job_of<'a>(line: CommandLine<'a>, first: &'a [u8], second: &'a [u8]) -> Job<'a>
-    ensures { (inputs : List (List ℕ)) → first.entry.now ≡ input inputs 0 → second.entry.now ≡ input inputs 1 → is_on_depot line.entry ≡ false → IsJobOf line.entry inputs result }
+    requires { is_on_depot line ≡ false }
+    ensures { (inputs : List (List ℕ)) → first.entry.now ≡ input inputs 0 → second.entry.now ≡ input inputs 1 → IsJobOf line.entry inputs result }
 {
     match line {
+        CommandLine::NoWords => Job::Run {
+            program: keeping_program(),
+            message: first,
+        },
         CommandLine::Check { .. } => Job::Check { script: first },
+        CommandLine::Explain { script } => Job::Explain {
+            script: first,
+            name: script,
+        },
         CommandLine::Compile { script, out } => Job::Compile {
             script: first,
             name: script,
@@ -215,10 +224,7 @@ fn job_of<'a>(line: CommandLine<'a>, first: &'a [u8], second: &'a [u8]) -> Job<'
             encoding,
             text: first,
         },
-        _ => Job::Run {
-            program: keeping_program(),
-            message: first,
-        },
+        _ => unreachable!(),
     }
 }
 

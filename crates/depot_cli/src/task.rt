@@ -53,8 +53,9 @@ pub enum Task<'a> {
 
 /// Has the depot do a task: writes its reply to `out` and gives 0, or writes the line of its refusal to `err` and gives 1.
 ///
-/// Writing follows the command and takes no memory, but for the text that an export writes. Where `out` fails, a prefix of the reply is
-/// written there, what the depot did stands, the line of `Write` is written to `err`, and the status is 1.
+/// Writing follows the command and takes no memory, but for the text that an export writes a piece at a time. Where `out` fails, or memory
+/// is refused for a piece, a prefix of the reply is written there, what the depot did stands, the line of `Write` or of `Memory` is
+/// written to `err`, and the status is 1.
 pub fn perform<S: Alter, O: Sink, E: Sink>(
     alloc: Global,
     task: Task<'_>,

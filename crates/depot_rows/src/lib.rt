@@ -8,6 +8,8 @@ mod depot;
 #[cfg(test)]
 mod devices;
 #[cfg(test)]
+mod exports;
+#[cfg(test)]
 mod history;
 #[cfg(test)]
 mod readings;

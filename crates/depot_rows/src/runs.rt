@@ -2,7 +2,7 @@
 
 use crate::shelf::{Asked, Known, Shelf};
 use depot_actions::{Depot, OfWrite, Sink};
-use depot_cli::{Came, Errand, perform, run, tell};
+use depot_cli::{Errand, Next, perform, run, tell};
 use std::alloc::Global;
 use std::io;
 
@@ -44,8 +44,8 @@ fn come(rt: &HostRuntime, words: &[&str], room: usize) -> Seen {
     let mut out = OfWrite::new(Vec::new(rt.alloc()));
     let mut err = OfWrite::new(Vec::new(rt.alloc()));
     let status = match run(rt.alloc(), words, &mut host, &mut out, &mut err) {
-        Came::Status(status) => status,
-        Came::OnDepot(errand) => carry(rt.alloc(), &errand, &mut out, &mut err),
+        Next::Exit(status) => status,
+        Next::Perform(errand) => carry(rt.alloc(), &errand, &mut out, &mut err),
     };
     let Shelf {
         asked,

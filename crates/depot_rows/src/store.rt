@@ -117,6 +117,22 @@ fn laid(store: PartStore<MemStore>, sql: &str) -> Result<PartStore<MemStore>, St
     }
 }
 
+// Whether a store's connection is refused after a statement, as one that can't be taken.
+fn is_refused(store: PartStore<MemStore>, sql: &str) -> bool {
+    match laid(store, sql) {
+        Ok(_store) => false,
+        Err(error) => matches!(error, StoreError::Database),
+    }
+}
+
+#[test]
+fn an_open_transaction(rt: HostRuntime) -> Result<(), Fail> {
+    let alloc = rt.alloc();
+    let store = PartStore::in_memory(alloc)?;
+    assert!(rt; is_refused(store, "BEGIN"));
+    Ok(())
+}
+
 #[test]
 fn the_last_number(rt: HostRuntime) -> Result<(), Fail> {
     let alloc = rt.alloc();

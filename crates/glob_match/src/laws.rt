@@ -1,4 +1,4 @@
-// The laws of matching.
+//! The laws of matching.
 ghost use Rattle.std.specs.Prelude.{◌≡◌, ◌↔◌, ℕ, IsTrue, List};
 ghost use Rattle.glob_match.specs.declared.comparator.Comparator.{Comparator};
 ghost use Rattle.glob_match.specs.declared.token.Token.{Token};

@@ -11,8 +11,8 @@ use crate::comparator::Comparator;
 use crate::placement::find_segment;
 use crate::segment::{begins_with, push_any_octets, split_segment, width};
 
-/// Whether the value fits the key, with its captures where it does, and a bound on the octets gone over (RFC 5228,
-/// section 2.7.1; RFC 5229, section 3.2).
+/// Whether the value fits the key, with its captures where it does (RFC 5228, section 2.7.1; RFC 5229, section 3.2), and an estimate of
+/// the work, made from the lengths: at most their product, each plus 1, and where the value fits at least the octets that the key spells.
 ///
 /// In the key `*` stands for any stretch, `?` for one octet, and a backslash makes a literal of the octet after it. Of all
 /// stretches that fit, those of the least lengths are taken, compared from the left.

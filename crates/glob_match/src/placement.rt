@@ -12,7 +12,7 @@ use crate::search::{LONG, SHORT, find, linear_bound, product_bound};
 use crate::segment::{begins_with, width};
 use crate::token::{Token, first_token};
 
-/// The first place from which on the value begins with the segment, and a bound on the octets gone over.
+/// The first place from which on the value begins with the segment, and an estimate of the work.
 pub(crate) fn find_segment(
     value: &[u8],
     segment: &[u8],

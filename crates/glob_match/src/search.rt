@@ -25,7 +25,7 @@ pub(crate) const LONG: usize = 16_384;
 
 const LONG_WINDOW: usize = 3 * LONG;
 
-/// The first place of the value at which the text stands under the comparator, and a bound on the octets gone over.
+/// The first place of the value at which the text stands under the comparator, and an estimate of the work.
 pub(crate) fn find(value: &[u8], text: &[u8], comparator: Comparator) -> (Option<usize>, u64)
     requires { (length value.now + 1) * (length text.now + 1) < 2 ^ 64 }
     ensures place { result.0 ≡ first_place (begins_with comparator (map Literal text.now)) value.now }
@@ -41,7 +41,7 @@ pub(crate) fn find(value: &[u8], text: &[u8], comparator: Comparator) -> (Option
     }
 }
 
-/// A bound on the octets that a search in time linear in value and key goes over.
+/// An estimate of the work of a search in time linear in value and key.
 pub(crate) fn linear_bound(value: &[u8], key: &[u8]) -> u64
     requires { (length value.now + 1) * (length key.now + 1) < 2 ^ 64 }
     ensures most { result ≤ (length value.now + 1) * (length key.now + 1) }
@@ -50,7 +50,7 @@ pub(crate) fn linear_bound(value: &[u8], key: &[u8]) -> u64
     (value.len() + key.len()) as u64
 }
 
-/// A bound on the octets that a search which tries each place goes over.
+/// An estimate of the work of a search which tries each place.
 pub(crate) fn product_bound(value: &[u8], key: &[u8]) -> u64
     requires { (length value.now + 1) * (length key.now + 1) < 2 ^ 64 }
     ensures most { result ≤ (length value.now + 1) * (length key.now + 1) }

@@ -1,4 +1,4 @@
-// The laws of headers: how long fields are.
+//! The laws of headers: how long fields are.
 ghost use Rattle.std.specs.Prelude.{◌≡◌, ◌≤◌, ℕ, List, length, take};
 ghost use Rattle.std.specs.List.{AllZip};
 ghost use Rattle.header_fields.specs.Header.{header_of, fields_of, body_start_of};

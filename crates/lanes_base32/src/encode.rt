@@ -5,7 +5,7 @@ ghost use Rattle.octet_lanes.specs.declared.alphabet.Alphabet.TheVariants.{Base3
 use octet_lanes::{Alphabet, encode};
 use std::alloc::{AllocError, Global};
 
-/// The base32 text of `octets`, with its padding (RFC 4648, section 6), in one allocation of its length.
+/// The base32 text of `octets`, with its padding (RFC 4648, section 6).
 ///
 /// # Errors
 ///
@@ -16,7 +16,7 @@ pub fn encode32(alloc: Global, octets: &[u8]) -> Result<Vec<u8>, AllocError>
     encode(alloc, octets, Alphabet::Base32)
 }
 
-/// The base32hex text of `octets`, with its padding (RFC 4648, section 7), in one allocation of its length.
+/// The base32hex text of `octets`, with its padding (RFC 4648, section 7).
 ///
 /// # Errors
 ///

@@ -42,6 +42,9 @@ fn bodies_in_each_encoding(rt: HostRuntime) {
     assert!(rt; is_content(alloc, quoted, 0, b"caf\xc3\xa9\n"));
     let base64 = b"Content-Transfer-Encoding: base64\n\nZm9v\nYmFy\n";
     assert!(rt; is_content(alloc, base64, 0, b"foobar"));
+    let alternative =
+        b"Content-Type: multipart/alternative;\r\n\tboundary=\"----=_Part_1\"\r\n\r\n------=_Part_1\r\nContent-Type: text/plain; charset=UTF-8\r\nContent-Transfer-Encoding: quoted-printable\r\n\r\ncaf=C3=A9\r\n------=_Part_1--\r\n";
+    assert!(rt; is_content(alloc, alternative, 1, b"caf\xc3\xa9"));
 }
 
 #[test]

@@ -127,6 +127,7 @@ fn parameters(rt: HostRuntime) {
     );
     assert!(rt; has_params(alloc, b"", &[]));
     assert!(rt; has_params(alloc, b"a=1", &[]));
+    assert!(rt; has_params(alloc, b"v; a=1", &[("a", "1")]));
     assert!(rt; has_params(alloc, b";;; ;a=1;;", &[("a", "1")]));
     assert!(rt; has_params(alloc, b"\"x;a=1", &[("a", "1")]));
     assert!(rt;

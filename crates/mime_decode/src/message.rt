@@ -15,7 +15,7 @@ use std::alloc::{AllocError, Global};
 use std::borrow::CowSlice;
 use std::marker::Model;
 
-/// A message, over octets that are lent: nothing is copied, and nothing is decoded before it is asked for.
+/// A message, over octets that are lent: bodies aren't copied, and nothing is decoded before it is asked for.
 ///
 /// A contract sees the mail of the definition.
 #[derive(Debug, Drop)]

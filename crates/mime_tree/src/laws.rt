@@ -1,4 +1,4 @@
-// The laws of the tree: where the parts of a message stand.
+//! The laws of the tree: where the parts of a message stand.
 ghost use Rattle.std.specs.Prelude.{◌≡◌, ◌≤◌, ℕ, All, List, length, map, slice_get, Some};
 ghost use Rattle.mime_tree.specs.PartTree.{Part, tree_of};
 ghost use Rattle.mime_tree.specs.Enclosing.{Enclosed, IsEnded, enclosed_in};

@@ -2,7 +2,7 @@
 //!
 //! [`Tree::read`] reads any octets that aren't too many and have no more parts than may be. What the parts of a message are
 //! stands in `specs/PartTree`, and where they stand in it in `specs/Order` and the laws. The lines of a message are gone over
-//! once, from the first to the last: a law says that this tells where each part ends.
+//! once, from the first to the last, and those of headers once more for their fields: a law says that this tells where each part ends.
 #![tactic(auto)]
 
 mod delimiter;

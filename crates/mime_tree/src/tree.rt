@@ -14,7 +14,8 @@ use mime_params::{MediaType, TransferEncoding};
 use std::alloc::Global;
 use std::marker::Model;
 
-/// The tree of a message's parts (RFC 2046, section 5), over octets that are lent: nothing is copied.
+/// The tree of a message's parts (RFC 2046, section 5), over octets that are lent: headers and
+/// bodies aren't copied, media types and boundaries are.
 ///
 /// Parts are numbered from 0, each before those below it. A contract sees the list of the definition's parts.
 #[derive(Debug, Drop)]

@@ -1,3 +1,4 @@
 pub mod Encoding
-pub mod Lanes
 pub mod Held
+-- what operations on lanes give; nothing public rests on it
+pub mod Lanes

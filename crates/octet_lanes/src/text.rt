@@ -1,13 +1,14 @@
 // Whole texts.
 ghost use Rattle.std.specs.Prelude.{◌≡◌, ◌*◌, ◌++◌, ◌<◌, ◌≤◌, IfOk, OnOk, length, take};
 ghost use Rattle.octet_lanes.specs.Encoding.{encoding_of, width};
+ghost use Rattle.octet_lanes.specs.Held.{IsGrown};
 
 use crate::alphabet::{Alphabet, PADDING};
 use crate::classes::spell;
 use crate::groups::split;
 use std::alloc::{AllocError, Global};
 
-/// The text of `octets` in `alphabet`, with its padding (RFC 4648, sections 4, 6 and 7), in one allocation of its length.
+/// The text of `octets` in `alphabet`, with its padding (RFC 4648, sections 4, 6 and 7).
 ///
 /// # Errors
 ///
@@ -26,30 +27,45 @@ pub fn encode(alloc: Global, octets: &[u8], alphabet: Alphabet) -> Result<Vec<u8
 ///
 /// # Errors
 ///
-/// Memory ran out; a part of the text may have been appended.
+/// Memory ran out; a part of the text may have been appended to what was there.
 #[inline(always)]
 pub fn append_encoding(
     out: &mut Vec<u8>,
     octets: &[u8],
     alphabet: Alphabet,
 ) -> Result<(), AllocError>
-    ensures { OnOk result (out.new.items ≡ out.old.items ++ encoding_of alphabet octets.now) }
+    ensures text { OnOk result (out.new.items ≡ out.old.items ++ encoding_of alphabet octets.now) }
+    ensures grown { IsGrown out.old.items out.new.items }
 {
     let block = 4 * alphabet.width();
     let mut rest = octets;
     'whole: while let Some(lanes) = rest.first_chunk::<32>() {
-        out.extend_from_slice(&block_symbols(lanes, alphabet))?;
+        append_symbols(out, lanes, alphabet)?;
         let (_, after) = rest.split_at(block);
         rest = after;
     }
     append_rest(out, rest, alphabet)
 }
 
+// Appends the text of a whole block, the first `4 * width` octets.
+#[inline(always)]
+fn append_symbols(
+    out: &mut Vec<u8>,
+    octets: &[u8; 32],
+    alphabet: Alphabet,
+) -> Result<(), AllocError>
+    ensures text { OnOk result (out.new.items ≡ out.old.items ++ encoding_of alphabet (take (4 * width alphabet) octets.now)) }
+    ensures grown { IsGrown out.old.items out.new.items }
+{
+    out.extend_from_slice(&block_symbols(octets, alphabet))
+}
+
 // Appends the text of less than 32 octets, which are at most two blocks.
 #[inline(always)]
 fn append_rest(out: &mut Vec<u8>, octets: &[u8], alphabet: Alphabet) -> Result<(), AllocError>
     requires { length octets.now < 32 }
-    ensures { OnOk result (out.new.items ≡ out.old.items ++ encoding_of alphabet octets.now) }
+    ensures text { OnOk result (out.new.items ≡ out.old.items ++ encoding_of alphabet octets.now) }
+    ensures grown { IsGrown out.old.items out.new.items }
 {
     let block = 4 * alphabet.width();
     if octets.len() <= block {
@@ -64,7 +80,8 @@ fn append_rest(out: &mut Vec<u8>, octets: &[u8], alphabet: Alphabet) -> Result<(
 #[inline(always)]
 fn append_block(out: &mut Vec<u8>, octets: &[u8], alphabet: Alphabet) -> Result<(), AllocError>
     requires { length octets.now ≤ 4 * width alphabet }
-    ensures { OnOk result (out.new.items ≡ out.old.items ++ encoding_of alphabet octets.now) }
+    ensures text { OnOk result (out.new.items ≡ out.old.items ++ encoding_of alphabet octets.now) }
+    ensures grown { IsGrown out.old.items out.new.items }
 {
     let (text, len) = block_text(octets, alphabet);
     out.extend_from_slice(&text[..len])

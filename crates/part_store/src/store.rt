@@ -9,7 +9,7 @@ ghost use Rattle.part_store.specs.declared.error.StoreError.TheVariants.{Memory,
 ghost use Rattle.part_store.specs.Changes.{contents_tree};
 ghost use Rattle.part_store.specs.Filing.{Collides, HasRoom};
 ghost use Rattle.sqlite.specs.Steps.{over_memory};
-ghost use Rattle.part_store.specs.Opening.{IsReady};
+ghost use Rattle.part_store.specs.Opening.{IsBare, IsEmptied, IsKept, IsReady, MakesEmpty};
 
 use crate::adding::{Adding, put_entries};
 use crate::entry::{EntryRow, NewEntry};
@@ -73,11 +73,12 @@ fn create_tables<S: Alter>(tx: &mut Transaction<'_, S>) -> Result<(), Error>
 
 /// Makes the tables in a database that has none, and leaves another as it is.
 fn ready_tables<S: Alter>(conn: &mut Connection<S>) -> Result<(), StoreError>
-    ensures made { HasCleanDisk (state S.Store conn.new) → OnOk result ((state S.Store conn.old).now.schema ≡ no_schema → Stands (state S.Store conn.new).now no_entries) }
-    ensures same { HasCleanDisk (state S.Store conn.new) → OnOk result ((before : _) → Stands (state S.Store conn.old).now before → Stands (state S.Store conn.new).now before) }
-    ensures spared { HasCleanDisk (state S.Store conn.new) → OnErr result (IsTrue (state S.Store conn.new).is_open → (state S.Store conn.new).now ≡ (state S.Store conn.old).now) }
+    ensures made { HasCleanDisk (state S.Store conn.new) → OnOk result (IsBare (state S.Store conn.old) → IsEmptied (state S.Store conn.new)) }
+    ensures same { OnOk result ((IsBare (state S.Store conn.old) → ⊥) → conn.new ≡ conn.old) }
+    ensures settled { OnOk result ((state S.Store conn.new).in_transaction ≡ false) }
+    ensures spared { HasCleanDisk (state S.Store conn.new) → OnErr result (IsTrue (state S.Store conn.new).is_open → IsKept (state S.Store conn.old) (state S.Store conn.new)) }
     ensures refused { IfErr result (λ e. (e ≡ Memory) ⊎ (e ≡ Database)) }
-    ensures survives { Survives (state S.Store conn.old) (state S.Store conn.new) (λ trees. StandsFor trees no_entries) }
+    ensures survives { Survives (state S.Store conn.old) (state S.Store conn.new) (MakesEmpty (state S.Store conn.old)) }
 {
     if !conn.is_autocommit() {
         return Err(StoreError::Database);
@@ -204,13 +205,18 @@ fn take_entry<S: Alter>(tx: &mut Transaction<'_, S>, user: &str, number: u32) ->
 }
 
 impl<S: Alter> PartStore<S> {
-    /// Takes an open connection that has no tables, or those of a store; they are made where there are none. A refusal, `Memory` or
-    /// `Database`, hands the connection back.
+    /// Takes an open connection that has no tables, or those of a store. Where there are none they are made and committed; any other
+    /// connection stays as it is. A crash on the way leaves the database as it was, or with the empty tables. A refusal, `Memory` or
+    /// `Database`, hands the connection back, with what it shows and what is committed as they were, unless a failure has shut it. One
+    /// inside of a transaction is refused `Database`.
     pub fn adopt(conn: Connection<S>) -> Result<PartStore<S>, (StoreError, Connection<S>)>
-        ensures made { IfOk result (λ s. HasCleanDisk (state S.Store s) → (state S.Store conn).now.schema ≡ no_schema → Stands (state S.Store s).now no_entries) }
-        ensures same { IfOk result (λ s. HasCleanDisk (state S.Store s) → (before : _) → Stands (state S.Store conn).now before → Stands (state S.Store s).now before) }
-        ensures spared { IfErr result (λ e. HasCleanDisk (state S.Store e.1) → IsTrue (state S.Store e.1).is_open → (state S.Store e.1).now ≡ (state S.Store conn).now) }
+        ensures made { IfOk result (λ s. HasCleanDisk (state S.Store s) → IsBare (state S.Store conn) → IsEmptied (state S.Store s)) }
+        ensures same { IfOk result (λ s. (IsBare (state S.Store conn) → ⊥) → s ≡ conn) }
+        ensures settled { IfOk result (λ s. (state S.Store s).in_transaction ≡ false) }
+        ensures spared { IfErr result (λ e. HasCleanDisk (state S.Store e.1) → IsTrue (state S.Store e.1).is_open → IsKept (state S.Store conn) (state S.Store e.1)) }
         ensures refused { IfErr result (λ e. (e.0 ≡ Memory) ⊎ (e.0 ≡ Database)) }
+        ensures survives { IfOk result (λ s. Survives (state S.Store conn) (state S.Store s) (MakesEmpty (state S.Store conn))) }
+        ensures broken { IfErr result (λ e. Survives (state S.Store conn) (state S.Store e.1) (MakesEmpty (state S.Store conn))) }
     {
         let mut conn = conn;
         match ready_tables(&mut conn) {
@@ -350,6 +356,8 @@ impl PartStore<MemStore> {
     /// An empty store in memory. Refuses `Memory` and `Database`.
     pub fn in_memory(alloc: Global) -> Result<PartStore<MemStore>, StoreError>
         ensures empty { IfOk result (λ s. Stands (state over_memory s).now no_entries) }
+        ensures committed { IfOk result (λ s. (state over_memory s).committed ≡ (state over_memory s).now) }
+        ensures settled { IfOk result (λ s. (state over_memory s).in_transaction ≡ false) }
         ensures refused { IfErr result (λ e. (e ≡ Memory) ⊎ (e ≡ Database)) }
     {
         let mut conn = Connection::open_in_memory(alloc)?;

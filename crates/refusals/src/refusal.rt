@@ -41,10 +41,13 @@ pub enum Refusal {
     /// `require` names a capability that isn't known.
     #[error("refused 17 UnknownCapability at {place}")]
     UnknownCapability { place: usize },
-    /// The command or test stands at a wrong place, or with other arguments, tests or another end than it takes.
+    /// The command or test stands at a wrong place, or with other arguments, tests or another end than it takes; or a reference
+    /// in one of its strings has a namespace or is to a capture above the last one; or `set` gives a name that is no identifier; or
+    /// no open loop has the name of a `break`.
     #[error("refused 18 BadArguments at {place}")]
     BadArguments { place: usize },
-    /// A string of the command or test has more octets than the limit.
+    /// The command or test has too long a string, or too many strings in its lists; or one of its strings has too many segments, or
+    /// names a variable by too long a name; or with it the script has too many variables; or it is a loop within too many.
     #[error("refused 19 Limit at {place}")]
     Limit { place: usize },
     /// The octets of a program spell none.

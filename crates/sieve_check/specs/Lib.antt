@@ -9,8 +9,8 @@ pub mod Surroundings
 pub mod FormOf
 pub mod Rules
 pub mod CheckedScript
--- how the checker goes; nothing public rests on these
 pub mod Reading
 pub mod Refusing
+-- how the checker goes; nothing public rests on these
 pub mod Forming
 pub mod Sequences

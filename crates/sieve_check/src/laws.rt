@@ -1,4 +1,4 @@
-// The law of the typed form.
+//! The law of the typed form.
 ghost use Rattle.std.specs.Prelude.{◌≡◌, None};
 ghost use Rattle.sieve_parser.specs.Tree.{CommandsTree};
 ghost use Rattle.sieve_check.specs.FormOf.{IsFormOf};

@@ -7,6 +7,9 @@
 //! A string of the typed form is its segments: text as it stands and, where `variables` was required, references. Which
 //! variables a typed form has stands in `specs/Variables`, and how large it and its strings and lists and how deep its
 //! loops are at most in `specs/Bounded`.
+//!
+//! What is public beside that is for crates that say what is wrong with a script that isn't accepted: the names, what commands
+//! and tests take, what surrounds them, and the limits.
 #![tactic(auto)]
 
 mod checked;
@@ -30,5 +33,20 @@ mod variable_names;
 
 pub use checked::Checked;
 pub use checker::check;
-pub use error::CheckError;
+pub use error::{CheckError, Fault};
+pub use loops::MAX_LOOPS;
+pub use mentions::Mentions;
+pub use names::{
+    Capability, CommandName, Piece, Tag, TestName, command_named, comparator_named, tag_named,
+    test_named,
+};
+pub use references::{MAX_NAME, MAX_SEGMENTS, is_long_name};
+pub use rules::{command_needs, test_needs};
+pub use signature::{
+    Ending, Positional, Reading, Signature, Tags, Tests, command_signature, ending_of, first_list,
+    first_tag, first_text, test_signature,
+};
+pub use string_faults::{MAX_STRING, MAX_TEST_STRINGS, StringFault, has_many_strings};
+pub use surroundings::{Surroundings, head_in};
 pub use typed::{Branch, Command, Order, Scope, Segment, Selection, Test};
+pub use variable_names::MAX_VARIABLES;

@@ -9,10 +9,10 @@ ghost use Rattle.sieve_check.specs.Rules.{is_long, is_long_name, is_wrong};
 use sieve_references::{Segment, first_segment};
 
 /// The most segments of a string.
-const MAX_SEGMENTS: usize = 256;
+pub const MAX_SEGMENTS: usize = 256;
 
 /// The most octets of a variable's name.
-const MAX_NAME: usize = 32;
+pub const MAX_NAME: usize = 32;
 
 /// Whether the name has more octets than the limit.
 pub fn is_long_name(name: &[u8]) -> bool

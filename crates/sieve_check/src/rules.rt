@@ -15,8 +15,8 @@ use crate::surroundings::Surroundings;
 use crate::variable_names::VariableNames;
 use sieve_parser::{Argument, Command, Head, Invocation};
 
-// The capability that a command needs, if it needs one.
-fn command_needs(name: CommandName) -> Option<Capability>
+/// The capability that a command needs, if it needs one.
+pub fn command_needs(name: CommandName) -> Option<Capability>
     ensures { result ≡ command_needs name }
 {
     match name {
@@ -56,8 +56,8 @@ fn mime_where_given(arguments: &[Argument]) -> Option<Capability>
     None
 }
 
-// The capability that a test with these arguments needs, if it needs one.
-fn test_needs(name: TestName, head: &Head) -> Option<Capability>
+/// The capability that a test with these arguments needs, if it needs one.
+pub fn test_needs(name: TestName, head: &Head) -> Option<Capability>
     ensures { result ≡ test_needs name (arguments_of head.now) }
 {
     match name {

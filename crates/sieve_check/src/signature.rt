@@ -81,8 +81,8 @@ impl Tags {
     ghost use Rattle.std.specs.Prelude.{◌≡◌};
     ghost use Rattle.sieve_check.specs.Signatures.{asks_for_mime, no_tag};
 
-    // None.
-    fn none() -> Tags
+    /// None.
+    pub fn none() -> Tags
         ensures { result ≡ no_tag }
     {
         Tags {
@@ -97,8 +97,8 @@ impl Tags {
         }
     }
 
-    // Whether one of them stands only with `:mime`.
-    fn ask_for_mime(self) -> bool
+    /// Whether one of them stands only with `:mime`.
+    pub fn ask_for_mime(self) -> bool
         ensures { result ≡ asks_for_mime self }
     {
         self.any_child || self.piece.is_some()
@@ -268,8 +268,8 @@ pub fn test_signature(name: TestName) -> Signature
     }
 }
 
-// The first argument's name and the arguments after it, where it is a tag.
-fn first_tag(arguments: &[Argument]) -> Option<(&[u8], &[Argument])>
+/// The first argument's name and the arguments after it, where it is a tag.
+pub fn first_tag(arguments: &[Argument]) -> Option<(&[u8], &[Argument])>
     ensures { FirstTag (map argument_tree arguments.now) result }
 {
     match arguments {
@@ -295,8 +295,8 @@ fn is_list(argument: &Argument) -> bool
     matches!(argument, Argument::Text(_) | Argument::TextList(_, _))
 }
 
-// The first argument alone and the arguments after it, where it is a list.
-fn first_list(arguments: &[Argument]) -> Option<(&[Argument], &[Argument])>
+/// The first argument alone and the arguments after it, where it is a list: a string, or strings in square brackets.
+pub fn first_list(arguments: &[Argument]) -> Option<(&[Argument], &[Argument])>
     ensures { FirstList (map argument_tree arguments.now) result }
 {
     let (list, rest) = arguments.split_at(arguments.len().min(1));
@@ -375,8 +375,8 @@ impl Signature {
     ghost use Rattle.sieve_check.specs.Signatures.{is_complete, is_positional, reading, tags_with, takes_tag};
     ghost use Rattle.sieve_check.specs.Reading.{Reads, read_of};
 
-    // Whether the tag is taken, and none of its group was given.
-    fn takes(self, tag: Tag, tags: Tags) -> bool
+    /// Whether the tag is taken, and none of its group was given.
+    pub fn takes(self, tag: Tag, tags: Tags) -> bool
         ensures { result ≡ takes_tag self tag tags }
     {
         match tag {
@@ -394,8 +394,8 @@ impl Signature {
         }
     }
 
-    // One more tag, where it is taken and none of its group was given.
-    fn add(self, tag: Tag, tags: Tags) -> Option<Tags>
+    /// The tags with one more, where it is taken and none of its group was given.
+    pub fn add(self, tag: Tag, tags: Tags) -> Option<Tags>
         ensures { result ≡ tags_with self tag tags }
     {
         if !self.takes(tag, tags) {
@@ -418,8 +418,8 @@ impl Signature {
         Some(tags)
     }
 
-    // Whether the arguments are those that have to stand behind the tags.
-    fn is_positional(self, arguments: &[Argument]) -> bool
+    /// Whether the arguments are those that have to stand behind the tags.
+    pub fn is_positional(self, arguments: &[Argument]) -> bool
         ensures { result ≡ is_positional self.positional (map argument_tree arguments.now) }
     {
         match self.positional {

@@ -12,10 +12,10 @@ use octets::Octets;
 use sieve_parser::{Argument, Head};
 
 /// The most octets of a string.
-const MAX_STRING: usize = 16_384;
+pub const MAX_STRING: usize = 16_384;
 
 /// The most strings in the lists of one test.
-const MAX_TEST_STRINGS: usize = 512;
+pub const MAX_TEST_STRINGS: usize = 512;
 /// What may be wrong with a string.
 #[derive(Clone, Copy, Debug, PartialEq, Eq)]
 pub enum StringFault {
@@ -36,8 +36,8 @@ impl StringFault {
     ghost use Rattle.sieve_check.specs.Reading.{all_lists};
     ghost use Rattle.sieve_check.specs.Rules.{string_has, strings_in, strings_of};
 
-    // Whether this is wrong with the string.
-    fn is_in(self, string: &Octets) -> bool
+    /// Whether this is wrong with the string.
+    pub fn is_in(self, string: &Octets) -> bool
         ensures { result ≡ string_has self string.now }
     {
         match self {

@@ -102,8 +102,8 @@ impl Capabilities {
     }
 }
 
-// What an invocation begins with.
-fn head_in(invocation: &Invocation) -> &Head
+/// What an invocation begins with.
+pub fn head_in(invocation: &Invocation) -> &Head
     ensures { (tests : TestsTree) × (invocation_tree invocation.now ≡ head_tree result.now tests) }
 {
     match invocation {

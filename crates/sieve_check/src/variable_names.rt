@@ -11,7 +11,7 @@ use sieve_parser::Argument;
 use sieve_references::{Segment, first_segment};
 
 /// The most variables of a script.
-const MAX_VARIABLES: usize = 128;
+pub const MAX_VARIABLES: usize = 128;
 
 // Whether the names are of one variable.
 fn is_same(name: &[u8], other: &[u8]) -> bool

@@ -1,4 +1,4 @@
-// The laws of the tokens: a script has one list of tokens, or one fault.
+//! The laws of the tokens: a script has one list of tokens, or one fault.
 ghost use Rattle.std.specs.Prelude.{◌≡◌, ℕ, List};
 ghost use Rattle.sieve_lexer.specs.Tokens.{AreTokens, IsFault};
 ghost use Rattle.sieve_lexer.specs.declared.token.Token.{Token};

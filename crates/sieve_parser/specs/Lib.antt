@@ -5,7 +5,7 @@ pub mod TokenMachine
 pub mod Language
 pub mod Faults
 pub mod View
--- how the parser goes; nothing public rests on it
-pub mod Parsing
 pub mod Refusals
 pub mod Scripts
+-- how the parser goes; of it public contracts cite `lexemes` and `IsDone` alone
+pub mod Parsing

@@ -1,5 +1,5 @@
-// The laws of the grammar: what the reading machine reads, and where it stops; that a script has one tree or one
-// refusal, and no more lexemes than octets.
+//! The laws of the grammar: what the reading machine reads, and where it stops; that a script has one tree or one
+//! refusal, and no more lexemes than octets.
 ghost use Rattle.std.specs.Prelude.{◌≡◌, ◌≢◌, ◌≤◌, ◌++◌, ◌∷◌, [], ℕ, List, length};
 ghost use Rattle.sieve_parser.specs.Faults.{IsViableWithinDepth};
 ghost use Rattle.sieve_parser.specs.Grammar.{IsViable, IsScript, commands_spelled};

@@ -1,4 +1,4 @@
-// The laws of segments.
+//! The laws of segments.
 ghost use Rattle.std.specs.Prelude.{ℕ, ◌≤◌, List, length, All};
 ghost use Rattle.std.specs.List.{sum_by};
 ghost use Rattle.sieve_references.specs.References.{Segment, segments, extent_of};

@@ -1,4 +1,4 @@
-// The laws of lines.
+//! The laws of lines.
 ghost use Rattle.std.specs.Prelude.{◌≡◌, ℕ, List};
 ghost use Rattle.text_lines.specs.Lines.{TextLine, lines_of, octets_of, AreLines};
 

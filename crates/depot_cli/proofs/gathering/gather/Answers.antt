@@ -1,4 +1,5 @@
-use Rattle.depot_cli.proofs.OutputLemmas.{gathered_next, gathering_broken, next_within, on_err}
+use Rattle.depot_actions.proofs.Outputs.{next_within, on_err}
+use Rattle.depot_cli.proofs.OutputLemmas.{gathered_next, gathering_broken}
 use Rattle.depot_cli.proofs.gathering.gather.Goals as goal
 
 pub pieces-preserved : goal.pieces-preserved

@@ -6,4 +6,4 @@ pub returns-in-Ok : goal.returns-in-Ok
 returns-in-Ok g c = inl (c.in-Ok.line, c.in-Ok.ensures.says, c.carry_out.ensures)
 
 pub returns-in-Err : goal.returns-in-Err
-returns-in-Err g c = inr (c.explain_fault.result, refl, explained c.in-Err.ensures.taken (refl, refl) c.explain_fault.ensures)
+returns-in-Err g c = inr (c.tell_fault.result, refl, explained c.in-Err.ensures.taken (refl, refl) c.tell_fault.ensures)

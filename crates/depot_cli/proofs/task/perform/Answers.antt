@@ -1,4 +1,4 @@
-use Rattle.std.proofs.Common.{◌≡◌, inl, map, refl}
+use Rattle.std.proofs.Common.{inl, inr, map, refl}
 use Rattle.part_store.specs.Standing.{listed}
 use Rattle.depot_actions.specs.DepotState.{Listed, ListAll, Text}
 use Rattle.depot_actions.specs.DepotState as depot
@@ -27,5 +27,8 @@ returns-in-Ok-export g c =
 pub returns-in-Err-export : goal.returns-in-Err-export
 returns-in-Err-export g c =
     let all = c.in-Err-export.ensures in
-    rw c.in-Export.is (stopped c.in-Err-export.refusal (depot.Export c.in-Export.user.now c.in-Export.number c.in-Export.encoding) c.tell-in-Err-export.result _ _
-    (λ is. let broke = all.stopped is in (Text broke.0, broke.2, broke.1)) all.unwritten (λ clean. (all.refused clean, all.spared clean)) c.tell-in-Err-export.ensures.status c.tell-in-Err-export.ensures.told)
+    let command = depot.Export c.in-Export.user.now c.in-Export.number c.in-Export.encoding in
+    rw c.in-Export.is (stopped c.in-Err-export.refusal command c.tell-in-Err-export.result _ _ tt
+    (λ is. let broke = all.stopped is in (Text broke.0, broke.2, broke.1))
+    (λ is. elim (all.begun is) [ inl same ↦ inl same | inr begun ↦ inr (Text begun.0, begun.2, begun.1) ])
+    all.unwritten (λ clean. (all.refused clean, all.spared clean)) c.tell-in-Err-export.ensures.status c.tell-in-Err-export.ensures.told)

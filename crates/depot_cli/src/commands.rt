@@ -1,0 +1,289 @@
+// The program with its commands, as it is told to clap.
+ghost use Rattle.std.specs.Prelude.{◌≡◌, IfOk, false};
+ghost use Rattle.clap.specs.Words.{app_of};
+ghost use Rattle.clap.specs.declared.builder.command.Command.TheViews.{out-Command as fields_of};
+ghost use Rattle.depot_cli.specs.Words.{check_app, checks_app, code_app, codecs_app, compile_app, decode_app, deliver_app, delivery_app, depot_app, encode_app, eval_app, explain_app, export_app, filing_app, filters_app, list_app, mail_app, parts_app, remove_app, run_app, script_app, scripts_app, user_app, verify_app};
+
+use crate::arguments::{
+    depot_file, encoding_name, entry_number, message_file, out_file, program_file, script_file,
+    user_name,
+};
+use crate::help;
+use clap::Command;
+use std::alloc::{AllocError, Global};
+
+/// The program with its commands.
+pub fn depot_command<'a>(alloc: Global, names: &'a [&'a str]) -> Result<Command<'a>, AllocError>
+    ensures app { IfOk result (λ c. app_of c ≡ depot_app names.entry) }
+    ensures local { IfOk result (λ c. (fields_of c).has_globals ≡ false) }
+{
+    delivery_command(alloc, names)?
+        .subcommand(export_command(alloc, names)?)?
+        .subcommand(remove_command(alloc)?)
+}
+
+// The program with all commands but those on entries that are there.
+fn delivery_command<'a>(alloc: Global, names: &'a [&'a str]) -> Result<Command<'a>, AllocError>
+    ensures app { IfOk result (λ c. app_of c ≡ delivery_app names.entry) }
+    ensures local { IfOk result (λ c. (fields_of c).has_globals ≡ false) }
+{
+    filing_command(alloc, names)?
+        .subcommand(deliver_command(alloc)?)?
+        .subcommand(list_command(alloc)?)
+}
+
+// The program with the commands that need no depot, and those that store filters.
+fn filing_command<'a>(alloc: Global, names: &'a [&'a str]) -> Result<Command<'a>, AllocError>
+    ensures app { IfOk result (λ c. app_of c ≡ filing_app names.entry) }
+    ensures local { IfOk result (λ c. (fields_of c).has_globals ≡ false) }
+{
+    codecs_command(alloc, names)?
+        .subcommand(script_command(alloc)?)?
+        .subcommand(code_command(alloc)?)
+}
+
+// The program with the commands that need no depot.
+fn codecs_command<'a>(alloc: Global, names: &'a [&'a str]) -> Result<Command<'a>, AllocError>
+    ensures app { IfOk result (λ c. app_of c ≡ codecs_app names.entry) }
+    ensures local { IfOk result (λ c. (fields_of c).has_globals ≡ false) }
+{
+    mail_command(alloc)?
+        .subcommand(encode_command(alloc, names)?)?
+        .subcommand(decode_command(alloc, names)?)
+}
+
+// The program with all commands that take messages, scripts or filter programs.
+fn mail_command<'a>(alloc: Global) -> Result<Command<'a>, AllocError>
+    ensures app { IfOk result (λ c. app_of c ≡ mail_app) }
+    ensures local { IfOk result (λ c. (fields_of c).has_globals ≡ false) }
+{
+    filters_command(alloc)?
+        .subcommand(eval_command(alloc)?)?
+        .subcommand(parts_command(alloc)?)
+}
+
+// The program with the commands that take a script alone, or a filter program.
+fn filters_command<'a>(alloc: Global) -> Result<Command<'a>, AllocError>
+    ensures app { IfOk result (λ c. app_of c ≡ filters_app) }
+    ensures local { IfOk result (λ c. (fields_of c).has_globals ≡ false) }
+{
+    scripts_command(alloc)?
+        .subcommand(verify_command(alloc)?)?
+        .subcommand(run_command(alloc)?)
+}
+
+// The program with the commands that take a script alone.
+fn scripts_command<'a>(alloc: Global) -> Result<Command<'a>, AllocError>
+    ensures app { IfOk result (λ c. app_of c ≡ scripts_app) }
+    ensures local { IfOk result (λ c. (fields_of c).has_globals ≡ false) }
+{
+    checks_command(alloc)?.subcommand(compile_command(alloc)?)
+}
+
+// The program with the commands that look for faults.
+fn checks_command<'a>(alloc: Global) -> Result<Command<'a>, AllocError>
+    ensures app { IfOk result (λ c. app_of c ≡ checks_app) }
+    ensures local { IfOk result (λ c. (fields_of c).has_globals ≡ false) }
+{
+    Command::new(alloc, "depot")
+        .about(
+            "Verified mail filters: checks and compiles Sieve scripts, files mail messages as they say, and gives back what was filed.",
+        )
+        .after_help(help::ALL)
+        .subcommand(check_command(alloc)?)?
+        .subcommand(explain_command(alloc)?)
+}
+
+// The command check.
+fn check_command<'a>(alloc: Global) -> Result<Command<'a>, AllocError>
+    ensures app { IfOk result (λ c. app_of c ≡ check_app) }
+    ensures local { IfOk result (λ c. (fields_of c).has_globals ≡ false) }
+{
+    Command::new(alloc, "check")
+        .about("Says whether a Sieve script has a fault, and where")
+        .after_help(help::CHECK)
+        .arg(script_file(alloc))
+}
+
+// The command explain.
+fn explain_command<'a>(alloc: Global) -> Result<Command<'a>, AllocError>
+    ensures app { IfOk result (λ c. app_of c ≡ explain_app) }
+    ensures local { IfOk result (λ c. (fields_of c).has_globals ≡ false) }
+{
+    Command::new(alloc, "explain")
+        .about("Says in words what the fault of a Sieve script is, and shows its line")
+        .after_help(help::EXPLAIN)
+        .arg(script_file(alloc))
+}
+
+// The command compile.
+fn compile_command<'a>(alloc: Global) -> Result<Command<'a>, AllocError>
+    ensures app { IfOk result (λ c. app_of c ≡ compile_app) }
+    ensures local { IfOk result (λ c. (fields_of c).has_globals ≡ false) }
+{
+    Command::new(alloc, "compile")
+        .about("Writes a Sieve script as a filter program (bytecode)")
+        .after_help(help::COMPILE)
+        .arg(script_file(alloc))?
+        .arg(out_file(alloc))
+}
+
+// The command eval.
+fn eval_command<'a>(alloc: Global) -> Result<Command<'a>, AllocError>
+    ensures app { IfOk result (λ c. app_of c ≡ eval_app) }
+    ensures local { IfOk result (λ c. (fields_of c).has_globals ≡ false) }
+{
+    Command::new(alloc, "eval")
+        .about("Runs a Sieve script on a message, and prints what it does with it")
+        .after_help(help::EVAL)
+        .arg(script_file(alloc))?
+        .arg(message_file(alloc))
+}
+
+// The command parts.
+fn parts_command<'a>(alloc: Global) -> Result<Command<'a>, AllocError>
+    ensures app { IfOk result (λ c. app_of c ≡ parts_app) }
+    ensures local { IfOk result (λ c. (fields_of c).has_globals ≡ false) }
+{
+    Command::new(alloc, "parts")
+        .about(
+            "Lists the parts of a message: place, depth, media type, length and digest of the content",
+        )
+        .after_help(help::PARTS)
+        .arg(message_file(alloc))
+}
+
+// The command verify.
+fn verify_command<'a>(alloc: Global) -> Result<Command<'a>, AllocError>
+    ensures app { IfOk result (λ c. app_of c ≡ verify_app) }
+    ensures local { IfOk result (λ c. (fields_of c).has_globals ≡ false) }
+{
+    Command::new(alloc, "verify")
+        .about("Says whether a filter program is safe to run, and what it may charge")
+        .after_help(help::VERIFY)
+        .arg(program_file(alloc))
+}
+
+// The command run.
+fn run_command<'a>(alloc: Global) -> Result<Command<'a>, AllocError>
+    ensures app { IfOk result (λ c. app_of c ≡ run_app) }
+    ensures local { IfOk result (λ c. (fields_of c).has_globals ≡ false) }
+{
+    Command::new(alloc, "run")
+        .about("Runs a filter program on a message, and prints what it does with it")
+        .after_help(help::RUN)
+        .arg(program_file(alloc))?
+        .arg(message_file(alloc))
+}
+
+// The command encode.
+fn encode_command<'a>(alloc: Global, names: &'a [&'a str]) -> Result<Command<'a>, AllocError>
+    ensures app { IfOk result (λ c. app_of c ≡ encode_app names.entry) }
+    ensures local { IfOk result (λ c. (fields_of c).has_globals ≡ false) }
+{
+    Command::new(alloc, "encode")
+        .about("Writes the octets of standard input as a text")
+        .after_help(help::ENCODE)
+        .arg(encoding_name(alloc, names))
+}
+
+// The command decode.
+fn decode_command<'a>(alloc: Global, names: &'a [&'a str]) -> Result<Command<'a>, AllocError>
+    ensures app { IfOk result (λ c. app_of c ≡ decode_app names.entry) }
+    ensures local { IfOk result (λ c. (fields_of c).has_globals ≡ false) }
+{
+    Command::new(alloc, "decode")
+        .about("Writes the octets that the text on standard input stands for")
+        .after_help(help::DECODE)
+        .arg(encoding_name(alloc, names))
+}
+
+// A command on the depot of a user, with the end of its help.
+fn user_command<'a>(
+    alloc: Global,
+    name: &'static str,
+    about: &'static str,
+    ending: &'static str,
+) -> Result<Command<'a>, AllocError>
+    ensures app { IfOk result (λ c. app_of c ≡ user_app name.now) }
+    ensures local { IfOk result (λ c. (fields_of c).has_globals ≡ false) }
+{
+    Command::new(alloc, name)
+        .about(about)
+        .after_help(ending)
+        .arg(depot_file(alloc))?
+        .arg(user_name(alloc))
+}
+
+// The command script.
+fn script_command<'a>(alloc: Global) -> Result<Command<'a>, AllocError>
+    ensures app { IfOk result (λ c. app_of c ≡ script_app) }
+    ensures local { IfOk result (λ c. (fields_of c).has_globals ≡ false) }
+{
+    user_command(
+        alloc,
+        "script",
+        "Stores a Sieve script, compiled, as the filter of a user",
+        help::SCRIPT,
+    )?
+    .arg(script_file(alloc))
+}
+
+// The command code.
+fn code_command<'a>(alloc: Global) -> Result<Command<'a>, AllocError>
+    ensures app { IfOk result (λ c. app_of c ≡ code_app) }
+    ensures local { IfOk result (λ c. (fields_of c).has_globals ≡ false) }
+{
+    user_command(
+        alloc,
+        "code",
+        "Stores a filter program (bytecode) as the filter of a user",
+        help::CODE,
+    )?
+    .arg(program_file(alloc))
+}
+
+// The command deliver.
+fn deliver_command<'a>(alloc: Global) -> Result<Command<'a>, AllocError>
+    ensures app { IfOk result (λ c. app_of c ≡ deliver_app) }
+    ensures local { IfOk result (λ c. (fields_of c).has_globals ≡ false) }
+{
+    user_command(
+        alloc,
+        "deliver",
+        "Files a message, or parts of it, as the filter of a user says",
+        help::DELIVER,
+    )?
+    .arg(message_file(alloc))
+}
+
+// The command list.
+fn list_command<'a>(alloc: Global) -> Result<Command<'a>, AllocError>
+    ensures app { IfOk result (λ c. app_of c ≡ list_app) }
+    ensures local { IfOk result (λ c. (fields_of c).has_globals ≡ false) }
+{
+    user_command(alloc, "list", "Lists the entries of a user", help::LIST)
+}
+
+// The command export.
+fn export_command<'a>(alloc: Global, names: &'a [&'a str]) -> Result<Command<'a>, AllocError>
+    ensures app { IfOk result (λ c. app_of c ≡ export_app names.entry) }
+    ensures local { IfOk result (λ c. (fields_of c).has_globals ≡ false) }
+{
+    user_command(
+        alloc,
+        "export",
+        "Writes the octets of an entry as a text",
+        help::EXPORT,
+    )?
+    .arg(entry_number(alloc))?
+    .arg(encoding_name(alloc, names))
+}
+
+// The command remove.
+fn remove_command<'a>(alloc: Global) -> Result<Command<'a>, AllocError>
+    ensures app { IfOk result (λ c. app_of c ≡ remove_app) }
+    ensures local { IfOk result (λ c. (fields_of c).has_globals ≡ false) }
+{
+    user_command(alloc, "remove", "Removes an entry", help::REMOVE)?.arg(entry_number(alloc))
+}

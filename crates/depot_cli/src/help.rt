@@ -1,0 +1,69 @@
+// What stands at the end of the helps.
+
+// The end of a command's help: an example, what the statuses say, and with which refusals status 1 may come.
+macro_rules! ending {
+    ($example:literal, $refusals:literal) => {
+        concat!(
+            "Example:\n  ",
+            $example,
+            "\n\nStatus 0: done. 1: refused, or the answer broke off, with one line on standard error.\n",
+            "2: the words aren't those of a command.\n",
+            "Refusals: ",
+            $refusals,
+            ". docs/SPECIFICATION.md says what each means, and what to do."
+        )
+    };
+}
+
+/// That of the help without a command.
+pub const ALL: &str = concat!(
+    "An answer goes to standard output, with status 0. A refusal is one line on standard error, with\n",
+    "its number and name, and status 1. Status 2 says that the words aren't those of a command.\n",
+    "With no words at all, a program that keeps every message runs on standard input.\n",
+    "The help of a command has an example, and says with which refusals it may end."
+);
+
+pub const CHECK: &str = ending!("depot check filter.sieve", "1, 2, 11 to 19, 45, 46");
+
+pub const EXPLAIN: &str = ending!("depot explain filter.sieve", "1, 2, 11 to 19, 45, 46");
+
+pub const COMPILE: &str = ending!(
+    "depot compile filter.sieve filter.svbc",
+    "1, 2, 11 to 19, 45, 46"
+);
+
+pub const VERIFY: &str = ending!("depot verify filter.svbc", "1, 2, 20 to 27, 45, 46");
+
+pub const RUN: &str = ending!("depot run filter.svbc mail.eml", "1 to 3, 20 to 27, 45, 46");
+
+pub const EVAL: &str = ending!(
+    "depot eval filter.sieve mail.eml",
+    "1 to 3, 11 to 19, 45, 46"
+);
+
+pub const PARTS: &str = ending!("depot parts mail.eml", "1 to 3, 45, 46");
+
+pub const ENCODE: &str = ending!("depot encode base64 < file > text", "1, 2, 45, 46");
+
+pub const DECODE: &str = ending!("depot decode base64 < text > file", "1, 2, 10, 45, 46");
+
+pub const SCRIPT: &str = ending!(
+    "depot script mail.depot ann filter.sieve",
+    "1, 2, 11 to 19, 43 to 46"
+);
+
+pub const CODE: &str = ending!(
+    "depot code mail.depot ann filter.svbc",
+    "1, 2, 20 to 27, 43 to 46"
+);
+
+pub const DELIVER: &str = ending!("depot deliver mail.depot ann mail.eml", "1 to 3, 41 to 46");
+
+pub const LIST: &str = ending!("depot list mail.depot ann", "1, 43 to 45");
+
+pub const EXPORT: &str = ending!(
+    "depot export mail.depot ann 2 raw > attached",
+    "1, 40, 43 to 45"
+);
+
+pub const REMOVE: &str = ending!("depot remove mail.depot ann 2", "1, 40, 43 to 45");

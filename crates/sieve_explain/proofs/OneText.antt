@@ -1,0 +1,66 @@
+-- A refusal of a script has one explanation.
+use Rattle.std.proofs.Common.{◌≡◌, ◌∙◌, ℕ, List, ap, sym, refl, inl, inr}
+use Rattle.std.specs.Prelude.{Option, Some, None}
+use Rattle.std.specs.List.{slice_get}
+use Rattle.refusals.specs.declared.refusal.Refusal.{Refusal}
+use Rattle.refusals.specs.declared.refusal.Refusal.TheVariants as refused
+use Rattle.sieve_check.specs.declared.error.Fault.{Fault}
+use Rattle.sieve_check.specs.declared.error.Fault.TheVariants.{UnknownCommand, MissingCapability, UnknownCapability, BadArguments, Limit}
+use Rattle.sieve_lexer.specs.Tokens.{AreTokens}
+use Rattle.sieve_lexer.specs.declared.token.Token.{Token}
+use Rattle.sieve_parser.specs.Scripts.{IsParsed}
+use Rattle.sieve_parser.specs.Tree.{CommandsTree}
+use Rattle.sieve_explain.specs.Explaining.{Explains, HasTokens, HasTree, IsTokenNumbered, TellsDepth, TellsReason, TellsSyntax, reason_in, start_of, told}
+use Rattle.sieve_explain.specs.Faults.{syntax_blanks, too_deep_blanks}
+use Rattle.sieve_explain.specs.Reasons.{reason_blanks}
+
+-- the laws that a script has one list of tokens, and one tree
+abbrev pub OneList : Type 0
+OneList = (script : List ℕ) (tokens others : List Token) → AreTokens script tokens → AreTokens script others → tokens ≡ others
+
+abbrev pub OneTree : Type 0
+OneTree = (script : List ℕ) (commands others : CommandsTree) → IsParsed script commands → IsParsed script others → commands ≡ others
+
+one_list : OneList → (script : List ℕ) (tokens others : List Token) → HasTokens script tokens → HasTokens script others → tokens ≡ others
+one_list law script tokens others (inl p) (inl q) = law script tokens others p.1 q.1
+one_list law script tokens others (inl p) (inr q) = absurd (q.1 p.0 tokens p.1)
+one_list law script tokens others (inr p) (inl q) = absurd (p.1 q.0 others q.1)
+one_list law script tokens others (inr p) (inr q) = p.0 ∙ sym q.0
+
+one_tree : OneTree → (script : List ℕ) (tree other : Option CommandsTree) → HasTree script tree → HasTree script other → tree ≡ other
+one_tree law script None None p q = refl
+one_tree law script None (Some commands) p q = absurd (p commands q)
+one_tree law script (Some commands) None p q = absurd (q commands p)
+one_tree law script (Some commands) (Some others) p q = ap Some (law script commands others p q)
+
+one_token : OneList → (script : List ℕ) (number : ℕ) (token other : Option Token) → IsTokenNumbered script number token → IsTokenNumbered script number other → token ≡ other
+one_token law script number token other p q =
+    p.1.1 ∙ ap (λ (tokens : List Token). slice_get tokens number) (one_list law script p.0 q.0 p.1.0 q.1.0) ∙ sym q.1.1
+
+one_syntax : OneList → (name script : List ℕ) (number : ℕ) (text other : List ℕ) → TellsSyntax name script number text → TellsSyntax name script number other → text ≡ other
+one_syntax law name script number text other p q =
+    p.1.1 ∙ ap (λ (token : Option Token). told name script (start_of script token) (syntax_blanks script token)) (one_token law script number p.0 q.0 p.1.0 q.1.0) ∙ sym q.1.1
+
+one_depth : OneList → (name script : List ℕ) (number : ℕ) (text other : List ℕ) → TellsDepth name script number text → TellsDepth name script number other → text ≡ other
+one_depth law name script number text other p q =
+    p.1.1 ∙ ap (λ (token : Option Token). told name script (start_of script token) too_deep_blanks) (one_token law script number p.0 q.0 p.1.0 q.1.0) ∙ sym q.1.1
+
+one_reason : OneList → OneTree → (name script : List ℕ) (fault : Fault) (number : ℕ) (text other : List ℕ)
+    → TellsReason name script fault number text → TellsReason name script fault number other → text ≡ other
+one_reason law same name script fault number text other (token, (tree, (numbered, has, e))) (token', (tree', (numbered', has', e'))) =
+    let p = one_token law script number token token' numbered numbered' in
+    let q = one_tree same script tree tree' has has' in
+    e ∙ ap (λ (t : Option Token). told name script (start_of script t) (reason_blanks (reason_in tree fault number))) p
+    ∙ ap (λ (t : Option CommandsTree). told name script (start_of script token') (reason_blanks (reason_in t fault number))) q ∙ sym e'
+
+pub one_text : OneList → OneTree → (name script : List ℕ) (refusal : Refusal) (text other : List ℕ) → Explains name script refusal text → Explains name script refusal other → text ≡ other
+one_text law same name script (refused.Lexical place) text other p q = p ∙ sym q
+one_text law same name script refused.ScriptTooLong text other p q = p ∙ sym q
+one_text law same name script (refused.Syntax number) text other p q = one_syntax law name script number text other p q
+one_text law same name script (refused.TooDeep number) text other p q = one_depth law name script number text other p q
+one_text law same name script (refused.UnknownCommand number) text other p q = one_reason law same name script UnknownCommand number text other p q
+one_text law same name script (refused.MissingCapability number) text other p q = one_reason law same name script MissingCapability number text other p q
+one_text law same name script (refused.UnknownCapability number) text other p q = one_reason law same name script UnknownCapability number text other p q
+one_text law same name script (refused.BadArguments number) text other p q = one_reason law same name script BadArguments number text other p q
+one_text law same name script (refused.Limit number) text other p q = one_reason law same name script Limit number text other p q
+one_text law same name script _ text other p q = p ∙ sym q

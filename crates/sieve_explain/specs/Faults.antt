@@ -1,0 +1,49 @@
+-- What is said of a script that isn't parsed.
+use Rattle.std.specs.Prelude.{ℕ, ◌^◌, ◌-◌, ◌==◌, ◌&&◌, if◌then◌else◌, List, take, Option, Some, None, slice_index, slice_range, codes}
+use Rattle.std.specs.Char.{is_ascii_digit}
+use Rattle.octets.specs.Limits.{max_nesting, max_script}
+use Rattle.sieve_lexer.specs.Classes.{begins_identifier}
+use Rattle.sieve_lexer.specs.declared.token.Token.{Token}
+use Rattle.sieve_lexer.specs.declared.token.TokenKind.{TokenKind}
+use Rattle.sieve_lexer.specs.declared.token.TokenKind.TheVariants.{Identifier, Tag, Number, QuotedString, MultiLineString, Semicolon, Comma, OpeningBrace, ClosingBrace, OpeningParenthesis, ClosingParenthesis, OpeningBracket, ClosingBracket}
+use Rattle.sieve_explain.specs.Sentences.{Blanks, plain}
+
+-- 11, by the octets from the place on
+abbrev pub lexical_blanks : List ℕ → Blanks
+lexical_blanks rest =
+    let octet = slice_index rest 0 in
+    if octet == 34 then plain (codes "a string is never closed: this quote, or one before it, has no partner") else
+    if (octet == 47) && (slice_index rest 1 == 42) then plain (codes "a comment is never closed") else
+    if is_ascii_digit octet then record (plain (codes "a number is above %")) { number = 2 ^ 64 - 1 } else
+    if begins_identifier octet then plain (codes "a multi-line string is never closed: its last line is a dot alone") else
+    if octet == 58 then plain (codes "a colon stands here without the name of a tag behind it") else
+    record (plain (codes "@ begins nothing that a script may have here")) { name = take 1 rest }
+
+-- 12
+abbrev pub too_long_blanks : Blanks
+too_long_blanks = record (plain (codes "the script has more than % octets")) { number = max_script }
+
+-- 13, of a token of the kind
+abbrev pub misplaced_token : TokenKind → List ℕ
+misplaced_token Identifier = codes "@ can't stand here: is a brace or a semicolon missing before it?"
+misplaced_token Tag = codes "@ can't stand here: arguments stand directly behind the name that they belong to"
+misplaced_token Number = codes "@ can't stand here: arguments stand directly behind the name that they belong to"
+misplaced_token QuotedString = codes "@ can't stand here: is a comma missing before it, or the name that it belongs to?"
+misplaced_token MultiLineString = codes "@ can't stand here: is a comma missing before it, or the name that it belongs to?"
+misplaced_token Semicolon = codes "@ can't stand here: is it one too many, or is a bracket missing before it?"
+misplaced_token Comma = codes "@ can't stand here: strings of a list stand in square brackets, tests in round ones behind `allof` or `anyof`"
+misplaced_token OpeningBrace = codes "@ can't stand here: is a bracket missing before it, or the command that it belongs to?"
+misplaced_token ClosingBrace = codes "@ can't stand here: is a semicolon missing before it, or its opening brace?"
+misplaced_token OpeningParenthesis = codes "@ can't stand here: round brackets stand behind the name of a test, around tests"
+misplaced_token ClosingParenthesis = codes "@ can't stand here: is a test missing before it, or its opening bracket?"
+misplaced_token OpeningBracket = codes "@ can't stand here: square brackets stand behind a name, around strings"
+misplaced_token ClosingBracket = codes "@ can't stand here: is a string missing before it, or its opening bracket?"
+
+-- 13, of the token at fault, or of the end
+abbrev pub syntax_blanks : List ℕ → Option Token → Blanks
+syntax_blanks script None = plain (codes "the script ends before its last command does")
+syntax_blanks script (Some token) = record (plain (misplaced_token token.kind)) { name = slice_range script token.start token.end }
+
+-- 14
+abbrev pub too_deep_blanks : Blanks
+too_deep_blanks = record (plain (codes "braces and tests are nested more than % deep here")) { number = max_nesting }

@@ -1,0 +1,32 @@
+-- The line and the column of a place in a script, and the text of its line. LF ends a line; the end of the script is a place, too.
+use Rattle.std.specs.Prelude.{ℕ, ◌+◌, ◌-◌, Bool, not, ◌==◌, if◌then◌else◌, List, length, reverse, take, drop, slice_index, slice_range, count_by, take_while}
+
+abbrev pub is_line_feed : ℕ → Bool
+is_line_feed octet = octet == 10
+
+abbrev pub is_in_line : ℕ → Bool
+is_in_line octet = not (is_line_feed octet)
+
+-- the octets of the place's line that stand before the place, by their number
+abbrev pub octets_before : List ℕ → ℕ → ℕ
+octets_before script place = length (take_while is_in_line (reverse (take place script)))
+
+-- those from the place on
+abbrev pub octets_after : List ℕ → ℕ → ℕ
+octets_after script place = length (take_while is_in_line (drop place script))
+
+-- the line's number, the first being 1
+abbrev pub line_number : List ℕ → ℕ → ℕ
+line_number script place = count_by is_line_feed (take place script) + 1
+
+-- the column, in octets, the first being 1
+abbrev pub column : List ℕ → ℕ → ℕ
+column script place = octets_before script place + 1
+
+-- the text, without the CR that it may end with
+abbrev pub without_return : List ℕ → List ℕ
+without_return text = if slice_index text (length text - 1) == 13 then take (length text - 1) text else text
+
+-- the line of the place, without its break
+abbrev pub line_at : List ℕ → ℕ → List ℕ
+line_at script place = without_return (slice_range script (place - octets_before script place) (place + octets_after script place))

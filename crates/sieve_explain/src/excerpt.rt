@@ -1,0 +1,56 @@
+// The line of a place, and a mark under it.
+ghost use Rattle.std.specs.Prelude.{◌≡◌, ◌≤◌, ◌++◌, IfOk, OnOk, drop, length, replicate, take};
+ghost use Rattle.sieve_explain.specs.Shown.{excerpt, marked, shown_end};
+
+use crate::places::{line_at, octets_before};
+use crate::shown::{push_end, push_start};
+use std::alloc::AllocError;
+
+// Appends that many spaces.
+fn push_spaces(out: &mut Vec<u8>, n: usize) -> Result<(), AllocError>
+    ensures { OnOk result (out.new.items ≡ out.old.items ++ replicate n 32) }
+{
+    for _ in 0..n {
+        out.push(b' ')?;
+    }
+    Ok(())
+}
+
+// The octets of a line before a place in it, and those from the place on.
+#[tactic(auto, using(std::proofs::lemmas::List::take_min, std::proofs::lemmas::List::drop_min))]
+fn around(line: &[u8], place: usize) -> (&[u8], &[u8])
+    ensures before { result.0.now ≡ take place line.now }
+    ensures after { result.1.now ≡ drop place line.now }
+{
+    line.split_at(place.min(line.len()))
+}
+
+// Appends the end of a text, and gives how many octets that are.
+fn push_measured(out: &mut Vec<u8>, text: &[u8]) -> Result<usize, AllocError>
+    ensures appended { OnOk result (out.new.items ≡ out.old.items ++ shown_end text.now) }
+    ensures width { IfOk result (λ width. width ≡ length (shown_end text.now)) }
+{
+    let start = out.len();
+    push_end(out, text)?;
+    Ok(out.len() - start)
+}
+
+// Appends a line of a script, cut around a place in it, and under it a mark at that place.
+fn push_marked(out: &mut Vec<u8>, line: &[u8], place: usize) -> Result<(), AllocError>
+    ensures { OnOk result (out.new.items ≡ out.old.items ++ marked line.now place) }
+{
+    let (before, after) = around(line, place);
+    let width = push_measured(out, before)?;
+    push_start(out, after)?;
+    out.extend_from_slice(b"\n")?;
+    push_spaces(out, width)?;
+    out.extend_from_slice(b"^\n")
+}
+
+// Appends the line of a place of the script, and a mark under the place.
+pub fn push_excerpt(out: &mut Vec<u8>, script: &[u8], place: usize) -> Result<(), AllocError>
+    requires { place ≤ length script.now }
+    ensures { OnOk result (out.new.items ≡ out.old.items ++ excerpt script.now place) }
+{
+    push_marked(out, line_at(script, place), octets_before(script, place))
+}

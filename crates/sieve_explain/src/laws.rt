@@ -1,0 +1,21 @@
+//! The laws of explanations: a refusal of a script has one, which can be printed anywhere.
+ghost use Rattle.std.specs.Prelude.{◌≡◌, ℕ, IsTrue, List};
+ghost use Rattle.refusals.specs.declared.refusal.Refusal.{Refusal};
+ghost use Rattle.sieve_explain.specs.Explaining.{Explains};
+ghost use Rattle.sieve_explain.specs.Printable.{are_printable};
+
+use sieve_lexer::laws::tokens_are_unique;
+use sieve_parser::laws::parsed_trees_are_unique;
+
+/// What is told of a refusal of a script is one text, since a script has one list of tokens and one tree at most.
+pub fn explanations_are_unique()
+    ensures { (name script : List ℕ) (refusal : Refusal) (text other : List ℕ) → Explains name script refusal text → Explains name script refusal other → text ≡ other }
+{
+    tokens_are_unique();
+    parsed_trees_are_unique();
+}
+
+/// What is told of a refusal is printable characters of ASCII and ends of lines, whoever wrote the script, where the script's name is.
+pub fn explanations_are_printable()
+    ensures { (name script : List ℕ) (refusal : Refusal) (text : List ℕ) → IsTrue (are_printable name) → Explains name script refusal text → IsTrue (are_printable text) }
+{}

@@ -1,0 +1,19 @@
+//! Why a script is refused, in plain words for whoever wrote it.
+//!
+//! [`explanation`] gives the text for a refusal: a line that names the script, the line and the column and says in a sentence
+//! what is wrong there, then the line of the script, and a mark under the place. `specs/Explaining` says the text of each refusal,
+//! `specs/Faults` and `specs/Reasons` are its sentences, and `specs/Places` what lines and columns are. Octets of the script are
+//! escaped and cut by `specs/Shown`. `laws` says that a refusal has one text, which can be printed anywhere, whoever wrote the script.
+#![tactic(auto)]
+
+mod excerpt;
+mod explaining;
+mod faults;
+mod hints;
+pub mod laws;
+mod places;
+mod reasons;
+mod sentence;
+mod shown;
+
+pub use explaining::explanation;

@@ -1,0 +1,56 @@
+// The line and the column of a place in a script, and the text of its line.
+ghost use Rattle.std.specs.Prelude.{◌≡◌, ◌≤◌, length};
+ghost use Rattle.sieve_explain.specs.Places.{is_line_feed, line_at, line_number, octets_after, octets_before, without_return};
+
+// The number of the place's line.
+pub fn line_number(script: &[u8], place: usize) -> u128
+    requires { place ≤ length script.now }
+    ensures { result ≡ line_number script.now place }
+{
+    let breaks = script[..place]
+        .iter()
+        .filter(|octet| **octet == b'\n')
+        .count();
+    breaks as u128 + 1
+}
+
+// How many octets of its line stand before the place.
+pub fn octets_before(script: &[u8], place: usize) -> usize
+    requires { place ≤ length script.now }
+    ensures { result ≡ octets_before script.now place }
+{
+    script[..place]
+        .iter()
+        .rev()
+        .take_while(|octet| **octet != b'\n')
+        .count()
+}
+
+// How many octets of its line stand from the place on.
+fn octets_after(script: &[u8], place: usize) -> usize
+    requires { place ≤ length script.now }
+    ensures { result ≡ octets_after script.now place }
+{
+    let (_, rest) = script.split_at(place);
+    rest.iter().take_while(|octet| **octet != b'\n').count()
+}
+
+// The text without the CR that it may end with.
+fn without_return(text: &[u8]) -> &[u8]
+    ensures { result.now ≡ without_return text.now }
+{
+    match text.last() {
+        Some(b'\r') => &text[..text.len() - 1],
+        _ => text,
+    }
+}
+
+// The line of the place, without its break.
+pub fn line_at(script: &[u8], place: usize) -> &[u8]
+    requires { place ≤ length script.now }
+    ensures { result.now ≡ line_at script.now place }
+{
+    let start = place - octets_before(script, place);
+    let end = place + octets_after(script, place);
+    without_return(&script[start..end])
+}

@@ -1,0 +1,192 @@
+// What is said of a command or test that isn't accepted.
+ghost use Rattle.std.specs.Prelude.{◌≡◌, option_map};
+ghost use Rattle.sieve_reasons.specs.View.{view_of};
+ghost use Rattle.sieve_explain.specs.Reasons.{capability_words, ending_words, no_test_words, place_text, positional_words, reason_blanks, reason_limit, reason_text, reason_words, tag_words, tests_words};
+ghost use Rattle.sieve_explain.specs.Sentences.{blanks_of};
+
+use crate::hints::{
+    is_word, unknown_command_text, unknown_command_words, unknown_test_text, unknown_test_words,
+};
+use crate::sentence::{Sentence, plain};
+use sieve_check::{
+    Capability, Ending, MAX_LOOPS, MAX_NAME, MAX_SEGMENTS, MAX_STRING, MAX_TEST_STRINGS,
+    MAX_VARIABLES, Positional, Tag, Tests, command_named,
+};
+use sieve_reasons::{Reason, ReasonKind};
+
+// A capability, as a `require` names it.
+fn capability_words(capability: Capability) -> &'static str
+    ensures { result.now ≡ capability_words capability }
+{
+    match capability {
+        Capability::FileInto => "fileinto",
+        Capability::Variables => "variables",
+        Capability::Mime => "mime",
+        Capability::ForEveryPart => "foreverypart",
+        Capability::Depot => "vnd.depot",
+        Capability::OctetComparator => "comparator-i;octet",
+        Capability::CasemapComparator => "comparator-i;ascii-casemap",
+    }
+}
+
+// What stands behind the tags.
+fn positional_words(taken: Positional) -> &'static str
+    ensures { result.now ≡ positional_words taken }
+{
+    match taken {
+        Positional::Nothing => "none",
+        Positional::Number => "one number",
+        Positional::Text => "one string without brackets",
+        Positional::TwoTexts => "two strings, each without brackets",
+        Positional::OneList => "one string or list of strings",
+        Positional::TwoLists => "two, each a string or a list of strings",
+    }
+}
+
+// What takes no test, by its name: what may be missing before the test behind it.
+fn no_test_words(name: &[u8]) -> &'static str
+    ensures { result.now ≡ no_test_words name.now }
+{
+    if is_word(name, "else") {
+        "takes no test: is `elsif` meant, or its opening brace missing?"
+    } else if is_word(name, "foreverypart") {
+        "takes no test: is its opening brace missing?"
+    } else if command_named(name).is_some() {
+        "takes no test: is a semicolon missing at its end?"
+    } else {
+        "takes no test: is a comma or a brace missing behind it, or `allof` or `anyof` before it?"
+    }
+}
+
+// The tests that stand behind the arguments.
+fn tests_words(taken: Tests, name: &[u8]) -> &'static str
+    ensures { result.now ≡ tests_words taken name.now }
+{
+    match taken {
+        Tests::Nothing => no_test_words(name),
+        Tests::One => "needs one test behind it, without brackets around it",
+        Tests::Bracketed => "takes tests in round brackets, with commas between them",
+    }
+}
+
+// How a command ends.
+fn ending_words(ending: Ending) -> &'static str
+    ensures { result.now ≡ ending_words ending }
+{
+    match ending {
+        Ending::Semicolon => "ends with a semicolon",
+        Ending::Block => "needs a block in braces",
+    }
+}
+
+// The argument of a tag.
+fn tag_words(tag: Tag) -> &'static str
+    ensures { result.now ≡ tag_words tag }
+{
+    match tag {
+        Tag::Comparator => "the name of a comparator, \"i;octet\" or \"i;ascii-casemap\"",
+        Tag::Select(_) => "the names of parameters, a string or list of strings",
+        Tag::Name => "the name of a loop, a string",
+        _ => "its argument",
+    }
+}
+
+// The words of a sentence, by its reason and the name of the command or test.
+fn reason_words(kind: ReasonKind, name: &[u8]) -> &'static str
+    ensures { result.now ≡ reason_words kind name.now }
+{
+    match kind {
+        ReasonKind::UnknownCommand => unknown_command_words(name),
+        ReasonKind::UnknownTest => unknown_test_words(name),
+        ReasonKind::MissingCapability(capability) => capability_words(capability),
+        ReasonKind::TagArgument(tag) => tag_words(tag),
+        ReasonKind::MissingArgument(taken)
+        | ReasonKind::ExtraArgument(taken)
+        | ReasonKind::WrongArgument(taken) => positional_words(taken),
+        ReasonKind::WrongTests(taken) => tests_words(taken, name),
+        ReasonKind::WrongEnding(ending) => ending_words(ending),
+        _ => "",
+    }
+}
+
+// The limit that a reason speaks of.
+fn reason_limit(kind: ReasonKind) -> u64
+    ensures { result ≡ reason_limit kind }
+{
+    match kind {
+        ReasonKind::LongString => MAX_STRING as u64,
+        ReasonKind::ManyStrings => MAX_TEST_STRINGS as u64,
+        ReasonKind::ManySegments => MAX_SEGMENTS as u64,
+        ReasonKind::LongName => MAX_NAME as u64,
+        ReasonKind::ManyLoops => MAX_LOOPS as u64,
+        ReasonKind::ManyVariables => MAX_VARIABLES as u64,
+        _ => 0,
+    }
+}
+
+// Where a command or test may stand that stands elsewhere.
+fn place_text(name: &[u8]) -> &'static str
+    ensures { result.now ≡ place_text name.now }
+{
+    if is_word(name, "require") {
+        "@ stands before all other commands, outside of blocks"
+    } else if is_word(name, "elsif") || is_word(name, "else") {
+        "@ stands directly after an `if` or `elsif`"
+    } else {
+        "@ stands only inside of a `foreverypart`"
+    }
+}
+
+// The sentence, with its blanks.
+fn reason_text(kind: ReasonKind, name: &[u8]) -> &'static str
+    ensures { result.now ≡ reason_text kind name.now }
+{
+    match kind {
+        ReasonKind::UnknownCommand => unknown_command_text(name),
+        ReasonKind::UnknownTest => unknown_test_text(name),
+        ReasonKind::MissingCapability(_) => "@ needs `require \"&\"` before it",
+        ReasonKind::UnknownCapability => "depot knows no capability $",
+        ReasonKind::UnknownTag => "depot knows no tag #",
+        ReasonKind::ForeignTag => "@ takes no tag #",
+        ReasonKind::RepeatedTag => "# is repeated, or stands beside another of its kind",
+        ReasonKind::TwoModifiers => "# can't stand beside another modifier of its precedence",
+        ReasonKind::TagArgument(_) => "# needs &",
+        ReasonKind::MissingOrder => "@ needs `:over` or `:under`",
+        ReasonKind::MissingMime => "# stands only beside `:mime`, which needs `require \"mime\"`",
+        ReasonKind::LateTag => "the tag # stands after an argument that is no tag",
+        ReasonKind::MissingArgument(_) => "@ has too few arguments: it takes &",
+        ReasonKind::ExtraArgument(_) => "@ has too many arguments: it takes &",
+        ReasonKind::WrongArgument(_) => "@ has an argument of a wrong kind: it takes &",
+        ReasonKind::WrongTests(_) => "@ &",
+        ReasonKind::WrongEnding(_) => "@ &",
+        ReasonKind::Namespace => "$ refers into a namespace, and there is none",
+        ReasonKind::CaptureIndex => "$ refers to a capture above 9",
+        ReasonKind::VariableName => "$ is no name of a variable",
+        ReasonKind::NoSuchLoop => "no `foreverypart` around this @ has the name $",
+        ReasonKind::Misplaced => place_text(name),
+        ReasonKind::LongString => "the string $ has more than % octets",
+        ReasonKind::ManyStrings => "the lists of @ have more than % strings",
+        ReasonKind::ManySegments => {
+            "the string $ has more than % references and stretches between them"
+        }
+        ReasonKind::LongName => "the name of a variable, $, has more than % octets",
+        ReasonKind::ManyLoops => "more than % loops stand inside of one another here",
+        ReasonKind::ManyVariables => "with this @ the script has more than % variables",
+    }
+}
+
+// The sentence for what was found.
+pub fn reason_sentence<'a>(found: Option<Reason<'a>>) -> Sentence<'a>
+    ensures { blanks_of result ≡ reason_blanks (option_map view_of found.entry) }
+{
+    match found {
+        None => plain("a command or test is refused here"),
+        Some(reason) => Sentence {
+            text: reason_text(reason.kind, reason.name),
+            name: reason.name,
+            subject: reason.subject,
+            words: reason_words(reason.kind, reason.name),
+            number: reason_limit(reason.kind),
+        },
+    }
+}

@@ -1,0 +1,59 @@
+// Sentences with blanks.
+ghost use Rattle.std.specs.Prelude.{◌≡◌, ◌++◌, OnOk};
+ghost use Rattle.sieve_explain.specs.Sentences.{blanks_of, filled, filled_octet, plain};
+
+use crate::shown::{push_named, push_quoted, push_tagged};
+use itoa::Buffer;
+use std::alloc::AllocError;
+
+/// A sentence: its text, in which some octets are blanks, and what goes into them.
+#[derive(Clone, Copy, Debug)]
+pub struct Sentence<'a> {
+    /// The text with its blanks, as `specs/Sentences` has them: `@`, `#`, `$`, `&` and `%`.
+    pub text: &'static str,
+    /// The name of a command or test, or the text of a token: for `@`.
+    pub name: &'a [u8],
+    /// A tag or a string: for `#` and `$`.
+    pub subject: &'a [u8],
+    /// Words of our own: for `&`.
+    pub words: &'static str,
+    /// A number: for `%`.
+    pub number: u64,
+}
+
+// A sentence without blanks.
+pub fn plain(text: &'static str) -> Sentence<'static>
+    ensures { blanks_of result ≡ plain text.now }
+{
+    Sentence {
+        text,
+        name: &[],
+        subject: &[],
+        words: "",
+        number: 0,
+    }
+}
+
+// Appends what stands in the sentence for an octet of its text.
+fn push_filled(out: &mut Vec<u8>, sentence: &Sentence<'_>, octet: u8) -> Result<(), AllocError>
+    ensures { OnOk result (out.new.items ≡ out.old.items ++ filled_octet (blanks_of sentence.now) octet) }
+{
+    match octet {
+        b'@' => push_named(out, sentence.name),
+        b'#' => push_tagged(out, sentence.subject),
+        b'$' => push_quoted(out, sentence.subject),
+        b'&' => out.extend_from_slice(sentence.words.as_bytes()),
+        b'%' => out.extend_from_slice(Buffer::new().format(sentence.number).as_bytes()),
+        _ => out.extend_from_slice(&[octet]),
+    }
+}
+
+// Appends the sentence.
+pub fn push_sentence(out: &mut Vec<u8>, sentence: &Sentence<'_>) -> Result<(), AllocError>
+    ensures { OnOk result (out.new.items ≡ out.old.items ++ filled (blanks_of sentence.now)) }
+{
+    for octet in sentence.text.as_bytes() {
+        push_filled(out, sentence, *octet)?;
+    }
+    Ok(())
+}

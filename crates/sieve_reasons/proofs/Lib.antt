@@ -1,0 +1,11 @@
+pub mod Finding
+pub mod StringSteps
+pub mod HeadSteps
+pub mod Existing
+pub mod Unread
+pub mod Left
+pub mod Examples
+pub mod Tokens
+pub mod Visits
+pub mod Reasoned
+pub mod Surrounded

@@ -1,0 +1,5 @@
+use Rattle.sieve_reasons.proofs.Reasoned.{each_reasoned}
+use Rattle.sieve_reasons.proofs.laws.each_refusal_has_a_reason.Goals as goal
+
+pub returns : goal.returns
+returns c = each_reasoned
