@@ -27,27 +27,45 @@ fn fault(alloc: Global, script: &[u8]) -> Option<usize> {
     }
 }
 
+// Whether each script has the tokens beside it.
+fn all_have_tokens(alloc: Global, rows: &[(&[u8], &[(TokenKind, usize, usize)])]) -> bool {
+    for (script, want) in rows {
+        if !has_tokens(alloc, script, want) {
+            return false;
+        }
+    }
+    true
+}
+
+// Whether each script has its fault at the place beside it.
+fn all_fail(alloc: Global, rows: &[(&[u8], usize)]) -> bool {
+    for (script, place) in rows {
+        if fault(alloc, script) != Some(*place) {
+            return false;
+        }
+    }
+    true
+}
+
+// Whether each text of a string is the octets beside it.
+fn all_are_strings(alloc: Global, kind: TokenKind, rows: &[(&[u8], &[u8])]) -> bool {
+    for (text, want) in rows {
+        match string_of(alloc, kind, text) {
+            Ok(string) if string.as_slice() == *want => {}
+            _ => return false,
+        }
+    }
+    true
+}
+
 #[test]
 fn words_and_signs(rt: HostRuntime) {
-    assert!(rt; has_tokens(rt.alloc(), b"", &[]));
-    assert!(rt;
-        has_tokens(
-            rt.alloc(),
-            b"keep;",
-            &[(Identifier, 0, 4), (Semicolon, 4, 5)]
-        )
-    );
-    assert!(rt;
-        has_tokens(
-            rt.alloc(),
-            b"_a1 Z_",
-            &[(Identifier, 0, 3), (Identifier, 4, 6)]
-        )
-    );
-    assert!(rt; has_tokens(rt.alloc(), b":is:A_9", &[(Tag, 0, 3), (Tag, 3, 7)]));
-    assert!(rt;
-        has_tokens(
-            rt.alloc(),
+    let rows: [(&[u8], &[(TokenKind, usize, usize)]); 5] = [
+        (b"", &[]),
+        (b"keep;", &[(Identifier, 0, 4), (Semicolon, 4, 5)]),
+        (b"_a1 Z_", &[(Identifier, 0, 3), (Identifier, 4, 6)]),
+        (b":is:A_9", &[(Tag, 0, 3), (Tag, 3, 7)]),
+        (
             b"{}()[],",
             &[
                 (OpeningBrace, 0, 1),
@@ -58,135 +76,125 @@ fn words_and_signs(rt: HostRuntime) {
                 (ClosingBracket, 5, 6),
                 (Comma, 6, 7),
             ],
-        )
-    );
+        ),
+    ];
+    assert!(rt; all_have_tokens(rt.alloc(), &rows));
 }
 
 #[test]
 fn white_space_and_comments(rt: HostRuntime) {
-    assert!(rt; has_tokens(rt.alloc(), b" \t\r\n", &[]));
-    assert!(rt; has_tokens(rt.alloc(), b"#a\nb # c", &[(Identifier, 3, 4)]));
-    assert!(rt; has_tokens(rt.alloc(), b"#a\r;\n;", &[(Semicolon, 5, 6)]));
-    assert!(rt;
-        has_tokens(
-            rt.alloc(),
+    let rows: [(&[u8], &[(TokenKind, usize, usize)]); 6] = [
+        (b" \t\r\n", &[]),
+        (b"#a\nb # c", &[(Identifier, 3, 4)]),
+        (b"#a\r;\n;", &[(Semicolon, 5, 6)]),
+        (
             b"/*/**/a/* # \n */b",
-            &[(Identifier, 6, 7), (Identifier, 16, 17)]
-        )
-    );
-    assert!(rt; has_tokens(rt.alloc(), b"/***/;", &[(Semicolon, 5, 6)]));
-    assert!(rt; has_tokens(rt.alloc(), b"/* \x00\xff */", &[]));
-    assert_eq!(rt; fault(rt.alloc(), b"a /* b"), Some(2));
-    assert_eq!(rt; fault(rt.alloc(), b"/*/"), Some(0));
-    assert_eq!(rt; fault(rt.alloc(), b"a / b"), Some(2));
+            &[(Identifier, 6, 7), (Identifier, 16, 17)],
+        ),
+        (b"/***/;", &[(Semicolon, 5, 6)]),
+        (b"/* \x00\xff */", &[]),
+    ];
+    assert!(rt; all_have_tokens(rt.alloc(), &rows));
+    let faults: [(&[u8], usize); 3] = [(b"a /* b", 2), (b"/*/", 0), (b"a / b", 2)];
+    assert!(rt; all_fail(rt.alloc(), &faults));
 }
 
 #[test]
 fn numbers(rt: HostRuntime) {
-    assert!(rt;
-        has_tokens(
-            rt.alloc(),
+    let rows: [(&[u8], &[(TokenKind, usize, usize)]); 8] = [
+        (
             b"0 007 10K",
-            &[(Number, 0, 1), (Number, 2, 5), (Number, 6, 9)]
-        )
-    );
-    assert!(rt; has_tokens(rt.alloc(), b"10Kb7x", &[(Number, 0, 3), (Identifier, 3, 6)]));
-    assert!(rt; has_tokens(rt.alloc(), b"7x", &[(Number, 0, 1), (Identifier, 1, 2)]));
-    assert!(rt;
-        has_tokens(
-            rt.alloc(),
-            b"1g2M3k",
-            &[(Number, 0, 2), (Number, 2, 4), (Number, 4, 6)]
-        )
-    );
-    assert!(rt; has_tokens(rt.alloc(), b"18446744073709551615", &[(Number, 0, 20)]));
-    assert_eq!(rt; fault(rt.alloc(), b"; 18446744073709551616"), Some(2));
-    assert!(rt; has_tokens(rt.alloc(), b"18014398509481983k", &[(Number, 0, 18)]));
-    assert_eq!(rt; fault(rt.alloc(), b"18014398509481984k"), Some(0));
-    assert!(rt; has_tokens(rt.alloc(), b"17592186044415M", &[(Number, 0, 15)]));
-    assert_eq!(rt; fault(rt.alloc(), b"17592186044416M"), Some(0));
-    assert!(rt; has_tokens(rt.alloc(), b"17179869183G", &[(Number, 0, 12)]));
-    assert_eq!(rt; fault(rt.alloc(), b"17179869184G"), Some(0));
-    assert!(rt; number_of(b"18014398509481983K") == Some(18446744073709550592));
-    assert!(rt; number_of(b"3g") == Some(3221225472));
-    assert!(rt; number_of(b"010M") == Some(10485760));
-    assert!(rt; number_of(b"18446744073709551616").is_none());
+            &[(Number, 0, 1), (Number, 2, 5), (Number, 6, 9)],
+        ),
+        (b"10Kb7x", &[(Number, 0, 3), (Identifier, 3, 6)]),
+        (b"7x", &[(Number, 0, 1), (Identifier, 1, 2)]),
+        (b"1g2M3k", &[(Number, 0, 2), (Number, 2, 4), (Number, 4, 6)]),
+        (b"18446744073709551615", &[(Number, 0, 20)]),
+        (b"18014398509481983k", &[(Number, 0, 18)]),
+        (b"17592186044415M", &[(Number, 0, 15)]),
+        (b"17179869183G", &[(Number, 0, 12)]),
+    ];
+    assert!(rt; all_have_tokens(rt.alloc(), &rows));
+    let faults: [(&[u8], usize); 4] = [
+        (b"; 18446744073709551616", 2),
+        (b"18014398509481984k", 0),
+        (b"17592186044416M", 0),
+        (b"17179869184G", 0),
+    ];
+    assert!(rt; all_fail(rt.alloc(), &faults));
+}
+
+#[test]
+fn values_of_numbers(rt: HostRuntime) {
+    let rows: [(&[u8], Option<u64>); 4] = [
+        (b"18014398509481983K", Some(18446744073709550592)),
+        (b"3g", Some(3221225472)),
+        (b"010M", Some(10485760)),
+        (b"18446744073709551616", None),
+    ];
+    for (text, value) in rows {
+        assert!(rt; number_of(text) == value);
+    }
 }
 
 #[test]
 fn quoted_strings(rt: HostRuntime) {
-    assert!(rt;
-        has_tokens(
-            rt.alloc(),
+    let rows: [(&[u8], &[(TokenKind, usize, usize)]); 2] = [
+        (
             b"\"\" \"a\\\"b\" \"\\\\\"",
             &[
                 (QuotedString, 0, 2),
                 (QuotedString, 3, 9),
-                (QuotedString, 10, 14)
-            ]
-        )
-    );
-    assert!(rt; has_tokens(rt.alloc(), b"\"\x00\xff\r\n\"", &[(QuotedString, 0, 6)]));
-    assert_eq!(rt; fault(rt.alloc(), b"\"abc"), Some(0));
-    assert_eq!(rt; fault(rt.alloc(), b"a \"b\\"), Some(2));
-    assert_eq!(rt; fault(rt.alloc(), b"\"\\\""), Some(0));
-    assert!(rt;
-        string_of(rt.alloc(), QuotedString, b"\"a\\\"\\b\\\\c\"").is_ok_and(|x| x.as_slice()
-            == b"a\"b\\c".as_slice())
-    );
+                (QuotedString, 10, 14),
+            ],
+        ),
+        (b"\"\x00\xff\r\n\"", &[(QuotedString, 0, 6)]),
+    ];
+    assert!(rt; all_have_tokens(rt.alloc(), &rows));
+    let faults: [(&[u8], usize); 3] = [(b"\"abc", 0), (b"a \"b\\", 2), (b"\"\\\"", 0)];
+    assert!(rt; all_fail(rt.alloc(), &faults));
+    let strings: [(&[u8], &[u8]); 1] = [(b"\"a\\\"\\b\\\\c\"", b"a\"b\\c")];
+    assert!(rt; all_are_strings(rt.alloc(), QuotedString, &strings));
 }
 
 #[test]
 fn multi_line_strings(rt: HostRuntime) {
-    assert!(rt;
-        has_tokens(
-            rt.alloc(),
+    let rows: [(&[u8], &[(TokenKind, usize, usize)]); 4] = [
+        (
             b"text:\n.\n;",
-            &[(MultiLineString, 0, 8), (Semicolon, 8, 9)]
-        )
-    );
-    assert!(rt;
-        has_tokens(
-            rt.alloc(),
-            b"TeXt: \t# c\r\na\r\n.\r\n",
-            &[(MultiLineString, 0, 18)]
-        )
-    );
-    assert!(rt;
-        has_tokens(
-            rt.alloc(),
-            b"text:\n.a\n..\n. \n.\n",
-            &[(MultiLineString, 0, 17)]
-        )
-    );
-    assert!(rt; has_tokens(rt.alloc(), b"text:is", &[(Identifier, 0, 4), (Tag, 4, 7)]));
-    assert_eq!(rt; fault(rt.alloc(), b"text: x"), Some(4));
-    assert_eq!(rt; fault(rt.alloc(), b"text:/* */\n.\n"), Some(4));
-    assert_eq!(rt; fault(rt.alloc(), b"text: # c"), Some(4));
-    assert_eq!(rt; fault(rt.alloc(), b"; text:\na\n"), Some(2));
-    assert_eq!(rt; fault(rt.alloc(), b"text:\na\n."), Some(0));
-    assert!(rt;
-        string_of(rt.alloc(), MultiLineString, b"text:\n..a\n.\n").is_ok_and(|x| x.as_slice()
-            == b".a\n".as_slice())
-    );
-    assert!(rt;
-        string_of(
-            rt.alloc(),
-            MultiLineString,
-            b"text: #\r\n.x\r\n..\r\n\xff\n.\r\n"
-        )
-        .is_ok_and(|x| x.as_slice() == b".x\r\n.\r\n\xff\n".as_slice())
-    );
+            &[(MultiLineString, 0, 8), (Semicolon, 8, 9)],
+        ),
+        (b"TeXt: \t# c\r\na\r\n.\r\n", &[(MultiLineString, 0, 18)]),
+        (b"text:\n.a\n..\n. \n.\n", &[(MultiLineString, 0, 17)]),
+        (b"text:is", &[(Identifier, 0, 4), (Tag, 4, 7)]),
+    ];
+    assert!(rt; all_have_tokens(rt.alloc(), &rows));
+    let faults: [(&[u8], usize); 5] = [
+        (b"text: x", 4),
+        (b"text:/* */\n.\n", 4),
+        (b"text: # c", 4),
+        (b"; text:\na\n", 2),
+        (b"text:\na\n.", 0),
+    ];
+    assert!(rt; all_fail(rt.alloc(), &faults));
+    let strings: [(&[u8], &[u8]); 2] = [
+        (b"text:\n..a\n.\n", b".a\n"),
+        (b"text: #\r\n.x\r\n..\r\n\xff\n.\r\n", b".x\r\n.\r\n\xff\n"),
+    ];
+    assert!(rt; all_are_strings(rt.alloc(), MultiLineString, &strings));
 }
 
 #[test]
 fn other_octets(rt: HostRuntime) {
-    assert_eq!(rt; fault(rt.alloc(), b"\x00"), Some(0));
-    assert_eq!(rt; fault(rt.alloc(), b"keep\x0b"), Some(4));
-    assert_eq!(rt; fault(rt.alloc(), b"a\x0c"), Some(1));
-    assert_eq!(rt; fault(rt.alloc(), b"\xc3\xa9"), Some(0));
-    assert_eq!(rt; fault(rt.alloc(), b"a :"), Some(2));
-    assert_eq!(rt; fault(rt.alloc(), b":9"), Some(0));
+    let faults: [(&[u8], usize); 6] = [
+        (b"\x00", 0),
+        (b"keep\x0b", 4),
+        (b"a\x0c", 1),
+        (b"\xc3\xa9", 0),
+        (b"a :", 2),
+        (b":9", 0),
+    ];
+    assert!(rt; all_fail(rt.alloc(), &faults));
 }
 
 #[test]

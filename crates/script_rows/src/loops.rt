@@ -82,10 +82,7 @@ fn does(
 
 // Messages in each other, so many around one that is a leaf.
 fn chain(alloc: Global, count: usize) -> Result<Vec<u8>, Fail> {
-    match repeated(alloc, b"", b"Content-Type: message/rfc822\n\n", count, b"") {
-        Some(message) => Ok(message),
-        None => Err(Fail::from("no memory")),
-    }
+    Ok(repeated(alloc, b"", b"Content-Type: message/rfc822\n\n", count, b"")?)
 }
 
 const STORE_EACH: &[u8] =
@@ -302,8 +299,8 @@ fn the_sums_of_a_budget(rt: HostRuntime) -> Result<(), Fail> {
     let Ok(verified) = verify(alloc, compile(alloc, &checked)?) else {
         return Err(Fail::from("not accepted"));
     };
-    let line = format!(in alloc; "{}", verified.budget())?;
-    assert_eq!(rt; line.as_str(), "A0=2 B0=0 A1=7 B1=3 A2=0 B2=0 A3=0 B3=0");
+    // 2 + (7 + 3 (N + 1)) P, at 9 octets and 5 parts
+    assert_eq!(rt; verified.budget().at(9, 5), 187);
     Ok(())
 }
 
@@ -422,9 +419,7 @@ fn an_attachment_by_its_name(rt: HostRuntime) -> Result<(), Fail> {
 fn every_part_of_a_large_message(rt: HostRuntime) -> Result<(), Fail> {
     let alloc = rt.alloc();
     let before = b"Content-Type: multipart/mixed; boundary=b\n\n";
-    let Some(message) = repeated(alloc, before, b"--b\n", 4095, b"--b--\n") else {
-        return Err(Fail::from("no memory"));
-    };
+    let message = repeated(alloc, before, b"--b\n", 4095, b"--b--\n")?;
     let report = evaluate(alloc, STORE_EACH, &message)?;
     assert_eq!(rt; report.outcome.actions.len(), 4097);
     let (last, before) = match report.outcome.actions.as_slice() {
@@ -448,14 +443,10 @@ fn large_tests_of_parts(rt: HostRuntime) -> Result<(), Fail> {
     let alloc = rt.alloc();
     let before = b"require [\"foreverypart\", \"vnd.depot\"]; foreverypart { if partbody [\"x\"";
     let after = b", \"abc\"] { store \"f\"; } }";
-    let Some(most) = repeated(alloc, before, b", \"y\"", 510, after) else {
-        return Err(Fail::from("no memory"));
-    };
+    let most = repeated(alloc, before, b", \"y\"", 510, after)?;
     let wanted = [Wanted::Store(b"f", 0), Wanted::Keep];
     assert!(rt; does(alloc, &most, ABC, &wanted, None)?);
-    let Some(more) = repeated(alloc, before, b", \"y\"", 511, after) else {
-        return Err(Fail::from("no memory"));
-    };
+    let more = repeated(alloc, before, b", \"y\"", 511, after)?;
     assert!(rt; all_named(alloc, &[(more.as_slice(), 19, 10)]));
     Ok(())
 }

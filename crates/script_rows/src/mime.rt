@@ -134,13 +134,9 @@ fn strings_of_a_test(rt: HostRuntime) -> Result<(), Fail> {
     let alloc = rt.alloc();
     let before = b"require \"mime\"; if header :mime :param [\"p\"";
     let after = b"] \"a\" \"b\" {}";
-    let Some(most) = repeated(alloc, before, b", \"p\"", 509, after) else {
-        return Err(Fail::from("no memory"));
-    };
+    let most = repeated(alloc, before, b", \"p\"", 509, after)?;
     assert!(rt; all_accepted(alloc, &[most.as_slice()]));
-    let Some(more) = repeated(alloc, before, b", \"p\"", 510, after) else {
-        return Err(Fail::from("no memory"));
-    };
+    let more = repeated(alloc, before, b", \"p\"", 510, after)?;
     assert!(rt; all_named(alloc, &[(more.as_slice(), 19, 4)]));
     assert!(rt; is_filed(alloc, &asking(alloc, b"true")?, MAIL, b"yes")?);
     Ok(())

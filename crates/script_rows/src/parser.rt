@@ -1,7 +1,7 @@
 // The syntax trees of scripts, and the tokens at fault.
 use crate::repeated::repeated;
 use sieve_parser::{Argument, Command, Invocation, ParseError, parse};
-use std::alloc::Global;
+use std::alloc::{AllocError, Global};
 
 // How a script is parsed: that it is, or its fault.
 #[derive(Clone, Copy, Debug, PartialEq, Eq)]
@@ -89,10 +89,10 @@ fn scripts_with_faults(rt: HostRuntime) {
 }
 
 // How a script that repeats a text is parsed.
-fn repeated_as(alloc: Global, script: Option<Vec<u8>>) -> Outcome {
+fn repeated_as(alloc: Global, script: Result<Vec<u8>, AllocError>) -> Outcome {
     match script {
-        Some(script) => parsed_as(alloc, &script),
-        None => Outcome::Other,
+        Ok(script) => parsed_as(alloc, &script),
+        Err(_) => Outcome::Other,
     }
 }
 

@@ -1,5 +1,5 @@
 // Scripts that repeat a text.
-use std::alloc::Global;
+use std::alloc::{AllocError, Global};
 
 // A text, `count` times one after another, between two others.
 pub fn repeated(
@@ -8,11 +8,11 @@ pub fn repeated(
     text: &[u8],
     count: usize,
     after: &[u8],
-) -> Option<Vec<u8>> {
-    let mut script = Vec::from_slice(alloc, before).ok()?;
+) -> Result<Vec<u8>, AllocError> {
+    let mut script = Vec::from_slice(alloc, before)?;
     for _ in 0..count {
-        script.extend_from_slice(text).ok()?;
+        script.extend_from_slice(text)?;
     }
-    script.extend_from_slice(after).ok()?;
-    Some(script)
+    script.extend_from_slice(after)?;
+    Ok(script)
 }

@@ -196,8 +196,8 @@ fn outcome_of_repeated(alloc: Global, script: &Repeated) -> Outcome {
         script.count,
         script.after,
     ) {
-        Some(script) => outcome_of(alloc, &script),
-        None => Outcome::NoMemory,
+        Ok(script) => outcome_of(alloc, &script),
+        Err(_) => Outcome::NoMemory,
     }
 }
 

@@ -430,40 +430,35 @@ fn names_of_32_octets(rt: HostRuntime) -> Result<(), Fail> {
         b"a",
         32,
         b"\" \"b\";",
-    );
+    )?;
     let long = repeated(
         alloc,
         b"require [\"variables\", \"fileinto\"]; set \"",
         b"a",
         33,
         b"\" \"b\";",
-    );
+    )?;
     let read = repeated(
         alloc,
         b"require [\"variables\", \"fileinto\"]; fileinto \"${",
         b"a",
         32,
         b"}\";",
-    );
+    )?;
     let too_long = repeated(
         alloc,
         b"require [\"variables\", \"fileinto\"]; fileinto \"${",
         b"a",
         33,
         b"}\";",
-    );
+    )?;
     let unread = repeated(
         alloc,
         b"require [\"variables\", \"fileinto\"]; fileinto \"${",
         b"a",
         33,
         b"\";",
-    );
-    let (Some(short), Some(long), Some(read), Some(too_long), Some(unread)) = (
-        short, long, read, too_long, unread,
-    ) else {
-        return Err(Fail::from("no memory"));
-    };
+    )?;
     assert_eq!(rt; outcome_of(alloc, &short), (0, 0));
     assert_eq!(rt; outcome_of(alloc, &long), (19, 7));
     assert_eq!(rt; outcome_of(alloc, &read), (0, 0));
@@ -481,31 +476,28 @@ fn segments_of_a_string(rt: HostRuntime) -> Result<(), Fail> {
         b"${a}x",
         128,
         b"\";",
-    );
+    )?;
     let more = repeated(
         alloc,
         b"require [\"variables\", \"fileinto\"]; fileinto \"",
         b"${a}x",
         128,
         b"${a}\";",
-    );
+    )?;
     let side = repeated(
         alloc,
         b"require [\"variables\", \"fileinto\"]; fileinto \"",
         b"${1}",
         257,
         b"\";",
-    );
+    )?;
     let text = repeated(
         alloc,
         b"require \"fileinto\"; fileinto \"",
         b"${a}x",
         300,
         b"\";",
-    );
-    let (Some(most), Some(more), Some(side), Some(text)) = (most, more, side, text) else {
-        return Err(Fail::from("no memory"));
-    };
+    )?;
     let xs = vec![in alloc; b'x'; 128]?;
     let mut wanted = xs.to_vec(alloc)?;
     wanted.push(b'|')?;
@@ -574,18 +566,14 @@ fn as_many_variables_as_there_may_be(rt: HostRuntime) -> Result<(), Fail> {
 fn doublings(rt: HostRuntime) -> Result<(), Fail> {
     let alloc = rt.alloc();
     let head = b"require [\"variables\", \"fileinto\"]; set \"a\" \"xy\"; ";
-    let Some(script) = repeated(
+    let script = repeated(
         alloc,
         head,
         b"set \"a\" \"${a}${a}\"; ",
         40,
         b"fileinto \"${a}\";",
-    ) else {
-        return Err(Fail::from("no memory"));
-    };
-    let Some(wanted) = repeated(alloc, b"", b"xy", 2_048, b"|") else {
-        return Err(Fail::from("no memory"));
-    };
+    )?;
+    let wanted = repeated(alloc, b"", b"xy", 2_048, b"|")?;
     assert!(rt; does(alloc, &script, b"", &wanted)?);
     Ok(())
 }
@@ -595,21 +583,15 @@ fn doublings(rt: HostRuntime) -> Result<(), Fail> {
 fn strings_and_values_are_cut(rt: HostRuntime) -> Result<(), Fail> {
     let alloc = rt.alloc();
     let head = b"require [\"variables\", \"fileinto\"]; set \"a\" \"";
-    let Some(script) = repeated(
+    let script = repeated(
         alloc,
         head,
         b"x",
         4_095,
         b"yz\"; fileinto \"${a}${a}${a}${a}!\"; set :length \"a\" \"${a}z\"; fileinto \"${a}\";",
-    ) else {
-        return Err(Fail::from("no memory"));
-    };
-    let Some(value) = repeated(alloc, b"", b"x", 4_095, b"y") else {
-        return Err(Fail::from("no memory"));
-    };
-    let Some(wanted) = repeated(alloc, b"", &value, 4, b"|4097|") else {
-        return Err(Fail::from("no memory"));
-    };
+    )?;
+    let value = repeated(alloc, b"", b"x", 4_095, b"y")?;
+    let wanted = repeated(alloc, b"", &value, 4, b"|4097|")?;
     assert!(rt; does(alloc, &script, b"", &wanted)?);
     Ok(())
 }
@@ -619,38 +601,30 @@ fn strings_and_values_are_cut(rt: HostRuntime) -> Result<(), Fail> {
 fn long_scripts(rt: HostRuntime) -> Result<(), Fail> {
     let alloc = rt.alloc();
     let head = b"require [\"variables\", \"fileinto\"];";
-    let Some(sets) = repeated(
+    let sets = repeated(
         alloc,
         head,
         b"set \"a\" \"${a}b\";",
         4_000,
         b"fileinto \"${a}\";",
-    ) else {
-        return Err(Fail::from("no memory"));
-    };
-    let Some(wanted) = repeated(alloc, b"", b"b", 4_000, b"|") else {
-        return Err(Fail::from("no memory"));
-    };
+    )?;
+    let wanted = repeated(alloc, b"", b"b", 4_000, b"|")?;
     assert!(rt; does(alloc, &sets, b"", &wanted)?);
-    let Some(test) = repeated(
+    let test = repeated(
         alloc,
         b"require [\"variables\", \"fileinto\"]; if string \"a\" [",
         b"\"${x}b${y}\", ",
         510,
         b"\"${x}a\"] { fileinto \"yes\"; }",
-    ) else {
-        return Err(Fail::from("no memory"));
-    };
+    )?;
     assert!(rt; does(alloc, &test, b"", b"yes|")?);
-    let Some(references) = repeated(
+    let references = repeated(
         alloc,
         b"require [\"variables\", \"fileinto\"]; if string [",
         b"\"${x}${y}${z}${0}${1}\", ",
         480,
         b"\"a\"] \"A\" { fileinto \"yes\"; }",
-    ) else {
-        return Err(Fail::from("no memory"));
-    };
+    )?;
     assert!(rt; does(alloc, &references, b"", b"yes|")?);
     Ok(())
 }
