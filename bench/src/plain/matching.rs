@@ -1,16 +1,14 @@
-// Short matches in plain Rust, for the comparison in docs/BENCHMARKS.md:
-//     rustc -O -o /tmp/plain_match bench/plain_match.rs && /tmp/plain_match
-use std::hint::black_box;
-use std::time::Instant;
+//! Values and keys, as a programmer would write them without a library.
+use super::total;
 
 #[derive(Clone, Copy)]
-enum Comparator {
+pub enum Comparator {
     Octet,
     Casemap,
 }
 
 impl Comparator {
-    fn equal(self, a: &[u8], b: &[u8]) -> bool {
+    pub fn equal(self, a: &[u8], b: &[u8]) -> bool {
         match self {
             Comparator::Octet => a == b,
             Comparator::Casemap => a.eq_ignore_ascii_case(b),
@@ -25,8 +23,11 @@ impl Comparator {
     }
 }
 
-fn contains(value: &[u8], key: &[u8], comparator: Comparator) -> bool {
-    value.windows(key.len()).any(|stretch| comparator.equal(stretch, key))
+pub fn contains(value: &[u8], key: &[u8], comparator: Comparator) -> bool {
+    match comparator {
+        Comparator::Octet => super::mail::find(key, value).is_some(),
+        Comparator::Casemap => key.is_empty() || value.windows(key.len()).any(|stretch| stretch.eq_ignore_ascii_case(key)),
+    }
 }
 
 // Up to ten captures, each as (start, end).
@@ -45,7 +46,7 @@ impl Captures {
 }
 
 // The usual loop with one place to go back to, which takes the shortest stretches.
-fn matches(value: &[u8], key: &[u8], comparator: Comparator) -> Option<Captures> {
+fn captures(value: &[u8], key: &[u8], comparator: Comparator) -> Option<Captures> {
     let mut captures = Captures { ranges: [(0, 0); 10], number: 0 };
     captures.set(0, 0, value.len());
     let (mut v, mut k, mut wildcards) = (0, 0, 0);
@@ -77,7 +78,7 @@ fn matches(value: &[u8], key: &[u8], comparator: Comparator) -> Option<Captures>
                 continue;
             }
         }
-        let Some((after, start, end, number)) = back else { return None };
+        let (after, start, end, number) = back?;
         if end == value.len() {
             return None;
         }
@@ -88,36 +89,19 @@ fn matches(value: &[u8], key: &[u8], comparator: Comparator) -> Option<Captures>
     }
 }
 
-fn nanos<F: Fn(&[u8]) -> bool>(values: &[&[u8]], call: F) -> u128 {
-    let rounds = 300_000;
-    let mut best = u128::MAX;
-    for _ in 0..5 {
-        let start = Instant::now();
-        for _ in 0..rounds {
-            for value in values {
-                black_box(call(black_box(value)));
-            }
-        }
-        best = best.min(start.elapsed().as_nanos());
-    }
-    best / (rounds * values.len() as u128)
+pub fn matches(value: &[u8], key: &[u8], comparator: Comparator) -> bool {
+    captures(value, key, comparator).is_some()
 }
 
-fn main() {
-    let values: [&[u8]; 3] = [
-        b"[project-announce] Release 4.2 is out, and so is its manual.",
-        b"[project-announce] Release 4.3 is out, and so is its manual.",
-        b"[project-announce] Release 4.4 is out, and so is its manual!",
-    ];
-    for comparator in [Comparator::Octet, Comparator::Casemap] {
-        for key in [values[0], b"its manual"] {
-            println!("is: {} ns", nanos(&values, |value| comparator.equal(value, black_box(key))));
+/// By `:is` (0), `:contains` (1) or `:matches` (2).
+pub fn found(way: u32, casemap: bool, value: &[u8], key: &[u8], rounds: u32) -> u64 {
+    let comparator = if casemap { Comparator::Casemap } else { Comparator::Octet };
+    total(rounds, || {
+        let (value, key) = (std::hint::black_box(value), std::hint::black_box(key));
+        match way {
+            0 => u64::from(comparator.equal(value, key)),
+            1 => u64::from(contains(value, key, comparator)),
+            _ => captures(value, key, comparator).map_or(0, |captures| captures.number as u64),
         }
-        for key in [&b"its manual"[..], b"release 4.", b"1234567890"] {
-            println!("contains: {} ns", nanos(&values, |value| contains(value, black_box(key), comparator)));
-        }
-        for key in [&b"[*] Rel* *"[..], b"*rele?se *", b"*, and s *", b"*so is it*"] {
-            println!("matches: {} ns", nanos(&values, |value| matches(value, black_box(key), comparator).is_some_and(|c| c.number > 1)));
-        }
-    }
+    })
 }

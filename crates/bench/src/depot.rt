@@ -1,0 +1,65 @@
+// A depot in memory.
+use crate::checksum::REFUSED;
+use depot_actions::{Depot, Encoding, OfWrite};
+use sqlite::MemStore;
+use std::alloc::Global;
+use std::io;
+
+/// Delivers mails into a new depot by a script: each is the given one and its number's four octets. The sum is that of the new entries.
+#[unsafe(no_mangle)]
+pub extern "C" fn bench_deliver(alloc: Global, script: &[u8], mail: &[u8], rounds: u32) -> u64 {
+    delivered(alloc, script, mail, rounds).unwrap_or(REFUSED)
+}
+
+/// Lists a depot into which so many mails were delivered.
+#[unsafe(no_mangle)]
+pub extern "C" fn bench_list(alloc: Global, mails: u32, mail: &[u8], rounds: u32) -> u64 {
+    listed(alloc, mails, mail, rounds).unwrap_or(REFUSED)
+}
+
+/// Exports a delivered mail in base64 of lines. The sum is how often.
+#[unsafe(no_mangle)]
+pub extern "C" fn bench_export(alloc: Global, mail: &[u8], rounds: u32) -> u64 {
+    exported(alloc, mail, rounds).unwrap_or(REFUSED)
+}
+
+fn deliver_all(alloc: Global, depot: &mut Depot<MemStore>, mail: &[u8], mails: u32) -> Option<u64> {
+    let mut sum: u64 = 0;
+    for number in 0..mails {
+        let mut own = Vec::from_slice(alloc, mail).ok()?;
+        own.extend_from_slice(&number.to_be_bytes()).ok()?;
+        let rows = depot.deliver(alloc, "ann", &own).ok()?;
+        sum = sum.wrapping_add(rows.len() as u64);
+    }
+    Some(sum)
+}
+
+fn delivered(alloc: Global, script: &[u8], mail: &[u8], rounds: u32) -> Option<u64> {
+    let mut depot = Depot::in_memory(alloc).ok()?;
+    depot.set_script(alloc, "ann", script).ok()?;
+    deliver_all(alloc, &mut depot, mail, rounds.max(1))
+}
+
+fn listed(alloc: Global, mails: u32, mail: &[u8], rounds: u32) -> Option<u64> {
+    let mut depot = Depot::in_memory(alloc).ok()?;
+    deliver_all(alloc, &mut depot, mail, mails)?;
+    let mut sum: u64 = 0;
+    for _ in 0..rounds {
+        for row in depot.list("ann").ok()? {
+            sum = sum.wrapping_add(row.octets);
+        }
+    }
+    Some(sum)
+}
+
+fn exported(alloc: Global, mail: &[u8], rounds: u32) -> Option<u64> {
+    let mut depot = Depot::in_memory(alloc).ok()?;
+    deliver_all(alloc, &mut depot, mail, 1)?;
+    let mut writer = OfWrite::new(io::sink());
+    for _ in 0..rounds {
+        depot
+            .export(alloc, "ann", 1, Encoding::Base64Mime, &mut writer)
+            .ok()?;
+    }
+    Some(u64::from(rounds))
+}
