@@ -1,0 +1,226 @@
+# compile: the program of a script
+
+What is written is compared with the examples, and verified or run.
+
+## nothing
+    $ : > script
+    $ depot compile script out
+    wrote 23 octets
+    $ depot run out examples/invoice.eml
+    keep
+    charged 1 of 1
+
+## discard large
+    $ depot compile examples/discard-large.sieve out
+    wrote 55 octets
+    $ cmp out examples/discard-large.svbc
+
+## documents
+    $ depot compile examples/documents.sieve out
+    wrote 129 octets
+    $ cmp out examples/documents.svbc
+
+## tests
+    $ echo 'if anyof (false, allof (true, not size :over 3)) { discard; } else { keep; }' > script
+    $ printf abcd > message
+    $ depot compile script out
+    wrote 103 octets
+    $ depot verify out
+    A0=10 B0=0 A1=0 B1=0 A2=0 B2=0 A3=0 B3=0
+    $ depot run out message
+    keep
+    charged 8 of 10
+
+## strings
+    $ echo 'require "fileinto"; if header :contains "Subject" "a" { fileinto "x"; }' > script
+    $ printf 'Subject: a\r\n\r\n' > message
+    $ depot compile script out
+    wrote 86 octets
+    $ depot verify out
+    A0=8 B0=10 A1=0 B1=0 A2=0 B2=0 A3=0 B3=0
+    $ depot run out message
+    fileinto "x"
+    charged 28 of 158
+    $ od -An -v -tx1 out
+     53 56 42 43 01 00 00 00 00 00 03 00 00 00 07 00
+     07 53 75 62 6a 65 63 74 00 01 61 00 01 78 02 00
+     00 00 00 00 00 00 02 00 00 00 00 00 00 01 0c 01
+     00 01 00 00 00 01 0b 00 00 00 00 00 00 06 02 00
+     00 00 00 00 00 02 15 00 00 00 00 00 00 00 01 00
+     00 00 00 00 00 00
+
+## variables
+    $ echo 'require ["variables", "fileinto"]; set "Name" "x"; fileinto "${name}";' > script
+    $ : > message
+    $ depot compile script out
+    wrote 58 octets
+    $ depot verify out
+    A0=4102 B0=0 A1=0 B1=0 A2=0 B2=0 A3=0 B3=0
+    $ depot run out message
+    fileinto "x"
+    charged 7 of 4102
+    $ od -An -v -tx1 out
+     53 56 42 43 01 00 01 00 00 00 01 00 00 00 05 00
+     01 78 02 00 00 00 00 00 00 00 06 00 00 00 00 00
+     00 00 03 00 00 00 00 00 00 00 15 00 00 00 00 00
+     00 00 01 00 00 00 00 00 00 00
+
+## loops
+    $ printf 'require ["foreverypart", "vnd.depot"]; foreverypart { if partbody :contains "bc" { store "h"; } }' > script
+    $ printf '\nabc' > message
+    $ depot compile script out
+    wrote 86 octets
+    $ depot verify out
+    A0=2 B0=0 A1=7 B1=3 A2=0 B2=0 A3=0 B3=0
+    $ depot run out message
+    store "h" 0
+    keep
+    charged 21 of 24
+
+## loop in a loop
+    $ printf 'require "foreverypart"; foreverypart { foreverypart { keep; } }' > script
+    $ depot compile script out
+    wrote 63 octets
+    $ depot verify out
+    A0=2 B0=0 A1=2 B1=0 A2=2 B2=0 A3=0 B3=0
+
+## stored part
+    $ printf 'require ["foreverypart", "vnd.depot"]; foreverypart { store "att"; }' > script
+    $ depot compile script out
+    wrote 60 octets
+    $ depot verify out
+    A0=2 B0=0 A1=6 B1=0 A2=0 B2=0 A3=0 B3=0
+
+## blocklist
+    $ depot compile examples/blocklist.sieve out
+    wrote 297 octets
+    $ depot verify out
+    A0=2 B0=0 A1=8472 B1=31 A2=0 B2=0 A3=0 B3=0
+
+## tickets
+    $ depot compile examples/tickets.sieve out
+    wrote 284 octets
+    $ depot verify out
+    A0=4104 B0=15 A1=16418 B1=54 A2=0 B2=0 A3=0 B3=0
+
+A file that is there already.
+
+## an older file is replaced
+    $ echo 'if anyof (false, allof (true, not size :over 3)) { discard; } else { keep; }' > script
+    $ echo 'keep;' > second
+    $ depot compile script out
+    wrote 103 octets
+    $ depot compile second out
+    wrote 31 octets
+    $ depot verify out
+    A0=2 B0=0 A1=0 B1=0 A2=0 B2=0 A3=0 B3=0
+
+## a refused script leaves an older file
+    $ echo 'keep;' > script
+    $ echo 'keep "x";' > second
+    $ depot compile script out
+    wrote 31 octets
+    $ depot compile second out
+    2> refused 18 BadArguments at 0
+    [1]
+    $ depot verify out
+    A0=2 B0=0 A1=0 B1=0 A2=0 B2=0 A3=0 B3=0
+
+## by a link
+    $ ln -s out link
+    $ depot compile examples/discard-large.sieve link
+    wrote 55 octets
+    $ depot compile examples/discard-large.sieve link
+    wrote 55 octets
+    $ cmp out examples/discard-large.svbc
+
+## not onto its script
+    $ printf 'keep;' > keeping
+    $ depot compile keeping keeping
+    2> refused 45 Write
+    [1]
+    $ depot check keeping
+    ok
+
+## not onto its script by a link
+    $ printf 'keep;' > keeping
+    $ ln -s keeping same
+    $ depot compile keeping same
+    2> refused 45 Write
+    [1]
+    $ depot check keeping
+    ok
+
+## not from a link onto its script
+    $ printf 'keep;' > keeping
+    $ ln -s keeping same
+    $ depot compile same keeping
+    2> refused 45 Write
+    [1]
+    $ depot check same
+    ok
+
+Nothing is written.
+
+## a refused script makes no file
+    $ echo 'keep "x";' > script
+    $ depot compile script out
+    2> refused 18 BadArguments at 0
+    [1]
+    $ depot verify out
+    2> refused 46 Read
+    [1]
+
+## into an empty name
+    $ depot compile examples/discard-large.sieve ''
+    2> refused 45 Write
+    [1]
+
+## into a missing folder
+    $ depot compile examples/discard-large.sieve missing/out
+    2> refused 45 Write
+    [1]
+
+## into a folder
+    $ mkdir folder
+    $ depot compile examples/discard-large.sieve folder
+    2> refused 45 Write
+    [1]
+
+## into a folder that nobody may write
+Only if: [ "$(id -u)" != 0 ] # this user may read and write every file
+    $ mkdir fixed
+    $ chmod 555 fixed
+    $ depot compile examples/discard-large.sieve fixed/new
+    2> refused 45 Write
+    [1]
+
+## an older file in a folder that nobody may write
+Only if: [ "$(id -u)" != 0 ] # this user may read and write every file
+    $ mkdir fixed
+    $ printf 'keep;' > fixed/older
+    $ chmod 555 fixed
+    $ depot compile examples/discard-large.sieve fixed/older
+    2> refused 45 Write
+    [1]
+    $ depot check fixed/older
+    ok
+
+## into a file that nobody may write
+Only if: [ "$(id -u)" != 0 ] # this user may read and write every file
+    $ : > locked
+    $ chmod 000 locked
+    $ depot compile examples/discard-large.sieve locked
+    2> refused 45 Write
+    [1]
+
+Devices.
+
+## into the null device
+    $ depot compile examples/discard-large.sieve /dev/null
+    wrote 55 octets
+
+## into a full device
+    $ depot compile examples/discard-large.sieve /dev/full
+    2> refused 45 Write
+    [1]

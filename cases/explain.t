@@ -1,0 +1,818 @@
+# explain: the fault of a script in words, with its line
+
+The refusal stands on standard error as `check` has it.
+
+No fault.
+
+## empty
+    $ : > script
+    $ depot explain script
+    ok
+
+## no fault
+    $ cat > script << 'END'
+    > require "fileinto";
+    > fileinto "a";
+    > END
+    $ depot explain script
+    ok
+
+## examples
+    $ depot explain examples/sort.sieve
+    ok
+
+## as long as may be
+    $ printf '%65536s' '' > spaces
+    $ depot explain spaces
+    ok
+
+Tokens.
+
+## byte order mark
+    $ printf '\357\273\277keep;' > script
+    $ depot explain script
+    script:1:1: error: `\ef` begins nothing that a script may have here
+    \ef\bb\bfkeep;
+    ^
+    2> refused 11 Lexical at 0
+    [1]
+
+## no token
+    $ printf 'keep; \303\251;' > script
+    $ depot explain script
+    script:1:7: error: `\c3` begins nothing that a script may have here
+    keep; \c3\a9;
+          ^
+    2> refused 11 Lexical at 6
+    [1]
+
+## colon alone
+    $ printf 'if header : is "a" "b" { keep; }' > script
+    $ depot explain script
+    script:1:11: error: a colon stands here without the name of a tag behind it
+    if header : is "a" "b" { keep; }
+              ^
+    2> refused 11 Lexical at 10
+    [1]
+
+## number too large
+    $ printf 'if size :over 99999999999G { discard; }' > script
+    $ depot explain script
+    script:1:15: error: a number is above 18446744073709551615
+    if size :over 99999999999G { discard; }
+                  ^
+    2> refused 11 Lexical at 14
+    [1]
+
+## open comment
+    $ echo 'keep; /* and so on' > script
+    $ depot explain script
+    script:1:7: error: a comment is never closed
+    keep; /* and so on
+          ^
+    2> refused 11 Lexical at 6
+    [1]
+
+## open lines
+    $ cat > script << 'END'
+    > require "fileinto";
+    > fileinto text:
+    > Bills
+    > END
+    $ depot explain script
+    script:2:10: error: a multi-line string is never closed: its last line is a dot alone
+    fileinto text:
+             ^
+    2> refused 11 Lexical at 29
+    [1]
+
+## open string
+    $ cat > script << 'END'
+    > require "fileinto";
+    > if true { fileinto "Bills; }
+    > END
+    $ depot explain script
+    script:2:20: error: a string is never closed: this quote, or one before it, has no partner
+    if true { fileinto "Bills; }
+                       ^
+    2> refused 11 Lexical at 39
+    [1]
+
+## string closed later
+    $ cat > script << 'END'
+    > require "fileinto";
+    > if true { fileinto "Bills; }
+    > fileinto "Other";
+    > END
+    $ depot explain script
+    script:3:16: error: a string is never closed: this quote, or one before it, has no partner
+    fileinto "Other";
+                   ^
+    2> refused 11 Lexical at 64
+    [1]
+
+The order of tokens.
+
+## brace too many
+    $ printf 'keep; }' > script
+    $ depot explain script
+    script:1:7: error: `}` can't stand here: is a semicolon missing before it, or its opening brace?
+    keep; }
+          ^
+    2> refused 13 Syntax at 2
+    [1]
+
+## comma in the way
+    $ printf 'if true, false { keep; }' > script
+    $ depot explain script
+    script:1:8: error: `,` can't stand here: strings of a list stand in square brackets, tests in round ones behind `allof` or `anyof`
+    if true, false { keep; }
+           ^
+    2> refused 13 Syntax at 2
+    [1]
+
+## string in the way
+    $ printf 'if header :is "a" "b" "c" , "d" { keep; }' > script
+    $ depot explain script
+    script:1:27: error: `,` can't stand here: strings of a list stand in square brackets, tests in round ones behind `allof` or `anyof`
+    if header :is "a" "b" "c" , "d" { keep; }
+                              ^
+    2> refused 13 Syntax at 6
+    [1]
+
+## end of script
+    $ cat > script << 'END'
+    > if true {
+    >     keep;
+    > END
+    $ depot explain script
+    script:3:1: error: the script ends before its last command does
+
+    ^
+    2> refused 13 Syntax at 5
+    [1]
+
+## end within a line
+    $ printf keep > script
+    $ depot explain script
+    script:1:5: error: the script ends before its last command does
+    keep
+        ^
+    2> refused 13 Syntax at 1
+    [1]
+
+## too deep
+    $ echo 'if not not not not not not not not not not not not not not not not not not not not not not not not not not not not not not not not true {}' > script
+    $ depot explain script
+    script:1:132: error: braces and tests are nested more than 32 deep here
+    ...not not not not not not not not not not not not not not not true {}
+                                                                   ^
+    2> refused 14 TooDeep at 33
+    [1]
+
+Names that there are not.
+
+## unknown command
+    $ printf 'keep; kept;' > script
+    $ depot explain script
+    script:1:7: error: unknown command `kept`
+    keep; kept;
+          ^
+    2> refused 15 UnknownCommand at 2
+    [1]
+
+## did you mean
+    $ cat > script << 'END'
+    > if true {
+    >     keep;
+    > } elseif false {
+    >     discard;
+    > }
+    > END
+    $ depot explain script
+    script:3:3: error: unknown command `elseif`, did you mean `elsif`?
+    } elseif false {
+      ^
+    2> refused 15 UnknownCommand at 6
+    [1]
+
+## unknown test
+    $ printf 'if flagged "x" { keep; }' > script
+    $ depot explain script
+    script:1:4: error: unknown test `flagged`
+    if flagged "x" { keep; }
+       ^
+    2> refused 15 UnknownCommand at 1
+    [1]
+
+## unknown test meant
+    $ cat > script << 'END'
+    > if anyof (true, subject :is "bill") {
+    >     discard;
+    > }
+    > END
+    $ depot explain script
+    script:1:17: error: unknown test `subject`, did you mean `header`?
+    if anyof (true, subject :is "bill") {
+                    ^
+    2> refused 15 UnknownCommand at 5
+    [1]
+
+## command for a test
+    $ printf 'if not keep { discard; }' > script
+    $ depot explain script
+    script:1:8: error: `keep` is a command, and a test is needed here
+    if not keep { discard; }
+           ^
+    2> refused 15 UnknownCommand at 2
+    [1]
+
+## test for a command
+    $ cat > script << 'END'
+    > require "fileinto";
+    > header :contains "Subject" "bill" {
+    >     fileinto "Bills";
+    > }
+    > END
+    $ depot explain script
+    script:2:1: error: `header` is a test: is an `if` missing before it?
+    header :contains "Subject" "bill" {
+    ^
+    2> refused 15 UnknownCommand at 3
+    [1]
+
+## unknown capability
+    $ cat > script << 'END'
+    > require ["fileinto",
+    >   "copy"];
+    > END
+    $ depot explain script
+    script:1:1: error: depot knows no capability "copy"
+    require ["fileinto",
+    ^
+    2> refused 17 UnknownCapability at 0
+    [1]
+
+Commands and tests that other systems have.
+
+## no addflag
+    $ printf %s 'addflag "\\Seen";' > script
+    $ depot explain script
+    script:1:1: error: depot has no `addflag`: what it files has no flags
+    addflag "\\Seen";
+    ^
+    2> refused 15 UnknownCommand at 0
+    [1]
+
+## no addheader
+    $ printf 'AddHeader "X-Seen" "yes"; keep;' > script
+    $ depot explain script
+    script:1:1: error: depot has no `AddHeader`: it changes no message
+    AddHeader "X-Seen" "yes"; keep;
+    ^
+    2> refused 15 UnknownCommand at 0
+    [1]
+
+## no address
+    $ cat > script << 'END'
+    > if anyof (true, address :is "From" "a@example.org") {
+    >     discard;
+    > }
+    > END
+    $ depot explain script
+    script:1:17: error: depot has no `address`: `header` tests the whole value of a field
+    if anyof (true, address :is "From" "a@example.org") {
+                    ^
+    2> refused 15 UnknownCommand at 5
+    [1]
+
+## no body
+    $ printf 'if body :contains "bill" { discard; }' > script
+    $ depot explain script
+    script:1:4: error: depot has no `body`: `partbody` tests the content of a part, inside of a `foreverypart`
+    if body :contains "bill" { discard; }
+       ^
+    2> refused 15 UnknownCommand at 1
+    [1]
+
+## no date
+    $ printf 'if currentdate :is "weekday" "0" { discard; }' > script
+    $ depot explain script
+    script:1:4: error: depot has no `currentdate`: it compares no times
+    if currentdate :is "weekday" "0" { discard; }
+       ^
+    2> refused 15 UnknownCommand at 1
+    [1]
+
+## no envelope
+    $ printf 'if envelope :is "from" "a@example.org" { discard; }' > script
+    $ depot explain script
+    script:1:4: error: depot has no `envelope`: it sees the message alone
+    if envelope :is "from" "a@example.org" { discard; }
+       ^
+    2> refused 15 UnknownCommand at 1
+    [1]
+
+## no hasflag
+    $ printf 'if hasflag "x" { keep; }' > script
+    $ depot explain script
+    script:1:4: error: depot has no `hasflag`: what it files has no flags
+    if hasflag "x" { keep; }
+       ^
+    2> refused 15 UnknownCommand at 1
+    [1]
+
+## no include
+    $ printf 'include "common";' > script
+    $ depot explain script
+    script:1:1: error: depot has no `include`: a script stands alone
+    include "common";
+    ^
+    2> refused 15 UnknownCommand at 0
+    [1]
+
+## no mailboxexists
+    $ printf 'if mailboxexists "Bills" { keep; }' > script
+    $ depot explain script
+    script:1:4: error: depot has no `mailboxexists`: a folder is there once something is filed into it
+    if mailboxexists "Bills" { keep; }
+       ^
+    2> refused 15 UnknownCommand at 1
+    [1]
+
+## no spamtest
+    $ printf 'if spamtest "10" { discard; }' > script
+    $ depot explain script
+    script:1:4: error: depot has no `spamtest`: `header` tests what a scanner wrote into a field
+    if spamtest "10" { discard; }
+       ^
+    2> refused 15 UnknownCommand at 1
+    [1]
+
+## no vacation
+    $ printf 'keep; vacation;' > script
+    $ depot explain script
+    script:1:7: error: depot has no `vacation`: it sends no mail
+    keep; vacation;
+          ^
+    2> refused 15 UnknownCommand at 2
+    [1]
+
+What has to be required.
+
+## missing capability
+    $ cat > script << 'END'
+    > # bills
+    > fileinto "Bills";
+    > END
+    $ depot explain script
+    script:2:1: error: `fileinto` needs `require "fileinto"` before it
+    fileinto "Bills";
+    ^
+    2> refused 16 MissingCapability at 0
+    [1]
+
+## capability of a tag
+    $ echo 'if header :mime :anychild :type "Content-Type" "image" { discard; }' > script
+    $ depot explain script
+    script:1:4: error: `header` needs `require "mime"` before it
+    if header :mime :anychild :type "Content-Type" "image" { discar...
+       ^
+    2> refused 16 MissingCapability at 1
+    [1]
+
+## late require
+    $ printf 'keep; require "fileinto";' > script
+    $ depot explain script
+    script:1:7: error: `require` stands before all other commands, outside of blocks
+    keep; require "fileinto";
+          ^
+    2> refused 18 BadArguments at 2
+    [1]
+
+Semicolons, braces and tests.
+
+## missing semicolon
+    $ cat > script << 'END'
+    > keep
+    > discard;
+    > END
+    $ depot explain script
+    script:1:1: error: `keep` takes no test: is a semicolon missing at its end?
+    keep
+    ^
+    2> refused 18 BadArguments at 0
+    [1]
+
+## block too many
+    $ printf 'keep { discard; }' > script
+    $ depot explain script
+    script:1:1: error: `keep` ends with a semicolon
+    keep { discard; }
+    ^
+    2> refused 18 BadArguments at 0
+    [1]
+
+## missing block
+    $ printf 'if true;' > script
+    $ depot explain script
+    script:1:1: error: `if` needs a block in braces
+    if true;
+    ^
+    2> refused 18 BadArguments at 0
+    [1]
+
+## missing test
+    $ printf 'if { keep; }' > script
+    $ depot explain script
+    script:1:1: error: `if` needs one test behind it, without brackets around it
+    if { keep; }
+    ^
+    2> refused 18 BadArguments at 0
+    [1]
+
+## brackets around a test
+    $ printf 'if (header :is "Subject" "a") { keep; }' > script
+    $ depot explain script
+    script:1:1: error: `if` needs one test behind it, without brackets around it
+    if (header :is "Subject" "a") { keep; }
+    ^
+    2> refused 18 BadArguments at 0
+    [1]
+
+## command with a test
+    $ printf 'keep true;' > script
+    $ depot explain script
+    script:1:1: error: `keep` takes no test: is a semicolon missing at its end?
+    keep true;
+    ^
+    2> refused 18 BadArguments at 0
+    [1]
+
+## loop with a test
+    $ printf 'require "foreverypart"; foreverypart discard;' > script
+    $ depot explain script
+    script:1:25: error: `foreverypart` takes no test: is its opening brace missing?
+    require "foreverypart"; foreverypart discard;
+                            ^
+    2> refused 18 BadArguments at 3
+    [1]
+
+## tests without brackets
+    $ printf 'if allof true { keep; }' > script
+    $ depot explain script
+    script:1:4: error: `allof` takes tests in round brackets, with commas between them
+    if allof true { keep; }
+       ^
+    2> refused 18 BadArguments at 1
+    [1]
+
+## tests without comma
+    $ printf 'if header :is "Subject" "a" and header :is "From" "b" { keep; }' > script
+    $ depot explain script
+    script:1:4: error: `header` takes no test: is a comma or a brace missing behind it, or `allof` or `anyof` before it?
+    if header :is "Subject" "a" and header :is "From" "b" { keep; }
+       ^
+    2> refused 18 BadArguments at 1
+    [1]
+
+## else if
+    $ cat > script << 'END'
+    > if true {
+    >     keep;
+    > } else if false {
+    >     discard;
+    > }
+    > END
+    $ depot explain script
+    script:3:3: error: `else` takes no test: is `elsif` meant, or its opening brace missing?
+    } else if false {
+      ^
+    2> refused 18 BadArguments at 6
+    [1]
+
+## lone else
+    $ printf 'keep; else { discard; }' > script
+    $ depot explain script
+    script:1:7: error: `else` stands directly after an `if` or `elsif`
+    keep; else { discard; }
+          ^
+    2> refused 18 BadArguments at 2
+    [1]
+
+Arguments.
+
+## too few arguments
+    $ printf 'if header :is "Subject" { keep; }' > script
+    $ depot explain script
+    script:1:4: error: `header` has too few arguments: it takes two, each a string or a list of strings
+    if header :is "Subject" { keep; }
+       ^
+    2> refused 18 BadArguments at 1
+    [1]
+
+## too many arguments
+    $ printf 'require "fileinto"; fileinto "a" "b";' > script
+    $ depot explain script
+    script:1:21: error: `fileinto` has too many arguments: it takes one string without brackets
+    require "fileinto"; fileinto "a" "b";
+                        ^
+    2> refused 18 BadArguments at 3
+    [1]
+
+## argument of another kind
+    $ printf 'require "fileinto"; fileinto ["a", "b"];' > script
+    $ depot explain script
+    script:1:21: error: `fileinto` has an argument of a wrong kind: it takes one string without brackets
+    require "fileinto"; fileinto ["a", "b"];
+                        ^
+    2> refused 18 BadArguments at 3
+    [1]
+
+## missing order
+    $ printf 'if size 100K { discard; }' > script
+    $ depot explain script
+    script:1:4: error: `size` needs `:over` or `:under`
+    if size 100K { discard; }
+       ^
+    2> refused 18 BadArguments at 1
+    [1]
+
+Tags.
+
+## tag that is none
+    $ cat > script << 'END'
+    > require "fileinto";
+    > if header :contains "Subject" "bill" {
+    >     fileinto :copy "Bills";
+    > }
+    > END
+    $ depot explain script
+    script:3:5: error: depot knows no tag `:copy`
+        fileinto :copy "Bills";
+        ^
+    2> refused 18 BadArguments at 9
+    [1]
+
+## foreign tag
+    $ printf 'require "fileinto"; fileinto :is "a";' > script
+    $ depot explain script
+    script:1:21: error: `fileinto` takes no tag `:is`
+    require "fileinto"; fileinto :is "a";
+                        ^
+    2> refused 18 BadArguments at 3
+    [1]
+
+## late tag
+    $ printf 'if header "Subject" :is "a" { keep; }' > script
+    $ depot explain script
+    script:1:4: error: the tag `:is` stands after an argument that is no tag
+    if header "Subject" :is "a" { keep; }
+       ^
+    2> refused 18 BadArguments at 1
+    [1]
+
+## repeated tag
+    $ printf 'if header :is :is "Subject" "a" { keep; }' > script
+    $ depot explain script
+    script:1:4: error: `:is` is repeated, or stands beside another of its kind
+    if header :is :is "Subject" "a" { keep; }
+       ^
+    2> refused 18 BadArguments at 1
+    [1]
+
+## two ways to match
+    $ printf 'if header :is :matches "Subject" "a" { keep; }' > script
+    $ depot explain script
+    script:1:4: error: `:matches` is repeated, or stands beside another of its kind
+    if header :is :matches "Subject" "a" { keep; }
+       ^
+    2> refused 18 BadArguments at 1
+    [1]
+
+## two modifiers
+    $ printf 'require "variables"; set :upper :lower "a" "b";' > script
+    $ depot explain script
+    script:1:22: error: `:lower` can't stand beside another modifier of its precedence
+    require "variables"; set :upper :lower "a" "b";
+                         ^
+    2> refused 18 BadArguments at 3
+    [1]
+
+## tag without its argument
+    $ printf 'if header :comparator "i;unicode" :is "Subject" "a" { keep; }' > script
+    $ depot explain script
+    script:1:4: error: `:comparator` needs the name of a comparator, "i;octet" or "i;ascii-casemap"
+    if header :comparator "i;unicode" :is "Subject" "a" { keep; }
+       ^
+    2> refused 18 BadArguments at 1
+    [1]
+
+## tag without mime
+    $ printf 'require "mime"; if header :anychild :is "Subject" "a" { keep; }' > script
+    $ depot explain script
+    script:1:20: error: `:anychild` stands only beside `:mime`, which needs `require "mime"`
+    require "mime"; if header :anychild :is "Subject" "a" { keep; }
+                       ^
+    2> refused 18 BadArguments at 4
+    [1]
+
+## tag without mime or require
+    $ printf 'if header :anychild :is "Subject" "a" { keep; }' > script
+    $ depot explain script
+    script:1:4: error: `:anychild` stands only beside `:mime`, which needs `require "mime"`
+    if header :anychild :is "Subject" "a" { keep; }
+       ^
+    2> refused 18 BadArguments at 1
+    [1]
+
+Variables.
+
+## name that is none
+    $ printf 'require "variables"; set "1x" "b";' > script
+    $ depot explain script
+    script:1:22: error: "1x" is no name of a variable
+    require "variables"; set "1x" "b";
+                         ^
+    2> refused 18 BadArguments at 3
+    [1]
+
+## namespace
+    $ printf 'require ["variables", "fileinto"]; fileinto "${a.b}";' > script
+    $ depot explain script
+    script:1:36: error: "${a.b}" refers into a namespace, and there is none
+    require ["variables", "fileinto"]; fileinto "${a.b}";
+                                       ^
+    2> refused 18 BadArguments at 7
+    [1]
+
+## capture above nine
+    $ printf 'require ["variables", "fileinto"]; fileinto "a${10}";' > script
+    $ depot explain script
+    script:1:36: error: "a${10}" refers to a capture above 9
+    require ["variables", "fileinto"]; fileinto "a${10}";
+                                       ^
+    2> refused 18 BadArguments at 7
+    [1]
+
+## strings as written
+    $ printf 'require ["fileinto", "foreverypart", "vnd.depot"]; store "${a.b}";' > script
+    $ depot explain script
+    script:1:52: error: `store` stands only inside of a `foreverypart`
+    require ["fileinto", "foreverypart", "vnd.depot"]; store "${a.b}";
+                                                       ^
+    2> refused 18 BadArguments at 9
+    [1]
+
+Places.
+
+## break outside
+    $ printf 'require "foreverypart"; break;' > script
+    $ depot explain script
+    script:1:25: error: `break` stands only inside of a `foreverypart`
+    require "foreverypart"; break;
+                            ^
+    2> refused 18 BadArguments at 3
+    [1]
+
+## no such loop
+    $ printf 'require "foreverypart";\nforeverypart :name "parts" {\n\tbreak :name "part";\n}\n' > script
+    $ depot explain script
+    script:3:2: error: no `foreverypart` around this `break` has the name "part"
+     break :name "part";
+     ^
+    2> refused 18 BadArguments at 7
+    [1]
+
+## store outside
+    $ printf 'require "vnd.depot"; store "a";' > script
+    $ depot explain script
+    script:1:22: error: `store` stands only inside of a `foreverypart`
+    require "vnd.depot"; store "a";
+                         ^
+    2> refused 18 BadArguments at 3
+    [1]
+
+## part test outside
+    $ printf 'require "vnd.depot"; if partsize :over 1K { discard; }' > script
+    $ depot explain script
+    script:1:25: error: `partsize` stands only inside of a `foreverypart`
+    require "vnd.depot"; if partsize :over 1K { discard; }
+                            ^
+    2> refused 18 BadArguments at 4
+    [1]
+
+Limits.
+
+## fourth loop
+    $ printf 'require "foreverypart"; foreverypart { foreverypart { foreverypart {\n foreverypart { } } } }' > script
+    $ depot explain script
+    script:2:2: error: more than 3 loops stand inside of one another here
+     foreverypart { } } } }
+     ^
+    2> refused 19 Limit at 9
+    [1]
+
+## long name
+    $ printf 'require ["variables", "fileinto"]; fileinto "${aaaaaaaaaaaaaaaaaaaaaaaaaaaaaaaaa}";' > script
+    $ depot explain script
+    script:1:36: error: the name of a variable, "aaaaaaaaaaaaaaaaaaaaaaaaaaaaaaaaa", has more than 32 octets
+    require ["variables", "fileinto"]; fileinto "${aaaaaaaaaaaaaaaaaaaaaaaaaaaaaaaaa}";
+                                       ^
+    2> refused 19 Limit at 7
+    [1]
+
+## segments too many
+    $ segments=$(printf '%129s' '' | sed 's/ /${1}a/g')
+    > printf 'require ["variables", "fileinto"]; fileinto "%s";' "$segments" > script
+    $ depot explain script
+    script:1:36: error: the string "${1}a${1}a${1}a${1}a${1}a${1}a${1}a${1}a${1}a${1}a${1}a${1}a..." has more than 256 references and stretches between them
+    require ["variables", "fileinto"]; fileinto "${1}a${1}a${1}a${1}a${1}a${1}a${1}a${1}a${1}a${1}a...
+                                       ^
+    2> refused 19 Limit at 7
+    [1]
+
+## string too long
+    $ printf 'require "fileinto"; fileinto "%s";' "$(printf '%16385s' '' | tr ' ' x)" > script
+    $ depot explain script
+    script:1:21: error: the string "xxxxxxxxxxxxxxxxxxxxxxxxxxxxxxxxxxxxxxxxxxxxxxxxxxxxxxxxxxxx..." has more than 16384 octets
+    require "fileinto"; fileinto "xxxxxxxxxxxxxxxxxxxxxxxxxxxxxxxxxxxxxxxxxxxxxxxxxx...
+                        ^
+    2> refused 19 Limit at 3
+    [1]
+
+## strings too many
+    $ printf 'if exists [%s"a"] { keep; }' "$(printf '%512s' '' | sed 's/ /"a", /g')" > script
+    $ depot explain script
+    script:1:4: error: the lists of `exists` have more than 512 strings
+    if exists ["a", "a", "a", "a", "a", "a", "a", "a", "a", "a", "a...
+       ^
+    2> refused 19 Limit at 1
+    [1]
+
+## variables too many
+    $ awk 'BEGIN { print "require \"variables\";"; for (n = 0; n <= 128; n++) printf "set \"v%03d\" \"\";\n", n }' > script
+    $ depot explain script
+    script:130:1: error: with this `set` the script has more than 128 variables
+    set "v128" "";
+    ^
+    2> refused 19 Limit at 515
+    [1]
+
+How the line and the name of the file are printed.
+
+## lines with returns
+    $ printf 'require "fileinto";\r\nif true {\r\n\tfileinto "a" 1;\r\n}\r\n' > script
+    $ depot explain script
+    script:3:2: error: `fileinto` has too many arguments: it takes one string without brackets
+     fileinto "a" 1;
+     ^
+    2> refused 18 BadArguments at 6
+    [1]
+
+## long line
+    $ cat > script << 'END'
+    > # ----------------------------------------------------------------------
+    > if anyof (exists "X-00", exists "X-01", exists "X-02", exists "X-03", exists "X-04", exists "X-05", exists "X-06", exists "X-07", exists "X-08", exist "X", exists "Y-00", exists "Y-01", exists "Y-02", exists "Y-03", exists "Y-04", exists "Y-05", exists "Y-06", exists "Y-07", exists "Y-08") { keep; }
+    > END
+    $ depot explain script
+    script:2:146: error: unknown test `exist`, did you mean `exists`?
+    ...exists "X-05", exists "X-06", exists "X-07", exists "X-08", exist "X", exists "Y-00", exists "Y-01", exists "Y-02", exis...
+                                                                   ^
+    2> refused 15 UnknownCommand at 30
+    [1]
+
+## long word
+    $ printf '%s;' "$(printf '%100s' '' | tr ' ' x)" > script
+    $ depot explain script
+    script:1:1: error: unknown command `xxxxxxxxxxxxxxxxxxxxxxxxxxxxxxxxxxxxxxxxxxxxxxxxxxxxxxxxxxxx...`
+    xxxxxxxxxxxxxxxxxxxxxxxxxxxxxxxxxxxxxxxxxxxxxxxxxxxxxxxxxxxx...
+    ^
+    2> refused 15 UnknownCommand at 0
+    [1]
+
+## tabs and other signs
+    $ printf '\t\tkeep\t"a\1\177b\\";\342\202\254";' > script
+    $ depot explain script
+    script:1:3: error: `keep` has too many arguments: it takes none
+      keep "a\01\7fb\";\e2\82\ac";
+      ^
+    2> refused 18 BadArguments at 0
+    [1]
+
+## name with signs
+    $ printf 'kep;' > 'a b:1.sieve'
+    $ depot explain 'a b:1.sieve'
+    a b:1.sieve:1:1: error: unknown command `kep`
+    kep;
+    ^
+    2> refused 15 UnknownCommand at 0
+    [1]
+
+## standard input
+    $ echo 'kep;' | depot explain /dev/stdin
+    /dev/stdin:1:1: error: unknown command `kep`
+    kep;
+    ^
+    2> refused 15 UnknownCommand at 0
+    [1]

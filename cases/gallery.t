@@ -1,0 +1,206 @@
+# The gallery's filters, each on a mail that it is about and on one that it isn't; docs/GALLERY.md shows more of them
+
+## newsletters
+    $ depot eval examples/gallery/newsletters.sieve examples/gallery/newsletters.eml
+    fileinto "Lists/guild"
+    charged 583 of 52557
+
+## newsletters bulk
+    $ depot eval examples/gallery/newsletters.sieve examples/gallery/bulk.eml
+    fileinto "Lists"
+    charged 240 of 36087
+
+## newsletters none
+    $ depot eval examples/gallery/newsletters.sieve examples/gallery/answer.eml
+    keep
+    charged 373 of 33495
+
+## budget of newsletters
+    $ depot compile examples/gallery/newsletters.sieve out
+    wrote 266 octets
+    $ depot verify out
+    A0=12327 B0=54 A1=0 B1=0 A2=0 B2=0 A3=0 B3=0
+
+## invoices
+    $ depot eval examples/gallery/invoices.sieve examples/gallery/invoices.eml
+    fileinto "Bills"
+    store "Accounts" 2
+    store "Accounts" 3
+    charged 1791 of 1044673
+
+## invoices none
+    $ depot eval examples/gallery/invoices.sieve examples/gallery/attachments.eml
+    keep
+    charged 629 of 9037546
+
+## budget of invoices
+    $ depot compile examples/gallery/invoices.sieve out
+    wrote 302 octets
+    $ depot verify out
+    A0=15 B0=33 A1=19 B1=81 A2=0 B2=0 A3=0 B3=0
+
+## detail
+    $ depot eval examples/gallery/detail.sieve examples/gallery/detail.eml
+    fileinto "garden"
+    charged 1261 of 82243
+
+## detail several
+    $ depot eval examples/gallery/detail.sieve examples/gallery/several.eml
+    fileinto "choir"
+    charged 4021 of 79906
+
+## detail none
+    $ depot eval examples/gallery/detail.sieve examples/gallery/tickets.eml
+    keep
+    charged 927 of 75355
+
+## budget of detail
+    $ depot compile examples/gallery/detail.sieve out
+    wrote 278 octets
+    $ depot verify out
+    A0=32797 B0=123 A1=0 B1=0 A2=0 B2=0 A3=0 B3=0
+
+## tickets
+    $ depot eval examples/gallery/tickets.sieve examples/gallery/tickets.eml
+    fileinto "Tickets/4711"
+    charged 748 of 48603
+
+## tickets answer
+    $ depot eval examples/gallery/tickets.sieve examples/gallery/answer.eml
+    fileinto "Tickets/4711"
+    charged 2485 of 52881
+
+## tickets new
+    $ depot eval examples/gallery/tickets.sieve examples/gallery/detail.eml
+    fileinto "Tickets/new"
+    charged 620 of 53811
+
+## budget of tickets
+    $ depot compile examples/gallery/tickets.sieve out
+    wrote 279 octets
+    $ depot verify out
+    A0=16425 B0=93 A1=0 B1=0 A2=0 B2=0 A3=0 B3=0
+
+## attachments
+    $ depot eval examples/gallery/attachments.sieve examples/gallery/attachments.eml
+    store "Large/roof.png" 2
+    keep
+    charged 482 of 2361846
+
+## attachments none
+    $ depot eval examples/gallery/attachments.sieve examples/gallery/invoices.eml
+    keep
+    charged 451 of 302058
+
+## budget of attachments
+    $ depot compile examples/gallery/attachments.sieve out
+    wrote 178 octets
+    $ depot verify out
+    A0=2 B0=0 A1=8216 B1=23 A2=0 B2=0 A3=0 B3=0
+
+## junk
+    $ depot eval examples/gallery/junk.sieve examples/gallery/junk.eml
+    fileinto "Junk"
+    charged 480 of 28826
+
+## junk fifteen stars
+    $ depot eval examples/gallery/junk.sieve examples/gallery/fifteen-stars.eml
+    none
+    charged 444 of 22518
+
+## junk none
+    $ depot eval examples/gallery/junk.sieve examples/gallery/answer.eml
+    keep
+    charged 474 of 29814
+
+## budget of junk
+    $ depot compile examples/gallery/junk.sieve out
+    wrote 244 octets
+    $ depot verify out
+    A0=22 B0=76 A1=0 B1=0 A2=0 B2=0 A3=0 B3=0
+
+## bounces
+    $ depot eval examples/gallery/bounces.sieve examples/gallery/bounces.eml
+    fileinto "Bounces/failed"
+    charged 4792 of 245896
+
+## bounces delayed
+    $ depot eval examples/gallery/bounces.sieve examples/gallery/delayed.eml
+    fileinto "Bounces/delayed"
+    charged 4283 of 243763
+
+## budget of bounces
+    $ depot compile examples/gallery/bounces.sieve out
+    wrote 293 octets
+    $ depot verify out
+    A0=23 B0=29 A1=26 B1=52 A2=0 B2=0 A3=0 B3=0
+
+## invitations
+    $ depot eval examples/gallery/invitations.sieve examples/gallery/invitations.eml
+    store "Calendar/request" 2
+    keep
+    charged 944 of 137201
+
+## invitations none
+    $ depot eval examples/gallery/invitations.sieve examples/gallery/attachments.eml
+    keep
+    charged 900 of 4403470
+
+## budget of invitations
+    $ depot compile examples/gallery/invitations.sieve out
+    wrote 211 octets
+    $ depot verify out
+    A0=2 B0=0 A1=12322 B1=43 A2=0 B2=0 A3=0 B3=0
+
+## quarantine
+    $ depot eval examples/gallery/quarantine.sieve examples/gallery/quarantine.eml
+    fileinto "Quarantine"
+    charged 25378 of 25406
+
+## quarantine clean
+    $ depot eval examples/gallery/quarantine.sieve examples/gallery/invoices.eml
+    keep
+    charged 33822 of 33874
+
+## budget of quarantine
+    $ depot compile examples/gallery/quarantine.sieve out
+    wrote 239 octets
+    $ depot verify out
+    A0=2 B0=0 A1=8468 B1=0 A2=0 B2=0 A3=0 B3=0
+
+## unseen
+    $ depot eval examples/gallery/unseen.sieve examples/gallery/unseen.eml
+    fileinto "Unseen"
+    charged 267 of 45222
+
+## unseen seen
+    $ depot eval examples/gallery/unseen.sieve examples/gallery/attachments.eml
+    keep
+    charged 559 of 2411150
+
+## budget of unseen
+    $ depot compile examples/gallery/unseen.sieve out
+    wrote 228 octets
+    $ depot verify out
+    A0=2 B0=0 A1=20510 B1=23 A2=8 B2=0 A3=0 B3=0
+
+## guards
+    $ depot eval examples/gallery/guards.sieve examples/gallery/guards.eml
+    none
+    charged 365 of 25964
+
+## guards away
+    $ depot eval examples/gallery/guards.sieve examples/gallery/away.eml
+    fileinto "Automatic"
+    charged 388 of 18888
+
+## guards large
+    $ depot eval examples/gallery/guards.sieve "$FILES/largest"
+    fileinto "Large"
+    charged 21 of 3892314208
+
+## budget of guards
+    $ depot compile examples/gallery/guards.sieve out
+    wrote 296 octets
+    $ depot verify out
+    A0=38 B0=58 A1=0 B1=0 A2=0 B2=0 A3=0 B3=0

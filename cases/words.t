@@ -1,0 +1,466 @@
+# The words of the command line
+
+No word: a message is read from standard input and kept.
+
+## none
+    $ depot
+    keep
+    charged 2 of 2
+
+Words that are wrong.
+
+## unknown command
+    $ depot launch
+    2> error: unrecognized subcommand 'launch'
+    2>
+    2> Usage: depot [COMMAND]
+    2>
+    2> For more information, try '--help'.
+    [2]
+
+## other than ascii
+    $ depot é
+    2> error: unrecognized subcommand '\c3\a9'
+    2>
+    2> Usage: depot [COMMAND]
+    2>
+    2> For more information, try '--help'.
+    [2]
+
+## control characters
+    $ depot "$(printf 'fil\1e\33[31m\177')"
+    2> error: unrecognized subcommand 'fil\01e\1b[31m\7f'
+    2>
+    2> Usage: depot [COMMAND]
+    2>
+    2> For more information, try '--help'.
+    [2]
+
+## unknown flag
+    $ depot --frobnicate
+    2> error: unexpected argument '--frobnicate' found
+    2>
+    2> Usage: depot [COMMAND]
+    2>
+    2> For more information, try '--help'.
+    [2]
+
+## unknown encoding
+    $ depot encode uuencode
+    2> error: invalid value 'uuencode' for '<ENCODING>'
+    2>   [possible values: raw, base64, base64-mime, base32, base32hex, base16, qp]
+    2>
+    2> For more information, try '--help'.
+    [2]
+
+## missing encoding
+    $ depot decode
+    2> error: the following required arguments were not provided:
+    2>   <ENCODING>
+    2>
+    2> Usage: depot decode <ENCODING>
+    2>
+    2> For more information, try '--help'.
+    [2]
+
+## missing argument
+    $ depot run examples/keep.svbc
+    2> error: the following required arguments were not provided:
+    2>   <MESSAGE>
+    2>
+    2> Usage: depot run <PROGRAM> <MESSAGE>
+    2>
+    2> For more information, try '--help'.
+    [2]
+
+## extra argument
+    $ depot verify a b
+    2> error: unexpected argument 'b' found
+    2>
+    2> Usage: depot verify <PROGRAM>
+    2>
+    2> For more information, try '--help'.
+    [2]
+
+Help.
+
+## help
+    $ depot --help
+    2> Verified mail filters: checks and compiles Sieve scripts, files mail messages as they say, and gives back what was filed.
+    2>
+    2> Usage: depot [COMMAND]
+    2>
+    2> Commands:
+    2>   check    Says whether a Sieve script has a fault, and where
+    2>   explain  Says in words what the fault of a Sieve script is, and shows its line
+    2>   compile  Writes a Sieve script as a filter program (bytecode)
+    2>   verify   Says whether a filter program is safe to run, and what it may charge
+    2>   run      Runs a filter program on a message, and prints what it does with it
+    2>   eval     Runs a Sieve script on a message, and prints what it does with it
+    2>   parts    Lists the parts of a message: place, depth, media type, length and digest of the content
+    2>   encode   Writes the octets of standard input as a text
+    2>   decode   Writes the octets that the text on standard input stands for
+    2>   script   Stores a Sieve script, compiled, as the filter of a user
+    2>   code     Stores a filter program (bytecode) as the filter of a user
+    2>   deliver  Files a message, or parts of it, as the filter of a user says
+    2>   list     Lists the entries of a user
+    2>   export   Writes the octets of an entry as a text
+    2>   remove   Removes an entry
+    2>   help     Print this message or the help of the given subcommand(s)
+    2>
+    2> Options:
+    2>   -h, --help  Print help
+    2>
+    2> An answer goes to standard output, with status 0. A refusal is one line on standard error, with
+    2> its number and name, and status 1. Status 2 says that the words aren't those of a command.
+    2> With no words at all, a program that keeps every message runs on standard input.
+    2> The help of a command has an example, and says with which refusals it may end.
+    [2]
+
+## help command
+    $ depot help
+    2> Verified mail filters: checks and compiles Sieve scripts, files mail messages as they say, and gives back what was filed.
+    2>
+    2> Usage: depot [COMMAND]
+    2>
+    2> Commands:
+    2>   check    Says whether a Sieve script has a fault, and where
+    2>   explain  Says in words what the fault of a Sieve script is, and shows its line
+    2>   compile  Writes a Sieve script as a filter program (bytecode)
+    2>   verify   Says whether a filter program is safe to run, and what it may charge
+    2>   run      Runs a filter program on a message, and prints what it does with it
+    2>   eval     Runs a Sieve script on a message, and prints what it does with it
+    2>   parts    Lists the parts of a message: place, depth, media type, length and digest of the content
+    2>   encode   Writes the octets of standard input as a text
+    2>   decode   Writes the octets that the text on standard input stands for
+    2>   script   Stores a Sieve script, compiled, as the filter of a user
+    2>   code     Stores a filter program (bytecode) as the filter of a user
+    2>   deliver  Files a message, or parts of it, as the filter of a user says
+    2>   list     Lists the entries of a user
+    2>   export   Writes the octets of an entry as a text
+    2>   remove   Removes an entry
+    2>   help     Print this message or the help of the given subcommand(s)
+    2>
+    2> Options:
+    2>   -h, --help  Print help
+    2>
+    2> An answer goes to standard output, with status 0. A refusal is one line on standard error, with
+    2> its number and name, and status 1. Status 2 says that the words aren't those of a command.
+    2> With no words at all, a program that keeps every message runs on standard input.
+    2> The help of a command has an example, and says with which refusals it may end.
+    [2]
+
+## help check
+    $ depot check --help
+    2> Says whether a Sieve script has a fault, and where
+    2>
+    2> Usage: depot check <SCRIPT>
+    2>
+    2> Arguments:
+    2>   <SCRIPT>  The file of a Sieve script
+    2>
+    2> Options:
+    2>   -h, --help  Print help
+    2>
+    2> Example:
+    2>   depot check filter.sieve
+    2>
+    2> Status 0: done. 1: refused, or the answer broke off, with one line on standard error.
+    2> 2: the words aren't those of a command.
+    2> Refusals: 1, 2, 11 to 19, 45, 46. docs/SPECIFICATION.md says what each means, and what to do.
+    [2]
+
+## help explain
+    $ depot help explain
+    2> Says in words what the fault of a Sieve script is, and shows its line
+    2>
+    2> Usage: depot explain <SCRIPT>
+    2>
+    2> Arguments:
+    2>   <SCRIPT>  The file of a Sieve script
+    2>
+    2> Options:
+    2>   -h, --help  Print help
+    2>
+    2> Example:
+    2>   depot explain filter.sieve
+    2>
+    2> Status 0: done. 1: refused, or the answer broke off, with one line on standard error.
+    2> 2: the words aren't those of a command.
+    2> Refusals: 1, 2, 11 to 19, 45, 46. docs/SPECIFICATION.md says what each means, and what to do.
+    [2]
+
+## help compile
+    $ depot compile --help
+    2> Writes a Sieve script as a filter program (bytecode)
+    2>
+    2> Usage: depot compile <SCRIPT> <OUT>
+    2>
+    2> Arguments:
+    2>   <SCRIPT>  The file of a Sieve script
+    2>   <OUT>     The file that the filter program is written to
+    2>
+    2> Options:
+    2>   -h, --help  Print help
+    2>
+    2> Example:
+    2>   depot compile filter.sieve filter.svbc
+    2>
+    2> Status 0: done. 1: refused, or the answer broke off, with one line on standard error.
+    2> 2: the words aren't those of a command.
+    2> Refusals: 1, 2, 11 to 19, 45, 46. docs/SPECIFICATION.md says what each means, and what to do.
+    [2]
+
+## help verify
+    $ depot verify --help
+    2> Says whether a filter program is safe to run, and what it may charge
+    2>
+    2> Usage: depot verify <PROGRAM>
+    2>
+    2> Arguments:
+    2>   <PROGRAM>  The file of a filter program (bytecode)
+    2>
+    2> Options:
+    2>   -h, --help  Print help
+    2>
+    2> Example:
+    2>   depot verify filter.svbc
+    2>
+    2> Status 0: done. 1: refused, or the answer broke off, with one line on standard error.
+    2> 2: the words aren't those of a command.
+    2> Refusals: 1, 2, 20 to 27, 45, 46. docs/SPECIFICATION.md says what each means, and what to do.
+    [2]
+
+## help run
+    $ depot run --help
+    2> Runs a filter program on a message, and prints what it does with it
+    2>
+    2> Usage: depot run <PROGRAM> <MESSAGE>
+    2>
+    2> Arguments:
+    2>   <PROGRAM>  The file of a filter program (bytecode)
+    2>   <MESSAGE>  The file of a mail message, as mail servers hold it
+    2>
+    2> Options:
+    2>   -h, --help  Print help
+    2>
+    2> Example:
+    2>   depot run filter.svbc mail.eml
+    2>
+    2> Status 0: done. 1: refused, or the answer broke off, with one line on standard error.
+    2> 2: the words aren't those of a command.
+    2> Refusals: 1 to 3, 20 to 27, 45, 46. docs/SPECIFICATION.md says what each means, and what to do.
+    [2]
+
+## help eval
+    $ depot eval --help
+    2> Runs a Sieve script on a message, and prints what it does with it
+    2>
+    2> Usage: depot eval <SCRIPT> <MESSAGE>
+    2>
+    2> Arguments:
+    2>   <SCRIPT>   The file of a Sieve script
+    2>   <MESSAGE>  The file of a mail message, as mail servers hold it
+    2>
+    2> Options:
+    2>   -h, --help  Print help
+    2>
+    2> Example:
+    2>   depot eval filter.sieve mail.eml
+    2>
+    2> Status 0: done. 1: refused, or the answer broke off, with one line on standard error.
+    2> 2: the words aren't those of a command.
+    2> Refusals: 1 to 3, 11 to 19, 45, 46. docs/SPECIFICATION.md says what each means, and what to do.
+    [2]
+
+## help parts
+    $ depot help parts
+    2> Lists the parts of a message: place, depth, media type, length and digest of the content
+    2>
+    2> Usage: depot parts <MESSAGE>
+    2>
+    2> Arguments:
+    2>   <MESSAGE>  The file of a mail message, as mail servers hold it
+    2>
+    2> Options:
+    2>   -h, --help  Print help
+    2>
+    2> Example:
+    2>   depot parts mail.eml
+    2>
+    2> Status 0: done. 1: refused, or the answer broke off, with one line on standard error.
+    2> 2: the words aren't those of a command.
+    2> Refusals: 1 to 3, 45, 46. docs/SPECIFICATION.md says what each means, and what to do.
+    [2]
+
+## help script
+    $ depot help script
+    2> Stores a Sieve script, compiled, as the filter of a user
+    2>
+    2> Usage: depot script <DB> <USER> <SCRIPT>
+    2>
+    2> Arguments:
+    2>   <DB>      The file of the depot, which is made if it isn't there
+    2>   <USER>    The name of a user: 1 to 64 of a to z, 0 to 9, dot, underscore and hyphen
+    2>   <SCRIPT>  The file of a Sieve script
+    2>
+    2> Options:
+    2>   -h, --help  Print help
+    2>
+    2> Example:
+    2>   depot script mail.depot ann filter.sieve
+    2>
+    2> Status 0: done. 1: refused, or the answer broke off, with one line on standard error.
+    2> 2: the words aren't those of a command.
+    2> Refusals: 1, 2, 11 to 19, 43 to 46. docs/SPECIFICATION.md says what each means, and what to do.
+    [2]
+
+## help code
+    $ depot help code
+    2> Stores a filter program (bytecode) as the filter of a user
+    2>
+    2> Usage: depot code <DB> <USER> <PROGRAM>
+    2>
+    2> Arguments:
+    2>   <DB>       The file of the depot, which is made if it isn't there
+    2>   <USER>     The name of a user: 1 to 64 of a to z, 0 to 9, dot, underscore and hyphen
+    2>   <PROGRAM>  The file of a filter program (bytecode)
+    2>
+    2> Options:
+    2>   -h, --help  Print help
+    2>
+    2> Example:
+    2>   depot code mail.depot ann filter.svbc
+    2>
+    2> Status 0: done. 1: refused, or the answer broke off, with one line on standard error.
+    2> 2: the words aren't those of a command.
+    2> Refusals: 1, 2, 20 to 27, 43 to 46. docs/SPECIFICATION.md says what each means, and what to do.
+    [2]
+
+## help deliver
+    $ depot help deliver
+    2> Files a message, or parts of it, as the filter of a user says
+    2>
+    2> Usage: depot deliver <DB> <USER> <MESSAGE>
+    2>
+    2> Arguments:
+    2>   <DB>       The file of the depot, which is made if it isn't there
+    2>   <USER>     The name of a user: 1 to 64 of a to z, 0 to 9, dot, underscore and hyphen
+    2>   <MESSAGE>  The file of a mail message, as mail servers hold it
+    2>
+    2> Options:
+    2>   -h, --help  Print help
+    2>
+    2> Example:
+    2>   depot deliver mail.depot ann mail.eml
+    2>
+    2> Status 0: done. 1: refused, or the answer broke off, with one line on standard error.
+    2> 2: the words aren't those of a command.
+    2> Refusals: 1 to 3, 41 to 46. docs/SPECIFICATION.md says what each means, and what to do.
+    [2]
+
+## help list
+    $ depot help list
+    2> Lists the entries of a user
+    2>
+    2> Usage: depot list <DB> <USER>
+    2>
+    2> Arguments:
+    2>   <DB>    The file of the depot, which is made if it isn't there
+    2>   <USER>  The name of a user: 1 to 64 of a to z, 0 to 9, dot, underscore and hyphen
+    2>
+    2> Options:
+    2>   -h, --help  Print help
+    2>
+    2> Example:
+    2>   depot list mail.depot ann
+    2>
+    2> Status 0: done. 1: refused, or the answer broke off, with one line on standard error.
+    2> 2: the words aren't those of a command.
+    2> Refusals: 1, 43 to 45. docs/SPECIFICATION.md says what each means, and what to do.
+    [2]
+
+## help export
+    $ depot help export
+    2> Writes the octets of an entry as a text
+    2>
+    2> Usage: depot export <DB> <USER> <NUMBER> <ENCODING>
+    2>
+    2> Arguments:
+    2>   <DB>        The file of the depot, which is made if it isn't there
+    2>   <USER>      The name of a user: 1 to 64 of a to z, 0 to 9, dot, underscore and hyphen
+    2>   <NUMBER>    The number of an entry
+    2>   <ENCODING>  How the text stands for octets [possible values: raw, base64, base64-mime, base32, base32hex, base16, qp]
+    2>
+    2> Options:
+    2>   -h, --help  Print help
+    2>
+    2> Example:
+    2>   depot export mail.depot ann 2 raw > attached
+    2>
+    2> Status 0: done. 1: refused, or the answer broke off, with one line on standard error.
+    2> 2: the words aren't those of a command.
+    2> Refusals: 1, 40, 43 to 45. docs/SPECIFICATION.md says what each means, and what to do.
+    [2]
+
+## help remove
+    $ depot help remove
+    2> Removes an entry
+    2>
+    2> Usage: depot remove <DB> <USER> <NUMBER>
+    2>
+    2> Arguments:
+    2>   <DB>      The file of the depot, which is made if it isn't there
+    2>   <USER>    The name of a user: 1 to 64 of a to z, 0 to 9, dot, underscore and hyphen
+    2>   <NUMBER>  The number of an entry
+    2>
+    2> Options:
+    2>   -h, --help  Print help
+    2>
+    2> Example:
+    2>   depot remove mail.depot ann 2
+    2>
+    2> Status 0: done. 1: refused, or the answer broke off, with one line on standard error.
+    2> 2: the words aren't those of a command.
+    2> Refusals: 1, 40, 43 to 45. docs/SPECIFICATION.md says what each means, and what to do.
+    [2]
+
+## help encode
+    $ depot encode --help
+    2> Writes the octets of standard input as a text
+    2>
+    2> Usage: depot encode <ENCODING>
+    2>
+    2> Arguments:
+    2>   <ENCODING>  How the text stands for octets [possible values: raw, base64, base64-mime, base32, base32hex, base16, qp]
+    2>
+    2> Options:
+    2>   -h, --help  Print help
+    2>
+    2> Example:
+    2>   depot encode base64 < file > text
+    2>
+    2> Status 0: done. 1: refused, or the answer broke off, with one line on standard error.
+    2> 2: the words aren't those of a command.
+    2> Refusals: 1, 2, 45, 46. docs/SPECIFICATION.md says what each means, and what to do.
+    [2]
+
+## help decode
+    $ depot help decode
+    2> Writes the octets that the text on standard input stands for
+    2>
+    2> Usage: depot decode <ENCODING>
+    2>
+    2> Arguments:
+    2>   <ENCODING>  How the text stands for octets [possible values: raw, base64, base64-mime, base32, base32hex, base16, qp]
+    2>
+    2> Options:
+    2>   -h, --help  Print help
+    2>
+    2> Example:
+    2>   depot decode base64 < text > file
+    2>
+    2> Status 0: done. 1: refused, or the answer broke off, with one line on standard error.
+    2> 2: the words aren't those of a command.
+    2> Refusals: 1, 2, 10, 45, 46. docs/SPECIFICATION.md says what each means, and what to do.
+    [2]
