@@ -3,7 +3,12 @@
 
 mod compare;
 mod printed;
+mod refused;
 mod rows;
+mod script_forms;
+mod script_runs;
+mod script_tokens;
+mod script_trees;
 mod scripts;
 
 use crate::compare::{Family, compare};
@@ -13,7 +18,15 @@ use std::io::{self, Write};
 use std::process::ExitCode;
 
 // The tables, and what answers their rows.
-const TABLES: &[(&str, Family)] = &[("scripts_tokens.table", Family::Scripts)];
+const TABLES: &[(&str, Family)] = &[
+    ("scripts_tokens.table", Family::Scripts),
+    ("scripts_trees.table", Family::Scripts),
+    ("scripts_checks.table", Family::Scripts),
+    ("scripts_meaning.table", Family::Scripts),
+    ("scripts_variables.table", Family::Scripts),
+    ("scripts_loops.table", Family::Scripts),
+    ("scripts_mime.table", Family::Scripts),
+];
 
 fn main(rt: HostRuntime) -> ExitCode {
     match compare_all(&rt) {
