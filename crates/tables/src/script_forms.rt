@@ -67,10 +67,10 @@ fn put_command(command: &Command, answer: &mut Printed) -> Result<(), AllocError
 
 #[cycle(commands)]
 fn put_branches(branches: &[Branch], answer: &mut Printed) -> Result<(), AllocError> {
-    let mut word = "if";
+    let mut is_first = true;
     for branch in branches {
-        answer.word(word)?;
-        word = "elsif";
+        answer.word(if is_first { "if" } else { "elsif" })?;
+        is_first = false;
         put_test(&branch.test, answer)?;
         put_block(&branch.block, answer)?;
     }
