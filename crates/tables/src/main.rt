@@ -1,0 +1,44 @@
+// Answers the rows of tables by the libraries, and prints each that differs from what its table wants.
+#![tactic(auto)]
+
+mod compare;
+mod printed;
+mod rows;
+mod scripts;
+
+use crate::compare::{Family, compare};
+use crate::printed::Printed;
+use std::fs;
+use std::io::{self, Write};
+use std::process::ExitCode;
+
+// The tables, and what answers their rows.
+const TABLES: &[(&str, Family)] = &[("scripts_tokens.table", Family::Scripts)];
+
+fn main(rt: HostRuntime) -> ExitCode {
+    match compare_all(&rt) {
+        Ok(true) => ExitCode::SUCCESS,
+        _ => ExitCode::FAILURE,
+    }
+}
+
+// Whether no row of any table differs.
+fn compare_all(rt: &HostRuntime) -> io::Result<bool> {
+    let mut rows: u64 = 0;
+    let mut differing: u64 = 0;
+    for (name, family) in TABLES {
+        let table = fs::read(rt, *name)?;
+        let mut shown = Printed::new(rt.alloc());
+        let counts = compare(rt.alloc(), *name, *family, &table, &mut shown)?;
+        rows = rows.wrapping_add(counts.rows);
+        differing = differing.wrapping_add(counts.differing);
+        rt.stdout().write_all(shown.as_slice())?;
+    }
+    let mut last = Printed::new(rt.alloc());
+    last.number(rows)?;
+    last.word("rows,")?;
+    last.number(differing)?;
+    last.word("differ\n")?;
+    rt.stdout().write_all(last.as_slice())?;
+    Ok(differing == 0)
+}
