@@ -2,7 +2,9 @@
 #![tactic(auto)]
 
 mod compare;
+mod listing;
 mod printed;
+mod programs;
 mod rows;
 mod scripts;
 
@@ -13,7 +15,12 @@ use std::io::{self, Write};
 use std::process::ExitCode;
 
 // The tables, and what answers their rows.
-const TABLES: &[(&str, Family)] = &[("scripts_tokens.table", Family::Scripts)];
+const TABLES: &[(&str, Family)] = &[
+    ("programs_octets.table", Family::Programs),
+    ("programs_verify.table", Family::Programs),
+    ("programs_run.table", Family::Programs),
+    ("scripts_tokens.table", Family::Scripts),
+];
 
 fn main(rt: HostRuntime) -> ExitCode {
     match compare_all(&rt) {
