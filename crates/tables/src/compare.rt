@@ -1,7 +1,7 @@
 // What a table wants beside what its family answers.
 use crate::printed::Printed;
 use crate::rows::{Row, TableError, rows_of};
-use crate::scripts;
+use crate::{programs, scripts};
 use itoa::Buffer;
 use std::alloc::{AllocError, Global};
 use std::str;
@@ -9,6 +9,7 @@ use std::str;
 /// What answers the rows of a table.
 #[derive(Clone, Copy)]
 pub enum Family {
+    Programs,
     Scripts,
 }
 
@@ -94,6 +95,7 @@ fn has_answer(
         return Ok(false);
     };
     match family {
+        Family::Programs => programs::answer(alloc, call, &row.arguments, answer),
         Family::Scripts => scripts::answer(alloc, call, &row.arguments, answer),
     }
 }

@@ -1,8 +1,14 @@
 // Answers the rows of tables by the libraries, and prints each that differs from what its table wants.
 #![tactic(auto)]
 
+mod codecs;
 mod compare;
+mod listing;
+mod mail;
+mod matching;
+mod numbers;
 mod printed;
+mod programs;
 mod refused;
 mod rows;
 mod script_forms;
@@ -19,6 +25,16 @@ use std::process::ExitCode;
 
 // The tables, and what answers their rows.
 const TABLES: &[(&str, Family)] = &[
+    ("mail_headers.table", Family::Mail),
+    ("mail_values.table", Family::Mail),
+    ("mail_parts.table", Family::Mail),
+    ("matching_texts.table", Family::Matching),
+    ("matching_headers.table", Family::Matching),
+    ("codecs_qp.table", Family::Codecs),
+    ("codecs_base.table", Family::Codecs),
+    ("programs_octets.table", Family::Programs),
+    ("programs_verify.table", Family::Programs),
+    ("programs_run.table", Family::Programs),
     ("scripts_tokens.table", Family::Scripts),
     ("scripts_trees.table", Family::Scripts),
     ("scripts_checks.table", Family::Scripts),

@@ -1,0 +1,313 @@
+// What is answered of programs of the bytecode: see the head of data/programs.table.
+use crate::listing::{listing_of, number, program};
+use crate::printed::Printed;
+use bytecode_format::{Action, Program, final_actions};
+use bytecode_verifier::{Verified, verify};
+use itoa::Buffer;
+use mime_decode::Message;
+use octets::Octets;
+use refusals::Refusal;
+use sieve_engine::{Report, execute};
+use sieve_vm::run;
+use std::alloc::{AllocError, Global};
+
+/// Answers a call about programs; false where there is no such call.
+pub fn answer(
+    alloc: Global,
+    call: &str,
+    arguments: &[Vec<u8>],
+    answer: &mut Printed,
+) -> Result<bool, AllocError> {
+    let known = match arguments {
+        [code, strings @ ..] if call == "verify" => put_budget(alloc, code, strings, answer),
+        [octets, parts, code, strings @ ..] if call == "limit" => {
+            put_limit(alloc, octets, parts, code, strings, answer)
+        }
+        [message, code, strings @ ..] if call == "actions" => {
+            put_actions_of(alloc, message, code, strings, answer)
+        }
+        [message, code, strings @ ..] if call == "run" => {
+            put_run(alloc, message, code, strings, answer)
+        }
+        [modifiers, texts @ ..] if call == "modify" => {
+            put_modified(alloc, modifiers, texts, answer)
+        }
+        _ => answer_octets(alloc, call, arguments, answer),
+    };
+    match known {
+        Ok(known) => Ok(known),
+        Err(refusal) => {
+            put_refusal(&refusal, answer)?;
+            Ok(true)
+        }
+    }
+}
+
+// The calls about programs as octets, and about actions and numbers.
+fn answer_octets(
+    alloc: Global,
+    call: &str,
+    arguments: &[Vec<u8>],
+    answer: &mut Printed,
+) -> Result<bool, Refusal> {
+    match arguments {
+        [code, strings @ ..] if call == "spell" => put_spelled(alloc, code, strings, answer),
+        [octets] if call == "read" => put_listing(alloc, octets, answer),
+        [octets] if call == "beginnings" => put_beginnings(alloc, octets, answer),
+        [octets, message] if call == "execute" => put_execution(alloc, octets, message, answer),
+        [implicit_keep, actions @ ..] if call == "final" => {
+            put_final(alloc, implicit_keep, actions, answer)
+        }
+        [] if call == "modifiers" => put_modifiers(alloc, answer),
+        _ => Ok(false),
+    }
+}
+
+// Puts a refusal as the command line prints it.
+fn put_refusal(refusal: &Refusal, answer: &mut Printed) -> Result<(), AllocError> {
+    answer.word("refused")?;
+    answer.number(u64::from(refusal.number()))?;
+    answer.word(refusal.name())?;
+    if let Some(place) = refusal.place() {
+        answer.word("at")?;
+        answer.number(place as u64)?;
+    }
+    Ok(())
+}
+
+// Puts actions as the command line prints them.
+fn put_actions(actions: &[Action], answer: &mut Printed) -> Result<(), AllocError> {
+    if actions.is_empty() {
+        answer.word("none")?;
+    }
+    for action in actions {
+        match action {
+            Action::Keep => answer.word("keep")?,
+            Action::File(folder) => {
+                answer.word("fileinto")?;
+                answer.text(folder.as_slice())?;
+            }
+            Action::Store(folder, part) => {
+                answer.word("store")?;
+                answer.text(folder.as_slice())?;
+                answer.number(*part as u64)?;
+            }
+        }
+    }
+    Ok(())
+}
+
+// The program, if it is accepted.
+fn accepted(alloc: Global, program: Program) -> Result<Verified, Refusal> {
+    match verify(alloc, program) {
+        Ok(verified) => Ok(verified),
+        Err((_program, refusal)) => Err(Refusal::from(refusal)),
+    }
+}
+
+fn put_budget(
+    alloc: Global,
+    code: &[u8],
+    strings: &[Vec<u8>],
+    answer: &mut Printed,
+) -> Result<bool, Refusal> {
+    let Some(program) = program(alloc, code, strings)? else {
+        return Ok(false);
+    };
+    let verified = accepted(alloc, program)?;
+    answer.word(verified.budget().to_string(alloc)?.as_str())?;
+    Ok(true)
+}
+
+fn put_limit(
+    alloc: Global,
+    octets: &[u8],
+    parts: &[u8],
+    code: &[u8],
+    strings: &[Vec<u8>],
+    answer: &mut Printed,
+) -> Result<bool, Refusal> {
+    let (Some(octets), Some(parts)) = (number(octets), number(parts)) else {
+        return Ok(false);
+    };
+    let Some(program) = program(alloc, code, strings)? else {
+        return Ok(false);
+    };
+    if octets > 67_108_864 || parts > 4_096 {
+        return Ok(false);
+    }
+    let verified = accepted(alloc, program)?;
+    answer.large_number(verified.budget().at(octets, parts))?;
+    Ok(true)
+}
+
+// What a program as it is built does on a message.
+fn report(alloc: Global, program: Program, message: &[u8]) -> Result<Report, Refusal> {
+    let verified = accepted(alloc, program)?;
+    let message = Message::read(alloc, message)?;
+    let outcome = run(alloc, &verified, &message)?;
+    let limit = verified
+        .budget()
+        .at(message.size() as u64, message.parts() as u64);
+    Ok(Report { outcome, limit })
+}
+
+fn put_actions_of(
+    alloc: Global,
+    message: &[u8],
+    code: &[u8],
+    strings: &[Vec<u8>],
+    answer: &mut Printed,
+) -> Result<bool, Refusal> {
+    let Some(program) = program(alloc, code, strings)? else {
+        return Ok(false);
+    };
+    let Report { outcome, limit } = report(alloc, program, message)?;
+    if outcome.charged > limit {
+        answer.word("above")?;
+    }
+    put_actions(&outcome.actions, answer)?;
+    Ok(true)
+}
+
+fn put_run(
+    alloc: Global,
+    message: &[u8],
+    code: &[u8],
+    strings: &[Vec<u8>],
+    answer: &mut Printed,
+) -> Result<bool, Refusal> {
+    let Some(program) = program(alloc, code, strings)? else {
+        return Ok(false);
+    };
+    put_execution(alloc, &program.write(alloc)?, message, answer)
+}
+
+fn put_execution(
+    alloc: Global,
+    program: &[u8],
+    message: &[u8],
+    answer: &mut Printed,
+) -> Result<bool, Refusal> {
+    let report = execute(alloc, program, message)?;
+    put_actions(&report.outcome.actions, answer)?;
+    answer.word("charged")?;
+    answer.large_number(report.outcome.charged)?;
+    answer.word("of")?;
+    answer.large_number(report.limit)?;
+    Ok(true)
+}
+
+fn put_spelled(
+    alloc: Global,
+    code: &[u8],
+    strings: &[Vec<u8>],
+    answer: &mut Printed,
+) -> Result<bool, Refusal> {
+    let Some(program) = program(alloc, code, strings)? else {
+        return Ok(false);
+    };
+    answer.text(&program.write(alloc)?)?;
+    Ok(true)
+}
+
+fn put_listing(alloc: Global, octets: &[u8], answer: &mut Printed) -> Result<bool, Refusal> {
+    let program = Program::read(alloc, octets)?;
+    answer.text(&listing_of(alloc, &program)?)?;
+    for string in program.strings() {
+        answer.text(string.as_slice())?;
+    }
+    Ok(true)
+}
+
+fn put_beginnings(alloc: Global, octets: &[u8], answer: &mut Printed) -> Result<bool, Refusal> {
+    for end in 0..octets.len() + 1 {
+        if Program::read(alloc, &octets[..end]).is_ok() {
+            answer.number(end as u64)?;
+        }
+    }
+    Ok(true)
+}
+
+// The actions that words name as the command line prints them.
+fn actions_of(alloc: Global, words: &[Vec<u8>]) -> Result<Option<Vec<Action>>, AllocError> {
+    let mut actions = Vec::new(alloc);
+    let mut rest = words;
+    for _ in 0..words.len() {
+        rest = match rest {
+            [] => rest,
+            [word, after @ ..] if word.as_slice() == b"keep".as_slice() => {
+                actions.push(Action::Keep)?;
+                after
+            }
+            [word, folder, after @ ..] if word.as_slice() == b"fileinto".as_slice() => {
+                actions.push(Action::File(Octets::from_vec(folder.clone()?)))?;
+                after
+            }
+            [word, folder, part, after @ ..] if word.as_slice() == b"store".as_slice() => {
+                let part = number(part).unwrap_or(u64::MAX) as usize;
+                actions.push(Action::Store(Octets::from_vec(folder.clone()?), part))?;
+                after
+            }
+            _ => return Ok(None),
+        };
+    }
+    Ok(Some(actions))
+}
+
+fn put_final(
+    alloc: Global,
+    implicit_keep: &[u8],
+    words: &[Vec<u8>],
+    answer: &mut Printed,
+) -> Result<bool, Refusal> {
+    let Some(actions) = actions_of(alloc, words)? else {
+        return Ok(false);
+    };
+    let stands = implicit_keep == b"true".as_slice();
+    put_actions(&final_actions(alloc, actions, stands)?, answer)?;
+    Ok(true)
+}
+
+// A program that files into its one string, modified.
+fn modifying(alloc: Global, modifiers: &[u8], text: Vec<u8>) -> Result<Option<Program>, Refusal> {
+    let mut code = Vec::from_slice(alloc, b"variables 1; LIT; SET a")?;
+    code.extend_from_slice(modifiers)?;
+    code.extend_from_slice(b"; VAR; FILE; HALT")?;
+    program(alloc, &code, &vec![in alloc; text]?)
+}
+
+fn put_modified(
+    alloc: Global,
+    modifiers: &[u8],
+    texts: &[Vec<u8>],
+    answer: &mut Printed,
+) -> Result<bool, Refusal> {
+    for text in texts {
+        let Some(program) = modifying(alloc, modifiers, text.clone()?)? else {
+            return Ok(false);
+        };
+        match report(alloc, program, b"")?.outcome.actions.as_slice() {
+            [Action::File(folder)] => answer.text(folder.as_slice())?,
+            actions => put_actions(actions, answer)?,
+        }
+    }
+    Ok(true)
+}
+
+// Each octet that is accepted as modifiers; and the refusal where it isn't that of a field.
+fn put_modifiers(alloc: Global, answer: &mut Printed) -> Result<bool, Refusal> {
+    for modifiers in 0..256u64 {
+        let mut digits = Buffer::new();
+        let digits = digits.format(modifiers).as_bytes();
+        let Some(program) = modifying(alloc, digits, Vec::new(alloc))? else {
+            return Ok(false);
+        };
+        match accepted(alloc, program) {
+            Ok(_verified) => answer.number(modifiers)?,
+            Err(Refusal::Form { place: 1 }) => {}
+            Err(refusal) => put_refusal(&refusal, answer)?,
+        }
+    }
+    Ok(true)
+}
