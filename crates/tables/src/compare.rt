@@ -1,7 +1,7 @@
 // What a table wants beside what its family answers.
 use crate::printed::Printed;
 use crate::rows::{Row, TableError, rows_of};
-use crate::scripts;
+use crate::{codecs, mail, matching, scripts};
 use itoa::Buffer;
 use std::alloc::{AllocError, Global};
 use std::str;
@@ -10,6 +10,9 @@ use std::str;
 #[derive(Clone, Copy)]
 pub enum Family {
     Scripts,
+    Mail,
+    Matching,
+    Codecs,
 }
 
 /// How many rows there were, and how many of them differ.
@@ -95,6 +98,9 @@ fn has_answer(
     };
     match family {
         Family::Scripts => scripts::answer(alloc, call, &row.arguments, answer),
+        Family::Mail => mail::answer(alloc, call, &row.arguments, answer),
+        Family::Matching => matching::answer(alloc, call, &row.arguments, answer),
+        Family::Codecs => codecs::answer(alloc, call, &row.arguments, answer),
     }
 }
 

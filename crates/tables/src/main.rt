@@ -1,7 +1,11 @@
 // Answers the rows of tables by the libraries, and prints each that differs from what its table wants.
 #![tactic(auto)]
 
+mod codecs;
 mod compare;
+mod mail;
+mod matching;
+mod numbers;
 mod printed;
 mod rows;
 mod scripts;
@@ -13,7 +17,16 @@ use std::io::{self, Write};
 use std::process::ExitCode;
 
 // The tables, and what answers their rows.
-const TABLES: &[(&str, Family)] = &[("scripts_tokens.table", Family::Scripts)];
+const TABLES: &[(&str, Family)] = &[
+    ("scripts_tokens.table", Family::Scripts),
+    ("mail_headers.table", Family::Mail),
+    ("mail_values.table", Family::Mail),
+    ("mail_parts.table", Family::Mail),
+    ("matching_texts.table", Family::Matching),
+    ("matching_headers.table", Family::Matching),
+    ("codecs_qp.table", Family::Codecs),
+    ("codecs_base.table", Family::Codecs),
+];
 
 fn main(rt: HostRuntime) -> ExitCode {
     match compare_all(&rt) {
