@@ -311,7 +311,7 @@ fn bodies(alloc: Global, arguments: &[Vec<u8>], answer: &mut Printed) -> Result<
     let Some(kind) = kind_of(kind) else {
         return Ok(false);
     };
-    let content = if owner == b"owned".as_slice() {
+    let content = if owner.as_slice() == b"owned".as_slice() {
         CowSlice::Owned(text.to_vec(alloc)?)
     } else {
         CowSlice::Borrowed(text.as_slice())
