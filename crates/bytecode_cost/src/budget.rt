@@ -14,7 +14,7 @@ const LEVELS: usize = 4;
 /// there may charge however long the message is, and what they may charge for each of its octets.
 ///
 /// A contract sees the version and the eight sums.
-#[derive(Debug, Drop)]
+#[derive(Drop)]
 pub struct Budget {
     version: u8,
     fixed: [u64; LEVELS],

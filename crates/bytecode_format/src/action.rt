@@ -10,7 +10,7 @@ use std::alloc::AllocError;
 use std::cmp::Ordering;
 
 /// An action of a filter.
-#[derive(Debug, Drop)]
+#[derive(Drop)]
 pub enum Action {
     /// Files the message in the inbox.
     Keep,

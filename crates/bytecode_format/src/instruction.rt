@@ -4,7 +4,7 @@
 ///
 /// Any octets are an instruction; whether they name an operation, and whether the fields are in
 /// its ranges, is for the verifier.
-#[derive(Clone, Copy, Debug, PartialEq, Eq)]
+#[derive(Clone, Copy)]
 pub struct Instruction {
     /// The operation's octet; [`Operation::of`](crate::Operation::of) names it.
     pub op: u8,

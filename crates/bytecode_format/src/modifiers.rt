@@ -7,7 +7,7 @@ use octets::Octets;
 use std::alloc::{AllocError, Global};
 
 /// A case of ASCII letters.
-#[derive(Clone, Copy, Debug, PartialEq, Eq)]
+#[derive(Clone, Copy, PartialEq, Eq)]
 pub enum Case {
     /// `a` to `z`.
     Lower,
@@ -16,7 +16,7 @@ pub enum Case {
 }
 
 /// The modifiers of a variable's value (RFC 5229, section 4.1), applied in the order of the fields.
-#[derive(Clone, Copy, Debug, PartialEq, Eq)]
+#[derive(Clone, Copy, PartialEq, Eq)]
 pub struct Modifiers {
     /// The case of all letters: `:lower` or `:upper`.
     pub letters: Option<Case>,

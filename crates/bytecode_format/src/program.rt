@@ -27,7 +27,7 @@ pub(crate) const MAX_INSTRUCTIONS: usize = 65_536;
 pub(crate) const OPENING: [u8; 5] = *b"SVBC\x01";
 
 /// A program within the limits of the format. A contract sees its `Code`.
-#[derive(Debug, Drop)]
+#[derive(Drop)]
 pub struct Program {
     version: u8,
     variables: u16,

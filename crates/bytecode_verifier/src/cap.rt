@@ -1,7 +1,7 @@
 // What an instruction may charge.
 
 /// What an instruction may charge at most.
-#[derive(Clone, Copy, Debug, PartialEq, Eq)]
+#[derive(Clone, Copy)]
 pub struct Cap {
     /// However long the message is.
     pub fixed: u64,

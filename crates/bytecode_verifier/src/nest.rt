@@ -8,7 +8,7 @@ use bytecode_format::{Instruction, Operation};
 use std::alloc::{AllocError, Global};
 
 /// What is known of the loops at a place. A loop is named by the place of its Next, which is never 0.
-#[derive(Clone, Copy, Debug)]
+#[derive(Clone, Copy)]
 pub struct Nest {
     /// The loop that is opened here, or 0 where none is.
     pub next: u32,

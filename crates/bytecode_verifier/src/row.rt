@@ -29,7 +29,7 @@ const PARAMS_UNIT: u32 = 65_536;
 pub const MAX_LOOPS: u32 = 3;
 
 /// Which values a field of an instruction takes.
-#[derive(Clone, Copy, Debug, PartialEq, Eq)]
+#[derive(Clone, Copy)]
 pub enum Range {
     /// The operation doesn't name the field: 0 alone.
     Unnamed,
@@ -53,7 +53,7 @@ pub enum Range {
 }
 
 /// A table of a program that an instruction's c is an index of.
-#[derive(Clone, Copy, Debug, PartialEq, Eq)]
+#[derive(Clone, Copy)]
 pub enum Table {
     Variables,
     Numbers,
@@ -61,7 +61,7 @@ pub enum Table {
 }
 
 /// The row of an operation in the table of the bytecode.
-#[derive(Clone, Copy, Debug, PartialEq, Eq)]
+#[derive(Clone, Copy)]
 pub struct Row {
     pub a: Range,
     pub b: Range,

@@ -25,7 +25,7 @@ const MAX_VALUE: usize = 4096;
 const DIGEST_LENGTH: u64 = 64;
 
 /// What is known of an entry of the stack.
-#[derive(Clone, Copy, Debug, PartialEq, Eq)]
+#[derive(Clone, Copy)]
 pub enum Entry {
     /// A truth value.
     Truth,
@@ -34,7 +34,7 @@ pub enum Entry {
 }
 
 /// The entries of the stack. A contract sees their list, the top one first.
-#[derive(Debug, Drop)]
+#[derive(Drop)]
 pub struct Shape {
     entries: Vec<Entry>,
 }

@@ -18,7 +18,7 @@ use std::alloc::Global;
 use std::marker::Model;
 
 /// A program that is accepted. A contract sees its code.
-#[derive(Debug, Drop)]
+#[derive(Drop)]
 pub struct Verified {
     program: Program,
     budget: Budget,

@@ -11,7 +11,7 @@ use refusals::Refusal;
 use std::alloc::{AllocError, Global};
 
 /// How octets are written as a text.
-#[derive(Clone, Copy, Debug, PartialEq, Eq, Drop)]
+#[derive(Clone, Copy, Drop)]
 pub enum Encoding {
     /// The octets themselves.
     Raw,

@@ -6,7 +6,7 @@ ghost use Rattle.depot_actions.specs.Device.{HasFailed, HasTaken, Output};
 use std::io::{ErrorKind, Write};
 
 /// A device refused what it was asked for.
-#[derive(Debug, Drop)]
+#[derive(Drop)]
 pub struct DeviceFailed;
 
 /// What takes octets.

@@ -10,7 +10,7 @@ use depot_actions::{DeviceFailed, Sink};
 use part_store::{EntryRow, Kind};
 
 /// How much of an entry is printed.
-#[derive(Clone, Copy, Debug)]
+#[derive(Clone, Copy)]
 pub enum Detail {
     /// Its number, its kind and its folder.
     Brief,

@@ -6,7 +6,7 @@ use crate::task::Task;
 use depot_actions::Encoding;
 
 /// What is asked of a depot; the octets of a file may come to it.
-#[derive(Clone, Copy, Debug)]
+#[derive(Clone, Copy)]
 pub enum Order<'a> {
     /// To store a script's code as the user's filter.
     Script {
@@ -38,7 +38,7 @@ pub enum Order<'a> {
 }
 
 /// A command on a depot, whose file was read.
-#[derive(Debug, Drop)]
+#[derive(Drop)]
 pub struct Errand<'a> {
     /// The name of the depot's file.
     pub name: &'a str,

@@ -8,7 +8,7 @@ use refusals::Refusal;
 use std::alloc::Global;
 
 /// What gives octets to a command.
-#[derive(Clone, Copy, Debug)]
+#[derive(Clone, Copy)]
 pub enum Input<'a> {
     /// Standard input.
     Standard,

@@ -32,7 +32,7 @@ pub(crate) const SUCCESS: u8 = 0;
 const REFUSED: u8 = 1;
 
 /// A command with the octets of its files.
-#[derive(Clone, Copy, Debug)]
+#[derive(Clone, Copy)]
 pub enum Job<'a> {
     /// Whether a script has a fault.
     Check {
@@ -83,7 +83,7 @@ pub enum Job<'a> {
 }
 
 /// What a job's answer is made of.
-#[derive(Debug, Drop)]
+#[derive(Drop)]
 pub enum Lines {
     /// A script has no fault.
     NoFault,

@@ -10,7 +10,7 @@ use depot_actions::Encoding;
 use std::alloc::Global;
 
 /// A command with the names of its files, or with its encoding.
-#[derive(Clone, Copy, Debug, PartialEq, Eq)]
+#[derive(Clone, Copy)]
 pub enum CommandLine<'a> {
     /// No words: the program that keeps every message, on standard input.
     NoWords,

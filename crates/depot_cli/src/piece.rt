@@ -1,7 +1,7 @@
 // The pieces of a line.
 
 /// What a line is made of. A line is printed piece by piece, so that printing takes no memory.
-#[derive(Clone, Copy, Debug)]
+#[derive(Clone, Copy)]
 pub enum Piece<'a> {
     /// A text as it is.
     Text(&'a str),
@@ -16,7 +16,7 @@ pub enum Piece<'a> {
 }
 
 /// What octets stand among, which says the ones that are printed as they are.
-#[derive(Clone, Copy, Debug)]
+#[derive(Clone, Copy)]
 pub enum Setting {
     /// Between quotes.
     Quotes,

@@ -34,7 +34,7 @@ const KEEPS_ALL: &[u8] = &[
 ];
 
 /// What a command reads, in the order of its words.
-#[derive(Clone, Copy, Debug)]
+#[derive(Clone, Copy)]
 pub enum Inputs<'a> {
     /// Nothing.
     None,
@@ -45,7 +45,7 @@ pub enum Inputs<'a> {
 }
 
 /// What is to be done next.
-#[derive(Debug, Drop)]
+#[derive(Drop)]
 pub enum Next<'a> {
     /// To end with a status: 0 for success, 1 for a refusal or an answer that broke off, 2 for words that aren't those of a command, and for help.
     Exit(u8),

@@ -17,7 +17,7 @@ use sqlite::Alter;
 use std::alloc::Global;
 
 /// A command on a depot, with the octets of its file.
-#[derive(Clone, Copy, Debug)]
+#[derive(Clone, Copy)]
 pub enum Task<'a> {
     /// A script's code as the user's filter.
     Script {

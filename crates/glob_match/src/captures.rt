@@ -14,7 +14,7 @@ pub const MAX_CAPTURES: usize = 10;
 pub const MAX_CAPTURE: usize = 4096;
 
 /// The octets of a value from `start` up to `end`.
-#[derive(Clone, Copy, Debug, Default, PartialEq, Eq, Drop)]
+#[derive(Clone, Copy, Default, Drop)]
 pub struct Stretch {
     pub start: usize,
     pub end: usize,
@@ -22,7 +22,7 @@ pub struct Stretch {
 
 /// The captures of a value that fits a key, as stretches of the value: the whole value, then those of the first nine
 /// wildcards, each cut to [`MAX_CAPTURE`] octets. A contract sees the list of the stretches.
-#[derive(Debug, Drop)]
+#[derive(Drop)]
 pub struct Captures {
     stretches: ArrayVec<Stretch, MAX_CAPTURES>,
 }

@@ -2,7 +2,7 @@ ghost use Rattle.std.specs.Prelude.{◌≡◌};
 ghost use Rattle.glob_match.specs.Comparison.{compared_octet, same_octet};
 
 /// How octets are compared (RFC 4790, sections 9.2 and 9.3).
-#[derive(Clone, Copy, Debug, PartialEq, Eq, Drop)]
+#[derive(Clone, Copy, PartialEq, Eq, Drop)]
 pub enum Comparator {
     /// `i;octet`: as they are.
     Octet,

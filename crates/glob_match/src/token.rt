@@ -6,7 +6,7 @@ ghost use Rattle.glob_match.specs.Tokens.{tokens_of};
 use crate::comparator::Comparator;
 
 /// A literal octet or a wildcard of a key (RFC 5228, section 2.7.1).
-#[derive(Clone, Copy, Debug, PartialEq, Eq, Drop)]
+#[derive(Clone, Copy, Drop)]
 pub enum Token {
     /// An octet, which may have a backslash before it.
     Literal(u8),

@@ -16,7 +16,7 @@ use text_lines::Lines;
 /// A field of a header, over octets that are lent: nothing is copied.
 ///
 /// A contract sees the record of its name and its value.
-#[derive(Debug, Drop)]
+#[derive(Drop)]
 pub struct Field<'a> {
     name: &'a [u8],
     // What follows the colon, with the breaks of its lines but the last.

@@ -15,7 +15,7 @@ use text_lines::{Line, Lines};
 /// The header that octets begin with, over octets that are lent: nothing is copied.
 ///
 /// A contract sees the record of its fields and of the place where the body begins.
-#[derive(Debug, Drop)]
+#[derive(Drop)]
 pub struct Header<'a> {
     fields: Vec<Field<'a>>,
     body_start: usize,

@@ -9,7 +9,7 @@ use std::marker::Model;
 ///
 /// The value stays where it is lent; one that had to be unfolded was moved in. A contract sees ten texts, of which those are empty
 /// that the key has no wildcard for.
-#[derive(Debug, Drop)]
+#[derive(Drop)]
 pub struct Captured<'a> {
     value: CowSlice<'a, u8>,
     stretches: Captures,
@@ -47,7 +47,7 @@ impl<'a> Captured<'a> {
 }
 
 /// What comparing values with keys comes to.
-#[derive(Debug, Drop)]
+#[derive(Drop)]
 pub enum Outcome<'a> {
     /// No value matches a key.
     Fails,
@@ -69,7 +69,7 @@ impl<'a> Outcome<'a> {
 }
 
 /// What a test comes to, and what it costs.
-#[derive(Debug, Drop)]
+#[derive(Drop)]
 pub struct Answer<'m> {
     pub outcome: Outcome<'m>,
     /// Of all names and fields, and of all values and keys, whichever were compared.

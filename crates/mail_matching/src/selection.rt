@@ -1,7 +1,7 @@
 // Which parts a test looks at, and what it selects in their headers.
 
 /// The parts in scope of a test (RFC 5703, section 4).
-#[derive(Clone, Copy, Debug, PartialEq, Eq)]
+#[derive(Clone, Copy)]
 pub enum Scope {
     /// The message itself, which is its first part.
     Root,
@@ -12,7 +12,7 @@ pub enum Scope {
 }
 
 /// Where a test looks: the parts in scope, as they are seen from the current part.
-#[derive(Clone, Copy, Debug, PartialEq, Eq)]
+#[derive(Clone, Copy)]
 pub struct Reach {
     pub scope: Scope,
     /// The current part, or `None` where no loop is open.
@@ -20,7 +20,7 @@ pub struct Reach {
 }
 
 /// What a test selects of a field.
-#[derive(Clone, Copy, Debug, PartialEq, Eq)]
+#[derive(Clone, Copy)]
 pub enum Selector {
     /// Its value.
     Value,
@@ -35,7 +35,7 @@ pub enum Selector {
 }
 
 /// How `header` selects values and compares them.
-#[derive(Clone, Copy, Debug, PartialEq, Eq)]
+#[derive(Clone, Copy)]
 pub struct HeaderTest {
     pub reach: Reach,
     pub selector: Selector,

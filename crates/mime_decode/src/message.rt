@@ -18,7 +18,7 @@ use std::marker::Model;
 /// A message, over octets that are lent: bodies aren't copied, and nothing is decoded before it is asked for.
 ///
 /// A contract sees the mail of the definition.
-#[derive(Debug, Drop)]
+#[derive(Drop)]
 pub struct Message<'a> {
     octets: &'a [u8],
     tree: Tree<'a>,

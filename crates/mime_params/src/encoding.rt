@@ -6,7 +6,7 @@ ghost use Rattle.mime_params.specs.Encodings.{encoding_named, encoding_of, is_wo
 use octets::{equal_ignoring_case, trim_blanks};
 
 /// How the body of a part is encoded for transfer (RFC 2045, section 6.1).
-#[derive(Clone, Copy, Debug, PartialEq, Eq)]
+#[derive(Clone, Copy)]
 pub enum TransferEncoding {
     /// Lines of ASCII, as they stand.
     SevenBit,

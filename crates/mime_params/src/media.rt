@@ -10,7 +10,7 @@ use octets::Octets;
 use std::alloc::Global;
 
 /// A media type with its parameters (RFC 2045, section 5.1), as it is written.
-#[derive(Debug, Drop)]
+#[derive(Drop)]
 pub struct MediaType {
     /// What stands before the slash.
     pub main: Octets,
@@ -20,7 +20,7 @@ pub struct MediaType {
 }
 
 /// A disposition with its parameters (RFC 2183, section 2), as it is written.
-#[derive(Debug, Drop)]
+#[derive(Drop)]
 pub struct Disposition {
     pub main: Octets,
     pub params: Params,

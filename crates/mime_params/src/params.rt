@@ -12,7 +12,7 @@ use std::alloc::{AllocError, Global};
 use std::marker::Model;
 
 /// A parameter of a value (RFC 2045, section 5.1).
-#[derive(Debug, Drop)]
+#[derive(Drop)]
 pub struct Parameter {
     /// Its name, as it is written.
     pub name: Octets,
@@ -21,7 +21,7 @@ pub struct Parameter {
 }
 
 /// The parameters of a value, in order. A contract sees their list.
-#[derive(Debug, Drop)]
+#[derive(Drop)]
 pub struct Params {
     items: Vec<Parameter>,
 }

@@ -6,7 +6,7 @@ ghost use Rattle.mime_tree.specs.Reading.{NamesOctets, mark_of};
 use octets::trim_trailing_blanks;
 
 /// What a line is to a multipart.
-#[derive(Clone, Copy, Debug)]
+#[derive(Clone, Copy)]
 pub(crate) enum Mark {
     /// A line before another child.
     Delimiter,

@@ -12,7 +12,7 @@ use crate::run::Runs;
 use text_lines::{Line, Lines};
 
 /// An open part, and what a line is to it.
-#[derive(Clone, Copy, Debug)]
+#[derive(Clone, Copy)]
 pub(crate) struct Met {
     /// Its place among the open parts.
     pub(crate) place: usize,
@@ -21,7 +21,7 @@ pub(crate) struct Met {
 }
 
 /// A line that ends parts.
-#[derive(Clone, Copy, Debug)]
+#[derive(Clone, Copy)]
 pub(crate) struct Hit {
     /// Where the line before it ends.
     pub(crate) end: usize,

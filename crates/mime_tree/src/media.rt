@@ -13,7 +13,7 @@ use std::alloc::{AllocError, Global};
 use std::borrow::CowSlice;
 
 /// The media type of a part that has no Content-Type.
-#[derive(Clone, Copy, Debug)]
+#[derive(Clone, Copy)]
 pub(crate) enum DefaultType {
     /// `text/plain`.
     Text,

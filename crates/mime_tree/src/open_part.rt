@@ -11,7 +11,7 @@ use std::alloc::{AllocError, Global};
 use std::marker::Model;
 
 /// A part that hasn't ended.
-#[derive(Debug, Drop)]
+#[derive(Drop)]
 pub(crate) struct OpenPart {
     // Its place among the parts.
     at: usize,

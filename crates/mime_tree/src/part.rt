@@ -16,7 +16,7 @@ use std::marker::Model;
 /// A part of a message, over octets that are lent.
 ///
 /// A contract sees the part of the definition.
-#[derive(Debug, Drop)]
+#[derive(Drop)]
 pub(crate) struct Part<'a> {
     depth: usize,
     below: usize,

@@ -11,7 +11,7 @@ use text_lines::{Line, Lines};
 /// them together. No step takes memory.
 ///
 /// A contract sees the text and the place up to which its lines were given.
-#[derive(Debug, Drop)]
+#[derive(Drop)]
 pub(crate) struct Runs<'a> {
     text: &'a [u8],
     place: usize,

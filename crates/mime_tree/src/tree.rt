@@ -18,7 +18,7 @@ use std::marker::Model;
 /// bodies aren't copied, media types and boundaries are.
 ///
 /// Parts are numbered from 0, each before those below it. A contract sees the list of the definition's parts.
-#[derive(Debug, Drop)]
+#[derive(Drop)]
 pub struct Tree<'a> {
     parts: Vec<Part<'a>>,
 }

@@ -2,7 +2,7 @@ ghost use Rattle.std.specs.Prelude.{◌≡◌, ◌*◌};
 ghost use Rattle.octet_lanes.specs.Encoding.{padding, quantum, stray, width};
 
 /// An alphabet of RFC 4648, with its group size.
-#[derive(Clone, Copy, Debug, PartialEq, Eq, Drop)]
+#[derive(Clone, Copy, Drop)]
 pub enum Alphabet {
     /// Groups of 6 bits in `A-Z a-z 0-9 + /` (RFC 4648, section 4).
     Base64,

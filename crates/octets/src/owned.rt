@@ -11,7 +11,7 @@ use std::marker::Model;
 use std::ops::DerefSlice;
 
 /// An owned string of octets. A contract sees the list of the octets.
-#[derive(Debug, Drop)]
+#[derive(Drop)]
 pub struct Octets {
     items: Vec<u8>,
 }

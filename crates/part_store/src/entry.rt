@@ -1,6 +1,6 @@
 //! Entries as callers give and see them.
 /// What an entry is of.
-#[derive(Clone, Copy, Debug, PartialEq, Eq, Drop)]
+#[derive(Clone, Copy, Drop)]
 pub enum Kind {
     /// A whole message.
     Message,
@@ -9,7 +9,7 @@ pub enum Kind {
 }
 
 /// An entry that is to be made. Its texts and its content are lent.
-#[derive(Clone, Copy, Debug)]
+#[derive(Clone, Copy)]
 pub struct NewEntry<'a> {
     /// The folder, as octets.
     pub folder: &'a [u8],
@@ -24,7 +24,7 @@ pub struct NewEntry<'a> {
 }
 
 /// An entry that is there, without its content.
-#[derive(Debug, Drop)]
+#[derive(Drop)]
 pub struct EntryRow {
     /// The number, from 1 for each user.
     pub number: u32,

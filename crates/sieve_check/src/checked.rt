@@ -12,7 +12,7 @@ use sieve_parser::Script;
 use std::marker::Model;
 
 /// A script that was checked, with its typed form. A contract sees the commands of both.
-#[derive(Debug, Drop)]
+#[derive(Drop)]
 pub struct Checked {
     script: Script,
     commands: Vec<Command>,

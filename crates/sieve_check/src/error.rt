@@ -35,7 +35,7 @@ pub enum CheckError {
 }
 
 /// What is wrong with a command or test, in the order in which it is named.
-#[derive(Clone, Copy, Debug, PartialEq, Eq)]
+#[derive(Clone, Copy)]
 pub enum Fault {
     UnknownCommand,
     MissingCapability,

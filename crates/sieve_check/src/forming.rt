@@ -122,7 +122,7 @@ fn plain_part(
 }
 
 /// Which branch of a choice a command opens.
-#[derive(Clone, Copy, Debug, PartialEq, Eq)]
+#[derive(Clone, Copy)]
 pub enum Opening {
     /// That of an `if`.
     First,

@@ -19,7 +19,7 @@ use sieve_parser::Head;
 use sieve_references::is_identifier;
 
 /// The strings of a command or test that variables have to do with.
-#[derive(Clone, Copy, Debug)]
+#[derive(Clone, Copy)]
 pub struct Mentions<'t> {
     /// The lists whose strings are expanded.
     pub expanded: Lists<'t>,

@@ -8,7 +8,7 @@ use glob_match::{Comparator, MatchType};
 use octets::equal_ignoring_case;
 
 /// The commands that are known.
-#[derive(Clone, Copy, Debug, PartialEq, Eq)]
+#[derive(Clone, Copy, PartialEq, Eq)]
 pub enum CommandName {
     /// `require` (RFC 5228, section 3.2).
     Require,
@@ -37,7 +37,7 @@ pub enum CommandName {
 }
 
 /// The tests that are known.
-#[derive(Clone, Copy, Debug, PartialEq, Eq)]
+#[derive(Clone, Copy)]
 pub enum TestName {
     /// `true` and `false` (RFC 5228, sections 5.10 and 5.6).
     Constant(bool),
@@ -64,7 +64,7 @@ pub enum TestName {
 }
 
 /// The tags that are known, by the group of which at most one may stand.
-#[derive(Clone, Copy, Debug, PartialEq, Eq)]
+#[derive(Clone, Copy, PartialEq, Eq)]
 pub enum Tag {
     /// `:over` and `:under` (RFC 5228, section 5.9).
     Order(Order),
@@ -91,7 +91,7 @@ pub enum Tag {
 }
 
 /// What a test may take of a field in place of its value.
-#[derive(Clone, Copy, Debug, PartialEq, Eq)]
+#[derive(Clone, Copy, PartialEq, Eq)]
 pub enum Piece {
     /// Its media type without the subtype, or its disposition.
     Main,
@@ -104,7 +104,7 @@ pub enum Piece {
 }
 
 /// The capabilities that can be required.
-#[derive(Clone, Copy, Debug, PartialEq, Eq)]
+#[derive(Clone, Copy)]
 pub enum Capability {
     /// `fileinto` (RFC 5228, section 4.1).
     FileInto,

@@ -13,7 +13,7 @@ use octets::Octets;
 use sieve_parser::Argument;
 
 /// The arguments behind the tags.
-#[derive(Clone, Copy, Debug, PartialEq, Eq)]
+#[derive(Clone, Copy)]
 pub enum Positional {
     Nothing,
     /// One number.
@@ -29,7 +29,7 @@ pub enum Positional {
 }
 
 /// The tests behind the arguments.
-#[derive(Clone, Copy, Debug, PartialEq, Eq)]
+#[derive(Clone, Copy)]
 pub enum Tests {
     Nothing,
     /// One test, without brackets.
@@ -39,14 +39,14 @@ pub enum Tests {
 }
 
 /// How a command ends.
-#[derive(Clone, Copy, Debug, PartialEq, Eq)]
+#[derive(Clone, Copy)]
 pub enum Ending {
     Semicolon,
     Block,
 }
 
 /// What a command or test takes.
-#[derive(Clone, Copy, Debug, PartialEq, Eq)]
+#[derive(Clone, Copy)]
 pub struct Signature {
     /// Takes exactly one of `:over` and `:under`.
     pub order: bool,
@@ -65,7 +65,7 @@ pub struct Signature {
 }
 
 /// The tags that were given, one of each group at most.
-#[derive(Clone, Copy, Debug, PartialEq, Eq)]
+#[derive(Clone, Copy)]
 pub struct Tags {
     pub order: Option<Order>,
     pub kind: Option<MatchType>,
@@ -106,7 +106,7 @@ impl Tags {
 }
 
 /// Arguments that were read by a signature.
-#[derive(Clone, Copy, Debug)]
+#[derive(Clone, Copy)]
 pub struct Reading<'a> {
     pub tags: Tags,
     /// That of `:param`, if it stands there.
@@ -118,7 +118,7 @@ pub struct Reading<'a> {
 }
 
 /// The lists that were read, in the order of the typed form.
-#[derive(Clone, Copy, Debug)]
+#[derive(Clone, Copy)]
 pub struct Lists<'a> {
     /// The first behind the tags.
     pub first: &'a [Argument],

@@ -17,7 +17,7 @@ pub const MAX_STRING: usize = 16_384;
 /// The most strings in the lists of one test.
 pub const MAX_TEST_STRINGS: usize = 512;
 /// What may be wrong with a string.
-#[derive(Clone, Copy, Debug, PartialEq, Eq)]
+#[derive(Clone, Copy)]
 pub enum StringFault {
     /// It is no capability.
     Unknown,

@@ -13,7 +13,7 @@ use octets::Octets;
 use sieve_parser::{Argument, Command, Head, Invocation};
 
 /// Capabilities that were required.
-#[derive(Clone, Copy, Debug, PartialEq, Eq)]
+#[derive(Clone, Copy)]
 pub struct Capabilities {
     pub file_into: bool,
     pub variables: bool,

@@ -241,7 +241,7 @@ fn negates(head: &Head) -> bool
 }
 
 /// How a test of tests in round brackets combines them.
-#[derive(Clone, Copy, Debug, PartialEq, Eq)]
+#[derive(Clone, Copy)]
 pub enum Junction {
     All,
     Any,

@@ -4,7 +4,7 @@ use glob_match::Match;
 use octets::Octets;
 
 /// How a size is compared (RFC 5228, section 5.9).
-#[derive(Clone, Copy, Debug, PartialEq, Eq)]
+#[derive(Clone, Copy, PartialEq, Eq)]
 pub enum Order {
     /// More octets than the number.
     Over,
@@ -13,7 +13,7 @@ pub enum Order {
 }
 
 /// Which parts' headers a test looks at (RFC 5703, section 4.1).
-#[derive(Clone, Copy, Debug, PartialEq, Eq)]
+#[derive(Clone, Copy)]
 pub enum Scope {
     /// That of the message itself.
     Message,
@@ -24,7 +24,7 @@ pub enum Scope {
 }
 
 /// A piece of a string: text as it stands, or a reference (RFC 5229, section 3).
-#[derive(Debug, Drop)]
+#[derive(Drop)]
 pub enum Segment {
     /// Octets that stand for themselves.
     Text(Octets),
@@ -35,7 +35,7 @@ pub enum Segment {
 }
 
 /// What a test takes of a field (RFC 5703, section 4.2).
-#[derive(Debug, Drop)]
+#[derive(Drop)]
 pub enum Selection {
     /// Its value.
     Value,
@@ -66,7 +66,7 @@ impl Selection {
 }
 
 /// A test. A string is its segments, one after the other.
-#[derive(Debug, Drop)]
+#[derive(Drop)]
 pub enum Test {
     /// `true` and `false`.
     Constant(bool),
@@ -107,7 +107,7 @@ pub enum Test {
 
 /// A test of an `if` or `elsif`, and the block that it guards.
 #[cycle(typed)]
-#[derive(Debug, Drop)]
+#[derive(Drop)]
 pub struct Branch {
     pub test: Test,
     pub block: Vec<Command>,
@@ -115,7 +115,7 @@ pub struct Branch {
 
 /// A command. `require` says nothing here.
 #[cycle(typed)]
-#[derive(Debug, Drop)]
+#[derive(Drop)]
 pub enum Command {
     /// `keep`.
     Keep,

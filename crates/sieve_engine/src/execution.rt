@@ -11,7 +11,7 @@ use sieve_vm::{Outcome, run};
 use std::alloc::Global;
 
 /// What the run of a program on a message came to, and what it might have charged at most.
-#[derive(Debug, Drop)]
+#[derive(Drop)]
 pub struct Report {
     /// The final actions, and what the run charged.
     pub outcome: Outcome,

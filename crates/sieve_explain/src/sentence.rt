@@ -7,7 +7,7 @@ use itoa::Buffer;
 use std::alloc::AllocError;
 
 /// A sentence: its text, in which some octets are blanks, and what goes into them.
-#[derive(Clone, Copy, Debug)]
+#[derive(Clone, Copy)]
 pub struct Sentence<'a> {
     /// The text with its blanks, as `specs/Sentences` has them: `@`, `#`, `$`, `&` and `%`.
     pub text: &'static str,

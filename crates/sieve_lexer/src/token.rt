@@ -2,7 +2,7 @@
 ghost use Rattle.std.specs.Prelude.{◌≡◌, ◌≤◌, length, slice_range};
 
 /// The kinds of token, by RFC 5228, section 8.1.
-#[derive(Clone, Copy, Debug, PartialEq, Eq)]
+#[derive(Clone, Copy)]
 pub enum TokenKind {
     /// A letter or `_`, then letters, digits and `_`.
     Identifier,
@@ -25,7 +25,7 @@ pub enum TokenKind {
 }
 
 /// A token of a script: its kind, and the octets from `start` up to `end`.
-#[derive(Clone, Copy, Debug, PartialEq, Eq)]
+#[derive(Clone, Copy)]
 pub struct Token {
     pub kind: TokenKind,
     pub start: usize,

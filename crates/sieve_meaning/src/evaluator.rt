@@ -25,7 +25,7 @@ pub struct Evaluator<'s, 'm> {
 }
 
 /// How the script goes on after a command.
-#[derive(Clone, Copy, Debug, PartialEq, Eq)]
+#[derive(Clone, Copy)]
 pub enum Flow {
     GoesOn,
     Stopped,

@@ -3,7 +3,7 @@ use octets::Octets;
 use std::marker::Model;
 
 /// An argument of a command or test (RFC 5228, section 8.2).
-#[derive(Debug, Drop)]
+#[derive(Drop)]
 pub enum Argument {
     /// A string that stands without brackets.
     Text(Octets),
@@ -16,7 +16,7 @@ pub enum Argument {
 
 /// What a command or a test begins with: its identifier, the number of the identifier's token, and the
 /// arguments that stand before its tests.
-#[derive(Debug, Drop)]
+#[derive(Drop)]
 pub struct Head {
     pub name: Octets,
     pub token: usize,
@@ -24,7 +24,7 @@ pub struct Head {
 }
 
 /// An identifier with its arguments: a test, or a command without its end (RFC 5228, section 8.2).
-#[derive(Debug, Drop)]
+#[derive(Drop)]
 pub enum Invocation {
     /// No test follows the arguments.
     Plain(Head),
@@ -35,7 +35,7 @@ pub enum Invocation {
 }
 
 /// A command (RFC 5228, section 8.2).
-#[derive(Debug, Drop)]
+#[derive(Drop)]
 pub enum Command {
     /// It ends in a semicolon.
     Simple(Invocation),
@@ -44,7 +44,7 @@ pub enum Command {
 }
 
 /// The syntax tree of a script that was parsed. A contract sees its commands.
-#[derive(Debug, Drop)]
+#[derive(Drop)]
 pub struct Script {
     commands: Vec<Command>,
 }

@@ -2,7 +2,7 @@
 use sieve_check::{Capability, Ending, Positional, Tag, Tests};
 
 /// What kind of fault a command or test has.
-#[derive(Clone, Copy, Debug, PartialEq, Eq)]
+#[derive(Clone, Copy)]
 pub enum ReasonKind {
     /// No command has that name (RFC 5228, section 2.10.5).
     UnknownCommand,
@@ -64,7 +64,7 @@ pub enum ReasonKind {
 
 /// Why a command or test is refused: what kind of fault it has, its name as the script writes it, and what in it is at fault. That
 /// is a tag without its colon, a string, or the name of a variable or of a loop; it is empty where the kind names none.
-#[derive(Clone, Copy, Debug)]
+#[derive(Clone, Copy)]
 pub struct Reason<'t> {
     pub kind: ReasonKind,
     pub name: &'t [u8],
@@ -72,7 +72,7 @@ pub struct Reason<'t> {
 }
 
 /// What kind of fault a command or test has, and what in it is at fault.
-#[derive(Clone, Copy, Debug)]
+#[derive(Clone, Copy)]
 pub struct Cause<'t> {
     pub kind: ReasonKind,
     pub subject: &'t [u8],

@@ -8,7 +8,7 @@ use crate::reading::{reference_at, reference_behind};
 use crate::run::up_to_dollar;
 
 /// A piece of a string: a reference, or a stretch between references (RFC 5229, section 3).
-#[derive(Clone, Copy, Debug, PartialEq, Eq)]
+#[derive(Clone, Copy)]
 pub enum Segment<'s> {
     /// Octets that stand for themselves.
     Text(&'s [u8]),

@@ -2,7 +2,7 @@
 use std::borrow::CowSlice;
 
 /// An entry of the stack. A text that a variable or a capture holds is named, and not copied.
-#[derive(Debug, Drop)]
+#[derive(Drop)]
 pub enum Entry<'p> {
     /// A truth value.
     Truth(bool),

@@ -4,7 +4,7 @@ ghost use Rattle.sieve_vm.specs.Visits.{GoesOn, frame_of};
 use std::borrow::CowSlice;
 
 /// An open loop, and the content of its current part.
-#[derive(Debug, Default, Drop)]
+#[derive(Default, Drop)]
 pub struct Frame<'m> {
     /// The place of its Each.
     pub each: usize,

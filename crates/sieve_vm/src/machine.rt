@@ -23,7 +23,7 @@ pub struct Machine<'p, 's, 'm> {
 }
 
 /// Where the run goes after an instruction.
-#[derive(Clone, Copy, Debug, PartialEq, Eq)]
+#[derive(Clone, Copy)]
 pub enum Flow {
     /// To the next instruction.
     On,
@@ -34,14 +34,14 @@ pub enum Flow {
 }
 
 /// What an instruction came to: where the run goes, and what it is charged beyond one.
-#[derive(Clone, Copy, Debug, PartialEq, Eq)]
+#[derive(Clone, Copy)]
 pub struct Done {
     pub flow: Flow,
     pub cost: u128,
 }
 
 /// Whether the run goes on.
-#[derive(Clone, Copy, Debug, PartialEq, Eq)]
+#[derive(Clone, Copy)]
 pub enum Turn {
     GoesOn,
     Ends,

@@ -11,7 +11,7 @@ use mime_decode::Message;
 use std::alloc::{AllocError, Global};
 
 /// What a run came to.
-#[derive(Debug, Drop)]
+#[derive(Drop)]
 pub struct Outcome {
     /// The final actions, in order.
     pub actions: Vec<Action>,

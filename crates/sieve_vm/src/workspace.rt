@@ -40,7 +40,7 @@ pub struct Pushed<'s, 'p, 'm> {
 }
 
 /// How many texts the lists of a test have.
-#[derive(Clone, Copy, Debug, PartialEq, Eq)]
+#[derive(Clone, Copy)]
 pub struct Counts {
     pub names: usize,
     pub params: usize,

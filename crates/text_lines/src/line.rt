@@ -3,7 +3,7 @@
 /// The places of a line in its text: from `start` up to `end` stand its octets, from `end` up to `stop` its break.
 ///
 /// The break is CRLF or LF; the last line of a text may have none, and then `stop` is `end`.
-#[derive(Clone, Copy, Debug, PartialEq, Eq)]
+#[derive(Clone, Copy)]
 pub struct Line {
     /// The place of its first octet.
     pub start: usize,

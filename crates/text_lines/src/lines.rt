@@ -10,7 +10,7 @@ use std::marker::Model;
 /// The lines of a text, from the first to the last. No step takes memory.
 ///
 /// A contract sees the text and the place up to which its lines were given.
-#[derive(Debug, Drop)]
+#[derive(Drop)]
 pub struct Lines<'a> {
     text: &'a [u8],
     place: usize,
