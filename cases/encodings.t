@@ -4,6 +4,8 @@ The texts of `foobar`, as RFC 4648 has them, and others.
 
 ## encode nothing
     $ depot encode base64
+    $ depot encode base16
+    $ depot encode raw
 
 ## encode raw
     $ printf foobar | depot encode raw
@@ -13,6 +15,11 @@ The texts of `foobar`, as RFC 4648 has them, and others.
 ## encode base64
     $ printf foobar | depot encode base64
     Zm9vYmFy
+    [no line break]
+
+## encode base64 of one octet
+    $ printf f | depot encode base64
+    Zg==
     [no line break]
 
 ## encode base64 mime
@@ -38,6 +45,11 @@ The texts of `foobar`, as RFC 4648 has them, and others.
     $ printf 'caf\303\251 =\r\naaaaaaaaaaaaaaaaaaaaaaaaaaaaaaaaaaaaaaaaaaaaaaaaaaaaaaaaaaaaaaaaaaaaaaaaaaaaa ' | depot encode qp > text
     $ printf 'caf=C3=A9 =3D=0D=0Aaaaaaaaaaaaaaaaaaaaaaaaaaaaaaaaaaaaaaaaaaaaaaaaaaaaaaaaa=\r\naaaaaaaaaaaaaaaaaaaaa=20' | cmp - text
 
+## decode nothing
+    $ depot decode base64
+    $ depot decode base16
+    $ depot decode raw
+
 ## decode raw
     $ printf foobar | depot decode raw
     foobar
@@ -46,6 +58,11 @@ The texts of `foobar`, as RFC 4648 has them, and others.
 ## decode base64
     $ printf Zm9vYmFy | depot decode base64
     foobar
+    [no line break]
+
+## decode base64 of one octet
+    $ printf 'Zg==' | depot decode base64
+    f
     [no line break]
 
 ## decode base64 mime
@@ -79,6 +96,21 @@ Texts that the encoder doesn't write.
     2> refused 10 NotCanonical
     [1]
 
+## decode base64 spare bits
+    $ printf 'Zh==' | depot decode base64
+    2> refused 10 NotCanonical
+    [1]
+
+## decode base64 line break
+    $ printf 'Zm9v\r\n' | depot decode base64
+    2> refused 10 NotCanonical
+    [1]
+
+## decode base64 no symbol
+    $ printf 'Zm9!' | depot decode base64
+    2> refused 10 NotCanonical
+    [1]
+
 ## decode base32 spare bits
     $ printf 'MZ======' | depot decode base32
     2> refused 10 NotCanonical
@@ -96,5 +128,15 @@ Texts that the encoder doesn't write.
 
 ## decode base16 half an octet
     $ printf 666 | depot decode base16
+    2> refused 10 NotCanonical
+    [1]
+
+## decode base16 no digit
+    $ printf '6G' | depot decode base16
+    2> refused 10 NotCanonical
+    [1]
+
+## decode base16 blank
+    $ printf '66 6F' | depot decode base16
     2> refused 10 NotCanonical
     [1]
