@@ -5,7 +5,6 @@
 macro_rules! jobs {
     ($($name:ident ($($number:ident: $kind:ty),*) ($($text:ident),*);)*) => {
         mod library {
-            #[link(name = "bench", kind = "static")]
             unsafe extern "C" {
                 // a slice is passed as its place and its length
                 $(pub fn $name($($number: $kind,)* $($text: *const u8, _: usize,)* rounds: u32) -> u64;)*
