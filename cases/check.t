@@ -4,7 +4,7 @@
 
 Scripts without a fault.
 
-## nothing
+## an empty script
     $ : > script
     $ depot check script
     ok

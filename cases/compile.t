@@ -2,7 +2,7 @@
 
 What is written is compared with the examples, and verified or run.
 
-## nothing
+## an empty script
     $ : > script
     $ depot compile script out
     wrote 23 octets

@@ -13,7 +13,8 @@ The texts of `foobar`, as RFC 4648 has them, and others.
     [no line break]
 
 ## encode base64
-    $ printf foobar | depot encode base64
+    $ printf foobar > octets
+    $ depot encode base64 < octets
     Zm9vYmFy
     [no line break]
 
@@ -56,7 +57,8 @@ The texts of `foobar`, as RFC 4648 has them, and others.
     [no line break]
 
 ## decode base64
-    $ printf Zm9vYmFy | depot decode base64
+    $ printf Zm9vYmFy > text
+    $ depot decode base64 < text
     foobar
     [no line break]
 

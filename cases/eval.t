@@ -4,7 +4,7 @@
 
 Actions.
 
-## nothing
+## an empty script
     $ : > script
     $ : > message
     $ depot eval script message
@@ -40,28 +40,28 @@ Actions.
 
 Sizes and tests of tests.
 
-## over
+## size over
     $ echo 'if size :over 10 { discard; }' > script
     $ printf 0123456789 > message
     $ depot eval script message
     keep
     charged 3 of 4
 
-## under
+## size under
     $ echo 'if size :under 10 { discard; }' > script
     $ printf 0123456789 > message
     $ depot eval script message
     keep
     charged 3 of 4
 
-## tests on four
+## tests of tests on four octets
     $ echo 'if anyof (false, allof (true, not size :over 3)) { discard; } else { keep; }' > script
     $ printf abcd > message
     $ depot eval script message
     keep
     charged 8 of 10
 
-## tests on nothing
+## tests of tests on an empty message
     $ echo 'if anyof (false, allof (true, not size :over 3)) { discard; } else { keep; }' > script
     $ : > message
     $ depot eval script message
@@ -70,7 +70,7 @@ Sizes and tests of tests.
 
 The header and variables.
 
-## subject contains
+## a field that contains a key
     $ echo 'require "fileinto"; if header :contains "Subject" "a" { fileinto "x"; }' > script
     $ printf 'Subject: a\r\n\r\n' > message
     $ depot eval script message
@@ -84,7 +84,7 @@ The header and variables.
     fileinto "acme"
     charged 117 of 4495
 
-## variable unset
+## a variable that is not set
     $ echo 'require "variables"; if string "${a}" "" { discard; }' > script
     $ : > message
     $ depot eval script message

@@ -4,7 +4,7 @@ The refusal stands on standard error as `check` has it.
 
 No fault.
 
-## empty
+## an empty script
     $ : > script
     $ depot explain script
     ok

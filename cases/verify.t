@@ -19,17 +19,17 @@ Programs that are accepted; `gallery.t` has more of them.
 
 Octets that spell no program.
 
-## empty file
+## an empty file
     $ depot verify /dev/null
     2> refused 20 Spelling
     [1]
 
-## no program
+## a message
     $ depot verify examples/newsletter.eml
     2> refused 20 Spelling
     [1]
 
-## short
+## an octet too few
     $ printf 'SVBC\1\0\0\0\0\0\0\0\0\0\2' > program
     $ printf '\23\0\0\0\0\0\0\0' >> program # KEEP
     $ printf '\1\0\0\0\0\0\0' >> program # HALT
@@ -37,7 +37,7 @@ Octets that spell no program.
     2> refused 20 Spelling
     [1]
 
-## long
+## an octet too many
     $ printf 'SVBC\1\0\0\0\0\0\0\0\0\0\2' > program
     $ printf '\23\0\0\0\0\0\0\0' >> program # KEEP
     $ printf '\1\0\0\0\0\0\0\0' >> program # HALT

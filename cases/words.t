@@ -2,7 +2,7 @@
 
 No word: a message is read from standard input and kept.
 
-## none
+## no word
     $ depot
     keep
     charged 2 of 2
