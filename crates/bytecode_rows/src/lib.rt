@@ -1,27 +1,9 @@
-//! Rows of the bytecode's crates: worked examples over their public calls.
+//! The bytecode's crates on every small program and on programs as large as they may be; what rows can say stands in the crate `tables`.
 #![tactic(auto)]
 
 #[cfg(test)]
-mod engine;
-#[cfg(test)]
-mod format;
-#[cfg(test)]
 mod large;
-#[cfg(test)]
-mod loops;
-#[cfg(test)]
-mod parts;
 #[cfg(test)]
 mod plain_loops;
 #[cfg(test)]
-mod programs;
-#[cfg(test)]
 mod small_loops;
-#[cfg(test)]
-mod strings;
-#[cfg(test)]
-mod texts;
-#[cfg(test)]
-mod variables;
-#[cfg(test)]
-mod verifier;

@@ -1,159 +1,150 @@
 // Small programs of loops and jumps, read and run plainly: by the rules' own words, without a stack of brackets.
-use bytecode_format::{Instruction, Operation};
-use std::alloc::Global;
-use std::test::Fail;
+use bytecode_format::Instruction;
+use std::alloc::{AllocError, Global};
 
-/// An instruction of the small programs.
-#[derive(Clone, Copy, Debug, PartialEq, Eq)]
-pub enum Small {
-    Each(u32),
-    Next(u32),
-    Break(u8),
-    Keep,
-    Bool(bool),
-    JumpIfTrue(u32),
-    Jump(u32),
-    Halt,
+// The operations of the small programs, and the rules that these may break. They have no fields out of their ranges, no index, and no
+// operation on the current part.
+pub const HALT: u8 = 0x01;
+
+pub const BOOL: u8 = 0x07;
+
+pub const JUMP: u8 = 0x09;
+
+pub const JUMP_IF_TRUE: u8 = 0x0A;
+
+pub const KEEP: u8 = 0x13;
+
+pub const EACH: u8 = 0x17;
+
+pub const NEXT: u8 = 0x18;
+
+pub const BREAK: u8 = 0x19;
+
+pub const END_RULE: u8 = 23;
+
+pub const LOOP_RULE: u8 = 24;
+
+pub const JUMP_RULE: u8 = 25;
+
+pub const STACK_RULE: u8 = 27;
+
+// Whether an EACH stands at the place.
+fn is_each(code: &[Instruction], place: usize) -> bool {
+    place < code.len() && code[place].op == EACH
 }
 
-/// A rule that a small program may break. It has no fields out of their ranges, no index, and no operation on the
-/// current part.
-#[derive(Clone, Copy, Debug, PartialEq, Eq)]
-pub enum Broken {
-    End,
-    Loop,
-    Jump,
-    Stack,
-}
-
-impl Small {
-    /// The instruction of the bytecode.
-    pub fn instruction(self) -> Instruction {
-        let (operation, a, c) = match self {
-            Small::Each(next) => (Operation::Each, 0, next),
-            Small::Next(each) => (Operation::Next, 0, each),
-            Small::Break(loops) => (Operation::Break, loops, 0),
-            Small::Keep => (Operation::Keep, 0, 0),
-            Small::Bool(value) => (Operation::Bool, u8::from(value), 0),
-            Small::JumpIfTrue(target) => (Operation::JumpIfTrue, 0, target),
-            Small::Jump(target) => (Operation::Jump, 0, target),
-            Small::Halt => (Operation::Halt, 0, 0),
-        };
-        Instruction {
-            op: operation.octet(),
-            a,
-            b: 0,
-            c,
-        }
-    }
-
-    // Where it jumps to, if it jumps.
-    fn target(self) -> Option<usize> {
-        match self {
-            Small::JumpIfTrue(target) | Small::Jump(target) => Some(target as usize),
-            _ => None,
-        }
-    }
-}
-
-// Whether an Each stands at the place.
-fn is_each(code: &[Small], place: usize) -> bool {
-    matches!(code.get(place), Some(Small::Each(_)))
-}
-
-// The Next that closes the Each at a place: up to there are as many Next as Each.
-fn partner(code: &[Small], each: usize) -> Option<usize> {
+// The NEXT that closes the EACH at a place, or the number of instructions where none does: up to there are as many NEXT as EACH.
+fn partner(code: &[Instruction], each: usize) -> usize {
     let mut opened = 0usize;
     let mut closed = 0usize;
-    for (place, small) in code.iter().enumerate() {
-        if place >= each {
-            match small {
-                Small::Each(_) => opened = opened.saturating_add(1),
-                Small::Next(_) => closed = closed.saturating_add(1),
-                _ => {}
-            }
-            if opened == closed {
-                return (place > each).then_some(place);
-            }
+    for place in each..code.len() {
+        if code[place].op == EACH {
+            opened = opened.wrapping_add(1);
+        }
+        if code[place].op == NEXT {
+            closed = closed.wrapping_add(1);
+        }
+        if opened == closed {
+            return place;
         }
     }
-    None
+    code.len()
 }
 
-// Whether the Each at a place opens a loop that is open at another.
-fn is_open(code: &[Small], each: usize, place: usize) -> bool {
-    is_each(code, each) && each < place && partner(code, each).is_some_and(|next| place <= next)
+// Whether the EACH at a place opens a loop that is open at another.
+fn is_open(code: &[Instruction], each: usize, place: usize) -> bool {
+    if !is_each(code, each) || each >= place {
+        return false;
+    }
+    let next = partner(code, each);
+    next < code.len() && place <= next
 }
 
 // How many loops are open at a place.
-fn open_loops(code: &[Small], place: usize) -> usize {
-    (0..code.len())
-        .filter(|each| is_open(code, *each, place))
-        .count()
+fn open_loops(code: &[Instruction], place: usize) -> usize {
+    let mut loops = 0usize;
+    for each in 0..code.len() {
+        if is_open(code, each, place) {
+            loops = loops.wrapping_add(1);
+        }
+    }
+    loops
 }
 
 // Whether the same loops are open at both places.
-fn same_loops(code: &[Small], one: usize, other: usize) -> bool {
-    (0..code.len()).all(|each| is_open(code, each, one) == is_open(code, each, other))
+fn same_loops(code: &[Instruction], one: usize, other: usize) -> bool {
+    for each in 0..code.len() {
+        if is_open(code, each, one) != is_open(code, each, other) {
+            return false;
+        }
+    }
+    true
 }
 
-fn breaks_loop(code: &[Small], place: usize, small: Small) -> bool {
-    match small {
-        Small::Each(next) => {
-            partner(code, place) != Some(next as usize) || open_loops(code, place) > 2
+fn breaks_loop(code: &[Instruction], place: usize, instruction: Instruction) -> bool {
+    let named = instruction.c as usize;
+    match instruction.op {
+        EACH => {
+            let next = partner(code, place);
+            next >= code.len() || next != named || open_loops(code, place) > 2
         }
-        Small::Next(each) => {
-            !is_each(code, each as usize) || partner(code, each as usize) != Some(place)
-        }
-        Small::Break(loops) => open_loops(code, place) < usize::from(loops),
+        NEXT => !is_each(code, named) || partner(code, named) != place,
+        BREAK => open_loops(code, place) < usize::from(instruction.a),
         _ => false,
     }
 }
 
-fn breaks_jump(code: &[Small], place: usize, small: Small) -> bool {
-    match small.target() {
-        Some(target) => {
-            target <= place || code.len() <= target || !same_loops(code, place, target)
+fn jumps(instruction: Instruction) -> bool {
+    instruction.op == JUMP || instruction.op == JUMP_IF_TRUE
+}
+
+fn breaks_jump(code: &[Instruction], place: usize, instruction: Instruction) -> bool {
+    let target = instruction.c as usize;
+    jumps(instruction)
+        && (target <= place || code.len() <= target || !same_loops(code, place, target))
+}
+
+fn is_target(code: &[Instruction], place: usize) -> bool {
+    for instruction in code {
+        if jumps(*instruction) && instruction.c as usize == place {
+            return true;
         }
-        None => false,
     }
+    false
 }
 
-fn is_target(code: &[Small], place: usize) -> bool {
-    code.iter().any(|small| small.target() == Some(place))
-}
-
-// The truth values on the stack after an instruction that finds so many, or nothing where it can't.
-fn values_after(small: Small, values: usize) -> Option<usize> {
-    match small {
-        Small::Keep => Some(values),
-        Small::Bool(_) => values.checked_add(1),
-        Small::JumpIfTrue(_) => (values == 1).then_some(0),
-        Small::Each(_) | Small::Next(_) | Small::Break(_) | Small::Jump(_) | Small::Halt => {
-            (values == 0).then_some(0)
-        }
+// Whether an instruction can't take so many truth values from the stack, or leaves some that nothing may be.
+fn breaks_stack(code: &[Instruction], place: usize, op: u8, values: usize) -> bool {
+    if values > 0 && is_target(code, place) {
+        return true;
+    }
+    match op {
+        KEEP | BOOL => false,
+        JUMP_IF_TRUE => values != 1,
+        _ => values != 0,
     }
 }
 
 // The first place where the shape fails.
-fn stack_fault(code: &[Small]) -> Option<usize> {
-    let mut values = 0;
-    for (place, small) in code.iter().enumerate() {
-        if values > 0 && is_target(code, place) {
+fn stack_fault(code: &[Instruction]) -> Option<usize> {
+    let mut values = 0usize;
+    for (place, instruction) in code.iter().enumerate() {
+        if breaks_stack(code, place, instruction.op, values) {
             return Some(place);
         }
-        match values_after(*small, values) {
-            Some(after) => values = after,
-            None => return Some(place),
+        if instruction.op == BOOL {
+            values = values.wrapping_add(1);
+        } else if instruction.op != KEEP {
+            values = 0;
         }
     }
     None
 }
 
 // The first place where the rule of loops is broken.
-fn loop_fault(code: &[Small]) -> Option<usize> {
-    for (place, small) in code.iter().enumerate() {
-        if breaks_loop(code, place, *small) {
+fn loop_fault(code: &[Instruction]) -> Option<usize> {
+    for (place, instruction) in code.iter().enumerate() {
+        if breaks_loop(code, place, *instruction) {
             return Some(place);
         }
     }
@@ -161,9 +152,9 @@ fn loop_fault(code: &[Small]) -> Option<usize> {
 }
 
 // The first place where that of jumps is.
-fn jump_fault(code: &[Small]) -> Option<usize> {
-    for (place, small) in code.iter().enumerate() {
-        if breaks_jump(code, place, *small) {
+fn jump_fault(code: &[Instruction]) -> Option<usize> {
+    for (place, instruction) in code.iter().enumerate() {
+        if breaks_jump(code, place, *instruction) {
             return Some(place);
         }
     }
@@ -171,115 +162,111 @@ fn jump_fault(code: &[Small]) -> Option<usize> {
 }
 
 /// The first rule that a program breaks, and the first place where it does.
-pub fn fault(code: &[Small]) -> Option<(Broken, usize)> {
-    if !matches!(code.last(), Some(Small::Halt)) {
-        return Some((Broken::End, code.len().saturating_sub(1)));
+pub fn fault(code: &[Instruction]) -> Option<(u8, usize)> {
+    match code.last() {
+        Some(last) if last.op == HALT => {}
+        _ => return Some((END_RULE, code.len().saturating_sub(1))),
     }
     if let Some(place) = loop_fault(code) {
-        return Some((Broken::Loop, place));
+        return Some((LOOP_RULE, place));
     }
     if let Some(place) = jump_fault(code) {
-        return Some((Broken::Jump, place));
+        return Some((JUMP_RULE, place));
     }
-    stack_fault(code).map(|place| (Broken::Stack, place))
+    match stack_fault(code) {
+        Some(place) => Some((STACK_RULE, place)),
+        None => None,
+    }
 }
 
-// An open loop, its current part, and those that are left, the next one last.
-#[derive(Drop)]
+// An open loop: the place of its NEXT, its current part, and the part after its last one. Parts in preorder lie one after the other.
+#[derive(Clone, Copy)]
 struct Turn {
     next: usize,
     part: usize,
-    left: Vec<usize>,
+    end: usize,
 }
 
-// The parts that a loop visits, the first one last: of so many parts, each with so many below it.
-fn visited(alloc: Global, below: &[usize], current: Option<usize>) -> Result<Vec<usize>, Fail> {
-    let (first, number) = match current {
-        Some(part) => (
-            part.saturating_add(1),
-            below.get(part).copied().unwrap_or(0),
-        ),
+// The first part that a loop visits and the one after its last, of so many parts, each with so many below it.
+fn visited(below: &[usize], turns: &[Turn]) -> (usize, usize) {
+    match turns.last() {
+        Some(turn) => {
+            let first = turn.part.wrapping_add(1);
+            let number = below.get(turn.part).copied().unwrap_or(0);
+            (first, first.wrapping_add(number))
+        }
         None => (0, below.len()),
-    };
-    let mut parts = Vec::new(alloc);
-    for place in 0..number {
-        parts.push(
-            first
-                .saturating_add(number)
-                .saturating_sub(place)
-                .saturating_sub(1),
-        )?;
     }
-    Ok(parts)
 }
 
-// Opens the loop of an Each, and says where the run goes on.
-fn open(
-    alloc: Global,
+// No place of a program.
+const NOWHERE: usize = 1_000_000;
+
+// Where the run goes on after an EACH, a NEXT or a BREAK: nowhere, where no loop is open that these need.
+fn after_loop(
     below: &[usize],
     turns: &mut Vec<Turn>,
     place: usize,
-    next: usize,
-) -> Result<usize, Fail> {
-    let mut left = visited(alloc, below, turns.last().map(|turn| turn.part))?;
-    let Some(part) = left.pop() else {
-        return Ok(next.saturating_add(1));
-    };
-    turns.push(Turn { next, part, left })?;
-    Ok(place.saturating_add(1))
-}
-
-// Takes the innermost loop's next part, or closes it, and says where the run goes on.
-fn next_turn(turns: &mut Vec<Turn>, place: usize, each: usize) -> Result<usize, Fail> {
-    let Some(mut turn) = turns.pop() else {
-        return Err(Fail::from("no loop is open"));
-    };
-    match turn.left.pop() {
-        Some(part) => {
-            turn.part = part;
-            turns.push(turn)?;
-            Ok(each.saturating_add(1))
+    instruction: Instruction,
+) -> Result<usize, AllocError> {
+    let named = instruction.c as usize;
+    let mut after = place.wrapping_add(1);
+    match instruction.op {
+        EACH => {
+            let (part, end) = visited(below, turns);
+            if part < end {
+                let next = named;
+                turns.push(Turn { next, part, end })?;
+            } else {
+                after = named.wrapping_add(1);
+            }
         }
-        None => Ok(place.saturating_add(1)),
+        NEXT => match turns.pop() {
+            Some(turn) if turn.part.wrapping_add(1) < turn.end => {
+                let part = turn.part.wrapping_add(1);
+                turns.push(Turn { part, ..turn })?;
+                after = named.wrapping_add(1);
+            }
+            Some(_) => {}
+            None => after = NOWHERE,
+        },
+        _ => {
+            for _ in 0..instruction.a {
+                after = match turns.pop() {
+                    Some(turn) => turn.next.wrapping_add(1),
+                    None => NOWHERE,
+                };
+            }
+        }
     }
+    Ok(after)
 }
 
-// Closes loops, and says where the run goes on.
-fn close(turns: &mut Vec<Turn>, loops: u8) -> Result<usize, Fail> {
-    let mut place = None;
-    for _ in 0..loops {
-        place = turns.pop().map(|turn| turn.next.saturating_add(1));
-    }
-    match place {
-        Some(place) => Ok(place),
-        None => Err(Fail::from("too few loops are open")),
-    }
-}
-
-/// What an accepted program charges on a message, of whose parts so many are below each.
-pub fn run_plainly(alloc: Global, code: &[Small], below: &[usize]) -> Result<u128, Fail> {
-    let mut charged = 0u128;
+/// What an accepted program charges on a message, of whose parts so many are below each; none where it doesn't end.
+pub fn run_plainly(
+    alloc: Global,
+    code: &[Instruction],
+    below: &[usize],
+) -> Result<Option<u128>, AllocError> {
     let mut place = 0usize;
     let mut value = false;
     let mut turns = Vec::new(alloc);
-    for _ in 0..100_000 {
-        charged = charged.saturating_add(1);
-        let after = place.saturating_add(1);
-        place = match code.get(place) {
-            None => return Err(Fail::from("after the last instruction")),
-            Some(Small::Halt) => return Ok(charged),
-            Some(Small::Each(next)) => open(alloc, below, &mut turns, place, *next as usize)?,
-            Some(Small::Next(each)) => next_turn(&mut turns, place, *each as usize)?,
-            Some(Small::Break(loops)) => close(&mut turns, *loops)?,
-            Some(Small::Keep) => after,
-            Some(Small::Bool(pushed)) => {
-                value = *pushed;
+    for charged in 1..100_000u32 {
+        let Some(instruction) = code.get(place) else {
+            return Ok(None);
+        };
+        let after = place.wrapping_add(1);
+        place = match instruction.op {
+            HALT => return Ok(Some(u128::from(charged))),
+            EACH | NEXT | BREAK => after_loop(below, &mut turns, place, *instruction)?,
+            JUMP => instruction.c as usize,
+            JUMP_IF_TRUE if value => instruction.c as usize,
+            BOOL => {
+                value = instruction.a == 1;
                 after
             }
-            Some(Small::JumpIfTrue(target)) if value => *target as usize,
-            Some(Small::JumpIfTrue(_)) => after,
-            Some(Small::Jump(target)) => *target as usize,
+            _ => after,
         };
     }
-    Err(Fail::from("the run doesn't end"))
+    Ok(None)
 }

@@ -1,63 +1,89 @@
 // Every small program of loops and jumps: accepted or refused, and run, as the plain reader and machine say.
-use crate::loops::{built, chain};
-use crate::plain_loops::{Broken, Small, fault, run_plainly};
-use crate::programs::as_field;
-use bytecode_format::Action;
+use crate::plain_loops::{
+    BOOL, BREAK, EACH, END_RULE, HALT, JUMP, JUMP_IF_TRUE, JUMP_RULE, KEEP, LOOP_RULE, NEXT,
+    STACK_RULE, fault, run_plainly,
+};
+use bytecode_format::{Action, Instruction, Program};
 use bytecode_verifier::{Refusal, Verified, verify};
 use mime_decode::Message;
 use sieve_vm::run;
 use std::alloc::Global;
 use std::test::Fail;
 
-/// A message, and how many parts are below each of its parts.
-#[derive(Drop)]
-struct Case<'a> {
-    message: Message<'a>,
-    below: &'a [usize],
-}
+/// Three forwarded messages, each in the one before it, around an empty one.
+const CHAIN: &[u8] =
+    b"Content-Type: message/rfc822\n\nContent-Type: message/rfc822\n\nContent-Type: message/rfc822\n\n";
 
 /// A multipart in a multipart, whose boundary ends the inner one.
 const CROSSING: &[u8] =
     b"Content-Type: multipart/mixed; boundary=o\n\n--o\nContent-Type: multipart/mixed; boundary=i\n\n--i\n\nA\n--o\n\nB\n--o--";
 
+/// Two messages, of whose parts 3, 2, 1 and 0, and 3, 1, 0 and 0, are below each.
+#[derive(Drop)]
+struct Messages {
+    chain: Message<'static>,
+    crossing: Message<'static>,
+}
+
+fn messages(alloc: Global) -> Result<Messages, Fail> {
+    Ok(Messages {
+        chain: Message::read(alloc, CHAIN)?,
+        crossing: Message::read(alloc, CROSSING)?,
+    })
+}
+
+// An instruction of the small programs.
+fn small(op: u8, a: u8, c: u32) -> Instruction {
+    Instruction { op, a, b: 0, c }
+}
+
+// A place as an instruction names it.
+fn as_field(place: usize) -> u32 {
+    place.min(100_000) as u32
+}
+
 // Every instruction, where places are below a number, or one more.
-fn alternatives(alloc: Global, places: u32) -> Result<Vec<Small>, Fail> {
-    let mut all = [
-        Small::Break(1),
-        Small::Break(2),
-        Small::Keep,
-        Small::Bool(false),
-        Small::Bool(true),
-        Small::Halt,
-    ]
-    .as_slice()
-    .to_vec(alloc)?;
-    for place in 0..places.saturating_add(1) {
-        all.push(Small::Each(place))?;
-        all.push(Small::Next(place))?;
-        all.push(Small::JumpIfTrue(place))?;
-        all.push(Small::Jump(place))?;
+fn alternatives(alloc: Global, places: usize) -> Result<Vec<Instruction>, Fail> {
+    let mut all = Vec::new(alloc);
+    all.push(small(BREAK, 1, 0))?;
+    all.push(small(BREAK, 2, 0))?;
+    all.push(small(KEEP, 0, 0))?;
+    all.push(small(BOOL, 0, 0))?;
+    all.push(small(BOOL, 1, 0))?;
+    all.push(small(HALT, 0, 0))?;
+    for place in 0..as_field(places).wrapping_add(1) {
+        for op in [EACH, NEXT, JUMP_IF_TRUE, JUMP] {
+            all.push(small(op, 0, place))?;
+        }
     }
     Ok(all)
 }
 
+// The alternative of a number, which is looked at without what it has of their count.
+fn any(alternatives: &[Instruction], number: usize) -> Instruction {
+    let digit = number.checked_rem(alternatives.len()).unwrap_or(0);
+    match alternatives.get(digit) {
+        Some(instruction) => *instruction,
+        None => small(HALT, 0, 0),
+    }
+}
+
 // Makes the first instructions of a program those that the digits of a number name.
-fn spell(code: &mut [Small], free: usize, alternatives: &[Small], number: usize) {
+fn spell(code: &mut [Instruction], free: usize, alternatives: &[Instruction], number: usize) {
     let mut rest = number;
-    for small in code.iter_mut().take(free) {
-        let digit = rest.checked_rem(alternatives.len()).unwrap_or(0);
+    for place in 0..free.min(code.len()) {
+        code[place] = any(alternatives, rest);
         rest = rest.checked_div(alternatives.len()).unwrap_or(0);
-        *small = alternatives.get(digit).copied().unwrap_or(Small::Halt);
     }
 }
 
 // The rule that a refusal names.
-fn broken(refusal: &Refusal) -> Option<(Broken, usize)> {
+fn broken(refusal: &Refusal) -> Option<(u8, usize)> {
     match refusal {
-        Refusal::End { place } => Some((Broken::End, *place)),
-        Refusal::Loop { place } => Some((Broken::Loop, *place)),
-        Refusal::Jump { place } => Some((Broken::Jump, *place)),
-        Refusal::Stack { place } => Some((Broken::Stack, *place)),
+        Refusal::End { place } => Some((END_RULE, *place)),
+        Refusal::Loop { place } => Some((LOOP_RULE, *place)),
+        Refusal::Jump { place } => Some((JUMP_RULE, *place)),
+        Refusal::Stack { place } => Some((STACK_RULE, *place)),
         _ => None,
     }
 }
@@ -65,69 +91,61 @@ fn broken(refusal: &Refusal) -> Option<(Broken, usize)> {
 // An accepted program runs as the plain machine does, within its budget.
 fn runs_plainly(
     alloc: Global,
-    code: &[Small],
+    code: &[Instruction],
     verified: &Verified,
-    case: &Case,
+    message: &Message<'_>,
+    below: &[usize],
 ) -> Result<bool, Fail> {
-    let wanted = run_plainly(alloc, code, case.below)?;
-    let outcome = run(alloc, verified, &case.message)?;
+    let Some(wanted) = run_plainly(alloc, code, below)? else {
+        return Ok(false);
+    };
+    let outcome = run(alloc, verified, message)?;
     let limit = verified
         .budget()
-        .at(case.message.size() as u64, case.message.parts() as u64);
-    // Each of them keeps the message, by Keep or by the implicit keep.
+        .at(message.size() as u64, message.parts() as u64);
+    // Each of them keeps the message, by KEEP or by the implicit keep.
     let kept = matches!(outcome.actions.as_slice(), [Action::Keep]);
     Ok(kept && outcome.charged == wanted && wanted <= limit)
 }
 
 // Whether the verifier and the machine do with a program what the plain ones do; true where it is accepted.
-fn agrees(alloc: Global, code: &[Small], cases: &[Case]) -> Result<bool, Fail> {
-    match (verify(alloc, built(alloc, code)?), fault(code)) {
-        (Ok(verified), None) => {
-            for case in cases {
-                if !runs_plainly(alloc, code, &verified, case)? {
-                    return Err(Fail::from("another run"));
-                }
+fn agrees(alloc: Global, code: &[Instruction], messages: &Messages) -> Result<bool, Fail> {
+    let program = Program::build(1, 0, Vec::new(alloc), Vec::new(alloc), code.to_vec(alloc)?)?;
+    match verify(alloc, program) {
+        Ok(verified) => {
+            if fault(code).is_some() {
+                return Err(Fail::from("another verdict"));
+            }
+            if !runs_plainly(alloc, code, &verified, &messages.chain, &[3, 2, 1, 0])?
+                || !runs_plainly(alloc, code, &verified, &messages.crossing, &[3, 1, 0, 0])?
+            {
+                return Err(Fail::from("another run"));
             }
             Ok(true)
         }
-        (Err((_program, refusal)), Some(wanted)) => {
-            if broken(&refusal) == Some(wanted) {
-                Ok(false)
-            } else {
-                Err(Fail::from("another refusal"))
+        Err((_program, refusal)) => {
+            let wanted = broken(&refusal);
+            if wanted.is_none() || wanted != fault(code) {
+                return Err(Fail::from("another refusal"));
             }
+            Ok(false)
         }
-        _ => Err(Fail::from("one accepts and the other refuses")),
     }
 }
 
-// The forwarded messages, and the crossing boundaries.
-fn with_cases<'a>(alloc: Global, chained: &'a [u8]) -> Result<Vec<Case<'a>>, Fail> {
-    let mut cases = Vec::new(alloc);
-    cases.push(Case {
-        message: Message::read(alloc, chained)?,
-        below: &[3, 2, 1, 0],
-    })?;
-    cases.push(Case {
-        message: Message::read(alloc, CROSSING)?,
-        below: &[3, 1, 0, 0],
-    })?;
-    Ok(cases)
-}
-
-// Every program of so many instructions, of which the last ones are given.
-fn all_of(alloc: Global, cases: &[Case], length: usize, free: usize) -> Result<usize, Fail> {
-    let alternatives = alternatives(alloc, as_field(length))?;
-    let mut code = vec![in alloc; Small::Halt; length]?;
+// Every program of so many instructions, of which the last ones are HALT: how many are accepted.
+fn all_of(alloc: Global, messages: &Messages, length: usize, free: usize) -> Result<usize, Fail> {
+    let alternatives = alternatives(alloc, length)?;
+    let mut code = vec![in alloc; small(HALT, 0, 0); length]?;
     let mut number = 1usize;
     for _ in 0..free {
-        number = number.saturating_mul(alternatives.len());
+        number = number.wrapping_mul(alternatives.len());
     }
     let mut accepted = 0usize;
     for program in 0..number {
         spell(&mut code, free, &alternatives, program);
-        if agrees(alloc, &code, cases)? {
-            accepted = accepted.saturating_add(1);
+        if agrees(alloc, &code, messages)? {
+            accepted = accepted.wrapping_add(1);
         }
     }
     Ok(accepted)
@@ -135,10 +153,9 @@ fn all_of(alloc: Global, cases: &[Case], length: usize, free: usize) -> Result<u
 
 #[test]
 fn up_to_four_instructions(rt: HostRuntime) -> Result<(), Fail> {
-    let chained = chain(rt.alloc(), 3)?;
-    let cases = with_cases(rt.alloc(), &chained)?;
+    let messages = messages(rt.alloc())?;
     for length in 0..5 {
-        let accepted = all_of(rt.alloc(), &cases, length, length)?;
+        let accepted = all_of(rt.alloc(), &messages, length, length)?;
         assert!(rt; accepted > 0 || length == 0);
     }
     Ok(())
@@ -146,9 +163,8 @@ fn up_to_four_instructions(rt: HostRuntime) -> Result<(), Fail> {
 
 #[test]
 fn five_instructions(rt: HostRuntime) -> Result<(), Fail> {
-    let chained = chain(rt.alloc(), 3)?;
-    let cases = with_cases(rt.alloc(), &chained)?;
-    assert!(rt; all_of(rt.alloc(), &cases, 5, 4)? > 0);
+    let messages = messages(rt.alloc())?;
+    assert!(rt; all_of(rt.alloc(), &messages, 5, 4)? > 0);
     Ok(())
 }
 
@@ -159,16 +175,8 @@ fn next(state: u64) -> u64 {
         .wrapping_add(1_442_695_040_888_963_407)
 }
 
-// An instruction by chance, which is more often one that fits there.
-fn any(alternatives: &[Small], state: u64) -> Small {
-    let digit = ((state >> 33) as usize)
-        .checked_rem(alternatives.len())
-        .unwrap_or(0);
-    alternatives.get(digit).copied().unwrap_or(Small::Halt)
-}
-
 // How a program by chance goes on: where it stands, how many loops are open there, and the state of the sequence.
-#[derive(Drop)]
+#[derive(Clone, Copy)]
 struct Writing {
     place: usize,
     depth: usize,
@@ -176,46 +184,50 @@ struct Writing {
 }
 
 // Puts an instruction, where there is a place for it.
-fn put(code: &mut [Small], writing: &mut Writing, small: Small) {
-    if let Some(here) = code.get_mut(writing.place) {
-        *here = small;
+fn put(code: &mut [Instruction], writing: &mut Writing, instruction: Instruction) {
+    if writing.place < code.len() {
+        code[writing.place] = instruction;
     }
-    writing.place = writing.place.saturating_add(1);
+    writing.place = writing.place.wrapping_add(1);
 }
 
-// Puts an Each, or the Next of an open loop.
-fn put_bracket(code: &mut [Small], writing: &mut Writing, opens: bool) {
+// Puts an EACH, or the NEXT of an open loop.
+fn put_bracket(code: &mut [Instruction], writing: &mut Writing, opens: bool) {
     if opens {
-        put(code, writing, Small::Each(0));
-        writing.depth = writing.depth.saturating_add(1);
+        put(code, writing, small(EACH, 0, 0));
+        writing.depth = writing.depth.wrapping_add(1);
     } else {
-        put(code, writing, Small::Next(0));
+        put(code, writing, small(NEXT, 0, 0));
         writing.depth = writing.depth.saturating_sub(1);
     }
 }
 
 // Puts what stands often in an accepted program, where so many places are left before its HALT.
-fn put_any(code: &mut [Small], writing: &mut Writing, left: usize) {
-    let target = as_field(writing.place.saturating_add(2)).wrapping_add(
+fn put_any(code: &mut [Instruction], writing: &mut Writing, left: usize) {
+    let target = as_field(writing.place.wrapping_add(2)).wrapping_add(
         (writing.state >> 40) as u32 % 4,
     );
     let odd = (writing.state >> 50) % 2 == 1;
-    let has_room = left > writing.depth.saturating_add(1);
+    let has_room = left > writing.depth.wrapping_add(1);
     match (writing.state >> 33) % 8 {
         0 | 1 if has_room => put_bracket(code, writing, true),
         2 | 3 => put_bracket(code, writing, false),
-        4 => put(code, writing, Small::Break(if odd { 2 } else { 1 })),
-        6 => put(code, writing, Small::Jump(target)),
+        4 => put(code, writing, small(BREAK, if odd { 2 } else { 1 }, 0)),
+        6 => put(code, writing, small(JUMP, 0, target)),
         7 if has_room => {
-            put(code, writing, Small::Bool(odd));
-            put(code, writing, Small::JumpIfTrue(target.wrapping_add(1)));
+            put(code, writing, small(BOOL, u8::from(odd), 0));
+            put(
+                code,
+                writing,
+                small(JUMP_IF_TRUE, 0, target.wrapping_add(1)),
+            );
         }
-        _ => put(code, writing, Small::Keep),
+        _ => put(code, writing, small(KEEP, 0, 0)),
     }
 }
 
 // Writes a program up to its last instruction, in which every loop is closed, and answers the state after it.
-fn fill(code: &mut [Small], state: u64) -> u64 {
+fn fill(code: &mut [Instruction], state: u64) -> u64 {
     let last = code.len().saturating_sub(1);
     let mut writing = Writing {
         place: 0,
@@ -235,19 +247,17 @@ fn fill(code: &mut [Small], state: u64) -> u64 {
 }
 
 // Makes the brackets of a program name each other, where they can.
-fn name_partners(code: &mut [Small], open: &mut Vec<usize>) -> Result<(), Fail> {
+fn name_partners(code: &mut [Instruction], open: &mut Vec<usize>) -> Result<(), Fail> {
     for place in 0..code.len() {
-        match code[place] {
-            Small::Each(_) => open.push(place)?,
-            Small::Next(_) => {
-                if let Some(each) = open.pop() {
-                    code[place] = Small::Next(as_field(each));
-                    if let Some(small) = code.get_mut(each) {
-                        *small = Small::Each(as_field(place));
-                    }
+        if code[place].op == EACH {
+            open.push(place)?;
+        } else if code[place].op == NEXT {
+            if let Some(each) = open.pop() {
+                code[place] = small(NEXT, 0, as_field(each));
+                if each < code.len() {
+                    code[each] = small(EACH, 0, as_field(place));
                 }
             }
-            _ => {}
         }
     }
     Ok(())
@@ -257,25 +267,24 @@ fn name_partners(code: &mut [Small], open: &mut Vec<usize>) -> Result<(), Fail> 
 #[test]
 fn longer_programs(rt: HostRuntime) -> Result<(), Fail> {
     let alloc = rt.alloc();
-    let chained = chain(alloc, 3)?;
-    let cases = with_cases(alloc, &chained)?;
+    let messages = messages(alloc)?;
     let mut state = 1u64;
     let mut accepted = 0usize;
     for number in 0..200_000usize {
         let length = 6 + number % 7;
-        let mut code = vec![in alloc; Small::Halt; length]?;
+        let mut code = vec![in alloc; small(HALT, 0, 0); length]?;
         if number.is_multiple_of(2) {
             state = fill(&mut code, state);
             name_partners(&mut code, &mut Vec::new(alloc))?;
         } else {
-            let alternatives = alternatives(alloc, as_field(length))?;
-            for small in code.iter_mut().take(length.saturating_sub(1)) {
+            let alternatives = alternatives(alloc, length)?;
+            for place in 0..length.saturating_sub(1).min(code.len()) {
                 state = next(state);
-                *small = any(&alternatives, state);
+                code[place] = any(&alternatives, (state >> 33) as usize);
             }
         }
-        if agrees(alloc, &code, &cases)? {
-            accepted = accepted.saturating_add(1);
+        if agrees(alloc, &code, &messages)? {
+            accepted = accepted.wrapping_add(1);
         }
     }
     assert!(rt; accepted > 1_000);
