@@ -22,10 +22,16 @@ const MIB: usize = 1 << 20;
 
 const AIM: f64 = 1.2;
 
-/// What a job is called, and what makes it. An input is only made for a job that is wanted.
-pub type Entry = (String, Box<dyn Fn() -> Job>);
+/// A job that may be wanted. Its input is only made where it is.
+pub struct Entry {
+    pub name: String,
+    /// The heading under which `about.md` says what its figures mean.
+    pub group: &'static str,
+    pub job: Box<dyn Fn() -> Job>,
+}
 
 struct Entries {
+    group: &'static str,
     all: Vec<Entry>,
 }
 
@@ -76,25 +82,30 @@ impl Entries {
                 }
             }
         };
-        self.all.push((name, Box::new(job)));
+        self.all.push(Entry { name, group: self.group, job: Box::new(job) });
     }
 }
 
 /// All jobs, in the order of the table.
 pub fn all() -> Vec<Entry> {
-    let mut entries = Entries { all: Vec::new() };
-    encodings(&mut entries);
-    lines_and_headers(&mut entries);
-    trees(&mut entries);
-    contents(&mut entries);
-    keys(&mut entries);
-    languages(&mut entries);
-    verifying(&mut entries);
-    running(&mut entries);
-    #[cfg(sqlite)]
-    {
-        depots(&mut entries);
-        files(&mut entries);
+    let mut entries = Entries { group: "", all: Vec::new() };
+    let groups: &[(&'static str, fn(&mut Entries))] = &[
+        ("Encodings", encodings),
+        ("Lines and headers", lines_and_headers),
+        ("The parts of messages", trees),
+        ("Contents and digests", contents),
+        ("Matching", keys),
+        ("Scripts", languages),
+        ("Verifying", verifying),
+        ("Running", running),
+        #[cfg(sqlite)]
+        ("Depots in memory", depots),
+        #[cfg(sqlite)]
+        ("Depots in files", files),
+    ];
+    for (group, add) in groups {
+        entries.group = group;
+        add(&mut entries);
     }
     entries.all
 }
@@ -435,6 +446,6 @@ fn files(entries: &mut Entries) {
                 plain: side(std::env::current_exe().expect("this program"), &["--depot"], "plain"),
             }
         };
-        entries.all.push((name.to_string(), Box::new(job)));
+        entries.all.push(Entry { name: name.to_string(), group: entries.group, job: Box::new(job) });
     }
 }

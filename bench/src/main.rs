@@ -2,6 +2,8 @@
 //!
 //!     harness [--list] [--pairs N] [--markdown FILE] [WORD..]
 //!
+//! With --markdown it writes the tables into a file, each under its heading of `bench/about.md`, after what stands there of the figures.
+//!
 //! A job is run where its name has each of the words in it; without words all are. Before it is timed, both sides' answers on the input are compared,
 //! and a job whose answers differ has failed.
 
@@ -75,7 +77,7 @@ fn median_and_best(mut times: Vec<f64>) -> (f64, f64) {
 }
 
 fn measured(entry: &Entry, pairs: usize) -> Result<Row, String> {
-    let job = entry.1();
+    let job = (entry.job)();
     let (own, other) = ((job.ours)(0), (job.plain)(0));
     if own != other {
         return Err(format!("{}: the answers differ: {own} and, in plain Rust, {other}", job.name));
@@ -109,7 +111,7 @@ fn status(word: &str) -> Option<f64> {
 }
 
 fn tell_peak(entries: &[Entry], side: &str, name: &str) -> Option<()> {
-    let job = entries.iter().find(|entry| entry.0 == name)?.1();
+    let job = (entries.iter().find(|entry| entry.name == name)?.job)();
     // the most so far is that of making the input
     std::fs::write("/proc/self/clear_refs", "5").ok()?;
     let before = status("VmRSS:")?;
@@ -178,6 +180,59 @@ fn shown(row: &Row) -> String {
     )
 }
 
+/// What the figures of each group mean; a heading `## GROUP` for each.
+const ABOUT: &str = include_str!("../about.md");
+
+fn first_line(program: &str, words: &[&str]) -> String {
+    let output = Command::new(program).args(words).output().ok();
+    let text = output.map(|output| String::from_utf8_lossy(&output.stdout).into_owned()).unwrap_or_default();
+    text.lines().next().unwrap_or_default().to_string()
+}
+
+// What it ran on, and with what.
+fn machine() -> String {
+    let told = std::fs::read_to_string("/proc/cpuinfo").unwrap_or_default();
+    let model = told.lines().find_map(|line| line.strip_prefix("model name")).unwrap_or("").trim_start_matches(['\t', ' ', ':']);
+    let load = std::fs::read_to_string("/proc/loadavg").unwrap_or_default();
+    let load = load.split(' ').nth(1).unwrap_or("");
+    let processors = std::thread::available_parallelism().map_or(1, usize::from);
+    format!(
+        "{}: {processors} processors, {model}; a load of {load} over five minutes when it ended; {}; {}.",
+        first_line("date", &["+%Y-%m-%d"]),
+        first_line("rustc", &["--version"]),
+        first_line("rt", &["version"]),
+    )
+}
+
+// The table of a script beside this harness, which it is told where to find; or why there is none.
+fn beside_another() -> String {
+    let (Some(script), Some(depot)) = (std::env::var_os("BESIDE"), std::env::var_os("DEPOT")) else {
+        return "It wasn't run with these figures.\n".to_string();
+    };
+    match Command::new(script).arg(depot).output() {
+        Ok(output) if output.status.success() => String::from_utf8_lossy(&output.stdout).into_owned(),
+        Ok(output) => format!("It wasn't run with these figures: {}", String::from_utf8_lossy(&output.stderr)),
+        Err(fault) => format!("It wasn't run with these figures: {fault}\n"),
+    }
+}
+
+// The tables, each after what its group's figures mean.
+fn document(rows: &[(&str, String)]) -> String {
+    let mut sections = ABOUT.split("\n## ");
+    let mut text = sections.next().unwrap_or_default().replace("MACHINE", &machine());
+    for section in sections {
+        let group = section.lines().next().unwrap_or_default();
+        let table: String = rows.iter().filter(|row| row.0 == group).map(|row| row.1.as_str()).collect();
+        text.push_str(&format!("\n## {}\n", section.trim_end()));
+        if !table.is_empty() {
+            text.push_str(&format!("\n{HEAD}{table}"));
+        } else if group == "Beside another filter" {
+            text.push_str(&format!("\n{}", beside_another()));
+        }
+    }
+    text
+}
+
 struct Options {
     pairs: usize,
     markdown: Option<String>,
@@ -185,18 +240,18 @@ struct Options {
 }
 
 fn run(entries: &[Entry], options: &Options) -> ExitCode {
-    let wanted: Vec<&Entry> = entries.iter().filter(|entry| options.words.iter().all(|word| entry.0.contains(word.as_str()))).collect();
+    let wanted: Vec<&Entry> = entries.iter().filter(|entry| options.words.iter().all(|word| entry.name.contains(word.as_str()))).collect();
     if wanted.is_empty() {
         eprintln!("no job has these words in its name; --list prints all");
         return ExitCode::FAILURE;
     }
-    let (mut table, mut failed) = (HEAD.to_string(), 0);
+    let (mut rows, mut failed) = (Vec::new(), 0);
     print!("{HEAD}");
     for entry in wanted {
         match measured(entry, options.pairs) {
             Ok(row) => {
                 print!("{}", shown(&row));
-                table.push_str(&shown(&row));
+                rows.push((entry.group, shown(&row)));
             }
             Err(why) => {
                 eprintln!("FAILED {why}");
@@ -205,7 +260,7 @@ fn run(entries: &[Entry], options: &Options) -> ExitCode {
         }
     }
     if let Some(file) = &options.markdown
-        && let Err(fault) = std::fs::write(file, table)
+        && let Err(fault) = std::fs::write(file, document(&rows))
     {
         eprintln!("{file}: {fault}");
         failed += 1;
@@ -221,7 +276,7 @@ fn main() -> ExitCode {
         match word.as_str() {
             "--list" => {
                 for entry in &entries {
-                    println!("{}", entry.0);
+                    println!("{}", entry.name);
                 }
                 return ExitCode::SUCCESS;
             }
