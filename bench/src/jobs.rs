@@ -234,12 +234,12 @@ fn keys(entries: &mut Entries) {
         for length in [1_024usize, 16_384] {
             let near = [b"a".repeat(length - 1), b"b".to_vec()].concat();
             let far = [b"b".to_vec(), b"a".repeat(length - 1)].concat();
-            add(format!("contains a..ab of {length} in 1 MB of a, {comparator}"), 1, casemap, same, near.clone());
+            add(format!("contains a..ab of {length} in 1 MB of a, {comparator}"), 1, casemap, same, near);
             add(format!("contains ba..a of {length} in 1 MB of a, {comparator}"), 1, casemap, same, far);
             add(format!("contains {length} letters in 1 MB of letters, {comparator}"), 1, casemap, others, inputs::letters(length, 2));
-            let between = [b"*".as_slice(), &near, b"*"].concat();
-            add(format!("matches *KEY* with a..ab of {length} in 1 MB of a, {comparator}"), 2, casemap, same, between);
         }
+        let between = [b"*".as_slice(), &b"a".repeat(255), b"b*"].concat();
+        add(format!("matches *KEY* with a..ab of 256 in 64 kB of a, {comparator}"), 2, casemap, || b"a".repeat(MIB / 16), between);
         let value = || b"[project-announce] Release 4.3 is out, and so is its manual.".to_vec();
         add(format!("is of 60, {comparator}"), 0, casemap, value, value());
         add(format!("contains in 60, {comparator}"), 1, casemap, value, b"its manual".to_vec());
@@ -247,7 +247,7 @@ fn keys(entries: &mut Entries) {
         add(format!("matches of 60, no fit, {comparator}"), 2, casemap, value, b"*so it is*".to_vec());
     }
     let key = [b"*".as_slice(), &b"a?".repeat(200), b"b*"].concat();
-    add("matches *a?a?..b* in 1 MB of a, octet".to_string(), 2, false, same, key);
+    add("matches *a?a?..b* in 64 kB of a, octet".to_string(), 2, false, || b"a".repeat(MIB / 16), key);
 }
 
 fn languages(entries: &mut Entries) {

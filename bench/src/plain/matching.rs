@@ -26,6 +26,7 @@ impl Comparator {
 pub fn contains(value: &[u8], key: &[u8], comparator: Comparator) -> bool {
     match comparator {
         Comparator::Octet => super::mail::find(key, value).is_some(),
+        Comparator::Casemap if key.len() > 64 => super::mail::find(&key.to_ascii_uppercase(), &value.to_ascii_uppercase()).is_some(),
         Comparator::Casemap => key.is_empty() || value.windows(key.len()).any(|stretch| stretch.eq_ignore_ascii_case(key)),
     }
 }
