@@ -43,16 +43,19 @@ pub fn multipart_of(line: &[u8], lines: usize) -> Vec<u8> {
     [MULTIPART, &line.repeat(lines)].concat()
 }
 
+/// The last signs of the boundaries of multiparts in one another, as many as there may be.
+const LETTERS: &[u8; 31] = b"0123456789abcdefghijklmnopqrstu";
+
 /// 31 multiparts in one another, whose boundaries are the given text and a letter of their own, and the header of a part in the innermost.
 pub fn levels(boundary: &[u8]) -> Vec<u8> {
     let mut text = Vec::new();
-    for level in b'A'..b'A' + 31 {
+    for level in LETTERS {
         text.extend_from_slice(b"Content-Type: multipart/mixed; boundary=\"");
         text.extend_from_slice(boundary);
-        text.push(level);
+        text.push(*level);
         text.extend_from_slice(b"\"\n\n--");
         text.extend_from_slice(boundary);
-        text.push(level);
+        text.push(*level);
         text.push(b'\n');
     }
     text.push(b'\n');
@@ -62,7 +65,7 @@ pub fn levels(boundary: &[u8]) -> Vec<u8> {
 /// 31 multiparts in one another, and as many leaves in the innermost as a message may have besides.
 pub fn most_turns() -> Vec<u8> {
     let mut text = levels(b"b");
-    let last = [b"\nx\n--b".as_slice(), &[b'A' + 30], b"\n"].concat();
+    let last = b"\nx\n--bu\n";
     text.extend_from_slice(&last.repeat(4_064));
     text
 }

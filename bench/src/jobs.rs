@@ -421,16 +421,25 @@ fn files(entries: &mut Entries) {
             let folder = std::env::temp_dir().join(format!("depot-bench-{}-{command}", std::process::id()));
             std::fs::create_dir_all(&folder).expect("a folder for the jobs");
             std::fs::write(folder.join("mail"), inputs::small_mail()).expect("a mail");
+            std::fs::write(folder.join("script"), inputs::SIX_BRANCHES).expect("a script");
             let side = |program: std::path::PathBuf, before: &'static [&'static str], file: &str| -> Side {
-                let (file, mail) = (folder.join(file), folder.join("mail"));
+                let (file, mail, script) = (folder.join(file), folder.join("mail"), folder.join("script"));
                 let call = move |command: &str, words: &[&str]| -> Vec<u8> {
                     let mut process = Command::new(&program);
                     process.args(before).arg(command).arg(&file).arg("ann");
                     for word in words {
-                        if *word == "MAIL" { process.arg(&mail) } else { process.arg(word) };
+                        match *word {
+                            "MAIL" => process.arg(&mail),
+                            "SCRIPT" => process.arg(&script),
+                            _ => process.arg(word),
+                        };
                     }
                     process.output().expect("a process").stdout
                 };
+                // the plain side's filter is written out by hand
+                if before.is_empty() {
+                    call("script", &["SCRIPT"]);
+                }
                 for _ in 0..400 {
                     call("deliver", &["MAIL"]);
                 }
