@@ -1,27 +1,7 @@
-//! Tests of the script crates, over their public calls.
+//! Tests of scripts that a table can't say: those that are made by a rule, thousands of them or thousands of pieces in one.
 #![tactic(auto)]
 
 #[cfg(test)]
-mod checker;
+mod many_strings_and_numbers;
 #[cfg(test)]
-mod compiler;
-#[cfg(test)]
-mod filters;
-#[cfg(test)]
-mod large;
-#[cfg(test)]
-mod lexer;
-#[cfg(test)]
-mod loops;
-#[cfg(test)]
-mod meaning;
-#[cfg(test)]
-mod mime;
-#[cfg(test)]
-mod parser;
-#[cfg(test)]
-mod repeated;
-#[cfg(test)]
-mod strings;
-#[cfg(test)]
-mod variables;
+mod small_tests;

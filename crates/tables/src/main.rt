@@ -1,11 +1,20 @@
 // Answers the rows of tables by the libraries, and prints each that differs from what its table wants.
 #![tactic(auto)]
 
+mod codecs;
 mod compare;
 mod listing;
+mod mail;
+mod matching;
+mod numbers;
 mod printed;
 mod programs;
+mod refused;
 mod rows;
+mod script_forms;
+mod script_runs;
+mod script_tokens;
+mod script_trees;
 mod scripts;
 
 use crate::compare::{Family, compare};
@@ -16,10 +25,23 @@ use std::process::ExitCode;
 
 // The tables, and what answers their rows.
 const TABLES: &[(&str, Family)] = &[
+    ("scripts_tokens.table", Family::Scripts),
+    ("scripts_trees.table", Family::Scripts),
+    ("scripts_checks.table", Family::Scripts),
+    ("scripts_meaning.table", Family::Scripts),
+    ("scripts_variables.table", Family::Scripts),
+    ("scripts_loops.table", Family::Scripts),
+    ("scripts_mime.table", Family::Scripts),
     ("programs_octets.table", Family::Programs),
     ("programs_verify.table", Family::Programs),
     ("programs_run.table", Family::Programs),
-    ("scripts_tokens.table", Family::Scripts),
+    ("mail_headers.table", Family::Mail),
+    ("mail_values.table", Family::Mail),
+    ("mail_parts.table", Family::Mail),
+    ("matching_texts.table", Family::Matching),
+    ("matching_headers.table", Family::Matching),
+    ("codecs_qp.table", Family::Codecs),
+    ("codecs_base.table", Family::Codecs),
 ];
 
 fn main(rt: HostRuntime) -> ExitCode {
