@@ -26,31 +26,6 @@ fn decoded_by(alloc: Global, text: &[u8], piece: usize) -> Result<(Vec<u8>, u8),
 }
 
 #[test]
-fn pieces_of_a_line(rt: HostRuntime) {
-    let pieces: [&[u8]; 6] = [b"Zm9", b"v", b"\r\n", b"Ym!F", b"y=", b"abc"];
-    let (octets, left) = decoded(rt.alloc(), &pieces).expect(&rt, NO_MEMORY);
-    assert!(rt; octets.as_slice() == b"foobar".as_slice());
-    assert_eq!(rt; left, 0);
-}
-
-#[test]
-fn bits_that_are_left_over(rt: HostRuntime) {
-    let none: [&[u8]; 0] = [];
-    let (_, left) = decoded(rt.alloc(), &none).expect(&rt, NO_MEMORY);
-    assert_eq!(rt; left, 0);
-    let texts: [(&[u8], &[u8], u8); 4] = [
-        (b"Z", b"!", 6),
-        (b"Z", b"g", 4),
-        (b"Zm", b"8=", 2),
-        (b"Zm9", b"v", 0),
-    ];
-    for (first, second, bits) in texts {
-        let (_, left) = decoded(rt.alloc(), &[first, second]).expect(&rt, NO_MEMORY);
-        assert_eq!(rt; left, bits);
-    }
-}
-
-#[test]
 fn every_split_of_every_small_text(rt: HostRuntime) {
     let alloc = rt.alloc();
     let mut text = [0u8; 6];

@@ -1,25 +1,17 @@
-//! Tests of the mail crates, over their public calls.
+//! Tests of the mail crates and of matching, over their public calls: all small inputs, compared with plain definitions, and what is lent.
 #![tactic(auto)]
 
 #[cfg(test)]
-mod contents;
-#[cfg(test)]
-mod header_tests;
+mod every_pair;
 #[cfg(test)]
 mod headers;
 #[cfg(test)]
-mod large_headers;
-#[cfg(test)]
-mod large_media;
-#[cfg(test)]
 mod lines;
-#[cfg(test)]
-mod media;
 #[cfg(test)]
 mod quoted;
 #[cfg(test)]
 mod quoted_pieces;
 #[cfg(test)]
-mod repeated;
+mod recursion;
 #[cfg(test)]
 mod tree;

@@ -1,5 +1,5 @@
 // The lines of texts.
-use crate::repeated::repeated;
+use std::alloc::{AllocError, Global};
 use text_lines::{Line, Lines};
 
 // Whether the lines of a text are those of a table of starts, ends and stops.
@@ -16,30 +16,6 @@ fn has_lines(text: &[u8], want: &[(usize, usize, usize)]) -> bool {
         }
     }
     lines.next().is_none() && lines.next().is_none()
-}
-
-#[test]
-fn breaks(rt: HostRuntime) {
-    assert!(rt; has_lines(b"", &[]));
-    assert!(rt; has_lines(b"\n", &[(0, 0, 1)]));
-    assert!(rt; has_lines(b"\r\n", &[(0, 0, 2)]));
-    assert!(rt; has_lines(b"a", &[(0, 1, 1)]));
-    assert!(rt; has_lines(b"a\n", &[(0, 1, 2)]));
-    assert!(rt;
-        has_lines(
-            b"a\r\nbc\n\nd",
-            &[(0, 1, 3), (3, 5, 6), (6, 6, 7), (7, 8, 8)]
-        )
-    );
-    assert!(rt; has_lines(b"\n\r\n\n", &[(0, 0, 1), (1, 1, 3), (3, 3, 4)]));
-}
-
-#[test]
-fn a_lone_cr_is_an_ordinary_octet(rt: HostRuntime) {
-    assert!(rt; has_lines(b"\r", &[(0, 1, 1)]));
-    assert!(rt; has_lines(b"a\rb\r", &[(0, 4, 4)]));
-    assert!(rt; has_lines(b"\r\r\n\r", &[(0, 1, 3), (3, 4, 4)]));
-    assert!(rt; has_lines(b"\n\r", &[(0, 0, 1), (1, 2, 2)]));
 }
 
 // Breaks around the places where the search for them goes on by whole vectors.
@@ -63,4 +39,20 @@ fn lines_of_every_length(rt: HostRuntime) {
         let count = if octets == 0 { 1 } else { 2 };
         assert!(rt; has_lines(&text, &last[..count]), "{octets}");
     }
+}
+
+// A piece, so many times one after another, between two other texts.
+fn repeated(
+    alloc: Global,
+    before: &[u8],
+    piece: &[u8],
+    count: usize,
+    after: &[u8],
+) -> Result<Vec<u8>, AllocError> {
+    let mut text = Vec::from_slice(alloc, before)?;
+    for _ in 0..count {
+        text.extend_from_slice(piece)?;
+    }
+    text.extend_from_slice(after)?;
+    Ok(text)
 }

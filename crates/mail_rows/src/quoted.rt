@@ -1,6 +1,5 @@
 // Quoted-printable texts, read and written.
-use crate::repeated::repeated;
-use quoted_printable::{decode_qp, encode_qp, encode_qp_line};
+use quoted_printable::{decode_qp, encode_qp};
 use std::alloc::Global;
 use std::test::Fail;
 
@@ -18,101 +17,6 @@ fn writes(alloc: Global, octets: &[u8], want: &[u8]) -> bool {
         Ok(text) => text.as_slice() == want && reads(alloc, want, octets),
         Err(_) => false,
     }
-}
-
-#[test]
-fn escapes_blanks_and_breaks(rt: HostRuntime) {
-    let alloc = rt.alloc();
-    assert!(rt; reads(alloc, b"a=3Db \t\r\nc=\r\nd=4", b"a=b\r\ncd=4"));
-    assert!(rt; reads(alloc, b"caf=C3=A9", b"caf\xc3\xa9"));
-    assert!(rt; reads(alloc, b"=c3=a9=C3=a9", b"\xc3\xa9\xc3\xa9"));
-    assert!(rt; reads(alloc, b"", b""));
-    assert!(rt; reads(alloc, b"a\n\r\n \n", b"a\n\r\n\n"));
-    assert!(rt; reads(alloc, b"\x00\x80\xff", b"\x00\x80\xff"));
-}
-
-#[test]
-fn other_equals_signs_are_literal(rt: HostRuntime) {
-    let alloc = rt.alloc();
-    assert!(rt; reads(alloc, b"=", b""));
-    assert!(rt; reads(alloc, b"=G0 =0G =4 =4=41 ==41", b"=G0 =0G =4 =4A =A"));
-    assert!(rt; reads(alloc, b"=4", b"=4"));
-    assert!(rt; reads(alloc, b"=4\r\n1", b"=4\r\n1"));
-    assert!(rt; reads(alloc, b"=@0=0@=/0=:0=`0=g0", b"=@0=0@=/0=:0=`0=g0"));
-}
-
-// A lone CR is an octet as others: no line ends there.
-#[test]
-fn a_lone_cr_ends_no_line(rt: HostRuntime) {
-    let alloc = rt.alloc();
-    assert!(rt; reads(alloc, b"a \r", b"a \r"));
-    assert!(rt; reads(alloc, b"a=\rb", b"a=\rb"));
-    assert!(rt; reads(alloc, b"a =\r", b"a =\r"));
-    assert!(rt; reads(alloc, b"a \r\r\nb", b"a \r\r\nb"));
-}
-
-#[test]
-fn blanks_go_before_a_soft_break_is_looked_for(rt: HostRuntime) {
-    let alloc = rt.alloc();
-    assert!(rt; reads(alloc, b"a= \t\r\nb", b"ab"));
-    assert!(rt; reads(alloc, b"a= \t", b"a"));
-    assert!(rt; reads(alloc, b"a =\nb", b"a b"));
-    assert!(rt; reads(alloc, b"a= b", b"a= b"));
-}
-
-#[test]
-fn blanks_with_digits_stay(rt: HostRuntime) {
-    let alloc = rt.alloc();
-    assert!(rt; reads(alloc, b"a=20\r\n", b"a \r\n"));
-    assert!(rt; reads(alloc, b"a=09 \n", b"a\t\n"));
-    assert!(rt; reads(alloc, b"a=20", b"a "));
-}
-
-#[test]
-fn a_soft_break_at_the_end_goes_alone(rt: HostRuntime) {
-    let alloc = rt.alloc();
-    assert!(rt; reads(alloc, b"a=", b"a"));
-    assert!(rt; reads(alloc, b"==", b"="));
-    assert!(rt; reads(alloc, b"==\n==\r\n", b"=="));
-    assert!(rt; reads(alloc, b"=3D=", b"="));
-}
-
-#[test]
-fn lines_of_76(rt: HostRuntime) -> Result<(), Fail> {
-    let alloc = rt.alloc();
-    let full = repeated(alloc, b"", b"a", 76, b"")?;
-    assert!(rt; writes(alloc, &full, &full));
-    let more = repeated(alloc, b"", b"a", 77, b"")?;
-    let lines = repeated(alloc, b"", b"a", 75, b"=\r\naa")?;
-    assert!(rt; writes(alloc, &more, &lines));
-    let twice = repeated(alloc, b"", b"a", 152, b"")?;
-    let mut lines = repeated(alloc, b"", b"a", 75, b"=\r\n")?;
-    let second = repeated(alloc, b"", b"a", 75, b"=\r\naa")?;
-    lines.extend_from_slice(&second)?;
-    assert!(rt; writes(alloc, &twice, &lines));
-    // what fits is counted in octets of tokens, and no token is cut
-    let blank = repeated(alloc, b"", b"a", 73, b" ")?;
-    let fits = repeated(alloc, b"", b"a", 73, b"=20")?;
-    assert!(rt; writes(alloc, &blank, &fits));
-    let blank = repeated(alloc, b"", b"a", 74, b" ")?;
-    let parts = repeated(alloc, b"", b"a", 74, b"=\r\n=20")?;
-    assert!(rt; writes(alloc, &blank, &parts));
-    let escape = repeated(alloc, b"", b"a", 73, b"=a")?;
-    let parts = repeated(alloc, b"", b"a", 73, b"=\r\n=3Da")?;
-    assert!(rt; writes(alloc, &escape, &parts));
-    Ok(())
-}
-
-#[test]
-fn literals_and_escapes(rt: HostRuntime) {
-    let alloc = rt.alloc();
-    assert!(rt; writes(alloc, b"", b""));
-    assert!(rt; writes(alloc, b"a ", b"a=20"));
-    assert!(rt; writes(alloc, b"a\t", b"a=09"));
-    assert!(rt; writes(alloc, b" \t ", b" \t=20"));
-    assert!(rt; writes(alloc, b"\r\n", b"=0D=0A"));
-    assert!(rt; writes(alloc, b"a \n", b"a =0A"));
-    assert!(rt; writes(alloc, b"!<=>~\x7f\x80\xff\x00", b"!<=3D>~=7F=80=FF=00"));
 }
 
 // Each octet alone, and with another one after it.
@@ -145,56 +49,6 @@ fn every_octet(rt: HostRuntime) {
             );
         }
     }
-}
-
-// The lines, one by one, are the text.
-#[test]
-fn line_by_line(rt: HostRuntime) -> Result<(), Fail> {
-    let alloc = rt.alloc();
-    let octets = repeated(alloc, b"", b"gr\xc3\xbcn = 1 \r\n", 200, b" ")?;
-    let want = encode_qp(alloc, &octets)?;
-    let mut text = Vec::new(alloc);
-    let mut rest = octets.as_slice();
-    for _ in 0..octets.len() {
-        if rest.is_empty() {
-            break;
-        }
-        let start = text.len();
-        let taken = encode_qp_line(rest, &mut text)?;
-        assert!(rt; taken > 0 && text.len() <= start + 78);
-        let (_, after) = rest.split_at(taken);
-        rest = after;
-    }
-    assert!(rt; rest.is_empty());
-    assert!(rt; text.as_slice() == want.as_slice());
-    assert_eq!(rt; encode_qp_line(b"", &mut text)?, 0);
-    assert!(rt; text.as_slice() == want.as_slice());
-    Ok(())
-}
-
-#[test]
-fn large_texts(rt: HostRuntime) -> Result<(), Fail> {
-    let alloc = rt.alloc();
-    let octets = repeated(
-        alloc,
-        b"",
-        b"a line of text, gr\xc3\xbcn, \r\n",
-        100_000,
-        b"",
-    )?;
-    let text = encode_qp(alloc, &octets)?;
-    assert!(rt; text.len() > octets.len());
-    assert!(rt; decode_qp(alloc, &text)?.as_slice() == octets.as_slice());
-    let blanks = repeated(alloc, b"a", b" \t", 1_000_000, b"\r\nb")?;
-    assert!(rt; reads(alloc, &blanks, b"a\r\nb"));
-    let equals = repeated(alloc, b"", b"=", 1_000_000, b"")?;
-    assert_eq!(rt; decode_qp(alloc, &equals)?.len(), 999_999);
-    let breaks = repeated(alloc, b"", b"=\n", 1_000_000, b"")?;
-    assert!(rt; reads(alloc, &breaks, b""));
-    let high = repeated(alloc, b"", b"\xff", 1_000_000, b"")?;
-    // 25 escapes a line, each with its soft break but the last
-    assert_eq!(rt; encode_qp(alloc, &high)?.len(), 3_119_997);
-    Ok(())
 }
 
 // Every text up to five octets of a small alphabet, against a reader that goes octet by octet.

@@ -1,7 +1,7 @@
 // What a table wants beside what its family answers.
 use crate::printed::Printed;
 use crate::rows::{Row, TableError, rows_of};
-use crate::{programs, scripts};
+use crate::{codecs, mail, matching, programs, scripts};
 use itoa::Buffer;
 use std::alloc::{AllocError, Global};
 use std::str;
@@ -11,6 +11,9 @@ use std::str;
 pub enum Family {
     Programs,
     Scripts,
+    Mail,
+    Matching,
+    Codecs,
 }
 
 /// How many rows there were, and how many of them differ.
@@ -97,6 +100,9 @@ fn has_answer(
     match family {
         Family::Programs => programs::answer(alloc, call, &row.arguments, answer),
         Family::Scripts => scripts::answer(alloc, call, &row.arguments, answer),
+        Family::Mail => mail::answer(alloc, call, &row.arguments, answer),
+        Family::Matching => matching::answer(alloc, call, &row.arguments, answer),
+        Family::Codecs => codecs::answer(alloc, call, &row.arguments, answer),
     }
 }
 

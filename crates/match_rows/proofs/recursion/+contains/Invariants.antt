@@ -1,5 +1,0 @@
-use Rattle.std.proofs.Common.{length}
-use Rattle.match_rows.proofs.recursion.+contains.Given as goal
-
-abbrev pub decreases-contains : goal.decreases-contains
-decreases-contains l = length l.value.now

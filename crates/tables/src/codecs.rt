@@ -1,0 +1,218 @@
+// What texts stand for in an encoding, whole and in pieces.
+use crate::numbers::{number_of, print_size};
+use crate::printed::Printed;
+use lanes_base32::{Refusal, decode32, decode32hex, encode32, encode32hex};
+use lanes_base64_mime::{Decoder, decode_mime, encode_mime};
+use quoted_printable::{QpDecoder, decode_qp, encode_qp, encode_qp_line};
+use std::alloc::{AllocError, Global};
+
+#[derive(Clone, Copy)]
+enum Encoding {
+    Base32,
+    Base32Hex,
+    Base64Mime,
+    Qp,
+}
+
+fn encoding_of(word: &[u8]) -> Option<Encoding> {
+    match word {
+        b"base32" => Some(Encoding::Base32),
+        b"base32hex" => Some(Encoding::Base32Hex),
+        b"base64-mime" => Some(Encoding::Base64Mime),
+        b"qp" => Some(Encoding::Qp),
+        _ => None,
+    }
+}
+
+/// Answers a call, of which the first argument is an encoding.
+pub fn answer(
+    alloc: Global,
+    call: &str,
+    arguments: &[Vec<u8>],
+    answer: &mut Printed,
+) -> Result<bool, AllocError> {
+    let [encoding, others @ ..] = arguments else {
+        return Ok(false);
+    };
+    let Some(encoding) = encoding_of(encoding) else {
+        return Ok(false);
+    };
+    match (encoding, others) {
+        (Encoding::Base64Mime, pieces) if call == "pieces" => {
+            print_mime_pieces(alloc, pieces, answer)?;
+            Ok(true)
+        }
+        (Encoding::Qp, pieces) if call == "pieces" => {
+            print_qp_pieces(alloc, pieces, answer)?;
+            Ok(true)
+        }
+        (Encoding::Qp, [size, text]) => answer_by_size(alloc, call, size, text, answer),
+        (_, [text]) => answer_of_whole(alloc, call, encoding, text, answer),
+        _ => Ok(false),
+    }
+}
+
+fn answer_of_whole(
+    alloc: Global,
+    call: &str,
+    encoding: Encoding,
+    text: &[u8],
+    answer: &mut Printed,
+) -> Result<bool, AllocError> {
+    match call {
+        "encode" => print_encoded(alloc, encoding, text, answer)?,
+        "decode" => print_decoded(decoded(alloc, encoding, text), answer)?,
+        "lines" => print_qp_lines(alloc, text, answer)?,
+        _ => return Ok(false),
+    }
+    Ok(true)
+}
+
+fn encoded(alloc: Global, encoding: Encoding, octets: &[u8]) -> Result<Vec<u8>, AllocError> {
+    match encoding {
+        Encoding::Base32 => encode32(alloc, octets),
+        Encoding::Base32Hex => encode32hex(alloc, octets),
+        Encoding::Base64Mime => encode_mime(alloc, octets),
+        Encoding::Qp => encode_qp(alloc, octets),
+    }
+}
+
+fn decoded(alloc: Global, encoding: Encoding, text: &[u8]) -> Result<Vec<u8>, Refusal> {
+    match encoding {
+        Encoding::Base32 => decode32(alloc, text),
+        Encoding::Base32Hex => decode32hex(alloc, text),
+        Encoding::Base64Mime => Ok(decode_mime(alloc, text)?),
+        Encoding::Qp => Ok(decode_qp(alloc, text)?),
+    }
+}
+
+// The octets that a text stands for, or its refusal.
+fn print_decoded(
+    decoded: Result<Vec<u8>, Refusal>,
+    answer: &mut Printed,
+) -> Result<(), AllocError> {
+    match decoded {
+        Ok(octets) => answer.text(&octets),
+        Err(Refusal::NotCanonical) => answer.word("refused 10 NotCanonical"),
+        Err(Refusal::Memory) => Err(AllocError),
+    }
+}
+
+// The text of octets; where it isn't read as them, also what it is read as.
+fn print_encoded(
+    alloc: Global,
+    encoding: Encoding,
+    octets: &[u8],
+    answer: &mut Printed,
+) -> Result<(), AllocError> {
+    let text = encoded(alloc, encoding, octets)?;
+    answer.text(&text)?;
+    let read = decoded(alloc, encoding, &text);
+    if matches!(&read, Ok(read) if read.as_slice() == octets) {
+        return Ok(());
+    }
+    answer.word("read")?;
+    print_decoded(read, answer)
+}
+
+// What each piece adds to the octets so far, and how many bits are left over.
+fn print_mime_pieces(
+    alloc: Global,
+    pieces: &[Vec<u8>],
+    answer: &mut Printed,
+) -> Result<(), AllocError> {
+    let mut out = Vec::new(alloc);
+    let mut decoder = Decoder::new();
+    for piece in pieces {
+        decoder.feed(piece, &mut out)?;
+        answer.text(&out)?;
+    }
+    answer.number(u64::from(decoder.finish()))
+}
+
+// The octets so far after each piece, and those of the whole text.
+fn print_qp_pieces(
+    alloc: Global,
+    pieces: &[Vec<u8>],
+    answer: &mut Printed,
+) -> Result<(), AllocError> {
+    let mut out = Vec::new(alloc);
+    let mut decoder = QpDecoder::new(alloc);
+    for piece in pieces {
+        decoder.feed(piece, &mut out)?;
+        answer.text(&out)?;
+    }
+    decoder.finish(&mut out)?;
+    answer.text(&out)
+}
+
+// Answers a call on a text that comes in pieces of one size.
+fn answer_by_size(
+    alloc: Global,
+    call: &str,
+    size: &[u8],
+    text: &[u8],
+    answer: &mut Printed,
+) -> Result<bool, AllocError> {
+    let Some(size) = number_of(size) else {
+        return Ok(false);
+    };
+    match call {
+        "by" => answer.text(&read_by(alloc, text, size)?)?,
+        "back" => {
+            let read = read_by(alloc, &encode_qp(alloc, text)?, size)?;
+            answer.word(if read.as_slice() == text {
+                "same"
+            } else {
+                "other"
+            })?;
+        }
+        _ => return Ok(false),
+    }
+    Ok(true)
+}
+
+// What a text is read as in pieces of so many octets.
+fn read_by(alloc: Global, text: &[u8], size: usize) -> Result<Vec<u8>, AllocError> {
+    let mut out = Vec::new(alloc);
+    let mut decoder = QpDecoder::new(alloc);
+    for piece in text.chunks(size.max(1)) {
+        decoder.feed(piece, &mut out)?;
+    }
+    decoder.finish(&mut out)?;
+    Ok(out)
+}
+
+// How many lines the text of octets has, and how many octets; `long` before them for each line of more than 76 octets and a break,
+// `more` where no octets have a line, `other` where the lines one by one aren't that text, `misread` where it isn't read as the octets.
+fn print_qp_lines(alloc: Global, octets: &[u8], answer: &mut Printed) -> Result<(), AllocError> {
+    let whole = encode_qp(alloc, octets)?;
+    let mut text = Vec::new(alloc);
+    let mut lines = 0usize;
+    let mut rest = octets;
+    for _ in 0..octets.len() {
+        if rest.is_empty() {
+            break;
+        }
+        let start = text.len();
+        let taken = encode_qp_line(rest, &mut text)?;
+        if text.len() > start.saturating_add(78) {
+            answer.word("long")?;
+        }
+        lines = lines.saturating_add(1);
+        let (_, after) = rest.split_at(taken.min(rest.len()));
+        rest = after;
+    }
+    print_size(lines, answer)?;
+    print_size(whole.len(), answer)?;
+    if encode_qp_line(b"", &mut text)? != 0 {
+        answer.word("more")?;
+    }
+    if text.as_slice() != whole.as_slice() {
+        answer.word("other")?;
+    }
+    if decode_qp(alloc, &whole)?.as_slice() != octets {
+        answer.word("misread")?;
+    }
+    Ok(())
+}
