@@ -25,7 +25,7 @@ struct Messages {
     crossing: Message<'static>,
 }
 
-fn messages(alloc: Global) -> Result<Messages, Fail> {
+fn read_both(alloc: Global) -> Result<Messages, Fail> {
     Ok(Messages {
         chain: Message::read(alloc, CHAIN)?,
         crossing: Message::read(alloc, CROSSING)?,
@@ -153,7 +153,7 @@ fn all_of(alloc: Global, messages: &Messages, length: usize, free: usize) -> Res
 
 #[test]
 fn up_to_four_instructions(rt: HostRuntime) -> Result<(), Fail> {
-    let messages = messages(rt.alloc())?;
+    let messages = read_both(rt.alloc())?;
     for length in 0..5 {
         let accepted = all_of(rt.alloc(), &messages, length, length)?;
         assert!(rt; accepted > 0 || length == 0);
@@ -163,7 +163,7 @@ fn up_to_four_instructions(rt: HostRuntime) -> Result<(), Fail> {
 
 #[test]
 fn five_instructions(rt: HostRuntime) -> Result<(), Fail> {
-    let messages = messages(rt.alloc())?;
+    let messages = read_both(rt.alloc())?;
     assert!(rt; all_of(rt.alloc(), &messages, 5, 4)? > 0);
     Ok(())
 }
@@ -267,7 +267,7 @@ fn name_partners(code: &mut [Instruction], open: &mut Vec<usize>) -> Result<(), 
 #[test]
 fn longer_programs(rt: HostRuntime) -> Result<(), Fail> {
     let alloc = rt.alloc();
-    let messages = messages(alloc)?;
+    let messages = read_both(alloc)?;
     let mut state = 1u64;
     let mut accepted = 0usize;
     for number in 0..200_000usize {

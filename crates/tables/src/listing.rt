@@ -1,4 +1,5 @@
 // Programs of the bytecode by their listings: statements with a semicolon after each.
+use crate::numbers::number_of;
 use bytecode_format::{Instruction, Program};
 use itoa::Buffer;
 use octets::Octets;
@@ -46,19 +47,6 @@ fn name_of(octet: u8) -> &'static str {
     }
 }
 
-/// The number that decimal digits write.
-pub fn number(digits: &[u8]) -> Option<u64> {
-    let mut value = None;
-    for digit in digits {
-        if !digit.is_ascii_digit() {
-            return None;
-        }
-        let before = value.unwrap_or(0u64).checked_mul(10)?;
-        value = Some(before.checked_add(u64::from(digit.wrapping_sub(b'0')))?);
-    }
-    value
-}
-
 // The octet of an operation: that of its name, or the octet itself.
 fn operation(word: &[u8]) -> Option<u8> {
     for octet in 1..26u8 {
@@ -66,18 +54,18 @@ fn operation(word: &[u8]) -> Option<u8> {
             return Some(octet);
         }
     }
-    u8::try_from(number(word)?).ok()
+    u8::try_from(number_of(word)?).ok()
 }
 
 // Makes a field of an instruction what a word says.
 fn put_field(instruction: &mut Instruction, place: usize, word: &[u8]) -> Option<()> {
     let (letter, digits) = word.split_first()?;
-    let value = number(digits)?;
+    let value = number_of(digits)?;
     match *letter {
         b'a' => instruction.a = u8::try_from(value).ok()?,
         b'b' => instruction.b = u16::try_from(value).ok()?,
         b'c' => instruction.c = u32::try_from(value).ok()?,
-        b'+' => instruction.c = u32::try_from(value.checked_add(place as u64)?).ok()?,
+        b'+' => instruction.c = u32::try_from(value.checked_add(place)?).ok()?,
         _ => return None,
     }
     Some(())
@@ -121,7 +109,7 @@ fn add(listing: &mut Listing, statement: &[u8]) -> Result<bool, AllocError> {
 
 // The number after a word.
 fn after(statement: &[u8], word: &[u8]) -> Option<u64> {
-    number(statement.strip_prefix(word)?)
+    Some(number_of(statement.strip_prefix(word)?)? as u64)
 }
 
 // What a listing says, if it can be read.

@@ -1,6 +1,7 @@
 // Answers the rows of tables by the libraries, and prints each that differs from what its table wants.
 #![tactic(auto)]
 
+mod actions;
 mod codecs;
 mod compare;
 mod listing;

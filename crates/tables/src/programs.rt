@@ -1,6 +1,9 @@
 // What is answered of programs of the bytecode: see the head of data/programs.table.
-use crate::listing::{listing_of, number, program};
+use crate::actions::{put_actions, put_charge};
+use crate::listing::{listing_of, program};
+use crate::numbers::number_of;
 use crate::printed::Printed;
+use crate::refused::put_refusal;
 use bytecode_format::{Action, Program, final_actions};
 use bytecode_verifier::{Verified, verify};
 use itoa::Buffer;
@@ -63,40 +66,6 @@ fn answer_octets(
     }
 }
 
-// Puts a refusal as the command line prints it.
-fn put_refusal(refusal: &Refusal, answer: &mut Printed) -> Result<(), AllocError> {
-    answer.word("refused")?;
-    answer.number(u64::from(refusal.number()))?;
-    answer.word(refusal.name())?;
-    if let Some(place) = refusal.place() {
-        answer.word("at")?;
-        answer.number(place as u64)?;
-    }
-    Ok(())
-}
-
-// Puts actions as the command line prints them.
-fn put_actions(actions: &[Action], answer: &mut Printed) -> Result<(), AllocError> {
-    if actions.is_empty() {
-        answer.word("none")?;
-    }
-    for action in actions {
-        match action {
-            Action::Keep => answer.word("keep")?,
-            Action::File(folder) => {
-                answer.word("fileinto")?;
-                answer.text(folder.as_slice())?;
-            }
-            Action::Store(folder, part) => {
-                answer.word("store")?;
-                answer.text(folder.as_slice())?;
-                answer.number(*part as u64)?;
-            }
-        }
-    }
-    Ok(())
-}
-
 // The program, if it is accepted.
 fn accepted(alloc: Global, program: Program) -> Result<Verified, Refusal> {
     match verify(alloc, program) {
@@ -127,7 +96,7 @@ fn put_limit(
     strings: &[Vec<u8>],
     answer: &mut Printed,
 ) -> Result<bool, Refusal> {
-    let (Some(octets), Some(parts)) = (number(octets), number(parts)) else {
+    let (Some(octets), Some(parts)) = (number_of(octets), number_of(parts)) else {
         return Ok(false);
     };
     let Some(program) = program(alloc, code, strings)? else {
@@ -137,7 +106,7 @@ fn put_limit(
         return Ok(false);
     }
     let verified = accepted(alloc, program)?;
-    answer.large_number(verified.budget().at(octets, parts))?;
+    answer.large_number(verified.budget().at(octets as u64, parts as u64))?;
     Ok(true)
 }
 
@@ -191,10 +160,7 @@ fn put_execution(
 ) -> Result<bool, Refusal> {
     let report = execute(alloc, program, message)?;
     put_actions(&report.outcome.actions, answer)?;
-    answer.word("charged")?;
-    answer.large_number(report.outcome.charged)?;
-    answer.word("of")?;
-    answer.large_number(report.limit)?;
+    put_charge(&report, answer)?;
     Ok(true)
 }
 
@@ -245,7 +211,7 @@ fn actions_of(alloc: Global, words: &[Vec<u8>]) -> Result<Option<Vec<Action>>, A
                 after
             }
             [word, folder, part, after @ ..] if word.as_slice() == b"store".as_slice() => {
-                let part = number(part).unwrap_or(u64::MAX) as usize;
+                let part = number_of(part).unwrap_or(usize::MAX);
                 actions.push(Action::Store(Octets::from_vec(folder.clone()?), part))?;
                 after
             }

@@ -1,6 +1,6 @@
 // What scripts do, by three ways: by their evaluation, by the octets of their programs, and by their meaning.
+use crate::actions::{put_action, put_actions, put_charge};
 use crate::printed::Printed;
-use bytecode_format::Action;
 use bytecode_verifier::verify;
 use mime_decode::Message;
 use refusals::Refusal;
@@ -76,38 +76,6 @@ fn agreed(
         answer.word("above its limit")?;
     }
     Ok(report)
-}
-
-fn put_actions(actions: &[Action], answer: &mut Printed) -> Result<(), AllocError> {
-    if actions.is_empty() {
-        answer.word("none")?;
-    }
-    for action in actions {
-        put_action(action, answer)?;
-    }
-    Ok(())
-}
-
-fn put_action(action: &Action, answer: &mut Printed) -> Result<(), AllocError> {
-    match action {
-        Action::Keep => answer.word("keep"),
-        Action::File(folder) => {
-            answer.word("fileinto")?;
-            answer.text(folder.as_slice())
-        }
-        Action::Store(folder, part) => {
-            answer.word("store")?;
-            answer.text(folder.as_slice())?;
-            answer.number(*part as u64)
-        }
-    }
-}
-
-fn put_charge(report: &Report, answer: &mut Printed) -> Result<(), AllocError> {
-    answer.word("charged")?;
-    answer.large_number(report.outcome.charged)?;
-    answer.word("of")?;
-    answer.large_number(report.limit)
 }
 
 /// Adds what the script's program may charge at most, on a message of so many octets and parts.
