@@ -14,6 +14,7 @@ mod refused;
 mod rows;
 mod script_forms;
 mod script_runs;
+mod script_series;
 mod script_tokens;
 mod script_trees;
 mod scripts;
@@ -43,6 +44,7 @@ const TABLES: &[(&str, Family)] = &[
     ("scripts_variables.table", Family::Scripts),
     ("scripts_loops.table", Family::Scripts),
     ("scripts_mime.table", Family::Scripts),
+    ("scripts_series.table", Family::Scripts),
 ];
 
 fn main(rt: HostRuntime) -> ExitCode {

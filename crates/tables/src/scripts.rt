@@ -3,6 +3,7 @@ use crate::printed::Printed;
 use crate::refused::unless_refused;
 use crate::script_forms::put_form;
 use crate::script_runs::{put_budget, put_last, put_report, put_run};
+use crate::script_series::{put_keys, put_levels, put_numbers};
 use crate::script_tokens::{put_number, put_string, put_tokens};
 use crate::script_trees::put_tree;
 use refusals::Refusal;
@@ -18,6 +19,9 @@ pub fn answer(
     answer: &mut Printed,
 ) -> Result<bool, AllocError> {
     let outcome = match (call, arguments) {
+        ("levels", tests) => put_levels(alloc, tests, answer),
+        ("numbers", [first, end]) => put_numbers(alloc, first, end, answer),
+        ("keys", [tests, keys, message]) => put_keys(alloc, tests, keys, message, answer),
         ("budget", [script, octets, parts]) => put_budget(alloc, script, octets, parts, answer),
         (_, [script, message]) => match call {
             "run" => put_run(alloc, script, message, answer),
