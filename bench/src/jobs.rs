@@ -401,6 +401,18 @@ fn depots(entries: &mut Entries) {
         |mail, rounds| store::list(400, mail, rounds),
     );
     entries.add(
+        "deliver 10,000 mails of 1 kB into memory",
+        inputs::small_mail,
+        |mail, rounds| ours::bench_deliver(inputs::SIX_BRANCHES, mail, rounds.max(1) * 10_000),
+        |mail, rounds| store::deliver(mail, rounds.max(1) * 10_000),
+    );
+    entries.add(
+        "deliver 1,000 mails of 1 kB, then deliver and remove one so many times",
+        inputs::small_mail,
+        |mail, rounds| ours::bench_remove(1_000, mail, rounds),
+        |mail, rounds| store::remove(1_000, mail, rounds),
+    );
+    entries.add(
         "deliver a mail of 1 MB, then export it so many times",
         || inputs::attachments(1, 13_000),
         ours::bench_export,

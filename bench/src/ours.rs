@@ -34,5 +34,6 @@ jobs! {
     bench_run(charges: bool) (program, message);
     bench_deliver() (script, mail);
     bench_list(mails: u32) (mail);
+    bench_remove(mails: u32) (mail);
     bench_export() (mail);
 }

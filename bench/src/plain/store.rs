@@ -239,6 +239,26 @@ pub fn list(mails: u32, mail: &[u8], rounds: u32) -> u64 {
     total(rounds, || listed(&database).iter().map(|entry| entry.octets as u64).sum())
 }
 
+pub fn remove(mails: u32, mail: &[u8], rounds: u32) -> u64 {
+    let database = Database::in_memory();
+    deliver_all(&database, mail, mails, |_| b"INBOX");
+    for round in 0..rounds {
+        let own = [mail, &(mails + round).to_be_bytes()].concat();
+        let number = add(&database, b"INBOX", &own);
+        database.prepare(c"BEGIN").run(&[]);
+        let found = database.prepare(c"SELECT digest FROM entries WHERE user = 'ann' AND number = ?1");
+        found.run(&[Value::Number(number)]);
+        let digest = found.octets(0);
+        drop(found);
+        database.prepare(c"DELETE FROM entries WHERE user = 'ann' AND number = ?1").run(&[Value::Number(number)]);
+        database
+            .prepare(c"DELETE FROM contents WHERE digest = ?1 AND NOT EXISTS (SELECT 1 FROM entries WHERE digest = ?1)")
+            .run(&[Value::Octets(&digest)]);
+        database.prepare(c"COMMIT").run(&[]);
+    }
+    u64::from(rounds)
+}
+
 pub fn export(mail: &[u8], rounds: u32) -> u64 {
     let database = Database::in_memory();
     deliver_all(&database, mail, 1, |_| b"INBOX");

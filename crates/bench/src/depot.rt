@@ -1,6 +1,7 @@
 // A depot in memory.
 use crate::checksum::REFUSED;
 use depot_actions::{Depot, Encoding, OfWrite};
+use part_store::EntryRow;
 use sqlite::MemStore;
 use std::alloc::Global;
 use std::io;
@@ -17,6 +18,12 @@ pub extern "C" fn bench_list(alloc: Global, mails: u32, mail: &[u8], rounds: u32
     listed(alloc, mails, mail, rounds).unwrap_or(REFUSED)
 }
 
+/// Delivers one mail more into a depot of so many, and removes it, in each round. The sum is how many were removed.
+#[unsafe(no_mangle)]
+pub extern "C" fn bench_remove(alloc: Global, mails: u32, mail: &[u8], rounds: u32) -> u64 {
+    removed(alloc, mails, mail, rounds).unwrap_or(REFUSED)
+}
+
 /// Exports a delivered mail in base64 of lines. The sum is how often.
 #[unsafe(no_mangle)]
 pub extern "C" fn bench_export(alloc: Global, mail: &[u8], rounds: u32) -> u64 {
@@ -26,12 +33,22 @@ pub extern "C" fn bench_export(alloc: Global, mail: &[u8], rounds: u32) -> u64 {
 fn deliver_all(alloc: Global, depot: &mut Depot<MemStore>, mail: &[u8], mails: u32) -> Option<u64> {
     let mut sum: u64 = 0;
     for number in 0..mails {
-        let mut own = Vec::from_slice(alloc, mail).ok()?;
-        own.extend_from_slice(&number.to_be_bytes()).ok()?;
-        let rows = depot.deliver(alloc, "ann", &own).ok()?;
+        let rows = deliver_one(alloc, depot, mail, number)?;
         sum = sum.wrapping_add(rows.len() as u64);
     }
     Some(sum)
+}
+
+// The new entries of a mail that no other number has.
+fn deliver_one(
+    alloc: Global,
+    depot: &mut Depot<MemStore>,
+    mail: &[u8],
+    number: u32,
+) -> Option<Vec<EntryRow>> {
+    let mut own = Vec::from_slice(alloc, mail).ok()?;
+    own.extend_from_slice(&number.to_be_bytes()).ok()?;
+    depot.deliver(alloc, "ann", &own).ok()
 }
 
 fn delivered(alloc: Global, script: &[u8], mail: &[u8], rounds: u32) -> Option<u64> {
@@ -47,6 +64,19 @@ fn listed(alloc: Global, mails: u32, mail: &[u8], rounds: u32) -> Option<u64> {
     for _ in 0..rounds {
         for row in depot.list("ann").ok()? {
             sum = sum.wrapping_add(row.octets);
+        }
+    }
+    Some(sum)
+}
+
+fn removed(alloc: Global, mails: u32, mail: &[u8], rounds: u32) -> Option<u64> {
+    let mut depot = Depot::in_memory(alloc).ok()?;
+    deliver_all(alloc, &mut depot, mail, mails)?;
+    let mut sum: u64 = 0;
+    for round in 0..rounds {
+        for row in deliver_one(alloc, &mut depot, mail, mails.wrapping_add(round))? {
+            depot.remove("ann", row.number).ok()?;
+            sum = sum.wrapping_add(1);
         }
     }
     Some(sum)
