@@ -30,9 +30,12 @@ fn a_message_longer_than_a_piece(rt: HostRuntime) -> Result<(), Fail> {
     for (encoding, length, end, pieces) in TEXTS {
         let mut out = OfWrite::new(Calls::new(&rt, 10_000, 100));
         depot.export(alloc, "ann", 1, encoding, &mut out)?;
-        assert_eq!(rt; out.inner.octets.len(), length, "{encoding:?}");
-        assert!(rt; out.inner.octets.ends_with(end), "{encoding:?}");
-        assert!(rt; out.inner.lengths.as_slice() == pieces, "{encoding:?}");
+        assert_eq!(rt; out.inner.octets.len(), length, "a text of {length}");
+        assert!(rt; out.inner.octets.ends_with(end), "a text of {length}");
+        assert!(rt;
+            out.inner.lengths.as_slice() == pieces,
+            "a text of {length}"
+        );
     }
     Ok(())
 }
@@ -45,9 +48,9 @@ fn one_octet_a_call(rt: HostRuntime) -> Result<(), Fail> {
     for (encoding, length, _, _) in TEXTS {
         let mut out = OfWrite::new(Calls::new(&rt, 1, 10_000));
         depot.export(alloc, "ann", 1, encoding, &mut out)?;
-        assert_eq!(rt; out.inner.lengths.len(), length, "{encoding:?}");
+        assert_eq!(rt; out.inner.lengths.len(), length, "a text of {length}");
         let whole = encode(alloc, encoding, &message)?;
-        assert!(rt; out.inner.octets == whole, "{encoding:?}");
+        assert!(rt; out.inner.octets == whole, "a text of {length}");
     }
     Ok(())
 }
@@ -65,13 +68,13 @@ fn a_writer_that_fails_within_a_piece(rt: HostRuntime) -> Result<(), Fail> {
             let written = out.inner.octets.as_slice();
             assert!(rt;
                 matches!(exported, Err(Refusal::Write)),
-                "{encoding:?}, {calls}"
+                "a text of {length}, {calls}"
             );
             assert_eq!(rt; out.faults, 1);
             assert!(rt;
                 written.len() > calls.saturating_sub(1).saturating_mul(1_000) || calls == 0
             );
-            assert!(rt; whole.starts_with(written), "{encoding:?}, {calls}");
+            assert!(rt; whole.starts_with(written), "a text of {length}, {calls}");
         }
     }
     Ok(())
@@ -91,7 +94,7 @@ fn lengths_around_pieces(rt: HostRuntime) -> Result<(), Fail> {
             let mut out = OfWrite::new(Vec::new(alloc));
             depot.export(alloc, "ann", 1, encoding, &mut out)?;
             let whole = encode(alloc, encoding, octets)?;
-            assert!(rt; out.inner == whole, "{encoding:?}, {length}");
+            assert!(rt; out.inner == whole, "{length}");
         }
     }
     Ok(())

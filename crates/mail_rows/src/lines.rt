@@ -1,17 +1,15 @@
 // The lines of texts.
 use std::alloc::{AllocError, Global};
-use text_lines::{Line, Lines};
+use text_lines::Lines;
 
 // Whether the lines of a text are those of a table of starts, ends and stops.
 fn has_lines(text: &[u8], want: &[(usize, usize, usize)]) -> bool {
     let mut lines = Lines::new(text);
     for (start, end, stop) in want {
-        let wanted = Line {
-            start: *start,
-            end: *end,
-            stop: *stop,
+        let Some(line) = lines.next() else {
+            return false;
         };
-        if lines.next() != Some(wanted) {
+        if line.start != *start || line.end != *end || line.stop != *stop {
             return false;
         }
     }
