@@ -188,10 +188,10 @@ fn trees(entries: &mut Entries) {
     add("tree of 1,000,000 lines --b without a header", || b"--b\n".repeat(1_000_000));
     add("tree of 1,000,000 lines that begin as a delimiter", || inputs::multipart_of(b"--c\n", 1_000_000));
     add("tree of 31 nested multiparts over 1,000,000 lines --b", || {
-        [inputs::levels(b""), b"--b\n".repeat(1_000_000)].concat()
+        [inputs::levels(b"x"), b"--b\n".repeat(1_000_000)].concat()
     });
     add("tree of 31 nested multiparts over 10 MB of base64", || {
-        [inputs::levels(b""), inputs::BASE64_LINE.repeat(128_000)].concat()
+        [inputs::levels(b"x"), inputs::BASE64_LINE.repeat(128_000)].concat()
     });
     add("tree of one multipart over 10 MB of base64", || inputs::multipart_of(inputs::BASE64_LINE, 128_000));
     add("tree of 31 boundaries of 60,000 with a common prefix", || {
