@@ -129,6 +129,11 @@ if anyof (
 }
 ";
 
+/// A variable of two octets that is doubled so many times.
+pub fn doublings(times: usize) -> Vec<u8> {
+    [b"require \"variables\"; set \"a\" \"xy\";\n".as_slice(), &b"set \"a\" \"${a}${a}\";\n".repeat(times)].concat()
+}
+
 /// A filter of deliveries.
 pub const SIX_BRANCHES: &[u8] = b"require \"fileinto\"; if header :contains \"Subject\" \"invoice\" { fileinto \"Bills\"; } elsif header :is \"X-Spam-Flag\" \"YES\" { fileinto \"Junk\"; } elsif exists \"List-Id\" { fileinto \"Lists\"; } elsif header :matches \"To\" \"*+*@*\" { fileinto \"Plus\"; } elsif size :over 1000000 { fileinto \"Large\"; } elsif header :contains \"From\" \"@example.org\" { fileinto \"Ours\"; }";
 

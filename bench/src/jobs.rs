@@ -199,6 +199,11 @@ fn trees(entries: &mut Entries) {
         let line = [b"--".as_slice(), &boundary, b"x\n"].concat();
         [inputs::levels(&boundary), line.repeat(600)].concat()
     });
+    add("tree of a boundary of 60,000 and lines that begin with it", || {
+        let boundary = b"b".repeat(60_000);
+        let line = [b"--".as_slice(), &boundary, b"x\n"].concat();
+        [b"Content-Type: multipart/mixed; boundary=".as_slice(), &boundary, b"\n\n", &line.repeat(100)].concat()
+    });
     add("tree of one header of 10 MB", || inputs::repeated(10_000_000, b"", b"X-Header-Field: a value of some words\r\n", b"\r\n"));
     add("tree of 20,000,000 empty fields", || b"a:\n".repeat(20_000_000));
     add("tree of 16,000,000 parameters in one field", || inputs::repeated(64_000_000, b"Content-Type: text/plain", b";a=b", b"\n\n"));
@@ -330,6 +335,23 @@ fn running(entries: &mut Entries) {
         move |message, rounds| ours::bench_run(false, once(&TEN, || compiled(inputs::TEN_OF_EACH)), message, rounds),
         |_, rounds| filters::ten_of_each(rounds),
     );
+    entries.add_with(
+        "run forty doublings of a variable",
+        1.5,
+        false,
+        Vec::new,
+        move |message, rounds| ours::bench_run(false, once(&DOUBLINGS, || compiled(&inputs::doublings(40))), message, rounds),
+        |_, rounds| filters::doublings(40, rounds),
+    );
+    let texts: &'static [u8] = programs::octets_of(&[], &[&[b'x'; 4_096]], &joined_texts(512, 509)).leak();
+    entries.add_with(
+        "run the largest stack of joined texts",
+        1.5,
+        false,
+        Vec::new,
+        move |message, rounds| ours::bench_run(false, texts, message, rounds),
+        |_, rounds| filters::joined_texts(512, 509, rounds),
+    );
     run_code(entries, "run 65,536 instructions: SIZE, NOT, JT", &[1024], &[], sizes, || b"Subject: a\r\n\r\n".to_vec(), vec![0]);
     let mut below = vec![0; 4_096];
     for (level, parts) in below.iter_mut().enumerate().take(31) {
@@ -367,6 +389,18 @@ fn sizes() -> Vec<(u8, u8, u16, u32)> {
     ended((0..21_845).flat_map(|test| [(0x0F, 0, 0, 0), (0x08, 0, 0, 0), (0x0A, 0, 0, test * 3 + 3)]).collect())
 }
 
+// Texts of four values each, so many of which are sources and keys of one test.
+fn joined_texts(sources: u16, keys: u16) -> Vec<(u8, u8, u16, u32)> {
+    let mut code = vec![(0x02, 0, 0, 0), (0x06, 0, 0, 0)];
+    for _ in 0..sources + keys {
+        code.extend([(0x03, 0, 0, 0); 4]);
+        code.push((0x05, 0, 4, 0));
+    }
+    code.push((0x0E, 0, sources, u32::from(keys)));
+    code.push((0x0B, 0, 0, code.len() as u32 + 1));
+    ended(code)
+}
+
 // A loop whose body compares the content so many times.
 fn body_tests(tests: u32) -> Vec<(u8, u8, u16, u32)> {
     let mut code = vec![(EACH, 0, 0, tests * 3 + 1)];
@@ -380,6 +414,7 @@ fn body_tests(tests: u32) -> Vec<(u8, u8, u16, u32)> {
 type Once = std::sync::OnceLock<Vec<u8>>;
 static SIX: Once = Once::new();
 static TEN: Once = Once::new();
+static DOUBLINGS: Once = Once::new();
 
 fn once(cell: &'static Once, make: impl Fn() -> Vec<u8>) -> &'static [u8] {
     cell.get_or_init(make)

@@ -85,3 +85,31 @@ pub fn ten_of_each(rounds: u32) -> u64 {
         if is_about_garden(title, offer) { 0 } else { 1 + told(b"", rounds) }
     })
 }
+
+const LONGEST_VALUE: usize = 4_096;
+
+/// A variable of two octets, doubled so often and cut each time, and a mail that is kept.
+pub fn doublings(times: usize, rounds: u32) -> u64 {
+    total(rounds, || {
+        let mut value = std::hint::black_box(b"xy").to_vec();
+        for _ in 0..times {
+            value = joined(&[&value, &value]);
+            value.truncate(LONGEST_VALUE);
+        }
+        std::hint::black_box(value);
+        1 + told(b"", rounds)
+    })
+}
+
+/// So many texts, each four times the longest value, of which the first that are compared are equal, so that a mail is kept.
+pub fn joined_texts(sources: usize, keys: usize, rounds: u32) -> u64 {
+    let value = vec![b'x'; LONGEST_VALUE];
+    total(rounds, || {
+        let value = std::hint::black_box(&value);
+        let texts: Vec<Vec<u8>> = (0..sources + keys).map(|_| joined(&[value, value, value, value])).collect();
+        let (sources, keys) = texts.split_at(sources);
+        let is_true = sources.iter().any(|source| keys.iter().any(|key| source.eq_ignore_ascii_case(key)));
+        std::hint::black_box(is_true);
+        1 + told(b"", rounds)
+    })
+}
