@@ -1,12 +1,11 @@
 -- Vector operations, lane by lane.
-use Rattle.std.proofs.Common.{◌≡◌, ℕ, zero, suc, ◌+◌, ◌-◌, ◌*◌, ◌/◌, ◌%◌, ◌^◌, ◌<◌, ◌≤◌, ◌≢◌, Bool, true, false, cond, not, ◌||◌, eqb, leb, ltb, List, [], ◌∷◌, ◌++◌, length, set, take, drop, get_or, map, replicate, inl, inr, refl, sym, ap, ◌∙◌, arith, w8, Fits, eqb-true, eq-eqb}
+use Rattle.std.proofs.Common.{◌≡◌, ℕ, zero, suc, ◌+◌, ◌*◌, ◌/◌, ◌%◌, ◌^◌, ◌<◌, ◌≤◌, ◌≢◌, Bool, true, false, cond, not, ◌||◌, eqb, leb, ltb, List, [], ◌∷◌, length, take, drop, get_or, map, replicate, inl, inr, refl, sym, ap, ◌∙◌, arith, w8, Fits, eq-eqb}
 use Rattle.std.specs.Simd.Lanes.{Each1, zip2, sel_l, mask_l, top}
 use Rattle.std.specs.Int.Count.{count_trailing_zeros}
 use Rattle.std.specs.List.{list_any, position_or_len}
 use Rattle.std.proofs.lemmas.Simd.{tops_compared, bitmask_splat, first_set_mask_l, map-map, below_from_Fits, swz_l, SwzOk, SwzOk-from_below, length-swz_l, get_or-swz_l_below, Each1-get_or}
 use Rattle.std.proofs.lemmas.Bool.{cases_lt, false≢true, ne_eqb}
-use Rattle.std.proofs.lemmas.List.{ext_get_or, get_or-drop, get_or-take, get_or-map, length-map, set_at, append_assoc, append-nil, length_push}
-use Rattle.std.proofs.lemmas.List.Elements.{filter_more}
+use Rattle.std.proofs.lemmas.List.{ext_get_or, get_or-drop, get_or-take, get_or-map, length-map}
 use Rattle.std.proofs.Math.Dec.{eqb-suc-zero}
 use Rattle.octet_lanes.specs.Encoding.{stray, values_among}
 use Rattle.octet_lanes.specs.Lanes.{if_below, if_equal, if_from}
@@ -104,45 +103,6 @@ all_values (x ∷ xs) h = go (eqb x stray) refl (all_values xs)
     go true e rest = absurd (false≢true (sym h ∙ ap (λ b. b || list_any (λ y. eqb y stray) xs) e))
     go false e rest = ap (λ b. cond (not b) (x ∷ values_among xs) (values_among xs)) e
         ∙ ap (λ l. x ∷ l) (rest (sym (ap (λ b. b || list_any (λ y. eqb y stray) xs) e) ∙ h))
-
--- one more class
-values_more : (xs : List ℕ) (i : ℕ) → i < length xs → values_among (take (i + 1) xs) ≡ values_among (take i xs) ++ cond (not (eqb (get_or xs i 0) stray)) (get_or xs i 0 ∷ []) []
-values_more xs i l = filter_more (λ class. not (eqb class stray)) xs i 0 l
-
--- a written class goes before the fillers
-written : (values : List ℕ) (n x : ℕ) → length values ≡ n → n < 32 → set (values ++ replicate (32 - n) stray) n x ≡ values ++ x ∷ replicate (31 - n) stray
-written values n x e l =
-    let room : 32 - n ≡ suc (31 - n) = omega arith in
-    ap (λ m. set (values ++ replicate m stray) n x) room ∙ set_at values stray (replicate (31 - n) stray) x n e
-
-pub value_more : (xs : List ℕ) (i n : ℕ) → i < length xs → length xs ≡ 32 → n ≡ length (values_among (take i xs)) → n ≤ i → eqb (get_or xs i 0) stray ≡ false
-    → (n + 1 ≡ length (values_among (take (i + 1) xs))) × (set (values_among (take i xs) ++ replicate (32 - n) stray) n (get_or xs i 0) ≡ values_among (take (i + 1) xs) ++ replicate (32 - (n + 1)) stray)
-value_more xs i n l long count room value =
-    let x = get_or xs i 0 in
-    let more : values_among (take (i + 1) xs) ≡ values_among (take i xs) ++ x ∷ [] = values_more xs i l ∙ ap (λ b. values_among (take i xs) ++ cond (not b) (x ∷ []) []) value in
-    let fewer : 31 - n ≡ 32 - (n + 1) = omega arith in (
-      count_more xs i n x count ∙ ap length (sym more),
-      written (values_among (take i xs)) n x (sym count) (omega arith)
-          ∙ sym (append_assoc (values_among (take i xs)) (x ∷ []) (replicate (31 - n) stray))
-          ∙ (λ j. sym more j ++ replicate (fewer j) stray),
-    )
-  where
-    count_more : (xs : List ℕ) (i n x : ℕ) → n ≡ length (values_among (take i xs)) → n + 1 ≡ length (values_among (take i xs) ++ x ∷ [])
-    count_more xs i n x e = omega (arith, length_push (values_among (take i xs)) x)
-
-pub stray_more : (xs : List ℕ) (i n : ℕ) → i < length xs → length xs ≡ 32 → n ≡ length (values_among (take i xs)) → n ≤ i → eqb (get_or xs i 0) stray ≡ true
-    → (n ≡ length (values_among (take (i + 1) xs))) × (set (values_among (take i xs) ++ replicate (32 - n) stray) n (get_or xs i 0) ≡ values_among (take (i + 1) xs) ++ replicate (32 - n) stray)
-stray_more xs i n l long count room value =
-    let x = get_or xs i 0 in
-    let is : x ≡ stray = eqb-true _ _ value in
-    let same : values_among (take (i + 1) xs) ≡ values_among (take i xs) =
-    values_more xs i l ∙ ap (λ b. values_among (take i xs) ++ cond (not b) (x ∷ []) []) value ∙ append-nil (values_among (take i xs)) in
-    let more : suc (31 - n) ≡ 32 - n = omega arith in (
-      count ∙ ap length (sym same),
-      written (values_among (take i xs)) n x (sym count) (omega arith)
-          ∙ ap (λ y. values_among (take i xs) ++ y ∷ replicate (31 - n) stray) is
-          ∙ (λ j. sym same j ++ replicate (more j) stray),
-    )
 
 -- the mask of the lanes that are x
 abbrev mask_of : List ℕ → ℕ → ℕ → ℕ

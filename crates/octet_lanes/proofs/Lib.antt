@@ -4,6 +4,7 @@ pub mod Symbols
 pub mod Texts
 pub mod ReadBack
 pub mod Lanes
+pub mod Closing
 pub mod Pairs
 pub mod Relaned
 pub mod Quanta

@@ -1,5 +1,5 @@
 -- What the steps of the kernels hold in a lane.
-use Rattle.std.specs.Prelude.{ℕ, ◌+◌, ◌-◌, ◌*◌, ◌/◌, ◌%◌, ◌^◌, ◌==◌, nat_le, nat_lt, if◌then◌else◌, List, [], ◌∷◌}
+use Rattle.std.specs.Prelude.{ℕ, zero, suc, ◌+◌, ◌-◌, ◌*◌, ◌/◌, ◌%◌, ◌^◌, ◌==◌, nat_le, nat_lt, if◌then◌else◌, List, [], ◌∷◌, ◌++◌, length, map, replicate}
 
 -- the sum, less 256 where it is as many
 abbrev pub added : ℕ → ℕ → ℕ
@@ -36,3 +36,14 @@ whole_of k h x = x % 2 ^ h * 2 ^ k + x / 2 ^ h
 -- the two halves of a lane of twice h bits, the low one first
 abbrev pub parts_of : ℕ → ℕ → List ℕ
 parts_of h x = (x % 2 ^ h) ∷ (x / 2 ^ h) ∷ []
+
+-- the places of the bits that are set among the k lowest, in order
+abbrev pub bits_set : ℕ → ℕ → List ℕ
+bits_set zero number = []
+bits_set (suc k) number =
+    let higher = map suc (bits_set k (number / 2)) in
+    if number % 2 == 1 then 0 ∷ higher else higher
+
+-- the places of the bits that are set among eight, then 8, in 16 lanes
+abbrev pub order_of : ℕ → List ℕ
+order_of number = bits_set 8 number ++ replicate (16 - length (bits_set 8 number)) 8

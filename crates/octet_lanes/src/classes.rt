@@ -92,13 +92,13 @@ pub fn has_stray(classes: &[u8; 32]) -> bool
         != 0
 }
 
-/// Whether stray characters are so many that runs between them are short.
+/// Whether the first stray character interrupts a quantum, or there are so many that runs between them are short.
 #[inline(always)]
-pub(crate) fn has_many_strays(classes: &[u8; 32]) -> bool {
+pub(crate) fn is_worth_closing(classes: &[u8; 32], alphabet: Alphabet) -> bool {
     let strays = u8x32::from_array(*classes)
         .simd_eq(u8x32::splat(STRAY))
         .to_bitmask();
-    strays.count_ones() > 3
+    run_len(classes) % alphabet.quantum_characters() != 0 || strays.count_ones() > 3
 }
 
 /// How many classes come before the first stray character.

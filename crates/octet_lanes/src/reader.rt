@@ -6,7 +6,7 @@ ghost use Rattle.octet_lanes.specs.Held.{IsGrown, IsHeld, IsRead, held_bits, kep
 ghost use Rattle.octet_lanes.specs.declared.alphabet.Alphabet.{Alphabet};
 
 use crate::alphabet::{Alphabet, PADDING, STRAY};
-use crate::classes::{class, classify, has_many_strays, has_stray, run_len, some_values};
+use crate::classes::{class, classify, has_stray, is_worth_closing, run_len, some_values};
 use crate::close::close_up;
 use crate::groups::join;
 use std::alloc::AllocError;
@@ -240,7 +240,7 @@ fn append_prefix(
     ensures read { IfOk result (λ end. IsRead alphabet (take end block.now) out.old.items out.new.items) }
     ensures grown { IsGrown out.old.items out.new.items }
 {
-    if has_many_strays(classes) && !has_padding(block) {
+    if is_worth_closing(classes, alphabet) && !has_padding(block) {
         return append_closed(block, classes, alphabet, out);
     }
     append_run(block, classes, alphabet, out)

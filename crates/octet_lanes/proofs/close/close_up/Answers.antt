@@ -1,41 +1,47 @@
-use Rattle.std.proofs.Common.{ap, ◌∙◌, ◌≡◌, ◌++◌, ◌-◌, ◌+◌, ◌<◌, length, replicate, set, get_or, sym, arith, take, eq-eqb}
-use Rattle.std.proofs.lemmas.Bool.{ne_eqb}
-use Rattle.std.proofs.lemmas.List.{append-nil}
+use Rattle.std.proofs.Common.{take_all, ◌≡◌, ◌≤◌, ◌+◌, ◌-◌, ◌*◌, ◌++◌, ap, ◌∙◌, sym, arith, length, take, drop, map, get_or, replicate, not, eqb, List, ℕ, ◌<◌}
+use Rattle.std.specs.Simd.Lanes.{mask_l}
+use Rattle.std.specs.Int.RustNames.{count_ones}
+use Rattle.std.proofs.lemmas.List.{length-append, length-take, length-drop}
 use Rattle.octet_lanes.specs.Encoding.{stray, values_among}
-use Rattle.octet_lanes.proofs.Lanes.{all_values, value_more, stray_more}
+use Rattle.octet_lanes.specs.Lanes.{order_of}
+use Rattle.octet_lanes.proofs.Closing.{closed_group, count_group, few_values, eight_more, written_after, lanes_closed}
 use Rattle.octet_lanes.proofs.close.close_up.Goals as goal
-use Rattle.octet_lanes.proofs.close.close_up.Goals.{then-class, else-class}
 
-pub returns-then-not-has_stray : goal.returns-then-not-has_stray
-returns-then-not-has_stray c =
-    let is : values_among c.args.classes.now ≡ c.args.classes.now = all_values c.args.classes.now (sym c.has_stray.ensures ∙ c.if-not-has_stray.true) in
-    let n : length (values_among c.args.classes.now) ≡ 32 = ap length is ∙ c.told-classes in
-    record {
-      lanes = sym is ∙ sym (append-nil _) ∙ ap (λ m. values_among c.args.classes.now ++ replicate (32 - m) stray) (sym n);
-      number = sym n;
-      few = omega arith;
-    }
-
-pub loop-class-preserved : goal.loop-class-preserved
-loop-class-preserved c =
+pub loop-eighth-preserved : goal.loop-eighth-preserved
+loop-eighth-preserved c =
     let xs = c.args.classes.now in
-    let i = c.loop-class.class-index in
-    let l = c.loop-class.invariant in
-    let within : i < length xs = omega (arith, c.told-classes) in
-    let closed = ap (λ ys. set ys c.loop-class.n (get_or xs i 0)) l.closed in
-    elim c.if-class.branch [
-      | then-class w ↦
-          let step = value_more xs i c.loop-class.n within c.told-classes l.number l.room (ne_eqb _ _ w.if-class.true) in
-          record {
-            number = w.n-is ∙ step.0;
-            room = omega (arith, w.n-is);
-            closed = closed ∙ step.1 ∙ ap (λ m. values_among (take (i + 1) xs) ++ replicate (32 - m) stray) (sym w.n-is);
-          }
-      | else-class w ↦
-          let step = stray_more xs i c.loop-class.n within c.told-classes l.number l.room (eq-eqb _ _ w.if-class.false) in
-          record {
-            number = w.n-is ∙ step.0;
-            room = omega (arith, w.n-is);
-            closed = closed ∙ step.1 ∙ ap (λ m. values_among (take (i + 1) xs) ++ replicate (32 - m) stray) (sym w.n-is);
-          }
-    ]
+    let i = c.loop-eighth.eighth in
+    let n = c.loop-eighth.n in
+    let l = c.loop-eighth.invariant in
+    let group = take 8 (drop (i * 8) xs) in
+    let within : i < 4 = c.loop-eighth-test.true in
+    let long : length group ≡ 8 = omega (arith, length-take 8 (drop (i * 8) xs), length-drop (i * 8) xs, c.told-classes) in
+    let few : length (values_among group) ≤ 8 = omega (arith, few_values group) in
+    let counted : count_ones c.values_in-values.result ≡ length (values_among group) = ap count_ones (c.values_in-values.ensures ∙ ap (λ g. mask_l (map (λ class. not (eqb class stray)) g)) c.eight-group.ensures) ∙ count_group group in
+    let more = eight_more xs i in
+    let ordered : c.in_order.result ≡ values_among group ++ replicate (16 - length (values_among group)) stray =
+    c.in_order.ensures
+    ∙ (λ j. map (get_or_at (c.eight-group.ensures j)) (order_of (c.values_in-values.ensures j)))
+    ∙ ap (λ g. map (λ place. get_or (group ++ replicate 8 stray) place 0) (order_of (mask_l (map (λ class. not (eqb class stray)) g)))) c.eight-group.ensures
+    ∙ closed_group group long in
+    let written = written_after (values_among (take (i * 8) xs)) (values_among group) n l.number (omega (arith, l.room)) few in
+    let sum : n + count_ones c.values_in-values.result ≡ n + length (values_among group) = ap (λ k. n + k) counted in
+    record {
+      number = sum ∙ ap (λ k. k + length (values_among group)) l.number ∙ sym (length-append (values_among (take (i * 8) xs)) (values_among group)) ∙ ap length (sym more);
+      room = omega (arith, sum, few, l.room);
+      closed = c.put.ensures
+          ∙ (λ j. take n (l.closed j) ++ (ordered j ++ drop (n + 16) (l.closed j)))
+          ∙ written
+          ∙ (λ j. sym more j ++ replicate (40 - sym sum j) stray);
+    }
+  where
+    get_or_at : List ℕ → ℕ → ℕ
+    get_or_at lanes place = get_or lanes place 0
+
+pub returns-clause-lanes : goal.returns-clause-lanes
+returns-clause-lanes c =
+    let xs = c.args.classes.now in
+    let l = c.loop-eighth.invariant in
+    let end : c.loop-eighth.eighth * 8 ≡ 32 = omega (arith, c.loop-eighth.auto.eighth-end, c.loop-eighth-test.false) in
+    let all : values_among (take (c.loop-eighth.eighth * 8) xs) ≡ values_among xs = ap (λ n. values_among (take n xs)) end ∙ ap values_among (take_all 32 xs (omega (arith, c.told-classes))) in
+    ap (take 32) (l.closed ∙ ap (λ values. values ++ replicate (40 - c.loop-eighth.n) stray) all) ∙ lanes_closed (values_among xs) c.loop-eighth.n (l.number ∙ ap length all) (omega (arith, l.room, end))
