@@ -1,10 +1,10 @@
 -- Eight classes closed up by a table of places.
-use Rattle.std.proofs.Common.{◌≡◌, ℕ, zero, suc, ◌+◌, ◌-◌, ◌*◌, ◌/◌, ◌%◌, ◌<◌, ◌≤◌, ◌^◌, Bool, true, false, cond, not, ◌&&◌, T, eqb, leb, List, [], ◌∷◌, ◌++◌, length, take, drop, get_or, map, replicate, refl, sym, ap, ◌∙◌, arith, w8, eqb→eq, subst}
-use Rattle.std.specs.Simd.Lanes.{Each1, mask_l, number_l, digits_l}
-use Rattle.std.specs.List.{filter}
+use Rattle.std.proofs.Common.{◌≡◌, ℕ, zero, suc, ◌+◌, ◌-◌, ◌*◌, ◌/◌, ◌%◌, ◌<◌, ◌≤◌, ◌^◌, Bool, true, false, cond, not, ◌&&◌, T, eqb, leb, List, [], ◌∷◌, ◌++◌, length, take, drop, get_or, map, replicate, refl, sym, ap, ◌∙◌, arith, length-append, length-drop, w8, eqb→eq, subst}
+use Rattle.std.specs.Simd.Lanes.{Each1, mask_l, number_l, digits_l, pick_l}
+use Rattle.std.specs.List.{filter, range_with_len}
 use Rattle.std.specs.Int.RustNames.{count_ones}
-use Rattle.std.proofs.lemmas.Simd.{map-map, mask_l-lt, ones-mask_l, swz_l, SwzOk, SwzOk-from_below, length-swz_l, get_or-swz_l_below, Each1-get_or}
-use Rattle.std.proofs.lemmas.List.{ext_get_or, length-map, get_or-map, get_or-append_right, map-append, append_assoc, drop-replicate, length-replicate, replicate-append-replicate}
+use Rattle.std.proofs.lemmas.Simd.{map-map, mask_l-lt, ones-mask_l, swz_l, SwzOk, SwzOk-from_below, length-swz_l, get_or-swz_l_below, Each1-get_or, pick_l-range_with_len}
+use Rattle.std.proofs.lemmas.List.{ext_get_or, length-map, get_or-map, get_or-append_right, map-append, append_assoc, drop-replicate, length-replicate, replicate-append-replicate, drop-append-le, take-append-le}
 use Rattle.std.proofs.lemmas.List.Sums.{length-filter, count_by-le-length}
 use Rattle.std.proofs.lemmas.List.Elements.{filter-append}
 use Rattle.std.proofs.Math.Seq.{take-append_seam, take-append-add, take-add, drop-append-add}
@@ -127,6 +127,34 @@ few_bits xs long =
     let same : mask_l (map (λ class. not (eqb class stray)) (xs ++ replicate 8 stray)) ≡ mask_l (map (λ class. not (eqb class stray)) xs) = mask_before (λ class. not (eqb class stray)) stray refl xs 8 in
     let bound : mask_l (map (λ class. not (eqb class stray)) xs) < 2 ^ 8 = subst (λ n. mask_l (map (λ class. not (eqb class stray)) xs) < 2 ^ n) (length-map xs (λ class. not (eqb class stray)) ∙ long) (mask_l-lt (map (λ class. not (eqb class stray)) xs)) in
     omega arith
+
+-- ---- the groups
+
+pub eight_of : (xs : List ℕ) → length xs ≡ 32 → (start : ℕ) → start + 8 ≤ 32
+    → pick_l 0 (xs ++ replicate 32 stray) (range_with_len start 8 ++ replicate 8 32) ≡ take 8 (drop start xs) ++ replicate 8 stray
+eight_of xs long start within =
+    map-append (λ k. get_or (xs ++ replicate 32 stray) k 0) (range_with_len start 8) (replicate 8 32)
+    ∙ (λ i. here i ++ after 8 i)
+  where
+    here : pick_l 0 (xs ++ replicate 32 stray) (range_with_len start 8) ≡ take 8 (drop start xs)
+    here = pick_l-range_with_len 0 (xs ++ replicate 32 stray) start 8 (omega (arith, length-append xs (replicate 32 stray)))
+        ∙ ap (take 8) (drop-append-le start xs (replicate 32 stray) (omega arith))
+        ∙ take-append-le 8 (drop start xs) (replicate 32 stray) (omega (arith, length-drop start xs))
+    after : (n : ℕ) → map (λ k. get_or (xs ++ replicate 32 stray) k 0) (replicate n 32) ≡ replicate n stray
+    after zero = refl
+    after (suc n) = λ i. get_or-append_right xs (replicate 32 stray) 32 32 0 long (omega arith) i ∷ after n i
+
+group_at : (f : ℕ → List ℕ) (i : ℕ) → i < 4 → get_or (map f (0 ∷ 1 ∷ 2 ∷ 3 ∷ [])) i [] ≡ f i
+group_at f zero small = refl
+group_at f (suc zero) small = refl
+group_at f (suc (suc zero)) small = refl
+group_at f (suc (suc (suc zero))) small = refl
+group_at f (suc (suc (suc (suc i)))) small = absurd (omega arith)
+
+-- one of the groups
+pub group_of : (xs : List ℕ) (groups : List (List ℕ)) → groups ≡ map (λ eighth. take 8 (drop (eighth * 8) xs) ++ replicate 8 stray) (0 ∷ 1 ∷ 2 ∷ 3 ∷ []) → (i : ℕ) → i < 4
+    → get_or groups i [] ≡ take 8 (drop (i * 8) xs) ++ replicate 8 stray
+group_of xs groups are i small = ap (λ gs. get_or gs i []) are ∙ group_at (λ eighth. take 8 (drop (eighth * 8) xs) ++ replicate 8 stray) i small
 
 -- ---- group after group
 

@@ -1,5 +1,5 @@
 // Values closed up over stray characters.
-ghost use Rattle.std.specs.Prelude.{◌≡◌, ◌++◌, ◌+◌, ◌-◌, ◌<◌, ◌≤◌, ◌==◌, drop, length, map, not, replicate, slice_index, take};
+ghost use Rattle.std.specs.Prelude.{◌≡◌, ◌++◌, ◌+◌, ◌-◌, ◌*◌, ◌<◌, ◌≤◌, ◌==◌, [], ◌∷◌, drop, length, map, not, replicate, slice_index, take};
 ghost use Rattle.std.specs.Simd.Lanes.{mask_l};
 ghost use Rattle.octet_lanes.specs.Encoding.{stray, values_among};
 ghost use Rattle.octet_lanes.specs.Lanes.{order_of};
@@ -14,11 +14,12 @@ pub fn close_up(classes: &[u8; 32]) -> ([u8; 32], usize)
     ensures number { result.1 ≡ length (values_among classes.now) }
     ensures few { result.1 ≤ 32 }
 {
+    let groups = eights(u8x32::from_array(*classes));
     // the last eight are written as 16 lanes, after 24 values at the most
     let mut closed = [STRAY; 40];
     let mut n = 0;
     for eighth in 0..4 {
-        let group = eight(classes, eighth * 8);
+        let group = groups[eighth];
         let values = values_in(group);
         put(&mut closed, n, in_order(group, values));
         n += values.count_ones() as usize;
@@ -26,15 +27,18 @@ pub fn close_up(classes: &[u8; 32]) -> ([u8; 32], usize)
     (u8x32::from_slice(&closed).to_array(), n)
 }
 
-// Eight of the classes, from `start` on, and as many stray ones.
+// The classes, eight by eight, each eight with as many stray ones after them.
 #[inline(always)]
-fn eight(classes: &[u8; 32], start: usize) -> u8x16
-    requires { start + 8 ≤ 32 }
-    ensures { result ≡ take 8 (drop start classes.now) ++ replicate 8 stray }
+fn eights(classes: u8x32) -> [u8x16; 4]
+    ensures { result ≡ map (λ eighth. take 8 (drop (eighth * 8) classes) ++ replicate 8 stray) (0 ∷ 1 ∷ 2 ∷ 3 ∷ []) }
 {
-    let mut group = [STRAY; 16];
-    group[..8].copy_from_slice(&classes[start..start + 8]);
-    u8x16::from_array(group)
+    let strays = u8x32::splat(STRAY);
+    [
+        classes.shuffle(strays, [0, 1, 2, 3, 4, 5, 6, 7, 32, 32, 32, 32, 32, 32, 32, 32]),
+        classes.shuffle(strays, [8, 9, 10, 11, 12, 13, 14, 15, 32, 32, 32, 32, 32, 32, 32, 32]),
+        classes.shuffle(strays, [16, 17, 18, 19, 20, 21, 22, 23, 32, 32, 32, 32, 32, 32, 32, 32]),
+        classes.shuffle(strays, [24, 25, 26, 27, 28, 29, 30, 31, 32, 32, 32, 32, 32, 32, 32, 32]),
+    ]
 }
 
 // The lanes that are values, each as a bit.
