@@ -140,6 +140,7 @@ eight_of xs long start within =
     here = pick_l-range_with_len 0 (xs ++ replicate 32 stray) start 8 (omega (arith, length-append xs (replicate 32 stray)))
         ∙ ap (take 8) (drop-append-le start xs (replicate 32 stray) (omega arith))
         ∙ take-append-le 8 (drop start xs) (replicate 32 stray) (omega (arith, length-drop start xs))
+
     after : (n : ℕ) → map (λ k. get_or (xs ++ replicate 32 stray) k 0) (replicate n 32) ≡ replicate n stray
     after zero = refl
     after (suc n) = λ i. get_or-append_right xs (replicate 32 stray) 32 32 0 long (omega arith) i ∷ after n i

@@ -4,7 +4,7 @@ use Rattle.std.specs.Int.RustNames.{count_ones}
 use Rattle.std.proofs.lemmas.List.{length-append, length-take, length-drop}
 use Rattle.octet_lanes.specs.Encoding.{stray, values_among}
 use Rattle.octet_lanes.specs.Lanes.{order_of}
-use Rattle.octet_lanes.proofs.Closing.{closed_group, count_group, few_values, eight_more, group_of, written_after, lanes_closed}
+use Rattle.octet_lanes.proofs.Closing.{closed_group, count_group, few_bits, few_values, eight_more, group_of, written_after, lanes_closed}
 use Rattle.octet_lanes.proofs.close.close_up.Goals as goal
 
 pub in_order-requires : goal.in_order-requires
