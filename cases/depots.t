@@ -23,7 +23,7 @@ Filters.
 
 ## refused code leaves the filter as it was
     $ printf 'SVBC\1\0\0\0\0\0\0\0\0\0\2' > jump
-    $ printf '\n\0\0\0\0\0\0\0' >> jump # JT
+    $ printf '\t\0\0\0\0\0\0\0' >> jump # JMP
     $ printf '\1\0\0\0\0\0\0\0' >> jump # HALT
     $ : > empty
     $ depot code mail.depot cat examples/keep.svbc
