@@ -1,6 +1,7 @@
 // Programs from octets: from left to right, each reader giving a field and the octets after it.
-ghost use Rattle.std.specs.Prelude.{◌≡◌, ◌≢◌, IfOk, IfErr};
+ghost use Rattle.std.specs.Prelude.{◌≡◌, ◌≢◌, ◌<◌, length, IfOk, IfErr, IsErrAnd};
 ghost use Rattle.std.specs.Int.{w16, w32, w64};
+ghost use Rattle.octets.specs.Limits.{max_program};
 ghost use Rattle.bytecode_format.specs.Code.{Code};
 ghost use Rattle.bytecode_format.specs.Spelling.{IsProgram, spelling};
 ghost use Rattle.bytecode_format.specs.Readers.{Gives, after, octet_at, number_at, string_at, instruction_at, many_at, counts_at, program_at, opening};
@@ -161,7 +162,8 @@ struct Parts {
 
 #[tactic(auto, unfolding(crate::specs::Readers::program_at, crate::specs::Readers::after))]
 fn parts_of(alloc: Global, octets: &[u8]) -> Result<Parts, FormatError>
-    ensures { Gives (λ p. record { version = 1; variables = p.variables; numbers = p.numbers.items; strings = p.strings.items; instructions = p.instructions.items }) result (program_at octets.now) }
+    ensures parts { Gives (λ p. record { version = 1; variables = p.variables; numbers = p.numbers.items; strings = p.strings.items; instructions = p.instructions.items }) result (program_at octets.now) }
+    ensures large { max_program < length octets.now → IsErrAnd result (λ e. e ≡ FormatError.Spelling) }
 {
     if octets.len() > MAX_PROGRAM {
         return Err(FormatError::Spelling);
@@ -187,11 +189,13 @@ impl Program {
     ///
     /// `Spelling` comes exactly where they spell no program: where the opening, a count or a length
     /// is outside the limits, a table passes the end, or octets stand after the last instruction.
-    /// `Memory` comes only where an allocation was refused. What is allocated grows with what is read,
-    /// and not with what a count claims.
+    /// `Memory` comes only where an allocation was refused, and never for more octets than the limit: their
+    /// number is judged before memory is taken. What is allocated grows with what is read, and not with what a
+    /// count claims.
     pub fn read(alloc: Global, octets: &[u8]) -> Result<Program, FormatError>
         ensures found { IfOk result (λ p. IsProgram p × (octets.now ≡ spelling p)) }
         ensures refused { IfErr result (λ e. e ≡ FormatError.Spelling → (code : Code) → IsProgram code → octets.now ≢ spelling code) }
+        ensures large { max_program < length octets.now → IsErrAnd result (λ e. e ≡ FormatError.Spelling) }
     {
         let parts = parts_of(alloc, octets)?;
         Ok(Program::assemble(

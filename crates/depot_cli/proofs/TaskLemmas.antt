@@ -59,8 +59,8 @@ pub stopped : (e : Refusal) (command : Command) (status : ℕ) (old new : Desk) 
 stopped e command status old new export broke begun unwritten refused one told = elim (comes_late e) [
   | inl is ↦ let b = broke is in inr (one, inl (b.0, b.1, b.2, subst (λ r. HasTold r old.err new.err) is told))
   | inr (inl is) ↦ elim (begun is) [
-    | inl same ↦ inr (one, inr (inr (e, refused, told, same)))
+    | inl same ↦ inr (one, inr (inr (e, λ export write. cc (is, write), refused, told, same)))
     | inr b ↦ inr (one, inr (inl (export, b.0, b.1, b.2, subst (λ r. HasTold r old.err new.err) is told)))
   ]
-  | inr (inr other) ↦ inr (one, inr (inr (e, refused, told, unwritten other.0 other.1)))
+  | inr (inr other) ↦ inr (one, inr (inr (e, λ export. other.0, refused, told, unwritten other.0 other.1)))
 ]

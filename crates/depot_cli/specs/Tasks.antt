@@ -1,5 +1,5 @@
 -- What tasks ask of a depot, and what performing one does.
-use Rattle.std.specs.Prelude.{◌≡◌, ◌⊎◌, ℕ, List}
+use Rattle.std.specs.Prelude.{◌≡◌, ◌≢◌, ◌⊎◌, ℕ, List}
 use Rattle.sqlite.specs.State.{HasCleanDisk, State}
 use Rattle.part_store.specs.Standing.{Spares}
 use Rattle.depot_actions.specs.Causes.{HasCause, IsExport}
@@ -63,10 +63,10 @@ abbrev pub HasRunOut : Command → Desk → Desk → Type 0
 HasRunOut command old new =
     IsExport command × (reply : Reply) × HasDone command reply old.store new.store × HasBegun (reply_text command reply) old.out new.out × HasTold Memory old.err new.err
 
--- the depot refused the command, and is as it was
+-- the depot refused the command, and is as it was; of an export that is none of Write, which has no cause in any other command
 abbrev pub HasDeclined : Command → Desk → Desk → Type 0
 HasDeclined command old new =
-    (refusal : Refusal) × (HasCleanDisk new.store → HasCause refusal command old.store × Spares old.store new.store) × HasTold refusal old.err new.err × (new.out ≡ old.out)
+    (refusal : Refusal) × (IsExport command → refusal ≢ Write) × (HasCleanDisk new.store → HasCause refusal command old.store × Spares old.store new.store) × HasTold refusal old.err new.err × (new.out ≡ old.out)
 
 -- a command was performed, with this status: 0 for a reply that was written whole, else 1
 abbrev pub HasPerformed : Command → ℕ → Desk → Desk → Type 0

@@ -55,7 +55,7 @@ pub enum Task<'a> {
 ///
 /// Writing follows the command and takes no memory, but for the text that an export writes a piece at a time. Where `out` fails, or memory
 /// is refused for a piece, a prefix of the reply is written there, what the depot did stands, the line of `Write` or of `Memory` is
-/// written to `err`, and the status is 1.
+/// written to `err`, and the status is 1. As long as the disk returns what was written, `Write` is told in no other case.
 pub fn perform<S: Alter, O: Sink, E: Sink>(
     alloc: Global,
     task: Task<'_>,

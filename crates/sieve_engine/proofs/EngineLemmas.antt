@@ -1,5 +1,5 @@
 -- What the verifier's refusals are to whoever handed octets in.
-use Rattle.std.proofs.Common.{◌≡◌, ◌≢◌, ℕ, ◌^◌, ◌≤◌, List, Some, length, sym, ap, subst, ◌∙◌, arith}
+use Rattle.std.proofs.Common.{◌≡◌, ◌≢◌, ℕ, List, Some, sym, ap, subst, ◌∙◌, arith}
 use Rattle.bytecode_format.specs.declared.action.Action.{Action}
 use Rattle.bytecode_format.specs.Code.{Code}
 use Rattle.bytecode_verifier.specs.declared.error.Refusal.{Refusal as BrokenRule}
@@ -44,15 +44,19 @@ reported message code mail actions charged limit accepted readable is outcome va
 one_end : (code : Code) (mail : Mail) (one other : State) → RunEnds code mail one → RunEnds code mail other → one ≡ other
 one_end code mail one other p q = one_end_from code mail p.steps q.steps (start code) p.last q.last one other p.run p.halts q.run q.halts
 
+-- so runs come to one list of actions
+pub one_list : (code : Code) (mail : Mail) (actions others : List Action) (charged other : ℕ) → IsOutcome code mail actions charged → IsOutcome code mail others other → actions ≡ others
+one_list code mail actions others charged other one two =
+    one.actions_are ∙ ap (λ (s : State). final_actions s.actions s.implicit_keep) (one_end code mail one.end two.end one.over two.over) ∙ sym two.actions_are
+
 -- a script's report is that of its code, whose run has one end, with the final actions of the meaning
 pub evaluated : (script message : List ℕ) (code : Code) (actions : List Action) (charged limit : ℕ) → IsCompiled script code → IsReport code message actions charged limit → IsEvaluation script message actions charged limit
 evaluated script message code actions charged limit compiled report =
     let meant = compiled.means (mail_of message) (is_mail message report.read) in
-    let same = one_end code (mail_of message) report.outcome.end meant.1.end report.outcome.over meant.1.over in
     record {
       form = compiled.form;
       checked = compiled.checked;
-      meant = report.outcome.actions_are ∙ ap (λ (s : State). final_actions s.actions s.implicit_keep) same ∙ sym meant.1.actions_are;
+      meant = one_list code (mail_of message) actions _ charged meant.0 report.outcome meant.1;
       accepted = subst IsAccepted compiled.is compiled.accepted;
       report = subst (λ c. IsReport c message actions charged limit) compiled.is report;
     }

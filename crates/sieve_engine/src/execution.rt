@@ -1,5 +1,6 @@
 // Running bytecode that anyone may hand in.
-ghost use Rattle.std.specs.Prelude.{IfOk, IfErr};
+ghost use Rattle.std.specs.Prelude.{◌≡◌, ◌<◌, length, IfOk, IfErr, IsErrAnd};
+ghost use Rattle.octets.specs.Limits.{max_program};
 ghost use Rattle.bytecode_verifier.specs.Acceptance.{IsAccepted};
 ghost use Rattle.sieve_engine.specs.Execution.{IsChecked, IsProgramRefusal, IsExecution, IsRefusal, IsReport, IsUnread};
 
@@ -22,10 +23,12 @@ pub struct Report {
 /// The program that the octets spell, if it is accepted.
 ///
 /// Else the first refusal: [`Refusal::Spelling`] exactly where they spell no program, then the
-/// verifier's. [`Refusal::Memory`] comes only where an allocation was refused.
+/// verifier's. [`Refusal::Memory`] comes only where an allocation was refused, and never for more octets than
+/// the limit.
 pub fn check_program(alloc: Global, program: &[u8]) -> Result<Verified, Refusal>
     ensures checked { IfOk result (λ verified. IsChecked program.now verified) }
     ensures refused { IfErr result (λ e. IsProgramRefusal program.now e) }
+    ensures large { max_program < length program.now → IsErrAnd result (λ e. e ≡ Refusal.Spelling) }
 {
     let program = Program::read(alloc, program)?;
     match verify(alloc, program) {
@@ -41,6 +44,7 @@ pub fn check_program(alloc: Global, program: &[u8]) -> Result<Verified, Refusal>
 pub fn execute(alloc: Global, program: &[u8], message: &[u8]) -> Result<Report, Refusal>
     ensures executed { IfOk result (λ report. IsExecution program.now message.now report.outcome.actions.items report.outcome.charged report.limit) }
     ensures refused { IfErr result (λ e. IsRefusal program.now message.now e) }
+    ensures large { max_program < length program.now → IsErrAnd result (λ e. e ≡ Refusal.Spelling) }
 {
     let verified = check_program(alloc, program)?;
     run_on(alloc, &verified, message)

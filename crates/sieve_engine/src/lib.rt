@@ -3,7 +3,8 @@
 //! Two calls carry the promise that this project exists for. Every program that the verifier accepts, wherever its
 //! octets came from, runs on every read message without a trap, charges at most the budget, and ends with an action
 //! list, or memory was refused: [`execute`] answers that run (`specs/Execution`). Where the program was compiled from
-//! a script, the list is the script's meaning over the message: [`evaluate`] answers it (`specs/Evaluation`).
+//! a script, the list is the script's meaning over the message: [`evaluate`] answers it (`specs/Evaluation`), and the [`laws`]
+//! say the same of [`execute`] on the octets that the program was written as.
 //!
 //! *Accepts* is `IsAccepted` of bytecode_verifier; *runs*, *traps* and *charges* are `step`, `Run` and `charge` of
 //! sieve_vm; the *budget* is `budget_of`, and a report's limit its value at the message; a *read message* is `mail_of`
@@ -12,6 +13,7 @@
 
 mod evaluation;
 mod execution;
+pub mod laws;
 
 pub use evaluation::{check_script, compile_script, evaluate};
 pub use execution::{Report, check_program, execute};

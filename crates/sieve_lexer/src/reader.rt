@@ -1,5 +1,5 @@
 // The reader of tokens.
-ghost use Rattle.std.specs.Prelude.{◌≡◌, ◌≤◌, ◌<◌, ◌⊎◌, length, slice_index, IfOk, IfErr, IsTrue, MatchOption, ℕ};
+ghost use Rattle.std.specs.Prelude.{◌≡◌, ◌≤◌, ◌<◌, ◌⊎◌, length, slice_index, IfOk, IfErr, IsErrAnd, IsTrue, MatchOption, ℕ};
 ghost use Rattle.std.specs.Char.{is_ascii_digit};
 ghost use Rattle.octets.specs.Limits.{max_script};
 ghost use Rattle.sieve_lexer.specs.Classes.{begins_identifier};
@@ -147,10 +147,11 @@ fn token_at(script: &[u8], place: usize) -> Option<Token>
 /// A script above [`MAX_SCRIPT`] octets is refused as [`LexicalError::ScriptTooLong`], before anything else.
 /// Otherwise [`LexicalError::Lexical`] names the first octet at which neither a token nor white space nor a
 /// comment begins: an octet of no token, a number above 2^64 - 1, a string or comment that isn't closed.
-/// [`LexicalError::Memory`] comes only where memory was refused.
+/// [`LexicalError::Memory`] comes only where memory was refused, after the number of octets was judged.
 pub fn tokens(alloc: Global, script: &[u8]) -> Result<Vec<Token>, LexicalError>
     ensures tokens { IfOk result (λ v. (length script.now ≤ max_script) × AreTokens script.now v.items) }
     ensures refused { IfErr result (λ e. IsLexicalRefusal script.now e) }
+    ensures large { max_script < length script.now → IsErrAnd result (λ e. e ≡ LexicalError.ScriptTooLong) }
 {
     if script.len() > MAX_SCRIPT {
         return Err(LexicalError::ScriptTooLong);

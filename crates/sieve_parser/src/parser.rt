@@ -1,5 +1,6 @@
 // The parser.
-ghost use Rattle.std.specs.Prelude.{IfErr, IfOk};
+ghost use Rattle.std.specs.Prelude.{◌≡◌, ◌<◌, length, IfErr, IfOk, IsErrAnd};
+ghost use Rattle.octets.specs.Limits.{max_script};
 ghost use Rattle.sieve_parser.specs.Scripts.{IsParsed, IsParseRefusal};
 ghost use Rattle.sieve_parser.specs.View.{commands_tree};
 
@@ -13,10 +14,11 @@ use std::alloc::Global;
 /// The refusals of the tokens come first. Otherwise [`ParseError::Syntax`] names the first token with which the
 /// tokens begin no script, the end being one more token, and [`ParseError::TooDeep`] the brace or test name that
 /// more than [`crate::MAX_NESTING`] braces and test names would enclose, its own included; whichever stands first.
-/// [`ParseError::Memory`] comes only where memory was refused.
+/// [`ParseError::Memory`] comes only where memory was refused, and never for more octets than the limit.
 pub fn parse(alloc: Global, script: &[u8]) -> Result<Script, ParseError>
     ensures parsed { IfOk result (λ parsed. IsParsed script.now (commands_tree parsed)) }
     ensures refused { IfErr result (λ e. IsParseRefusal script.now e) }
+    ensures large { max_script < length script.now → IsErrAnd result (λ e. e ≡ ParseError.ScriptTooLong) }
 {
     let tokens = sieve_lexer::tokens(alloc, script)?;
     let (commands, next) = commands(alloc, script, &tokens, 0, 0)?;
