@@ -21,12 +21,13 @@ use sqlite_schema::schema::Schema;
 use std::alloc::Global;
 use std::marker::Model;
 
-/// Entries, programs and last numbers in the three tables of a database.
+/// Entries, programs and last numbers in the three tables of a database. No call leaves a transaction open.
 pub struct PartStore<S: Alter> {
     conn: Connection<S>,
 }
 
 impl<S: Alter> Model for PartStore<S> {
+    ghost use Rattle.std.specs.Prelude.{◌≡◌, false};
     ghost use Rattle.sqlite.specs.Held.{Held, held_code};
 
     ghost Value = { Held S };
@@ -34,6 +35,8 @@ impl<S: Alter> Model for PartStore<S> {
     ghost coded = { held_code S.code };
 
     ghost view = { λ s. s.conn };
+
+    ghost invariant = { λ s. s.conn.in_transaction ≡ false };
 }
 
 impl<S: Alter + Drop> Drop for PartStore<S> {
@@ -56,6 +59,18 @@ fn is_bare(schema: &Schema) -> bool
     ensures { IsTrue result ↔ (schema.now ≡ no_schema) }
 {
     schema.tables.is_empty() && schema.indexes.is_empty() && schema.views.is_empty()
+}
+
+/// Begins a transaction where none is open. What an open connection then shows is what is committed.
+fn begin<S: Alter>(conn: &mut Connection<S>) -> Transaction<'_, S>
+    requires { conn.old.in_transaction ≡ false }
+    ensures same_reference { result.conn.ghost_name ≡ conn.entry.ghost_name }
+    ensures begun { result.conn.now ≡ record conn.old { in_transaction = true } }
+    ensures settled { IsTrue (state S.Store conn.old).is_open → (state S.Store conn.old).now ≡ (state S.Store conn.old).committed }
+{
+    // What holds of every connection is known where it is asked.
+    let _settled = conn.is_autocommit();
+    conn.transaction()
 }
 
 fn create_tables<S: Alter>(tx: &mut Transaction<'_, S>) -> Result<(), Error>
@@ -227,7 +242,8 @@ impl<S: Alter> PartStore<S> {
 
     /// Gives the connection back.
     pub fn release(self) -> Connection<S>
-        ensures { result ≡ self }
+        ensures same { result ≡ self }
+        ensures settled { (state S.Store result).in_transaction ≡ false }
     {
         let PartStore { conn } = self;
         conn
@@ -240,10 +256,7 @@ impl<S: Alter> PartStore<S> {
         ensures refused { IfErr result (λ e. (e ≡ Memory) ⊎ (e ≡ Database)) }
         ensures survives { Survives (state S.Store self.old) (state S.Store self.new) (λ trees. (before : _) → Stands (state S.Store self.old).now before → StandsFor trees (with_program user.now program.now before)) }
     {
-        if !self.conn.is_autocommit() {
-            return Err(StoreError::Database);
-        }
-        let mut tx = self.conn.transaction();
+        let mut tx = begin(&mut self.conn);
         put_program(&mut tx, user, program)?;
         tx.commit()?;
         Ok(())
@@ -256,10 +269,7 @@ impl<S: Alter> PartStore<S> {
         ensures refused { IfErr result (λ e. (e ≡ Memory) ⊎ (e ≡ Database)) }
         ensures survives { Survives (state S.Store self.old) (state S.Store self.new) (λ _. ⊥) }
     {
-        if !self.conn.is_autocommit() {
-            return Err(StoreError::Database);
-        }
-        let mut tx = self.conn.transaction();
+        let mut tx = begin(&mut self.conn);
         Ok(read_program(&mut tx, user)?)
     }
 
@@ -283,10 +293,7 @@ impl<S: Alter> PartStore<S> {
         ensures refused { IfErr result (λ e. (e ≡ Memory) ⊎ ((e ≡ NumberFull) ⊎ ((e ≡ Collision) ⊎ (e ≡ Database)))) }
         ensures survives { Survives (state S.Store self.old) (state S.Store self.new) (λ trees. IsTrue (state S.Store self.old).is_open × ((before : _) → Stands (state S.Store self.old).now before → StandsFor trees (with_entries user.now (map draft_of entries.now) before))) }
     {
-        if !self.conn.is_autocommit() {
-            return Err(StoreError::Database);
-        }
-        let mut tx = self.conn.transaction();
+        let mut tx = begin(&mut self.conn);
         match put_entries(&mut tx, user, entries)? {
             Adding::From(first) => {
                 tx.commit()?;
@@ -304,10 +311,7 @@ impl<S: Alter> PartStore<S> {
         ensures refused { IfErr result (λ e. (e ≡ Memory) ⊎ (e ≡ Database)) }
         ensures survives { Survives (state S.Store self.old) (state S.Store self.new) (λ _. ⊥) }
     {
-        if !self.conn.is_autocommit() {
-            return Err(StoreError::Database);
-        }
-        let mut tx = self.conn.transaction();
+        let mut tx = begin(&mut self.conn);
         list_all(&mut tx, user)
     }
 
@@ -320,10 +324,7 @@ impl<S: Alter> PartStore<S> {
         ensures refused { IfErr result (λ e. (e ≡ Memory) ⊎ ((e ≡ NoSuchEntry) ⊎ (e ≡ Database))) }
         ensures survives { Survives (state S.Store self.old) (state S.Store self.new) (λ _. ⊥) }
     {
-        if !self.conn.is_autocommit() {
-            return Err(StoreError::Database);
-        }
-        let mut tx = self.conn.transaction();
+        let mut tx = begin(&mut self.conn);
         match read_bytes(&mut tx, user, number)? {
             Some(octets) => Ok(octets),
             None => Err(StoreError::NoSuchEntry),
@@ -340,10 +341,7 @@ impl<S: Alter> PartStore<S> {
         ensures refused { IfErr result (λ e. (e ≡ Memory) ⊎ ((e ≡ NoSuchEntry) ⊎ (e ≡ Database))) }
         ensures survives { Survives (state S.Store self.old) (state S.Store self.new) (λ trees. (before : _) → Stands (state S.Store self.old).now before → ((x : _) × IsEntryAt before user.now number x) × StandsFor trees (without_entry user.now number before)) }
     {
-        if !self.conn.is_autocommit() {
-            return Err(StoreError::Database);
-        }
-        let mut tx = self.conn.transaction();
+        let mut tx = begin(&mut self.conn);
         if !take_entry(&mut tx, user, number)? {
             return Err(StoreError::NoSuchEntry);
         }
