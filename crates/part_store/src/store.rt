@@ -115,6 +115,7 @@ fn put_program<S: Alter>(
     ensures same_reference { tx.new.conn.ghost_name ≡ tx.old.conn.ghost_name }
     ensures step { HasCleanDisk (state S.Store tx.new.conn.now) → OnOk result (Brings (with_program user.now program.now) (state S.Store tx.old.conn.now) (state S.Store tx.new.conn.now)) }
     ensures inside { HasCleanDisk (state S.Store tx.new.conn.now) → OnOk result (IsTrue (state S.Store tx.new.conn.now).in_transaction) }
+    ensures shut { HasCleanDisk (state S.Store tx.new.conn.now) → IsTrue (state S.Store tx.new.conn.now).is_open → IsTrue (state S.Store tx.old.conn.now).is_open }
     ensures kept { HasCleanDisk (state S.Store tx.new.conn.now) → (state S.Store tx.old.conn.now).now.schema ≡ store_schema → KeepsCommit (state S.Store tx.old.conn.now) (state S.Store tx.new.conn.now) }
     ensures survives { Survives (state S.Store tx.old.conn.now) (state S.Store tx.new.conn.now) (λ _. ⊥) }
 {
@@ -128,6 +129,8 @@ fn put_program<S: Alter>(
 fn read_program<S: Alter>(tx: &mut Transaction<'_, S>, user: &str) -> Result<Option<Vec<u8>>, Error>
     ensures same_reference { tx.new.conn.ghost_name ≡ tx.old.conn.ghost_name }
     ensures told { HasCleanDisk (state S.Store tx.new.conn.now) → IfOk result (λ found. (before : _) → Stands (state S.Store tx.old.conn.now).now before → option_map (λ v. v.items) found ≡ before.programs user.now) }
+    ensures open { HasCleanDisk (state S.Store tx.new.conn.now) → OnOk result (IsTrue (state S.Store tx.old.conn.now).is_open) }
+    ensures shut { HasCleanDisk (state S.Store tx.new.conn.now) → IsTrue (state S.Store tx.new.conn.now).is_open → IsTrue (state S.Store tx.old.conn.now).is_open }
     ensures kept { HasCleanDisk (state S.Store tx.new.conn.now) → (state S.Store tx.old.conn.now).now.schema ≡ store_schema → KeepsCommit (state S.Store tx.old.conn.now) (state S.Store tx.new.conn.now) }
     ensures survives { Survives (state S.Store tx.old.conn.now) (state S.Store tx.new.conn.now) (λ _. ⊥) }
 {
@@ -145,6 +148,8 @@ fn digest_of<S: Alter>(
 ) -> Result<Option<Vec<u8>>, Error>
     ensures same_reference { tx.new.conn.ghost_name ≡ tx.old.conn.ghost_name }
     ensures told { HasCleanDisk (state S.Store tx.new.conn.now) → IfOk result (λ found. (before : _) → Stands (state S.Store tx.old.conn.now).now before → MatchOption found (HasNone before user.now number) (λ digest. NamesDigest (state S.Store tx.old.conn.now).now.trees user.now number digest.items)) }
+    ensures open { HasCleanDisk (state S.Store tx.new.conn.now) → OnOk result (IsTrue (state S.Store tx.old.conn.now).is_open) }
+    ensures shut { HasCleanDisk (state S.Store tx.new.conn.now) → IsTrue (state S.Store tx.new.conn.now).is_open → IsTrue (state S.Store tx.old.conn.now).is_open }
     ensures same { HasCleanDisk (state S.Store tx.new.conn.now) → OnOk result (Stays (state S.Store tx.old.conn.now) (state S.Store tx.new.conn.now)) }
     ensures kept { HasCleanDisk (state S.Store tx.new.conn.now) → (state S.Store tx.old.conn.now).now.schema ≡ store_schema → KeepsCommit (state S.Store tx.old.conn.now) (state S.Store tx.new.conn.now) }
     ensures survives { Survives (state S.Store tx.old.conn.now) (state S.Store tx.new.conn.now) (λ _. ⊥) }
@@ -176,6 +181,8 @@ fn read_bytes<S: Alter>(
 ) -> Result<Option<Vec<u8>>, Error>
     ensures same_reference { tx.new.conn.ghost_name ≡ tx.old.conn.ghost_name }
     ensures told { HasCleanDisk (state S.Store tx.new.conn.now) → IfOk result (λ found. (before : _) → Stands (state S.Store tx.old.conn.now).now before → MatchOption found (HasNone before user.now number) (λ octets. (x : _) × IsEntryAt before user.now number x × (octets.items ≡ x.octets))) }
+    ensures open { HasCleanDisk (state S.Store tx.new.conn.now) → OnOk result (IsTrue (state S.Store tx.old.conn.now).is_open) }
+    ensures shut { HasCleanDisk (state S.Store tx.new.conn.now) → IsTrue (state S.Store tx.new.conn.now).is_open → IsTrue (state S.Store tx.old.conn.now).is_open }
     ensures kept { HasCleanDisk (state S.Store tx.new.conn.now) → (state S.Store tx.old.conn.now).now.schema ≡ store_schema → KeepsCommit (state S.Store tx.old.conn.now) (state S.Store tx.new.conn.now) }
     ensures survives { Survives (state S.Store tx.old.conn.now) (state S.Store tx.new.conn.now) (λ _. ⊥) }
 {
@@ -208,6 +215,7 @@ fn take_entry<S: Alter>(tx: &mut Transaction<'_, S>, user: &str, number: u32) ->
     ensures there { HasCleanDisk (state S.Store tx.new.conn.now) → IfOk result (λ done. done ≡ true → (before : _) → Stands (state S.Store tx.old.conn.now).now before → (x : _) × IsEntryAt before user.now number x) }
     ensures none { HasCleanDisk (state S.Store tx.new.conn.now) → IfOk result (λ done. done ≡ false → (before : _) → Stands (state S.Store tx.old.conn.now).now before → HasNone before user.now number) }
     ensures inside { HasCleanDisk (state S.Store tx.new.conn.now) → IfOk result (λ done. done ≡ true → (state S.Store tx.old.conn.now).now.schema ≡ store_schema → IsTrue (state S.Store tx.new.conn.now).in_transaction) }
+    ensures shut { HasCleanDisk (state S.Store tx.new.conn.now) → IsTrue (state S.Store tx.new.conn.now).is_open → IsTrue (state S.Store tx.old.conn.now).is_open }
     ensures kept { HasCleanDisk (state S.Store tx.new.conn.now) → (state S.Store tx.old.conn.now).now.schema ≡ store_schema → KeepsCommit (state S.Store tx.old.conn.now) (state S.Store tx.new.conn.now) }
     ensures survives { Survives (state S.Store tx.old.conn.now) (state S.Store tx.new.conn.now) (λ _. ⊥) }
 {
@@ -265,6 +273,7 @@ impl<S: Alter> PartStore<S> {
     /// The user's program, or none where he has none. Refuses `Memory` and `Database`.
     pub fn program_of(&mut self, user: &str) -> Result<Option<Vec<u8>>, StoreError>
         ensures told { HasCleanDisk (state S.Store self.new) → IfOk result (λ found. (before : _) → Stands (state S.Store self.old).now before → option_map (λ v. v.items) found ≡ before.programs user.now) }
+        ensures open { HasCleanDisk (state S.Store self.new) → OnOk result (IsTrue (state S.Store self.old).is_open) }
         ensures spared { HasCleanDisk (state S.Store self.new) → Spares (state S.Store self.old) (state S.Store self.new) }
         ensures refused { IfErr result (λ e. (e ≡ Memory) ⊎ (e ≡ Database)) }
         ensures survives { Survives (state S.Store self.old) (state S.Store self.new) (λ _. ⊥) }
@@ -307,6 +316,7 @@ impl<S: Alter> PartStore<S> {
     /// The user's entries, by their numbers. Refuses `Memory` and `Database`.
     pub fn entries_of(&mut self, user: &str) -> Result<Vec<EntryRow>, StoreError>
         ensures told { HasCleanDisk (state S.Store self.new) → IfOk result (λ rows. (before : _) → Stands (state S.Store self.old).now before → map listed rows.items ≡ map listing_of (entries_of user.now before)) }
+        ensures open { HasCleanDisk (state S.Store self.new) → OnOk result (IsTrue (state S.Store self.old).is_open) }
         ensures spared { HasCleanDisk (state S.Store self.new) → Spares (state S.Store self.old) (state S.Store self.new) }
         ensures refused { IfErr result (λ e. (e ≡ Memory) ⊎ (e ≡ Database)) }
         ensures survives { Survives (state S.Store self.old) (state S.Store self.new) (λ _. ⊥) }
@@ -319,6 +329,7 @@ impl<S: Alter> PartStore<S> {
     /// `Database`.
     pub fn bytes_of(&mut self, user: &str, number: u32) -> Result<Vec<u8>, StoreError>
         ensures told { HasCleanDisk (state S.Store self.new) → IfOk result (λ octets. (before : _) → Stands (state S.Store self.old).now before → (x : _) × IsEntryAt before user.now number x × (octets.items ≡ x.octets)) }
+        ensures open { HasCleanDisk (state S.Store self.new) → OnOk result (IsTrue (state S.Store self.old).is_open) }
         ensures absent { HasCleanDisk (state S.Store self.new) → IfErr result (λ e. e ≡ NoSuchEntry → (before : _) → Stands (state S.Store self.old).now before → HasNone before user.now number) }
         ensures spared { HasCleanDisk (state S.Store self.new) → Spares (state S.Store self.old) (state S.Store self.new) }
         ensures refused { IfErr result (λ e. (e ≡ Memory) ⊎ ((e ≡ NoSuchEntry) ⊎ (e ≡ Database))) }
@@ -355,6 +366,7 @@ impl PartStore<MemStore> {
     pub fn in_memory(alloc: Global) -> Result<PartStore<MemStore>, StoreError>
         ensures empty { IfOk result (λ s. Stands (state over_memory s).now no_entries) }
         ensures committed { IfOk result (λ s. (state over_memory s).committed ≡ (state over_memory s).now) }
+        ensures open { IfOk result (λ s. IsTrue (state over_memory s).is_open) }
         ensures settled { IfOk result (λ s. (state over_memory s).in_transaction ≡ false) }
         ensures refused { IfErr result (λ e. (e ≡ Memory) ⊎ (e ≡ Database)) }
     {
