@@ -1,5 +1,5 @@
 -- What an open finds and leaves.
-use Rattle.std.specs.Prelude.{◌≡◌, false}
+use Rattle.std.specs.Prelude.{◌≡◌, false, IsTrue}
 use Rattle.sqlite_disk.specs.declared.Disk.{Ghosts}
 use Rattle.sqlite.specs.declared.FileStore.{FileStore}
 use Rattle.sqlite.specs.State.{State, HasCleanDisk, Survives}
@@ -14,9 +14,9 @@ use Rattle.part_store.specs.Standing.{Stands, StandsFor}
 abbrev pub IsBare : State → Type 0
 IsBare s = s.now.schema ≡ no_schema
 
--- it has the tables of the empty state, and they are committed
+-- it has the tables of the empty state, which are committed, and it is open
 abbrev pub IsEmptied : State → Type 0
-IsEmptied s = Stands s.now no_entries × (s.committed ≡ s.now)
+IsEmptied s = Stands s.now no_entries × (s.committed ≡ s.now) × IsTrue s.is_open
 
 -- what is seen and what is committed are as they were
 abbrev pub IsKept : State → State → Type 0

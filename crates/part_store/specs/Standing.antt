@@ -1,6 +1,7 @@
 -- The state that the tables stand for.
 use Rattle.std.specs.Prelude.{◌≡◌, ◌⊎◌, ℕ, ◌<◌, ◌≤◌, ℤ, pos, true, false, List, [], ◌∷◌, Option, Some, None, IsTrue}
 use Rattle.std.specs.List.{AllByRecursion, AllZip}
+use Rattle.sqlite_disk.specs.Disk.{MoreFaults}
 use Rattle.sqlite_value.specs.declared.value.Value.TheVariants.{Int, Text, Blob}
 use Rattle.sqlite_value.specs.Order.{Row, column}
 use Rattle.sqlite_trees.specs.Tree.{Trees, IsTable, IsAscending}
@@ -74,13 +75,25 @@ pub record Stands (d : Database) (e : Entries) : Type 0 where
 abbrev pub Brings : (Entries → Entries) → State → State → Type 0
 Brings change old new = (before : Entries) → Stands old.now before → Stands new.now (change before) × (new.committed ≡ old.committed)
 
+-- the store was open and still is, and what it shows is committed
+abbrev pub IsSaved : State → State → Type 0
+IsSaved old new = IsTrue old.is_open × IsTrue new.is_open × (new.committed ≡ new.now)
+
 -- the same, once it is committed
 abbrev pub Makes : (Entries → Entries) → State → State → Type 0
-Makes change old new = (before : Entries) → Stands old.now before → Stands new.now (change before) × (new.committed ≡ new.now)
+Makes change old new = IsSaved old new × ((before : Entries) → Stands old.now before → Stands new.now (change before))
 
--- a refusal leaves the tables as they were, unless a failure has shut the database
-abbrev pub Spares : State → State → Type 0
-Spares old new = old.now.schema ≡ store_schema → IsTrue new.is_open → (new.now ≡ old.now) × (new.committed ≡ old.committed)
+-- the disk failed in the call
+abbrev pub DiskFailed : State → State → Type 0
+DiskFailed old new = MoreFaults old.faults new.faults
+
+-- The tables are as they were, and what is open shows what is committed. Only a fault of the disk shuts a store; it shows nothing of the tables
+-- then, and what is shut stays shut.
+pub record Spares (old new : State) : Type 0 where
+  pub same : old.now.schema ≡ store_schema → IsTrue new.is_open → (new.now ≡ old.now) × (new.committed ≡ old.committed)
+  pub settled : old.now.schema ≡ store_schema → IsTrue new.is_open → new.committed ≡ new.now
+  pub shut : IsTrue new.is_open → IsTrue old.is_open
+  pub closes : IsTrue old.is_open → IsTrue new.is_open ⊎ DiskFailed old new
 
 -- the last number in a user's row
 abbrev pub last_in : Option Row → ℕ → Type 0

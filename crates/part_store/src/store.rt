@@ -21,12 +21,13 @@ use sqlite_schema::schema::Schema;
 use std::alloc::Global;
 use std::marker::Model;
 
-/// Entries, programs and last numbers in the three tables of a database.
+/// Entries, programs and last numbers in the three tables of a database. No call leaves a transaction open.
 pub struct PartStore<S: Alter> {
     conn: Connection<S>,
 }
 
 impl<S: Alter> Model for PartStore<S> {
+    ghost use Rattle.std.specs.Prelude.{◌≡◌, false};
     ghost use Rattle.sqlite.specs.Held.{Held, held_code};
 
     ghost Value = { Held S };
@@ -34,6 +35,8 @@ impl<S: Alter> Model for PartStore<S> {
     ghost coded = { held_code S.code };
 
     ghost view = { λ s. s.conn };
+
+    ghost invariant = { λ s. s.conn.in_transaction ≡ false };
 }
 
 impl<S: Alter + Drop> Drop for PartStore<S> {
@@ -56,6 +59,18 @@ fn is_bare(schema: &Schema) -> bool
     ensures { IsTrue result ↔ (schema.now ≡ no_schema) }
 {
     schema.tables.is_empty() && schema.indexes.is_empty() && schema.views.is_empty()
+}
+
+/// Begins a transaction where none is open. What an open connection then shows is what is committed.
+fn begin<S: Alter>(conn: &mut Connection<S>) -> Transaction<'_, S>
+    requires { conn.old.in_transaction ≡ false }
+    ensures same_reference { result.conn.ghost_name ≡ conn.entry.ghost_name }
+    ensures begun { result.conn.now ≡ record conn.old { in_transaction = true } }
+    ensures settled { IsTrue (state S.Store conn.old).is_open → (state S.Store conn.old).now ≡ (state S.Store conn.old).committed }
+{
+    // What holds of every connection is known where it is asked.
+    let _settled = conn.is_autocommit();
+    conn.transaction()
 }
 
 fn create_tables<S: Alter>(tx: &mut Transaction<'_, S>) -> Result<(), Error>
@@ -100,6 +115,7 @@ fn put_program<S: Alter>(
     ensures same_reference { tx.new.conn.ghost_name ≡ tx.old.conn.ghost_name }
     ensures step { HasCleanDisk (state S.Store tx.new.conn.now) → OnOk result (Brings (with_program user.now program.now) (state S.Store tx.old.conn.now) (state S.Store tx.new.conn.now)) }
     ensures inside { HasCleanDisk (state S.Store tx.new.conn.now) → OnOk result (IsTrue (state S.Store tx.new.conn.now).in_transaction) }
+    ensures shut { HasCleanDisk (state S.Store tx.new.conn.now) → IsTrue (state S.Store tx.new.conn.now).is_open → IsTrue (state S.Store tx.old.conn.now).is_open }
     ensures kept { HasCleanDisk (state S.Store tx.new.conn.now) → (state S.Store tx.old.conn.now).now.schema ≡ store_schema → KeepsCommit (state S.Store tx.old.conn.now) (state S.Store tx.new.conn.now) }
     ensures survives { Survives (state S.Store tx.old.conn.now) (state S.Store tx.new.conn.now) (λ _. ⊥) }
 {
@@ -113,6 +129,8 @@ fn put_program<S: Alter>(
 fn read_program<S: Alter>(tx: &mut Transaction<'_, S>, user: &str) -> Result<Option<Vec<u8>>, Error>
     ensures same_reference { tx.new.conn.ghost_name ≡ tx.old.conn.ghost_name }
     ensures told { HasCleanDisk (state S.Store tx.new.conn.now) → IfOk result (λ found. (before : _) → Stands (state S.Store tx.old.conn.now).now before → option_map (λ v. v.items) found ≡ before.programs user.now) }
+    ensures open { HasCleanDisk (state S.Store tx.new.conn.now) → OnOk result (IsTrue (state S.Store tx.old.conn.now).is_open) }
+    ensures shut { HasCleanDisk (state S.Store tx.new.conn.now) → IsTrue (state S.Store tx.new.conn.now).is_open → IsTrue (state S.Store tx.old.conn.now).is_open }
     ensures kept { HasCleanDisk (state S.Store tx.new.conn.now) → (state S.Store tx.old.conn.now).now.schema ≡ store_schema → KeepsCommit (state S.Store tx.old.conn.now) (state S.Store tx.new.conn.now) }
     ensures survives { Survives (state S.Store tx.old.conn.now) (state S.Store tx.new.conn.now) (λ _. ⊥) }
 {
@@ -130,6 +148,8 @@ fn digest_of<S: Alter>(
 ) -> Result<Option<Vec<u8>>, Error>
     ensures same_reference { tx.new.conn.ghost_name ≡ tx.old.conn.ghost_name }
     ensures told { HasCleanDisk (state S.Store tx.new.conn.now) → IfOk result (λ found. (before : _) → Stands (state S.Store tx.old.conn.now).now before → MatchOption found (HasNone before user.now number) (λ digest. NamesDigest (state S.Store tx.old.conn.now).now.trees user.now number digest.items)) }
+    ensures open { HasCleanDisk (state S.Store tx.new.conn.now) → OnOk result (IsTrue (state S.Store tx.old.conn.now).is_open) }
+    ensures shut { HasCleanDisk (state S.Store tx.new.conn.now) → IsTrue (state S.Store tx.new.conn.now).is_open → IsTrue (state S.Store tx.old.conn.now).is_open }
     ensures same { HasCleanDisk (state S.Store tx.new.conn.now) → OnOk result (Stays (state S.Store tx.old.conn.now) (state S.Store tx.new.conn.now)) }
     ensures kept { HasCleanDisk (state S.Store tx.new.conn.now) → (state S.Store tx.old.conn.now).now.schema ≡ store_schema → KeepsCommit (state S.Store tx.old.conn.now) (state S.Store tx.new.conn.now) }
     ensures survives { Survives (state S.Store tx.old.conn.now) (state S.Store tx.new.conn.now) (λ _. ⊥) }
@@ -161,6 +181,8 @@ fn read_bytes<S: Alter>(
 ) -> Result<Option<Vec<u8>>, Error>
     ensures same_reference { tx.new.conn.ghost_name ≡ tx.old.conn.ghost_name }
     ensures told { HasCleanDisk (state S.Store tx.new.conn.now) → IfOk result (λ found. (before : _) → Stands (state S.Store tx.old.conn.now).now before → MatchOption found (HasNone before user.now number) (λ octets. (x : _) × IsEntryAt before user.now number x × (octets.items ≡ x.octets))) }
+    ensures open { HasCleanDisk (state S.Store tx.new.conn.now) → OnOk result (IsTrue (state S.Store tx.old.conn.now).is_open) }
+    ensures shut { HasCleanDisk (state S.Store tx.new.conn.now) → IsTrue (state S.Store tx.new.conn.now).is_open → IsTrue (state S.Store tx.old.conn.now).is_open }
     ensures kept { HasCleanDisk (state S.Store tx.new.conn.now) → (state S.Store tx.old.conn.now).now.schema ≡ store_schema → KeepsCommit (state S.Store tx.old.conn.now) (state S.Store tx.new.conn.now) }
     ensures survives { Survives (state S.Store tx.old.conn.now) (state S.Store tx.new.conn.now) (λ _. ⊥) }
 {
@@ -193,6 +215,7 @@ fn take_entry<S: Alter>(tx: &mut Transaction<'_, S>, user: &str, number: u32) ->
     ensures there { HasCleanDisk (state S.Store tx.new.conn.now) → IfOk result (λ done. done ≡ true → (before : _) → Stands (state S.Store tx.old.conn.now).now before → (x : _) × IsEntryAt before user.now number x) }
     ensures none { HasCleanDisk (state S.Store tx.new.conn.now) → IfOk result (λ done. done ≡ false → (before : _) → Stands (state S.Store tx.old.conn.now).now before → HasNone before user.now number) }
     ensures inside { HasCleanDisk (state S.Store tx.new.conn.now) → IfOk result (λ done. done ≡ true → (state S.Store tx.old.conn.now).now.schema ≡ store_schema → IsTrue (state S.Store tx.new.conn.now).in_transaction) }
+    ensures shut { HasCleanDisk (state S.Store tx.new.conn.now) → IsTrue (state S.Store tx.new.conn.now).is_open → IsTrue (state S.Store tx.old.conn.now).is_open }
     ensures kept { HasCleanDisk (state S.Store tx.new.conn.now) → (state S.Store tx.old.conn.now).now.schema ≡ store_schema → KeepsCommit (state S.Store tx.old.conn.now) (state S.Store tx.new.conn.now) }
     ensures survives { Survives (state S.Store tx.old.conn.now) (state S.Store tx.new.conn.now) (λ _. ⊥) }
 {
@@ -227,7 +250,8 @@ impl<S: Alter> PartStore<S> {
 
     /// Gives the connection back.
     pub fn release(self) -> Connection<S>
-        ensures { result ≡ self }
+        ensures same { result ≡ self }
+        ensures settled { (state S.Store result).in_transaction ≡ false }
     {
         let PartStore { conn } = self;
         conn
@@ -240,10 +264,7 @@ impl<S: Alter> PartStore<S> {
         ensures refused { IfErr result (λ e. (e ≡ Memory) ⊎ (e ≡ Database)) }
         ensures survives { Survives (state S.Store self.old) (state S.Store self.new) (λ trees. (before : _) → Stands (state S.Store self.old).now before → StandsFor trees (with_program user.now program.now before)) }
     {
-        if !self.conn.is_autocommit() {
-            return Err(StoreError::Database);
-        }
-        let mut tx = self.conn.transaction();
+        let mut tx = begin(&mut self.conn);
         put_program(&mut tx, user, program)?;
         tx.commit()?;
         Ok(())
@@ -252,14 +273,12 @@ impl<S: Alter> PartStore<S> {
     /// The user's program, or none where he has none. Refuses `Memory` and `Database`.
     pub fn program_of(&mut self, user: &str) -> Result<Option<Vec<u8>>, StoreError>
         ensures told { HasCleanDisk (state S.Store self.new) → IfOk result (λ found. (before : _) → Stands (state S.Store self.old).now before → option_map (λ v. v.items) found ≡ before.programs user.now) }
+        ensures open { HasCleanDisk (state S.Store self.new) → OnOk result (IsTrue (state S.Store self.old).is_open) }
         ensures spared { HasCleanDisk (state S.Store self.new) → Spares (state S.Store self.old) (state S.Store self.new) }
         ensures refused { IfErr result (λ e. (e ≡ Memory) ⊎ (e ≡ Database)) }
         ensures survives { Survives (state S.Store self.old) (state S.Store self.new) (λ _. ⊥) }
     {
-        if !self.conn.is_autocommit() {
-            return Err(StoreError::Database);
-        }
-        let mut tx = self.conn.transaction();
+        let mut tx = begin(&mut self.conn);
         Ok(read_program(&mut tx, user)?)
     }
 
@@ -283,10 +302,7 @@ impl<S: Alter> PartStore<S> {
         ensures refused { IfErr result (λ e. (e ≡ Memory) ⊎ ((e ≡ NumberFull) ⊎ ((e ≡ Collision) ⊎ (e ≡ Database)))) }
         ensures survives { Survives (state S.Store self.old) (state S.Store self.new) (λ trees. IsTrue (state S.Store self.old).is_open × ((before : _) → Stands (state S.Store self.old).now before → StandsFor trees (with_entries user.now (map draft_of entries.now) before))) }
     {
-        if !self.conn.is_autocommit() {
-            return Err(StoreError::Database);
-        }
-        let mut tx = self.conn.transaction();
+        let mut tx = begin(&mut self.conn);
         match put_entries(&mut tx, user, entries)? {
             Adding::From(first) => {
                 tx.commit()?;
@@ -300,14 +316,12 @@ impl<S: Alter> PartStore<S> {
     /// The user's entries, by their numbers. Refuses `Memory` and `Database`.
     pub fn entries_of(&mut self, user: &str) -> Result<Vec<EntryRow>, StoreError>
         ensures told { HasCleanDisk (state S.Store self.new) → IfOk result (λ rows. (before : _) → Stands (state S.Store self.old).now before → map listed rows.items ≡ map listing_of (entries_of user.now before)) }
+        ensures open { HasCleanDisk (state S.Store self.new) → OnOk result (IsTrue (state S.Store self.old).is_open) }
         ensures spared { HasCleanDisk (state S.Store self.new) → Spares (state S.Store self.old) (state S.Store self.new) }
         ensures refused { IfErr result (λ e. (e ≡ Memory) ⊎ (e ≡ Database)) }
         ensures survives { Survives (state S.Store self.old) (state S.Store self.new) (λ _. ⊥) }
     {
-        if !self.conn.is_autocommit() {
-            return Err(StoreError::Database);
-        }
-        let mut tx = self.conn.transaction();
+        let mut tx = begin(&mut self.conn);
         list_all(&mut tx, user)
     }
 
@@ -315,15 +329,13 @@ impl<S: Alter> PartStore<S> {
     /// `Database`.
     pub fn bytes_of(&mut self, user: &str, number: u32) -> Result<Vec<u8>, StoreError>
         ensures told { HasCleanDisk (state S.Store self.new) → IfOk result (λ octets. (before : _) → Stands (state S.Store self.old).now before → (x : _) × IsEntryAt before user.now number x × (octets.items ≡ x.octets)) }
+        ensures open { HasCleanDisk (state S.Store self.new) → OnOk result (IsTrue (state S.Store self.old).is_open) }
         ensures absent { HasCleanDisk (state S.Store self.new) → IfErr result (λ e. e ≡ NoSuchEntry → (before : _) → Stands (state S.Store self.old).now before → HasNone before user.now number) }
         ensures spared { HasCleanDisk (state S.Store self.new) → Spares (state S.Store self.old) (state S.Store self.new) }
         ensures refused { IfErr result (λ e. (e ≡ Memory) ⊎ ((e ≡ NoSuchEntry) ⊎ (e ≡ Database))) }
         ensures survives { Survives (state S.Store self.old) (state S.Store self.new) (λ _. ⊥) }
     {
-        if !self.conn.is_autocommit() {
-            return Err(StoreError::Database);
-        }
-        let mut tx = self.conn.transaction();
+        let mut tx = begin(&mut self.conn);
         match read_bytes(&mut tx, user, number)? {
             Some(octets) => Ok(octets),
             None => Err(StoreError::NoSuchEntry),
@@ -340,10 +352,7 @@ impl<S: Alter> PartStore<S> {
         ensures refused { IfErr result (λ e. (e ≡ Memory) ⊎ ((e ≡ NoSuchEntry) ⊎ (e ≡ Database))) }
         ensures survives { Survives (state S.Store self.old) (state S.Store self.new) (λ trees. (before : _) → Stands (state S.Store self.old).now before → ((x : _) × IsEntryAt before user.now number x) × StandsFor trees (without_entry user.now number before)) }
     {
-        if !self.conn.is_autocommit() {
-            return Err(StoreError::Database);
-        }
-        let mut tx = self.conn.transaction();
+        let mut tx = begin(&mut self.conn);
         if !take_entry(&mut tx, user, number)? {
             return Err(StoreError::NoSuchEntry);
         }
@@ -357,6 +366,7 @@ impl PartStore<MemStore> {
     pub fn in_memory(alloc: Global) -> Result<PartStore<MemStore>, StoreError>
         ensures empty { IfOk result (λ s. Stands (state over_memory s).now no_entries) }
         ensures committed { IfOk result (λ s. (state over_memory s).committed ≡ (state over_memory s).now) }
+        ensures open { IfOk result (λ s. IsTrue (state over_memory s).is_open) }
         ensures settled { IfOk result (λ s. (state over_memory s).in_transaction ≡ false) }
         ensures refused { IfErr result (λ e. (e ≡ Memory) ⊎ (e ≡ Database)) }
     {

@@ -1,5 +1,5 @@
 use Rattle.sqlite.specs.Held.{state}
-use Rattle.part_store.proofs.Runs.{query_keeps, on_err}
+use Rattle.part_store.proofs.Runs.{query_keeps, on_err, shown_open}
 use Rattle.part_store.proofs.EntryRows.{entry_found}
 use Rattle.part_store.proofs.entries.find.Goals as goal
 
@@ -10,3 +10,8 @@ pub returns-clause-step : goal.returns-clause-step
 returns-clause-step g c clean =
     let shown = rw (c.params-to_sql.ensures, c.params-to_sql-2.ensures) at (c.in_ok-rows.ensures.ok clean) in
     rw c.first_of.ensures (entry_found (state g.S.Store c.args.tx.now.conn.now) (state g.S.Store c.query_all.new.self.conn.now) c.args.user.now c.args.number _ shown)
+
+pub returns-clause-open : goal.returns-clause-open
+returns-clause-open g c clean =
+    let shown = c.in_ok-rows.ensures.ok clean in
+    shown_open _ _ (state g.S.Store c.args.tx.now.conn.now) (state g.S.Store c.query_all.new.self.conn.now) _ shown
