@@ -3,6 +3,7 @@ use Rattle.std.proofs.Common.{◌≡◌, [], ◌∷◌, Some, None, true, false,
 use Rattle.std.specs.Prelude.{codes}
 use Rattle.glob_match.specs.declared.comparator.Comparator.TheVariants.{Octet, Casemap}
 use Rattle.glob_match.specs.declared.token.Token.TheVariants.{Literal, AnyOctet, Star}
+use Rattle.glob_match.specs.Captures.{places_of_match}
 use Rattle.glob_match.specs.Comparison.{is_match}
 use Rattle.glob_match.specs.Tokens.{tokens_of, literals}
 use Rattle.glob_match.specs.Matching.{match_of}
@@ -15,6 +16,10 @@ shortest_first = refl
 list_tag : match_of Casemap (codes "[acme] [fwd] x") (codes "[*] *")
     ≡ Some (codes "[acme] [fwd] x" ∷ codes "acme" ∷ codes "[fwd] x" ∷ [])
 list_tag = refl
+
+-- the same by the places, where an empty stretch has one, too
+at_places : places_of_match Octet (codes "abXcX") (codes "*b*?c*X") ≡ Some (record { start = 0; end = 5 } ∷ record { start = 0; end = 1 } ∷ record { start = 2; end = 2 } ∷ record { start = 2; end = 3 } ∷ record { start = 4; end = 4 } ∷ [])
+at_places = refl
 
 -- the whole value has to fit
 unanchored : match_of Octet (codes "abc") (codes "a*b") ≡ None

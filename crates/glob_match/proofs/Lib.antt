@@ -11,5 +11,6 @@ mod Places
 mod Plain
 mod Searched
 mod Segmented
+mod Standing
 mod Steps
 mod Texts

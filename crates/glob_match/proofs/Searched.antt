@@ -2,25 +2,24 @@
 use Rattle.std.proofs.Common.{◌≡◌, ℕ, ◌+◌, ◌*◌, ◌≤◌, List, ◌∷◌, ◌++◌, length, take, drop, ◌-◌, Option, Some, None, OnSome, MatchOption, Bor, sym, ap, subst, ◌∙◌, arith}
 use Rattle.std.proofs.Math.Nat.{mul-le-mul_right}
 use Rattle.std.proofs.lemmas.List.{length-drop, take_rest}
-use Rattle.std.specs.List.{slice_range}
 use Rattle.std.specs.Option.{option_map}
 use Rattle.glob_match.specs.declared.captures.Stretch.{Stretch}
 use Rattle.glob_match.specs.declared.comparator.Comparator.{Comparator}
 use Rattle.glob_match.specs.declared.token.Token.TheVariants.{Star}
-use Rattle.glob_match.specs.Captures.{texts}
+use Rattle.glob_match.specs.Captures.{stretch_at}
 use Rattle.glob_match.specs.Containment.{begins_with, first_place}
 use Rattle.glob_match.specs.Matching.{least_fit, max_captures}
-use Rattle.glob_match.specs.Segments.{NoStar, any_octets, with_stretches}
+use Rattle.glob_match.specs.Segments.{NoStar, any_places, with_places, with_stretches}
 use Rattle.glob_match.specs.Tokens.{literals, tokens_of}
 use Rattle.glob_match.proofs.Segmented.{length-tokens_of}
 use Rattle.glob_match.proofs.Steps.{literals-append, literals_most, next_found, next_within}
 
 -- Behind a star of a key `rest` is left, and from `start` on the value: with the captures so far they give what is wanted.
-pub record IsSearched (comparator : Comparator) (value key : List ℕ) (wanted : Option (List (List ℕ)))
+pub record IsSearched (comparator : Comparator) (value key : List ℕ) (wanted : Option (List Stretch))
     (rest : List ℕ) (captures : List Stretch) (start gone_over : ℕ) : Type 0 where
   pub within : start ≤ length value
   pub few : length captures ≤ max_captures
-  pub answer : option_map (with_stretches (texts value captures)) (least_fit comparator (Star ∷ tokens_of rest) (drop start value)) ≡ wanted
+  pub answer : option_map (with_places captures start (Star ∷ tokens_of rest)) (least_fit comparator (Star ∷ tokens_of rest) (drop start value)) ≡ wanted
   pub most : gone_over + (length value + 1) * (length rest + 1) ≤ (length value + 1) * (length key + 1)
   pub least : literals (tokens_of key) ≤ gone_over + literals (tokens_of rest)
 
@@ -49,7 +48,7 @@ module _ (key segment : List ℕ) (o : Option (Bor (List ℕ))) where
   pub split_lengths : (next : Bor (List ℕ)) → o ≡ Some next → lengths_split o → length key ≡ length segment + (1 + length next.now)
   split_lengths next is = subst lengths_split is
 
-module _ (comparator : Comparator) (value key : List ℕ) (wanted : Option (List (List ℕ)))
+module _ (comparator : Comparator) (value key : List ℕ) (wanted : Option (List Stretch))
     (rest : List ℕ) (captures : List Stretch) (start gone_over : ℕ)
     (so_far : IsSearched comparator value key wanted rest captures start gone_over)
     (segment : List ℕ) (no_star : NoStar (tokens_of segment)) where
@@ -67,7 +66,7 @@ module _ (comparator : Comparator) (value key : List ℕ) (wanted : Option (List
       → found ≡ first_place (begins_with comparator (tokens_of segment)) (take (length value - start) (drop start value))
       → start + k + length (tokens_of segment) ≤ length value
   placed_within k found is place =
-      next_within comparator value (tokens_of segment) no_star start (texts value captures) so_far.within k (placed k found is place)
+      next_within comparator value (tokens_of segment) no_star start captures so_far.within k (placed k found is place)
 
   module _ (next : List ℕ) (tokens : tokens_of rest ≡ tokens_of segment ++ Star ∷ tokens_of next)
       (lengths : length rest ≡ length segment + (1 + length next)) (more : ℕ)
@@ -84,17 +83,17 @@ module _ (comparator : Comparator) (value key : List ℕ) (wanted : Option (List
     -- a segment that stands at place k of what is left
     pub searched_more : (k width : ℕ) → Some k ≡ first_place (begins_with comparator (tokens_of segment)) (drop start value)
         → width ≡ length (tokens_of segment) → (new : List Stretch) → length new ≤ max_captures
-        → texts value new ≡ with_stretches (texts value captures) (slice_range value start (start + k) ∷ any_octets (tokens_of segment) (drop (start + k) value))
+        → new ≡ with_stretches captures (stretch_at start k ∷ any_places (start + k) (tokens_of segment))
         → IsSearched comparator value key wanted next new (start + (k + width)) (gone_over + more)
     searched_more k width place wide new few e = record {
-      within = omega (arith, next_within comparator value (tokens_of segment) no_star start (texts value captures) so_far.within k place);
+      within = omega (arith, next_within comparator value (tokens_of segment) no_star start captures so_far.within k place);
       few = few;
       answer =
-          ap (λ cs. option_map (with_stretches cs) (least_fit comparator (Star ∷ tokens_of next) (drop (start + (k + width)) value))) e
-          ∙ ap (λ n. option_map (with_stretches (with_stretches (texts value captures) (slice_range value start (start + k) ∷ any_octets (tokens_of segment) (drop (start + k) value))))
+          ap (λ cs. option_map (with_places cs (start + (k + width)) (Star ∷ tokens_of next)) (least_fit comparator (Star ∷ tokens_of next) (drop (start + (k + width)) value))) e
+          ∙ ap (λ n. option_map (with_places (with_stretches captures (stretch_at start k ∷ any_places (start + k) (tokens_of segment))) (start + (k + n)) (Star ∷ tokens_of next))
           (least_fit comparator (Star ∷ tokens_of next) (drop (start + (k + n)) value))) wide
-          ∙ next_found comparator value (tokens_of segment) no_star start (texts value captures) so_far.within k place (tokens_of next)
-          ∙ ap (λ ts. option_map (with_stretches (texts value captures)) (least_fit comparator (Star ∷ ts) (drop start value))) (sym tokens)
+          ∙ next_found comparator value (tokens_of segment) no_star start captures so_far.within k place (tokens_of next)
+          ∙ ap (λ ts. option_map (with_places captures start (Star ∷ ts)) (least_fit comparator (Star ∷ ts) (drop start value))) (sym tokens)
           ∙ so_far.answer;
       most = more_gone_over;
       least = more_literals;

@@ -1,33 +1,29 @@
 -- What each segment of a key leaves to be matched.
 use Rattle.std.proofs.Common.{◌≡◌, ℕ, ◌+◌, ◌-◌, ◌<◌, ◌≤◌, Bool, true, false, List, [], ◌∷◌, ◌++◌, length, take, drop, Option, Some, None, MatchOption, Bor, refl, sym, ap, subst, ◌∙◌, arith}
-use Rattle.std.proofs.lemmas.List.{append-nil, drop-drop, length-drop, take-map}
-use Rattle.std.specs.List.{slice_range}
+use Rattle.std.proofs.lemmas.List.{append-nil, drop-drop, length-drop, length-take, take-map}
 use Rattle.std.specs.Option.{option_map}
+use Rattle.glob_match.specs.declared.captures.Stretch.{Stretch}
 use Rattle.glob_match.specs.declared.comparator.Comparator.{Comparator}
 use Rattle.glob_match.specs.declared.token.Token.{Token}
 use Rattle.glob_match.specs.declared.token.Token.TheVariants.{Literal, AnyOctet, Star}
 use Rattle.glob_match.specs.Containment.{begins_with, first_place}
-use Rattle.glob_match.specs.Matching.{captures_of, least_fit, max_capture, max_captures}
-use Rattle.glob_match.specs.Segments.{NoStar, any_octets, with_stretches}
+use Rattle.glob_match.specs.Captures.{capture_places, cut, places_from, stretch_at, whole}
+use Rattle.glob_match.specs.Matching.{least_fit, max_captures}
+use Rattle.glob_match.specs.Segments.{NoStar, any_octets, any_places, with_places, with_stretches}
 use Rattle.glob_match.specs.Tokens.{literals, tokens_of}
 use Rattle.glob_match.proofs.Added.{with_stretches-append}
-use Rattle.glob_match.proofs.Earliest.{last_found, last_none, map_map, next_segment, no_segment, segment_fits, segment_none, whole_found, whole_none}
+use Rattle.glob_match.proofs.Earliest.{last_found, last_none, next_segment, no_segment, segment_fits, segment_none, whole_found, whole_none}
 use Rattle.glob_match.proofs.Places.{IsPlace, place_of}
 use Rattle.glob_match.proofs.Plain.{begins_length}
+use Rattle.glob_match.proofs.Standing.{last_places, only_places, segment_places, star_places}
 
-map_alike : {A B : Type 0} (f g : A → B) → ((x : A) → f x ≡ g x) → (o : Option A) → option_map f o ≡ option_map g o
-map_alike f g same None = refl
-map_alike f g same (Some x) = ap Some (same x)
+-- what is made of what is made
+maps_alike : {A B C : Type 0} (f : B → C) (g : A → B) (h : A → C) → ((x : A) → f (g x) ≡ h x) → (o : Option A) → option_map f (option_map g o) ≡ option_map h o
+maps_alike f g h same None = refl
+maps_alike f g h same (Some x) = ap Some (same x)
 
--- captures after captures
-maps_after : (captures first : List (List ℕ)) (o : Option (List (List ℕ)))
-    → option_map (with_stretches (with_stretches captures first)) o ≡ option_map (with_stretches captures) (option_map (λ ss. first ++ ss) o)
-maps_after captures first o =
-    map_alike (with_stretches (with_stretches captures first)) (λ ss. with_stretches captures (first ++ ss)) (with_stretches-append captures first) o
-    ∙ sym (map_map (λ ss. first ++ ss) (with_stretches captures) o)
-
-captures_after : (value : List ℕ) (ss : List (List ℕ)) → captures_of value ss ≡ with_stretches (captures_of value []) ss
-captures_after value ss = sym (take-map (take max_capture) max_captures (value ∷ ss))
+places_after : (value : List ℕ) (key : List Token) (stretches : List (List ℕ)) → capture_places value key stretches ≡ with_places (cut (whole value) ∷ []) 0 key stretches
+places_after value key stretches = sym (take-map cut max_captures (whole value ∷ places_from 0 key stretches))
 
 module _ (comparator : Comparator) (value : List ℕ) (segment : List Token) (no_star : NoStar segment) where
   abbrev begins : List ℕ → Bool
@@ -35,33 +31,42 @@ module _ (comparator : Comparator) (value : List ℕ) (segment : List Token) (no
 
   -- ---- behind a star, at the end
 
-  module _ (start : ℕ) (captures : List (List ℕ)) (within : start ≤ length value) where
-    abbrev left : List Token → Option (List (List ℕ))
-    left key = option_map (with_stretches captures) (least_fit comparator (Star ∷ key) (drop start value))
+  module _ (start : ℕ) (captures : List Stretch) (within : start ≤ length value) where
+    abbrev made : List Token → List (List ℕ) → List Stretch
+    made key = with_places captures start (Star ∷ key)
+
+    abbrev left : List Token → Option (List Stretch)
+    left key = option_map (made key) (least_fit comparator (Star ∷ key) (drop start value))
 
     pub end_short : length value - start < length segment → None ≡ left segment
     end_short less =
-        sym (ap (option_map (with_stretches captures)) (last_none comparator segment no_star (drop start value) (λ k e. absurd (omega (arith, length-drop start value)))))
+        sym (ap (option_map (made segment)) (last_none comparator segment no_star (drop start value) (λ k e. absurd (omega (arith, length-drop start value)))))
 
     pub end_fails : (place : ℕ) → place + length segment ≡ length value → begins (drop place value) ≡ false → None ≡ left segment
     end_fails place long fails =
-        sym (ap (option_map (with_stretches captures)) (last_none comparator segment no_star (drop start value) (λ k e.
+        sym (ap (option_map (made segment)) (last_none comparator segment no_star (drop start value) (λ k e.
         let at : start + k ≡ place = omega (arith, length-drop start value) in
         ap begins (drop-drop k start value ∙ ap (λ n. drop n value) at) ∙ fails)))
 
     pub end_found : (place : ℕ) → start ≤ place → place + length segment ≡ length value → begins (drop place value) ≡ true
-        → Some (with_stretches captures (slice_range value start place ∷ any_octets segment (drop place value))) ≡ left segment
+        → Some (with_stretches captures (record { start = start; end = place } ∷ any_places place segment)) ≡ left segment
     end_found place from long there =
         let k = place - start in
         let at : start + k ≡ place = omega arith in
         let rest = drop-drop k start value ∙ ap (λ n. drop n value) at in
-        sym (ap (option_map (with_stretches captures)) (last_found comparator segment no_star (drop start value) k (omega (arith, length-drop start value)) (ap begins rest ∙ there)
-        ∙ ap (λ v. Some (slice_range value start place ∷ any_octets segment v)) rest))
+        let begun : begins (drop k (drop start value)) ≡ true = ap begins rest ∙ there in
+        let wide : length (take k (drop start value)) ≡ k = omega (arith, length-take k (drop start value), length-drop start value) in
+        let stands : places_from start (Star ∷ segment) (take k (drop start value) ∷ any_octets segment (drop k (drop start value)))
+        ≡ record { start = start; end = place } ∷ any_places place segment =
+        last_places comparator start k segment (take k (drop start value)) (drop k (drop start value)) no_star begun wide
+        ∙ ap (λ n. record { start = start; end = n } ∷ any_places n segment) at in
+        sym (ap (option_map (made segment)) (last_found comparator segment no_star (drop start value) k (omega (arith, length-drop start value)) begun)
+        ∙ ap (λ places. Some (with_stretches captures places)) stands)
 
     -- ---- behind a star, with a star after the segment
 
     pub next_fails : (key : List Token) → None ≡ first_place begins (drop start value) → None ≡ left (segment ++ key)
-    next_fails key none = sym (ap (option_map (with_stretches captures)) (no_segment comparator segment no_star key (drop start value) none))
+    next_fails key none = sym (ap (option_map (made (segment ++ key))) (no_segment comparator segment no_star key (drop start value) none))
 
     module _ (k : ℕ) (place : Some k ≡ first_place begins (drop start value)) where
       pub next_within : start + k + length segment ≤ length value
@@ -70,42 +75,58 @@ module _ (comparator : Comparator) (value : List ℕ) (segment : List Token) (no
           omega (arith, is.0, begins_length comparator segment (drop k (drop start value)) is.1, length-drop k (drop start value), length-drop start value)
 
       pub next_found : (key : List Token)
-          → option_map (with_stretches (with_stretches captures (slice_range value start (start + k) ∷ any_octets segment (drop (start + k) value))))
+          → option_map (with_places (with_stretches captures (stretch_at start k ∷ any_places (start + k) segment)) (start + (k + length segment)) (Star ∷ key))
           (least_fit comparator (Star ∷ key) (drop (start + (k + length segment)) value))
           ≡ left (segment ++ Star ∷ key)
       next_found key =
-          let size : (start + k) - start ≡ k = omega arith in
-          let first : slice_range value start (start + k) ∷ any_octets segment (drop (start + k) value) ≡ take k (drop start value) ∷ any_octets segment (drop k (drop start value)) =
-          ap (λ n. take n (drop start value) ∷ any_octets segment (drop (start + k) value)) size
-          ∙ ap (λ v. take k (drop start value) ∷ any_octets segment v) (sym (drop-drop k start value)) in
-          let rest = least_fit comparator (Star ∷ key) (drop (k + length segment) (drop start value)) in
-          ap (λ v. option_map (with_stretches (with_stretches captures (slice_range value start (start + k) ∷ any_octets segment (drop (start + k) value)))) (least_fit comparator (Star ∷ key) v))
+          let is : IsPlace begins (drop start value) (Some k) = subst (IsPlace begins (drop start value)) (sym place) (place_of begins (drop start value)) in
+          let text = drop start value in
+          let first = stretch_at start k ∷ any_places (start + k) segment in
+          let wide : length (take k text) ≡ k = omega (arith, length-take k text, is.0) in
+          let next : start + k + length segment ≡ start + (k + length segment) = omega arith in
+          let rest = least_fit comparator (Star ∷ key) (drop (k + length segment) text) in
+          ap (λ v. option_map (with_places (with_stretches captures first) (start + (k + length segment)) (Star ∷ key)) (least_fit comparator (Star ∷ key) v))
           (sym (drop-drop (k + length segment) start value))
-          ∙ ap (λ (ss : List (List ℕ)). option_map (with_stretches (with_stretches captures ss)) rest) first
-          ∙ maps_after captures (take k (drop start value) ∷ any_octets segment (drop k (drop start value))) rest
-          ∙ sym (ap (option_map (with_stretches captures)) (next_segment comparator segment no_star key (drop start value) k place))
+          ∙ sym (maps_alike (made (segment ++ Star ∷ key)) (λ ss. take k text ∷ (any_octets segment (drop k text) ++ ss))
+          (with_places (with_stretches captures first) (start + (k + length segment)) (Star ∷ key))
+          (λ ss.
+          ap (with_stretches captures) (star_places comparator (Star ∷ key) ss start k segment (take k text) (drop k text) no_star is.1 wide
+          ∙ ap (λ n. first ++ places_from n (Star ∷ key) ss) next)
+          ∙ sym (with_stretches-append captures first (places_from (start + (k + length segment)) (Star ∷ key) ss)))
+          rest)
+          ∙ sym (ap (option_map (made (segment ++ Star ∷ key))) (next_segment comparator segment no_star key text k place))
 
   -- ---- the first segment
 
-  pub first_fails : (key : List Token) → begins value ≡ false → None ≡ option_map (captures_of value) (least_fit comparator (segment ++ key) value)
-  first_fails key fails = sym (ap (option_map (captures_of value)) (segment_none comparator key segment value no_star fails))
+  abbrev first_captures : List Stretch
+  first_captures = with_stretches (cut (whole value) ∷ []) (any_places 0 segment)
+
+  pub first_fails : (key : List Token) → begins value ≡ false → None ≡ option_map (capture_places value (segment ++ key)) (least_fit comparator (segment ++ key) value)
+  first_fails key fails = sym (ap (option_map (capture_places value (segment ++ key))) (segment_none comparator key segment value no_star fails))
 
   pub first_found : (key : List Token) → begins value ≡ true
-      → option_map (with_stretches (with_stretches (captures_of value []) (any_octets segment value))) (least_fit comparator key (drop (length segment) value))
-      ≡ option_map (captures_of value) (least_fit comparator (segment ++ key) value)
+      → option_map (with_places first_captures (length segment) key) (least_fit comparator key (drop (length segment) value))
+      ≡ option_map (capture_places value (segment ++ key)) (least_fit comparator (segment ++ key) value)
   first_found key there =
       let rest = least_fit comparator key (drop (length segment) value) in
-      maps_after (captures_of value []) (any_octets segment value) rest
-      ∙ map_alike (with_stretches (captures_of value [])) (captures_of value) (λ ss. sym (captures_after value ss)) (option_map (λ ss. any_octets segment value ++ ss) rest)
-      ∙ sym (ap (option_map (captures_of value)) (segment_fits comparator key segment value no_star there))
+      sym (maps_alike (capture_places value (segment ++ key)) (λ ss. any_octets segment value ++ ss) (with_places first_captures (length segment) key)
+      (λ ss.
+      places_after value (segment ++ key) (any_octets segment value ++ ss)
+      ∙ ap (with_stretches (cut (whole value) ∷ [])) (segment_places comparator key ss 0 segment value no_star there
+      ∙ ap (λ n. any_places 0 segment ++ places_from n key ss) (omega arith))
+      ∙ sym (with_stretches-append (cut (whole value) ∷ []) (any_places 0 segment) (places_from (length segment) key ss)))
+      rest)
+      ∙ sym (ap (option_map (capture_places value (segment ++ key))) (segment_fits comparator key segment value no_star there))
 
   pub whole_fits : begins value ≡ true → length value ≡ length segment
-      → Some (with_stretches (captures_of value []) (any_octets segment value)) ≡ option_map (captures_of value) (least_fit comparator segment value)
+      → Some first_captures ≡ option_map (capture_places value segment) (least_fit comparator segment value)
   whole_fits there long =
-      ap Some (sym (captures_after value (any_octets segment value))) ∙ sym (ap (option_map (captures_of value)) (whole_found comparator segment no_star value there long))
+      ap Some (sym (places_after value segment (any_octets segment value)
+      ∙ ap (with_stretches (cut (whole value) ∷ [])) (only_places comparator segment value no_star there)))
+      ∙ sym (ap (option_map (capture_places value segment)) (whole_found comparator segment no_star value there long))
 
-  pub whole_fails : (length value ≡ length segment → ⊥) → None ≡ option_map (captures_of value) (least_fit comparator segment value)
-  whole_fails other = sym (ap (option_map (captures_of value)) (whole_none comparator segment no_star value (λ there. other)))
+  pub whole_fails : (length value ≡ length segment → ⊥) → None ≡ option_map (capture_places value segment) (least_fit comparator segment value)
+  whole_fails other = sym (ap (option_map (capture_places value segment)) (whole_none comparator segment no_star value (λ there. other)))
 
 -- ---- how a key is split
 

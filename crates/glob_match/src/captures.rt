@@ -1,8 +1,8 @@
 // What the wildcards of a key stand for.
-ghost use Rattle.std.specs.Prelude.{◌≡◌, ◌≤◌, ℕ, [], List, length, slice_index_or, slice_range, ◌∷◌};
-ghost use Rattle.glob_match.specs.Captures.{texts};
+ghost use Rattle.std.specs.Prelude.{◌≡◌, ◌≤◌, [], length, slice_index_or, ◌∷◌};
+ghost use Rattle.glob_match.specs.Captures.{cut, texts, whole};
 ghost use Rattle.glob_match.specs.Segments.{with_stretches};
-ghost use Rattle.glob_match.specs.Matching.{captures_of, max_capture, max_captures};
+ghost use Rattle.glob_match.specs.Matching.{max_captures};
 
 use arrayvec::ArrayVec;
 use std::marker::Model;
@@ -39,7 +39,7 @@ impl Model for Captures {
 impl Captures {
     // The capture of the whole value.
     pub(crate) fn of_value(value: &[u8]) -> Captures
-        ensures texts { texts value.now result ≡ captures_of value.now [] }
+        ensures places { result ≡ cut (whole value.now) ∷ [] }
         ensures few { length result ≤ max_captures }
     {
         let mut captures = Captures {
@@ -53,8 +53,7 @@ impl Captures {
     pub(crate) fn push(&mut self, start: usize, end: usize)
         requires { start ≤ end }
         ensures few { length self.new ≤ max_captures }
-        ensures texts { (value : List ℕ)
-            → texts value self.new ≡ with_stretches (texts value self.old) (slice_range value start end ∷ []) }
+        ensures places { self.new ≡ with_stretches self.old (record { start = start; end = end } ∷ []) }
     {
         if !self.stretches.is_full() {
             let kept = (end - start).min(MAX_CAPTURE);

@@ -1,10 +1,11 @@
 //! The laws of matching.
-ghost use Rattle.std.specs.Prelude.{◌≡◌, ◌↔◌, ℕ, IsTrue, List};
+ghost use Rattle.std.specs.Prelude.{◌≡◌, ◌↔◌, ℕ, IsTrue, List, length};
 ghost use Rattle.glob_match.specs.declared.comparator.Comparator.{Comparator};
 ghost use Rattle.glob_match.specs.declared.token.Token.{Token};
+ghost use Rattle.glob_match.specs.Captures.{LieWithin, capture_places, texts};
 ghost use Rattle.glob_match.specs.Comparison.{compared, is_match};
 ghost use Rattle.glob_match.specs.Containment.{HasStretch, contains_match};
-ghost use Rattle.glob_match.specs.Matching.{Captured, Fits, IsLeastFit, least_fit, match_of};
+ghost use Rattle.glob_match.specs.Matching.{Captured, Fits, IsLeastFit, captures_of, least_fit, match_of};
 
 /// The function that goes over the tokens gives the least list of stretches that the value fits with.
 pub fn least_fit_is_the_least()
@@ -28,6 +29,14 @@ pub fn match_is_captured()
 pub fn captures_are_unique()
     ensures { (comparator : Comparator) (value key : List ℕ) (captures others : List (List ℕ))
         → Captured comparator value key captures → Captured comparator value key others → captures ≡ others }
+{}
+
+/// The captures of a value that fits stand within it, and what stands there is their texts.
+pub fn captures_stand_in_the_value()
+    ensures within { (comparator : Comparator) (value : List ℕ) (key : List Token) (stretches : List (List ℕ))
+        → Fits comparator key stretches value → LieWithin (length value) (capture_places value key stretches) }
+    ensures texts { (comparator : Comparator) (value : List ℕ) (key : List Token) (stretches : List (List ℕ))
+        → Fits comparator key stretches value → texts value (capture_places value key stretches) ≡ captures_of value stretches }
 {}
 
 /// `:is` is equality of what is compared.

@@ -1,9 +1,9 @@
 // Matching with wildcards.
-ghost use Rattle.std.specs.Prelude.{◌≡◌, ◌+◌, ◌*◌, ◌-◌, ◌≤◌, ◌<◌, ◌^◌, ◌∷◌, ℕ, List, OnSome, drop, length, slice_range};
+ghost use Rattle.std.specs.Prelude.{◌≡◌, ◌+◌, ◌*◌, ◌-◌, ◌≤◌, ◌<◌, ◌^◌, ◌∷◌, OnSome, length};
 ghost use Rattle.std.specs.Option.{option_map};
-ghost use Rattle.glob_match.specs.Captures.{texts};
+ghost use Rattle.glob_match.specs.Captures.{places_of_match, texts};
 ghost use Rattle.glob_match.specs.Matching.{match_of, max_captures};
-ghost use Rattle.glob_match.specs.Segments.{NoStar, any_octets, captures_after_star, with_stretches};
+ghost use Rattle.glob_match.specs.Segments.{NoStar, any_places, captures_after_star, with_stretches};
 ghost use Rattle.glob_match.specs.Tokens.{literals, tokens_of};
 
 use crate::captures::Captures;
@@ -15,10 +15,22 @@ use crate::segment::{begins_with, push_any_octets, split_segment, width};
 /// the work, made from the lengths: at most their product, each plus 1, and where the value fits at least the octets that the key spells.
 ///
 /// In the key `*` stands for any stretch, `?` for one octet, and a backslash makes a literal of the octet after it. Of all
-/// stretches that fit, those of the least lengths are taken, compared from the left.
+/// stretches that fit, those of the least lengths are taken, compared from the left. Each capture stands where its wildcard stands
+/// for it: it begins where what stands before the wildcard in the key ends in the value.
 pub fn matches(value: &[u8], key: &[u8], comparator: Comparator) -> (Option<Captures>, u64)
     requires { (length value.now + 1) * (length key.now + 1) < 2 ^ 64 }
     ensures captures { option_map (texts value.now) result.0 ≡ match_of comparator value.now key.now }
+    ensures places { result.0 ≡ places_of_match comparator value.now key.now }
+    ensures most { result.1 ≤ (length value.now + 1) * (length key.now + 1) }
+    ensures least { OnSome result.0 (literals (tokens_of key.now) ≤ result.1) }
+{
+    match_segments(value, key, comparator)
+}
+
+// The same, by the places of the captures alone.
+fn match_segments(value: &[u8], key: &[u8], comparator: Comparator) -> (Option<Captures>, u64)
+    requires { (length value.now + 1) * (length key.now + 1) < 2 ^ 64 }
+    ensures places { result.0 ≡ places_of_match comparator value.now key.now }
     ensures most { result.1 ≤ (length value.now + 1) * (length key.now + 1) }
     ensures least { OnSome result.0 (literals (tokens_of key.now) ≤ result.1) }
 {
@@ -52,7 +64,7 @@ fn match_after_star(
     requires within { start ≤ length value.now }
     requires few { length captures ≤ max_captures }
     requires room { (length value.now + 1) * (length key.now + 1) < 2 ^ 64 }
-    ensures captures { option_map (texts value.now) result.0 ≡ captures_after_star comparator value.now start key.now (texts value.now captures) }
+    ensures places { result.0 ≡ captures_after_star comparator value.now start key.now captures }
     ensures most { result.1 ≤ (length value.now + 1) * (length key.now + 1) }
     ensures least { OnSome result.0 (literals (tokens_of key.now) ≤ result.1) }
 {
@@ -88,7 +100,7 @@ fn match_end(
     requires within { start ≤ length value.now }
     requires few { length captures ≤ max_captures }
     requires no_star { NoStar (tokens_of segment.now) }
-    ensures { option_map (texts value.now) result ≡ captures_after_star comparator value.now start segment.now (texts value.now captures) }
+    ensures { result ≡ captures_after_star comparator value.now start segment.now captures }
 {
     let width = width(segment);
     if width > value.len() - start {
@@ -109,9 +121,7 @@ fn push_placed(captures: &mut Captures, segment: &[u8], start: usize, place: usi
     requires from { start ≤ place }
     requires room { place + length (tokens_of segment.now) < 2 ^ 64 }
     ensures few { length captures.new ≤ max_captures }
-    ensures texts { (value : List ℕ) → place + length (tokens_of segment.now) ≤ length value
-        → texts value captures.new ≡ with_stretches (texts value captures.old)
-        (slice_range value start place ∷ any_octets (tokens_of segment.now) (drop place value)) }
+    ensures places { captures.new ≡ with_stretches captures.old (record { start = start; end = place } ∷ any_places place (tokens_of segment.now)) }
 {
     captures.push(start, place);
     push_any_octets(captures, segment, place);

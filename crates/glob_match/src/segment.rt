@@ -1,9 +1,8 @@
 // Stretches of a key without stars. Each token of one stands for one octet.
-ghost use Rattle.std.specs.Prelude.{◌≡◌, ◌∷◌, ◌++◌, ◌+◌, ◌≤◌, ℕ, List, MatchOption, drop, length, ◌<◌, ◌^◌};
-ghost use Rattle.glob_match.specs.Captures.{texts};
+ghost use Rattle.std.specs.Prelude.{◌≡◌, ◌∷◌, ◌++◌, ◌+◌, ◌≤◌, MatchOption, length, ◌<◌, ◌^◌};
 ghost use Rattle.glob_match.specs.Containment.{begins_with};
 ghost use Rattle.glob_match.specs.Matching.{max_captures};
-ghost use Rattle.glob_match.specs.Segments.{NoStar, any_octets, with_stretches};
+ghost use Rattle.glob_match.specs.Segments.{NoStar, any_places, with_stretches};
 ghost use Rattle.glob_match.specs.Tokens.{tokens_of};
 ghost use Rattle.glob_match.specs.declared.token.Token.TheVariants.{Star};
 
@@ -67,8 +66,7 @@ pub(crate) fn push_any_octets(captures: &mut Captures, segment: &[u8], start: us
     requires few { length captures.old ≤ max_captures }
     requires room { start + length (tokens_of segment.now) < 2 ^ 64 }
     ensures few { length captures.new ≤ max_captures }
-    ensures texts { (value : List ℕ) → start + length (tokens_of segment.now) ≤ length value
-        → texts value captures.new ≡ with_stretches (texts value captures.old) (any_octets (tokens_of segment.now) (drop start value)) }
+    ensures places { captures.new ≡ with_stretches captures.old (any_places start (tokens_of segment.now)) }
 {
     let mut place = start;
     let mut tokens = segment;

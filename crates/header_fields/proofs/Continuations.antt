@@ -1,15 +1,17 @@
 -- The lines that continue a line.
-use Rattle.std.proofs.Common.{◌≡◌, ◌≢◌, ℕ, ◌+◌, ◌-◌, ◌<◌, ◌≤◌, true, false, List, [], ◌∷◌, ◌++◌, suc, refl, sym, ◌∙◌, ap, arith, length, drop, get_or, inl, inr, ◌==◌, add-one}
+use Rattle.std.proofs.Common.{◌≡◌, ◌≢◌, ℕ, ◌+◌, ◌-◌, ◌<◌, ◌≤◌, true, false, List, [], ◌∷◌, ◌++◌, suc, refl, sym, ◌∙◌, ap, arith, length, drop, get_or, inl, inr, ◌==◌, ◌||◌, add-one}
 use Rattle.std.specs.List.{slice_range}
 use Rattle.std.proofs.lemmas.Bool.{eqb-true, ne_eqb, cases_Bool, true≢false, cases_lt}
 use Rattle.std.proofs.lemmas.List.{append_assoc}
+use Rattle.std.proofs.lemmas.List.Folds.{list_any_at}
+use Rattle.std.proofs.Math.Bool.{or-true}
 use Rattle.std.proofs.Math.Seq.{drop-cons}
 use Rattle.octets.specs.Blank.{is_blank}
 use Rattle.text_lines.specs.Lines.{TextLine, lines_left, text_line, IsFirstLine, IsLineAt}
 use Rattle.text_lines.specs.declared.line.Line.{Line}
 use Rattle.text_lines.proofs.Slices.{slice_join, length-slice, get_or-slice, one_at, two_at}
 use Rattle.text_lines.proofs.FirstLine.{no_break_at, no_break_of}
-use Rattle.header_fields.specs.Header.{is_empty, line_length, begins_blank, is_name_octet, is_field_line, continuation, fields_in, header_lines, header_length, without_breaks}
+use Rattle.header_fields.specs.Header.{is_empty, line_length, begins_blank, is_name_octet, is_field_line, continuation, fields_in, has_feed, header_lines, header_length, is_continued, without_breaks}
 use Rattle.text_lines.specs.Unread.{Unread}
 use Rattle.header_fields.specs.Reading.{IsContinuation, IsContinuing}
 use Rattle.header_fields.proofs.Breaks.{without_breaks-append, without_breaks_none}
@@ -38,6 +40,10 @@ pub not_field : (content : List ℕ) → begins_blank content ≡ true → is_fi
 not_field [] blank = refl
 not_field (octet ∷ content) blank = rw (blank_not_in_name octet blank) refl
 
+pub begins_some : (content : List ℕ) → begins_blank content ≡ true → 0 < length content
+begins_some [] blank = absurd (true≢false (sym blank))
+begins_some (octet ∷ content) blank = omega arith
+
 -- what such a line adds to the header's fields, to its length and to the line before
 fields_more : (line : TextLine) (lines : List TextLine) → begins_blank line.content ≡ true → fields_in (header_lines (line ∷ lines)) ≡ fields_in (header_lines lines)
 fields_more line lines blank = rw (not_empty line blank, not_field line.content blank) refl
@@ -45,7 +51,7 @@ fields_more line lines blank = rw (not_empty line blank, not_field line.content 
 length_more : (line : TextLine) (lines : List TextLine) → begins_blank line.content ≡ true → header_length (line ∷ lines) ≡ line_length line + header_length lines
 length_more line lines blank = rw (not_empty line blank) refl
 
-continuation_more : (line : TextLine) (lines : List TextLine) → begins_blank line.content ≡ true → continuation (line ∷ lines) ≡ line.content ++ continuation lines
+pub continuation_more : (line : TextLine) (lines : List TextLine) → begins_blank line.content ≡ true → continuation (line ∷ lines) ≡ line.content ++ continuation lines
 continuation_more line lines blank = rw blank refl
 
 -- ---- by places
@@ -124,6 +130,46 @@ value_more text last next start at some following high =
     let there = content_without text next (rw (← following.start) at following) next.start (omega arith) following.end_after_start in
     rw (← whole, ← from_end) (break_before text last start (slice_range text next.start next.end) at some (omega (arith, following.start, following.some, following.within)) high ∙ rw there refl)
 
+-- a stretch with the break of a line in it has a line feed
+feed_within : (text : List ℕ) (start end feed : ℕ) → start ≤ feed → feed < end → end ≤ length text → get_or text feed 0 ≡ 10 → has_feed (slice_range text start end) ≡ true
+feed_within text start end feed low high within lf =
+    let at : start + (feed - start) ≡ feed = omega arith in
+    let here : get_or (slice_range text start end) (feed - start) 0 ≡ 10 =
+    get_or-slice text start end (feed - start) (omega arith) ∙ ap (λ n. get_or text n 0) at ∙ lf in
+    list_any_at (λ octet. octet == 10) (slice_range text start end) (feed - start) 0
+    (omega (arith, length-slice text start end (omega arith) within)) (rw here refl)
+
+feed_between : (text : List ℕ) (last next : Line) (start : ℕ) → IsLineAt text last.start last → IsLineAt text last.stop next → next.start < next.end → start ≤ last.end
+    → has_feed (slice_range text start next.end) ≡ true
+feed_between text last next start at following some high =
+    let within : next.end ≤ length text = omega (arith, following.stop_after_end, following.within) in
+    elim at.break [
+      | inl (stops, lf, bare) ↦ feed_within text start next.end last.end high (omega (arith, following.start)) within lf
+      | inr (inl (stops, cr, lf)) ↦ feed_within text start next.end (last.end + 1) (omega arith) (omega (arith, following.start)) within lf
+      | inr (inr (stops, ended)) ↦ absurd (omega (arith, following.start, following.some, following.within))
+    ]
+
+-- a text that goes on after a line has one
+pub feed_after : (text : List ℕ) (place : ℕ) (line : Line) → IsLineAt text place line → line.stop < length text → has_feed text ≡ true
+feed_after text place line at more = elim at.break [
+  | inl (stops, lf, bare) ↦ list_any_at (λ octet. octet == 10) text line.end 0 (omega arith) (rw lf refl)
+  | inr (inl (stops, cr, lf)) ↦ list_any_at (λ octet. octet == 10) text (line.end + 1) 0 (omega arith) (rw lf refl)
+  | inr (inr (stops, ended)) ↦ absurd (omega arith)
+]
+
+without_feeds : (text : List ℕ) → ((k : ℕ) → k < length text → get_or text k 0 ≢ 10) → has_feed text ≡ false
+without_feeds [] none = refl
+without_feeds (octet ∷ text) none =
+    rw (ne_eqb octet 10 (none 0 (omega arith)), without_feeds text (λ k lt. none (suc k) (omega arith))) refl
+
+-- one in a line has none
+feed_none : (text : List ℕ) (line : Line) → IsLineAt text line.start line → (start : ℕ) → line.start ≤ start → start ≤ line.end
+    → has_feed (slice_range text start line.end) ≡ false
+feed_none text line at start low high =
+    let long = length-slice text start line.end high (omega (arith, at.stop_after_end, at.within)) in
+    without_feeds (slice_range text start line.end)
+    (λ k lt e. at.no_feed (start + k) (omega arith) (omega arith) (sym (get_or-slice text start line.end k (omega arith)) ∙ e))
+
 -- one line more that continues the line
 pub continuing_more : (text : List ℕ) (line last next : Line) (initial old new : Unread) → IsLineAt text last.start last → last.start < last.end
     → old.text ≡ text → old.place ≡ last.stop → IsContinuation old next new
@@ -145,6 +191,11 @@ continuing_more text line last next initial old new at some same_text place more
           let more_value = value_more text last next start at some (rw place at here) (omega (arith, so_far.after)) in
           let joined = ap continuation left ∙ continuation_more (text_line text next) (lines_left new) begins in
           rw (more_value, append_assoc, ← joined) (so_far.value start low high);
+      folded = λ start low high.
+          let feed = feed_between text last next start at (rw place at here) (some_content text old.place next here blank) (omega (arith, so_far.after)) in
+          let continued : is_continued (lines_left old) ≡ true = ap is_continued left ∙ begins in
+          let all : is_continued (lines_left initial) ≡ true = sym (so_far.folded start low high) ∙ ap (λ c. has_feed (slice_range text start last.end) || c) continued ∙ or-true (has_feed (slice_range text start last.end)) in
+          ap (λ f. f || is_continued (lines_left new)) feed ∙ sym all;
     }
 
 -- such a line stands at its start, and has octets
@@ -163,4 +214,5 @@ continuing_none text line initial at = record {
   fields = refl;
   body = refl;
   value = λ start low high. rw (content_without text line at start low high) refl;
+  folded = λ start low high. rw (feed_none text line at start low high) refl;
 }

@@ -1,11 +1,14 @@
 -- The headers of small texts, by computation.
-use Rattle.std.proofs.Common.{◌≡◌, ℕ, List, [], ◌∷◌, ◌++◌, refl, codes}
+use Rattle.std.proofs.Common.{◌≡◌, ℕ, List, [], ◌∷◌, ◌++◌, false, true, refl, codes}
 use Rattle.header_fields.specs.Fields.{Field}
 use Rattle.header_fields.specs.Header.{Header, header_of}
 use Rattle.header_fields.specs.Extent.{field_lines_of}
 
 abbrev field : List ℕ → List ℕ → Field
-field name value = record { name = name; value = value }
+field name value = record { name = name; value = value; folded = false }
+
+abbrev folded : List ℕ → List ℕ → Field
+folded name value = record { name = name; value = value; folded = true }
 
 abbrev header : List Field → ℕ → Header
 header fields body_start = record { fields = fields; body_start = body_start }
@@ -28,7 +31,7 @@ two_fields = refl
 no_empty_line : header_of (codes "S: a" ++ lf) ≡ header (field (codes "S") (codes "a") ∷ []) 5
 no_empty_line = refl
 
-trimmed_after_joining : header_of (codes "X: a" ++ lf ++ codes " " ++ lf ++ codes " b ") ≡ header (field (codes "X") (codes "a  b") ∷ []) 10
+trimmed_after_joining : header_of (codes "X: a" ++ lf ++ codes " " ++ lf ++ codes " b ") ≡ header (folded (codes "X") (codes "a  b") ∷ []) 10
 trimmed_after_joining = refl
 
 lone_cr_stays : header_of (codes "X:" ++ tab ++ 13 ∷ []) ≡ header (field (codes "X") (13 ∷ []) ∷ []) 4

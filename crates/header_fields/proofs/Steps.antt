@@ -1,17 +1,18 @@
 -- What reading a line adds to a header.
-use Rattle.std.proofs.Common.{◌≡◌, ◌≢◌, ℕ, ◌+◌, ◌-◌, ◌<◌, ◌≤◌, true, false, List, [], ◌∷◌, ◌++◌, refl, sym, ◌∙◌, ap, arith, length, inl, inr}
+use Rattle.std.proofs.Common.{◌≡◌, ◌≢◌, ℕ, ◌+◌, ◌-◌, ◌<◌, ◌≤◌, true, false, List, [], ◌∷◌, ◌++◌, ◌||◌, refl, sym, ◌∙◌, ap, arith, length, inl, inr}
 use Rattle.std.specs.List.{slice_range}
+use Rattle.std.proofs.Math.Bool.{or-false}
 use Rattle.std.proofs.lemmas.Bool.{cases_Bool, ne_eqb}
-use Rattle.std.proofs.lemmas.List.{append_assoc, append-nil}
+use Rattle.std.proofs.lemmas.List.{append_assoc, append-nil, length-append}
 use Rattle.octets.specs.Blank.{without_outer_blanks}
 use Rattle.text_lines.specs.Unread.{Unread}
 use Rattle.text_lines.specs.Lines.{TextLine, lines_left, text_line, IsLineAt, IsFirstLine}
 use Rattle.text_lines.specs.declared.line.Line.{Line}
 use Rattle.text_lines.proofs.Slices.{length-slice}
 use Rattle.header_fields.specs.Fields.{Field}
-use Rattle.header_fields.specs.Header.{is_empty, begins_blank, is_field_line, name_of, after_colon, continuation, field_of, fields_in, header_lines, header_length, line_length, without_breaks}
+use Rattle.header_fields.specs.Header.{is_empty, begins_blank, is_field_line, name_of, after_colon, continuation, field_of, has_feed, is_continued, fields_in, header_lines, header_length, line_length, without_breaks}
 use Rattle.header_fields.specs.Reading.{fields_left, body_left, IsContinued}
-use Rattle.header_fields.proofs.Continuations.{length_between, lines_from, not_empty}
+use Rattle.header_fields.proofs.Continuations.{begins_some, continuation_more, length_between, lines_from, not_empty}
 use Rattle.header_fields.proofs.FieldLines.{after_colon_slice, after_colon_fits}
 
 -- a line with octets before its break
@@ -47,6 +48,39 @@ value_taken text line mid new end at continued =
     whole ∙ ap (λ x. x ++ continuation (lines_left mid)) (after_colon_slice text line.start line.end at.end_after_start within)
     ∙ ap (λ x. after_colon content ++ x) (sym (continuation-header_lines (lines_left mid)))
 
+is_continued-header_lines : (lines : List TextLine) → is_continued (header_lines lines) ≡ is_continued lines
+is_continued-header_lines [] = refl
+is_continued-header_lines (line ∷ lines) = elim (cases_Bool (begins_blank line.content)) [
+  | inl blank ↦ rw (not_empty line blank) refl
+  | inr other ↦ elim (cases_Bool (is_empty line)) [
+    | inl empty ↦ rw (empty, other) refl
+    | inr some ↦ rw some refl
+  ]
+]
+
+-- what no line continues
+none_continued : (lines : List TextLine) → continuation lines ≡ [] → is_continued lines ≡ false
+none_continued [] none = refl
+none_continued (line ∷ lines) none = elim (cases_Bool (begins_blank line.content)) [
+  | inl blank ↦ absurd (
+      let long = ap length (sym (continuation_more line lines blank) ∙ none) ∙ refl in
+      omega (arith, long, length-append line.content (continuation lines), begins_some line.content blank))
+  | inr other ↦ other
+]
+
+-- whether its value is folded
+folded_taken : (text : List ℕ) (line : Line) (mid new : Unread) (end : ℕ) → IsLineAt text line.start line → IsContinued text line mid end new
+    → has_feed (slice_range text (line.end - length (after_colon (slice_range text line.start line.end))) end) ≡ is_continued (header_lines (lines_left mid))
+folded_taken text line mid new end at continued =
+    let content = slice_range text line.start line.end in
+    let within : line.end ≤ length text = omega (arith, at.stop_after_end, at.within) in
+    let long = length-slice text line.start line.end at.end_after_start within in
+    let start = line.end - length (after_colon content) in
+    let feed = has_feed (slice_range text start end) in
+    let folded = continued.so_far.folded start (omega (arith, after_colon_fits content)) (omega arith) in
+    sym (or-false feed) ∙ sym (ap (λ c. feed || c) (none_continued (lines_left new) continued.none_left)) ∙ folded
+    ∙ sym (is_continued-header_lines (lines_left mid))
+
 -- a line was read, and the lines that continue it
 pub record Taken (text : List ℕ) (line : Line) (old mid new : Unread) (end : ℕ) : Type 0 where
   pub same_text : old.text ≡ text
@@ -81,12 +115,18 @@ taken_falls text line old mid new end taken =
 -- its field, and those left
 pub field_taken : (text : List ℕ) (line : Line) (old mid new : Unread) (end : ℕ) (items : List Field) (field : Field) → Taken text line old mid new end
     → let content = slice_range text line.start line.end in
-    (is_field_line content ≡ true) × (field ≡ record { name = name_of content; value = without_outer_blanks (without_breaks (slice_range text (line.end - length (after_colon content)) end)) })
+    let after = slice_range text (line.end - length (after_colon content)) end in
+    (is_field_line content ≡ true) × (field ≡ record { name = name_of content; value = without_outer_blanks (without_breaks after); folded = has_feed after })
     → (items ++ field ∷ []) ++ fields_left new ≡ items ++ fields_left old
 field_taken text line old mid new end items field taken (is, made) =
     let content = slice_range text line.start line.end in
     let value = value_taken text line mid new end (taken_at text line old mid new end taken) taken.continued in
-    let field_is : field ≡ field_of content (header_lines (lines_left mid)) = made ∙ ap (λ v. record { name = name_of content; value = without_outer_blanks v }) value in
+    let folded = folded_taken text line mid new end (taken_at text line old mid new end taken) taken.continued in
+    let after = slice_range text (line.end - length (after_colon content)) end in
+    let field_is : field ≡ field_of content (header_lines (lines_left mid)) =
+    made
+    ∙ ap (λ v. record { name = name_of content; value = without_outer_blanks v; folded = has_feed after }) value
+    ∙ ap (λ f. record { name = name_of content; value = without_outer_blanks (after_colon content ++ continuation (header_lines (lines_left mid))); folded = f }) folded in
     let before = fields_before text line old mid new end taken in
     rw (append_assoc, taken.continued.so_far.fields, field_is, before, is) refl
 

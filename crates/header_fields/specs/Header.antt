@@ -1,5 +1,5 @@
 use Rattle.std.specs.Prelude.{ℕ, ◌+◌, Bool, false, not, ◌==◌, ◌&&◌, nat_lt, if◌then◌else◌, List, [], ◌∷◌, ◌++◌, length, drop, flat_map}
-use Rattle.std.specs.List.{prefix_len, take_while}
+use Rattle.std.specs.List.{list_any, prefix_len, take_while}
 use Rattle.std.specs.Char.{is_ascii_graphic}
 use Rattle.octets.specs.Blank.{is_blank, without_leading_blanks, without_outer_blanks}
 use Rattle.text_lines.specs.Lines.{TextLine, lines_of}
@@ -48,9 +48,19 @@ abbrev pub continuation : List TextLine → List ℕ
 continuation [] = []
 continuation (line ∷ lines) = if begins_blank line.content then line.content ++ continuation lines else []
 
+-- whether the first of the lines continues the line before them
+abbrev pub is_continued : List TextLine → Bool
+is_continued [] = false
+is_continued (line ∷ lines) = begins_blank line.content
+
 -- the field of a field line, and of the lines after it that continue it
 abbrev pub field_of : List ℕ → List TextLine → Field
-field_of line lines = record { name = name_of line; value = without_outer_blanks (after_colon line ++ continuation lines) }
+field_of line lines =
+    record {
+      name = name_of line;
+      value = without_outer_blanks (after_colon line ++ continuation lines);
+      folded = is_continued lines;
+    }
 
 -- the fields that lines hold: what is no field line begins no field, so it is skipped with the lines that continue it
 abbrev pub fields_in : List TextLine → List Field
@@ -83,6 +93,10 @@ pub record Header : Type 0 where
 -- the header of a text
 abbrev pub header_of : List ℕ → Header
 header_of text = record { fields = fields_of text; body_start = body_start_of text }
+
+-- whether a text has a line feed
+abbrev pub has_feed : List ℕ → Bool
+has_feed text = list_any (λ octet. octet == 10) text
 
 -- what lines hold without their breaks, joined
 abbrev pub contents : List TextLine → List ℕ

@@ -1,10 +1,10 @@
-use Rattle.std.specs.Prelude.{◌≡◌, ℕ, ◌+◌, ◌-◌, ◌≤◌, List, [], ◌++◌, length, drop, slice_range, true, false, Option, MatchOption}
+use Rattle.std.specs.Prelude.{◌≡◌, ℕ, ◌+◌, ◌-◌, ◌≤◌, List, [], ◌++◌, ◌||◌, length, drop, slice_range, true, false, Option, MatchOption}
 use Rattle.octets.specs.Blank.{without_outer_blanks}
 use Rattle.text_lines.specs.Unread.{Unread}
 use Rattle.text_lines.specs.Lines.{lines_left, IsFirstLine}
 use Rattle.text_lines.specs.declared.line.Line.{Line}
 use Rattle.header_fields.specs.Fields.{Field}
-use Rattle.header_fields.specs.Header.{begins_blank, is_field_line, name_of, after_colon, fields_in, header_lines, header_length, continuation, without_breaks}
+use Rattle.header_fields.specs.Header.{begins_blank, is_field_line, name_of, after_colon, fields_in, header_lines, header_length, continuation, has_feed, is_continued, without_breaks}
 
 -- the fields of the header's lines that weren't given yet
 abbrev pub fields_left : Unread → List Field
@@ -36,6 +36,8 @@ pub record IsContinuing (text : List ℕ) (line : Line) (old : Unread) (end : �
   pub body : body_left new ≡ body_left old
   pub value : (start : ℕ) → line.start ≤ start → start ≤ line.end
       → without_breaks (slice_range text start end) ++ continuation (lines_left new) ≡ slice_range text start line.end ++ continuation (lines_left old)
+  pub folded : (start : ℕ) → line.start ≤ start → start ≤ line.end
+      → (has_feed (slice_range text start end) || is_continued (lines_left new)) ≡ is_continued (lines_left old)
 
 -- all of them were given
 pub record IsContinued (text : List ℕ) (line : Line) (old : Unread) (end : ℕ) (new : Unread) : Type 0 where
@@ -48,8 +50,10 @@ pub record IsContinued (text : List ℕ) (line : Line) (old : Unread) (end : ℕ
 abbrev pub IsFieldAt : List ℕ → Line → ℕ → Option Field → Type 0
 IsFieldAt text line end answer =
     let content = slice_range text line.start line.end in
+    let after = slice_range text (line.end - length (after_colon content)) end in
     MatchOption answer (is_field_line content ≡ false)
     (λ field. (is_field_line content ≡ true) × (field ≡ record {
       name = name_of content;
-      value = without_outer_blanks (without_breaks (slice_range text (line.end - length (after_colon content)) end));
+      value = without_outer_blanks (without_breaks after);
+      folded = has_feed after;
     }))

@@ -1,9 +1,9 @@
 // A field of a header.
-ghost use Rattle.std.specs.Prelude.{◌≡◌, ◌↔◌, IsTrue, IfOk, length};
-ghost use Rattle.std.specs.Cow.{cow_slice_items};
+ghost use Rattle.std.specs.Prelude.{◌≡◌, ◌↔◌, false, IsTrue, IfOk, IsOk, length};
+ghost use Rattle.std.specs.Cow.{cow_slice_items, IsBorrowedSlice};
 ghost use Rattle.octets.specs.Ascii.{EqualIgnoringCase};
 ghost use Rattle.octets.specs.Blank.{without_outer_blanks};
-ghost use Rattle.header_fields.specs.Header.{without_breaks};
+ghost use Rattle.header_fields.specs.Header.{has_feed, without_breaks};
 
 use crate::error::HeaderError;
 use crate::unfolding::joined_length;
@@ -15,7 +15,7 @@ use text_lines::Lines;
 
 /// A field of a header, over octets that are lent: nothing is copied.
 ///
-/// A contract sees the record of its name and its value.
+/// A contract sees the record of its name, its value, and whether that is folded.
 #[derive(Drop)]
 pub struct Field<'a> {
     name: &'a [u8],
@@ -26,17 +26,17 @@ pub struct Field<'a> {
 impl<'a> Model for Field<'a> {
     ghost use Rattle.octets.specs.Blank.{without_outer_blanks};
     ghost use Rattle.header_fields.specs.Fields.{Field};
-    ghost use Rattle.header_fields.specs.Header.{without_breaks};
+    ghost use Rattle.header_fields.specs.Header.{has_feed, without_breaks};
 
     ghost Value = { Field };
 
-    ghost view = { λ f. record { name = f.name.now; value = without_outer_blanks (without_breaks f.text.now) } };
+    ghost view = { λ f. record { name = f.name.now; value = without_outer_blanks (without_breaks f.text.now); folded = has_feed f.text.now } };
 }
 
 impl<'a> Field<'a> {
     // The field of a name, and of what follows its colon up to the end of its last line.
     pub(crate) fn new(name: &'a [u8], text: &'a [u8]) -> Field<'a>
-        ensures { result ≡ record { name = name.now; value = without_outer_blanks (without_breaks text.now) } }
+        ensures { result ≡ record { name = name.now; value = without_outer_blanks (without_breaks text.now); folded = has_feed text.now } }
     {
         Field { name, text }
     }
@@ -61,7 +61,9 @@ pub fn name_is(field: &Field, name: &[u8]) -> bool
 /// Unfolding takes the line breaks away and nothing else. A value that isn't folded is lent, and takes no memory.
 /// [`HeaderError::Memory`] comes only where memory was refused.
 pub fn unfold<'a>(alloc: Global, field: &Field<'a>) -> Result<CowSlice<'a, u8>, HeaderError>
-    ensures { IfOk result (λ value. cow_slice_items value ≡ field.now.value) }
+    ensures value { IfOk result (λ value. cow_slice_items value ≡ field.now.value) }
+    ensures lent { field.now.folded ≡ false → IfOk result (λ value. IsBorrowedSlice value) }
+    ensures told { field.now.folded ≡ false → IsOk result }
 {
     let text = field.text;
     match Lines::new(text).next() {

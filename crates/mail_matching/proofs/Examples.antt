@@ -16,7 +16,7 @@ use Rattle.mail_matching.specs.PartTests.{body_cost}
 -- ---- the root, one part with another below it, and one more
 
 abbrev field : List ℕ → List ℕ → Field
-field name value = record { name = name; value = value }
+field name value = record { name = name; value = value; folded = false }
 
 abbrev part : ℕ → List Field → List ℕ → Part
 part below fields content =

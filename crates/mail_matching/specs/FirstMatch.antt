@@ -1,5 +1,5 @@
 -- The first value that matches a key, and the captures after it (RFC 5228, sections 2.7.1 and 5.7; RFC 5229, section 3.2).
-use Rattle.std.specs.Prelude.{ℕ, ◌-◌, List, [], ◌∷◌, ◌++◌, length, replicate, Option, None, Some, if◌then◌else◌}
+use Rattle.std.specs.Prelude.{◌≡◌, ◌⊎◌, ℕ, ◌-◌, List, [], ◌∷◌, ◌++◌, length, replicate, Option, None, Some, if◌then◌else◌}
 use Rattle.std.specs.Option.{option_map, option_or}
 use Rattle.glob_match.specs.Comparison.{is_match}
 use Rattle.glob_match.specs.Containment.{contains_match}
@@ -41,3 +41,7 @@ first_key how value (key ∷ keys) captures = option_or (after_match how value k
 abbrev pub first_match : Match → List (List ℕ) → List (List ℕ) → List (List ℕ) → Option (List (List ℕ))
 first_match how [] keys captures = None
 first_match how (value ∷ values) keys captures = option_or (first_key how value keys captures) (first_match how values keys captures)
+
+-- a test that fails or holds, and in neither case sets captures
+abbrev pub KeepsCaptures : (List (List ℕ) → Option (List (List ℕ))) → Type 0
+KeepsCaptures test = (captures : List (List ℕ)) → (test captures ≡ None) ⊎ (test captures ≡ Some captures)

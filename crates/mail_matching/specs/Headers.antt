@@ -1,6 +1,7 @@
 -- The headers of the parts in scope.
-use Rattle.std.specs.Prelude.{ℕ, ◌≤◌, All, List, length, map, flat_map, take, drop, Option}
+use Rattle.std.specs.Prelude.{◌≡◌, ℕ, ◌≤◌, false, true, All, List, length, map, flat_map, take, drop, Option}
 use Rattle.header_fields.specs.Fields.{Field}
+use Rattle.mime_tree.specs.PartTree.{is_word}
 use Rattle.mime_decode.specs.Mail.{Mail, Part}
 use Rattle.mime_params.specs.MediaValue.{value_named}
 use Rattle.mime_params.specs.declared.params.Parameter.{Parameter}
@@ -33,6 +34,14 @@ selected_in_all selector names headers = flat_map (selected_among selector names
 -- the values of the parameters of these names
 abbrev pub values_of_params : List Parameter → List (List ℕ) → List (List ℕ)
 values_of_params params names = flat_map (λ name. given (value_named name params)) names
+
+-- a field isn't folded, if it has the name
+abbrev pub IsUnfolded : List ℕ → Field → Type 0
+IsUnfolded name field = is_word field.name name ≡ true → field.folded ≡ false
+
+-- no field of one of the names is folded
+abbrev pub AreUnfolded : List (List ℕ) → List Field → Type 0
+AreUnfolded names fields = All (λ name. All (IsUnfolded name) fields) names
 
 -- no parameter's value is longer than this
 abbrev pub AreWithin : ℕ → List Parameter → Type 0

@@ -10,6 +10,6 @@ pub mod PartTests
 pub mod Selection
 pub mod Texts
 pub mod Outcomes
--- how the tests of headers go; nothing public rests on it
+-- how the tests of headers go; of what is public only that `header` takes no memory rests on it
 pub mod Headers
 pub mod Readings

@@ -1,8 +1,8 @@
 // A value and the keys of a test.
-ghost use Rattle.std.specs.Prelude.{◌≡◌, ◌≤◌, ℕ, List, IfOk, length, if◌then◌else◌};
+ghost use Rattle.std.specs.Prelude.{◌≡◌, ◌≤◌, ℕ, List, IfOk, IsOk, length, if◌then◌else◌};
 ghost use Rattle.std.specs.Cow.{cow_slice_items};
 ghost use Rattle.octets.specs.Limits.{max_message, max_string};
-ghost use Rattle.mail_matching.specs.FirstMatch.{after_match, first_key};
+ghost use Rattle.mail_matching.specs.FirstMatch.{KeepsCaptures, after_match, first_key};
 ghost use Rattle.mail_matching.specs.Outcomes.{after, after_compared};
 ghost use Rattle.mail_matching.specs.Texts.{AreTexts};
 
@@ -47,7 +47,8 @@ pub(crate) fn first_key_of_lent<'a, K: Texts>(
 ) -> Result<Outcome<'a>, AllocError>
     requires value { length value.now ≤ max_message }
     requires keys { AreTexts (K.texts keys.now) }
-    ensures { IfOk result (λ outcome. (captures : List (List ℕ)) → after outcome captures ≡ first_key how value.now (K.texts keys.now) captures) }
+    ensures outcome { IfOk result (λ outcome. (captures : List (List ℕ)) → after outcome captures ≡ first_key how value.now (K.texts keys.now) captures) }
+    ensures told { KeepsCaptures (first_key how value.now (K.texts keys.now)) → IsOk result }
 {
     Ok(match first_comparison(value, keys, how) {
         Compared::Differs => Outcome::Fails,

@@ -1,11 +1,12 @@
 // The test `header`.
-ghost use Rattle.std.specs.Prelude.{◌≡◌, ◌<◌, ℕ, List, IfOk, IfSome, OnOk, length};
-ghost use Rattle.mail_matching.specs.Headers.{selected_in_all};
+ghost use Rattle.std.specs.Prelude.{◌≡◌, ◌<◌, ℕ, All, List, IfOk, IfSome, IsOk, OnOk, length};
+ghost use Rattle.mail_matching.specs.Headers.{AreUnfolded, headers_in_scope, selected_in_all};
 ghost use Rattle.mail_matching.specs.HeaderTests.{header_cost, header_match};
 ghost use Rattle.mail_matching.specs.Outcomes.{GoesOn, after};
 ghost use Rattle.mail_matching.specs.Selection.{scope_of, selector_of};
 ghost use Rattle.mail_matching.specs.Texts.{AreTexts};
 ghost use Rattle.mail_matching.specs.declared.outcome.Outcome.TheVariants.{Fails};
+ghost use Rattle.mail_matching.specs.declared.selection.Selector.TheVariants.{Value};
 
 use crate::cost::{extent_of, names_cost, product};
 use crate::headers::{Headers, fields_number};
@@ -45,6 +46,7 @@ pub fn header<'m, N: Texts, P: Texts, K: Texts>(
         ≡ header_match test.how (scope_of test.reach.scope) test.reach.current (selector_of test.selector (P.texts params.now)) (N.texts names.now) (K.texts keys.now) message.now captures) }
     ensures cost { IfOk result (λ answer. answer.cost
         ≡ header_cost (scope_of test.reach.scope) test.reach.current (selector_of test.selector (P.texts params.now)) (N.texts names.now) (K.texts keys.now) message.now) }
+    ensures told { test.selector ≡ Value → All (AreUnfolded (N.texts names.now)) (headers_in_scope (scope_of test.reach.scope) test.reach.current message.now) → IsOk result }
 {
     let headers = Headers::in_scope(message, test.reach);
     let comparison = Comparison {
@@ -71,7 +73,8 @@ fn compared<'m, N: Texts, P: Texts, K: Texts>(
     requires names { AreTexts (N.texts names.now) }
     requires params { AreTexts (P.texts test.now.params.now) }
     requires keys { AreTexts (K.texts test.now.keys.now) }
-    ensures { IfOk result (λ progress. GoesOn test.now.how (selected_in_all (selector_of test.now.selector (P.texts test.now.params.now)) (N.texts names.now) headers.now) (K.texts test.now.keys.now) (record { outcome = Fails; extent = 0 }) progress) }
+    ensures goes { IfOk result (λ progress. GoesOn test.now.how (selected_in_all (selector_of test.now.selector (P.texts test.now.params.now)) (N.texts names.now) headers.now) (K.texts test.now.keys.now) (record { outcome = Fails; extent = 0 }) progress) }
+    ensures told { test.now.selector ≡ Value → All (AreUnfolded (N.texts names.now)) headers.now → IsOk result }
 {
     let mut progress = Progress {
         outcome: Outcome::Fails,

@@ -1,9 +1,9 @@
 // The tests of a part's content and of its digest.
-ghost use Rattle.std.specs.Prelude.{◌≡◌, ◌≤◌, ◌∷◌, [], ℕ, List, None, Some, IfOk, if◌then◌else◌, length};
-ghost use Rattle.std.specs.Cow.{cow_slice_items};
+ghost use Rattle.std.specs.Prelude.{◌≡◌, ◌≤◌, ◌∷◌, [], ℕ, List, None, Some, IfOk, IsOk, if◌then◌else◌, length};
+ghost use Rattle.std.specs.Cow.{IsBorrowedSlice, cow_slice_items};
 ghost use Rattle.octets.specs.Limits.{max_message};
 ghost use Rattle.mail_matching.specs.Costs.{values_cost};
-ghost use Rattle.mail_matching.specs.FirstMatch.{first_key, first_match};
+ghost use Rattle.mail_matching.specs.FirstMatch.{KeepsCaptures, first_key, first_match};
 ghost use Rattle.mail_matching.specs.Outcomes.{after};
 ghost use Rattle.mail_matching.specs.PartTests.{exactly};
 ghost use Rattle.mail_matching.specs.Texts.{AreTexts};
@@ -34,6 +34,8 @@ pub fn body<'m, K: Texts>(
     ensures outcome { IfOk result (λ answer. (captures : List (List ℕ))
         → after answer.outcome captures ≡ first_match how (cow_slice_items content.now ∷ []) (K.texts keys.now) captures) }
     ensures cost { IfOk result (λ answer. answer.cost ≡ values_cost (cow_slice_items content.now ∷ []) (K.texts keys.now)) }
+    ensures lent { IsBorrowedSlice content.now → IsOk result }
+    ensures told { KeepsCaptures (first_match how (cow_slice_items content.now ∷ []) (K.texts keys.now)) → IsOk result }
 {
     let outcome = match first_comparison(content.as_slice(), keys, how) {
         Compared::Differs => Outcome::Fails,
@@ -53,7 +55,9 @@ fn lent_or_copied<'m>(
     alloc: Global,
     octets: &CowSlice<'m, u8>,
 ) -> Result<CowSlice<'m, u8>, AllocError>
-    ensures { IfOk result (λ same. cow_slice_items same ≡ cow_slice_items octets.now) }
+    ensures same { IfOk result (λ same. cow_slice_items same ≡ cow_slice_items octets.now) }
+    ensures lent { IsBorrowedSlice octets.now → IfOk result (λ same. IsBorrowedSlice same) }
+    ensures told { IsBorrowedSlice octets.now → IsOk result }
 {
     match octets {
         CowSlice::Borrowed(lent) => Ok(CowSlice::Borrowed(lent)),

@@ -1,15 +1,16 @@
 // The values that a test selects, compared one after the other.
-ghost use Rattle.std.specs.Prelude.{◌≡◌, ◌+◌, ◌<◌, ◌≤◌, ◌^◌, ◌∷◌, [], IfSome, OnOk, length};
+ghost use Rattle.std.specs.Prelude.{◌≡◌, ◌+◌, ◌<◌, ◌≤◌, ◌^◌, ◌∷◌, [], false, All, IfSome, IsOk, OnOk, length};
 ghost use Rattle.std.specs.Cow.{cow_slice_items};
 ghost use Rattle.octets.specs.Limits.{max_message};
 ghost use Rattle.mime_params.specs.MediaValue.{value_named};
 ghost use Rattle.header_fields.specs.Extent.{fields_extent};
 ghost use Rattle.mime_decode.specs.Scope.{given, selected_of};
 ghost use Rattle.mail_matching.specs.Costs.{extent_of};
-ghost use Rattle.mail_matching.specs.Headers.{AreWithin, selected_among, selected_named, values_of_params};
+ghost use Rattle.mail_matching.specs.Headers.{AreUnfolded, AreWithin, IsUnfolded, selected_among, selected_named, values_of_params};
 ghost use Rattle.mail_matching.specs.Outcomes.{GoesOn};
 ghost use Rattle.mail_matching.specs.Selection.{selector_of};
 ghost use Rattle.mail_matching.specs.Texts.{AreTexts};
+ghost use Rattle.mail_matching.specs.declared.selection.Selector.TheVariants.{Value};
 
 use crate::comparing::{first_key, first_key_of_lent};
 use crate::existence::is_named;
@@ -52,7 +53,8 @@ impl<'m> Progress<'m> {
         requires keys { AreTexts (K.texts test.now.keys.now) }
         requires fields { fields_extent fields.now ≤ max_message }
         requires room { self.old.extent + extent_of (selected_among (selector_of test.now.selector (P.texts test.now.params.now)) (N.texts names.now) fields.now) < 2 ^ 64 }
-        ensures { OnOk result (GoesOn test.now.how (selected_among (selector_of test.now.selector (P.texts test.now.params.now)) (N.texts names.now) fields.now) (K.texts test.now.keys.now) self.old self.new) }
+        ensures goes { OnOk result (GoesOn test.now.how (selected_among (selector_of test.now.selector (P.texts test.now.params.now)) (N.texts names.now) fields.now) (K.texts test.now.keys.now) self.old self.new) }
+        ensures told { test.now.selector ≡ Value → AreUnfolded (N.texts names.now) fields.now → IsOk result }
     {
         for place in 0..names.count() {
             self.take_named(alloc, fields, names.text(place), test)?;
@@ -72,7 +74,8 @@ impl<'m> Progress<'m> {
         requires keys { AreTexts (K.texts test.now.keys.now) }
         requires fields { fields_extent fields.now ≤ max_message }
         requires room { self.old.extent + extent_of (selected_named (selector_of test.now.selector (P.texts test.now.params.now)) fields.now name.now) < 2 ^ 64 }
-        ensures { OnOk result (GoesOn test.now.how (selected_named (selector_of test.now.selector (P.texts test.now.params.now)) fields.now name.now) (K.texts test.now.keys.now) self.old self.new) }
+        ensures goes { OnOk result (GoesOn test.now.how (selected_named (selector_of test.now.selector (P.texts test.now.params.now)) fields.now name.now) (K.texts test.now.keys.now) self.old self.new) }
+        ensures told { test.now.selector ≡ Value → All (IsUnfolded name.now) fields.now → IsOk result }
     {
         for field in fields {
             self.take_where_named(alloc, field, name, test)?;
@@ -92,7 +95,8 @@ impl<'m> Progress<'m> {
         requires keys { AreTexts (K.texts test.now.keys.now) }
         requires field { length field.now.value ≤ max_message }
         requires room { self.old.extent + extent_of (selected_named (selector_of test.now.selector (P.texts test.now.params.now)) (field.now ∷ []) name.now) < 2 ^ 64 }
-        ensures { OnOk result (GoesOn test.now.how (selected_named (selector_of test.now.selector (P.texts test.now.params.now)) (field.now ∷ []) name.now) (K.texts test.now.keys.now) self.old self.new) }
+        ensures goes { OnOk result (GoesOn test.now.how (selected_named (selector_of test.now.selector (P.texts test.now.params.now)) (field.now ∷ []) name.now) (K.texts test.now.keys.now) self.old self.new) }
+        ensures told { test.now.selector ≡ Value → IsUnfolded name.now field.now → IsOk result }
     {
         if is_named(field, name) {
             self.take_field(alloc, field, test)?;
@@ -111,7 +115,8 @@ impl<'m> Progress<'m> {
         requires keys { AreTexts (K.texts test.now.keys.now) }
         requires field { length field.now.value ≤ max_message }
         requires room { self.old.extent + extent_of (selected_of (selector_of test.now.selector (P.texts test.now.params.now)) field.now) < 2 ^ 64 }
-        ensures { OnOk result (GoesOn test.now.how (selected_of (selector_of test.now.selector (P.texts test.now.params.now)) field.now) (K.texts test.now.keys.now) self.old self.new) }
+        ensures goes { OnOk result (GoesOn test.now.how (selected_of (selector_of test.now.selector (P.texts test.now.params.now)) field.now) (K.texts test.now.keys.now) self.old self.new) }
+        ensures told { test.now.selector ≡ Value → field.now.folded ≡ false → IsOk result }
     {
         match test.selector {
             Selector::Value => self.take_value(alloc, field, test.keys, test.how),
@@ -148,7 +153,8 @@ impl<'m> Progress<'m> {
         requires keys { AreTexts (K.texts keys.now) }
         requires field { length field.now.value ≤ max_message }
         requires room { self.old.extent + extent_of (field.now.value ∷ []) < 2 ^ 64 }
-        ensures { OnOk result (GoesOn how (field.now.value ∷ []) (K.texts keys.now) self.old self.new) }
+        ensures goes { OnOk result (GoesOn how (field.now.value ∷ []) (K.texts keys.now) self.old self.new) }
+        ensures told { field.now.folded ≡ false → IsOk result }
     {
         if self.outcome.holds() {
             self.extent += unfolded_length(field) as u64 + 1;

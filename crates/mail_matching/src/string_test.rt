@@ -1,7 +1,7 @@
 // The test `string`.
-ghost use Rattle.std.specs.Prelude.{◌≡◌, ℕ, List, IfOk};
+ghost use Rattle.std.specs.Prelude.{◌≡◌, ℕ, List, IfOk, IsOk};
 ghost use Rattle.mail_matching.specs.Costs.{values_cost};
-ghost use Rattle.mail_matching.specs.FirstMatch.{first_match};
+ghost use Rattle.mail_matching.specs.FirstMatch.{KeepsCaptures, first_match};
 ghost use Rattle.mail_matching.specs.Outcomes.{after};
 ghost use Rattle.mail_matching.specs.Texts.{AreTexts};
 
@@ -31,6 +31,7 @@ pub fn string<'m, S: Texts, K: Texts>(
     ensures outcome { IfOk result (λ answer. (captures : List (List ℕ))
         → after answer.outcome captures ≡ first_match how (S.texts sources.now) (K.texts keys.now) captures) }
     ensures cost { IfOk result (λ answer. answer.cost ≡ values_cost (S.texts sources.now) (K.texts keys.now)) }
+    ensures told { KeepsCaptures (first_match how (S.texts sources.now) (K.texts keys.now)) → IsOk result }
 {
     let outcome = first_source(alloc, sources, keys, how)?;
     let cost = values_cost(sources, keys);
@@ -46,8 +47,9 @@ fn first_source<'m, S: Texts, K: Texts>(
 ) -> Result<Outcome<'m>, AllocError>
     requires sources { AreTexts (S.texts sources.now) }
     requires keys { AreTexts (K.texts keys.now) }
-    ensures { IfOk result (λ outcome. (captures : List (List ℕ))
+    ensures outcome { IfOk result (λ outcome. (captures : List (List ℕ))
         → after outcome captures ≡ first_match how (S.texts sources.now) (K.texts keys.now) captures) }
+    ensures told { KeepsCaptures (first_match how (S.texts sources.now) (K.texts keys.now)) → IsOk result }
 {
     for place in 0..sources.count() {
         let outcome = first_key_of_lent(alloc, sources.text(place), keys, how)?;

@@ -1,5 +1,5 @@
 -- Contents of small bodies, and what is selected in a small mail, by computation.
-use Rattle.std.proofs.Common.{◌≡◌, ℕ, List, [], ◌∷◌, ◌++◌, Option, None, Some, refl, codes, map}
+use Rattle.std.proofs.Common.{◌≡◌, ℕ, List, [], ◌∷◌, ◌++◌, Option, None, Some, false, refl, codes, map}
 use Rattle.header_fields.specs.Fields.{Field}
 use Rattle.mime_params.specs.MediaValue.{disposition_of, media_type_of, param_at}
 use Rattle.mime_params.specs.declared.encoding.TransferEncoding.TheVariants.{SevenBit, QuotedPrintable, Base64, Unknown}
@@ -34,7 +34,7 @@ in_a_mail = refl
 -- ---- a mail of four parts: the root, one part with another below it, and one more
 
 abbrev field : List ℕ → List ℕ → Field
-field name value = record { name = name; value = value }
+field name value = record { name = name; value = value; folded = false }
 
 abbrev part : ℕ → ℕ → List Field → Part
 part depth below fields =

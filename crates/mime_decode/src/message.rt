@@ -1,11 +1,13 @@
 // A message that was read.
-ghost use Rattle.std.specs.Prelude.{◌≡◌, ◌<◌, length, false, IfOk, IfErr, IsOk};
+ghost use Rattle.std.specs.Prelude.{◌≡◌, ◌<◌, length, false, IfOk, IfErr, IsErrAnd, IsOk};
 ghost use Rattle.std.specs.List.{HoldsAt};
 ghost use Rattle.std.specs.Cow.{cow_slice_items, IsBorrowedSlice};
+ghost use Rattle.octets.specs.Limits.{max_message};
 ghost use Rattle.mime_tree.specs.PartTree.{tree_of};
 ghost use Rattle.mime_decode.specs.Content.{digest_of, is_decoded};
 ghost use Rattle.mime_decode.specs.Mail.{IsMail, IsReadable, mail_of, size_of};
 ghost use Rattle.mime_decode.specs.Refusals.{IsMessageRefusal};
+ghost use Rattle.mime_decode.specs.declared.error.MessageError.TheVariants.{MessageTooLarge};
 
 use crate::content::{decoded, digest_of};
 use crate::error::MessageError;
@@ -46,6 +48,7 @@ impl<'a> Message<'a> {
         ensures read { IfOk result (λ m. IsReadable octets.now × (m ≡ mail_of octets.now)) }
         ensures mail { IfOk result (λ m. IsMail m) }
         ensures refused { IfErr result (λ e. IsMessageRefusal octets.now e) }
+        ensures large { max_message < length octets.now → IsErrAnd result (λ e. e ≡ MessageTooLarge) }
     {
         let tree = Tree::read(alloc, octets)?;
         Ok(Message { octets, tree })

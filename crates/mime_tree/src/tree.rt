@@ -1,9 +1,11 @@
 // The tree of a message's parts.
-ghost use Rattle.std.specs.Prelude.{◌≡◌, ◌<◌, length, IfOk, IfErr};
+ghost use Rattle.std.specs.Prelude.{◌≡◌, ◌<◌, length, IfOk, IfErr, IsErrAnd};
 ghost use Rattle.std.specs.List.{HoldsAt};
+ghost use Rattle.octets.specs.Limits.{max_message};
 ghost use Rattle.mime_tree.specs.PartTree.{tree_of, body_of};
 ghost use Rattle.mime_tree.specs.Readable.{IsReadable, IsTree};
 ghost use Rattle.mime_tree.specs.Refusals.{IsTreeRefusal};
+ghost use Rattle.mime_tree.specs.declared.error.TreeError.TheVariants.{MessageTooLarge};
 
 use crate::MAX_MESSAGE;
 use crate::error::TreeError;
@@ -43,6 +45,7 @@ impl<'a> Tree<'a> {
     pub fn read(alloc: Global, octets: &'a [u8]) -> Result<Tree<'a>, TreeError>
         ensures read { IfOk result (λ tree. IsReadable octets.now × (tree ≡ tree_of octets.now)) }
         ensures refused { IfErr result (λ e. IsTreeRefusal octets.now e) }
+        ensures large { max_message < length octets.now → IsErrAnd result (λ e. e ≡ MessageTooLarge) }
     {
         if octets.len() > MAX_MESSAGE {
             return Err(TreeError::MessageTooLarge);

@@ -55,7 +55,7 @@ module _ (root : Part) where
   abbrev mail : Mail
   mail = record {
     octets = codes "X: b; subject: aa";
-    parts = record root { fields = record { name = codes "X"; value = codes "b" } ∷ record { name = codes "subject"; value = codes "aa" } ∷ [] } ∷ [];
+    parts = record root { fields = record { name = codes "X"; value = codes "b"; folded = false } ∷ record { name = codes "subject"; value = codes "aa"; folded = false } ∷ [] } ∷ [];
   }
 
   abbrev code : Code

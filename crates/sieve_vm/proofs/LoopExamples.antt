@@ -15,7 +15,7 @@ use Rattle.sieve_vm.specs.Machine.{on, jumps, fails, effect, step}
 module _ (root : Part) where
   -- a part with so many below it, a subject and a content
   abbrev part : ℕ → List ℕ → List ℕ → Part
-  part below subject content = record root { below = below; fields = record { name = codes "Subject"; value = subject } ∷ []; content = content }
+  part below subject content = record root { below = below; fields = record { name = codes "Subject"; value = subject; folded = false } ∷ []; content = content }
 
   -- the root, one part with another below it
   abbrev mail : Mail

@@ -1,8 +1,7 @@
 use Rattle.std.proofs.Common.{◌≡◌, ◌+◌, ◌*◌, ◌≤◌, ◌∙◌, ◌∷◌, ap, sym, length, drop, None, arith}
 use Rattle.std.proofs.lemmas.List.{take_rest}
-use Rattle.glob_match.specs.Segments.{with_stretches}
+use Rattle.glob_match.specs.Segments.{with_places}
 use Rattle.glob_match.specs.declared.token.Token.TheVariants.{Star}
-use Rattle.glob_match.specs.Captures.{texts}
 use Rattle.glob_match.specs.Containment.{begins_with, first_place}
 use Rattle.glob_match.specs.Matching.{least_fit}
 use Rattle.glob_match.specs.Tokens.{tokens_of}
@@ -19,17 +18,17 @@ returns-in_default-clause-least c =
     (ended_literals c.args.comparator c.args.value.now c.args.key.now _ c.segments.rest.now c.segments.captures c.segments.start c.segments.gone_over
     c.segments.invariant segment c.split_segment.ensures.no_star tokens)
 
-pub returns-in_default-place-clause-captures : goal.returns-in_default-place-clause-captures
-returns-in_default-place-clause-captures c =
+pub returns-in_default-place-clause-places : goal.returns-in_default-place-clause-places
+returns-in_default-place-clause-places c =
     let value = c.args.value.now in
     let segment = c.split_segment.result.0.now in
     let start = c.segments.start in
     let tokens = split_next c.segments.rest.now segment c.split_segment.result.1 c.in-Some.next c.in-Some.is c.split_segment.ensures.tokens in
     let nowhere : None ≡ first_place (begins_with c.args.comparator (tokens_of segment)) (drop start value) =
     sym c.in_default-place.is ∙ c.find_segment-place.ensures.place ∙ ap (first_place (begins_with c.args.comparator (tokens_of segment))) (take_rest value start) in
-    next_fails c.args.comparator value (tokens_of segment) c.split_segment.ensures.no_star start (texts value c.segments.captures) c.segments.invariant.within
+    next_fails c.args.comparator value (tokens_of segment) c.split_segment.ensures.no_star start c.segments.captures c.segments.invariant.within
     (Star ∷ tokens_of c.in-Some.next.now) nowhere
-    ∙ ap (λ key. option_map (with_stretches (texts value c.segments.captures)) (least_fit c.args.comparator (Star ∷ key) (drop start value))) (sym tokens)
+    ∙ ap (λ key. option_map (with_places c.segments.captures start (Star ∷ key)) (least_fit c.args.comparator (Star ∷ key) (drop start value))) (sym tokens)
     ∙ c.segments.invariant.answer
 
 pub overflow_add-start : goal.overflow_add-start
@@ -80,8 +79,6 @@ segments-preserved c =
     omega (arith, c.find_segment-place.ensures.most, ap (λ v. (length v + 1) * (length segment + 1)) (take_rest value start)) in
     let place = placed c.args.comparator value c.args.key.now _ c.segments.rest.now c.segments.captures start c.segments.gone_over c.segments.invariant segment no_star
     k found c.in-Some-place.is c.find_segment-place.ensures.place in
-    let within = placed_within c.args.comparator value c.args.key.now _ c.segments.rest.now c.segments.captures start c.segments.gone_over c.segments.invariant segment no_star
-    k found c.in-Some-place.is c.find_segment-place.ensures.place in
     searched_more c.args.comparator value c.args.key.now _ c.segments.rest.now c.segments.captures start c.segments.gone_over c.segments.invariant
     segment no_star c.in-Some.next.now tokens lengths c.find_segment-place.result.1 most c.find_segment-place.ensures.least
-    k c.width.result place c.width.ensures c.push_placed.new.captures c.push_placed.ensures.few (c.push_placed.ensures.texts value within)
+    k c.width.result place c.width.ensures c.push_placed.new.captures c.push_placed.ensures.few c.push_placed.ensures.places

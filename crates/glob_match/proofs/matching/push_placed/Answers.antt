@@ -1,14 +1,12 @@
-use Rattle.std.proofs.Common.{◌∙◌, ◌∷◌, [], ap, drop}
-use Rattle.std.specs.List.{slice_range}
-use Rattle.glob_match.specs.Captures.{texts}
-use Rattle.glob_match.specs.Segments.{any_octets, with_stretches}
+use Rattle.std.proofs.Common.{◌∙◌, ◌∷◌, [], ap}
+use Rattle.glob_match.specs.Segments.{any_places, with_stretches}
 use Rattle.glob_match.specs.Tokens.{tokens_of}
 use Rattle.glob_match.proofs.Added.{with_stretches-append}
 use Rattle.glob_match.proofs.matching.push_placed.Goals as goal
 
-pub returns-clause-texts : goal.returns-clause-texts
-returns-clause-texts c = λ value h.
-    let any = any_octets (tokens_of c.args.segment.now) (drop c.args.place value) in
-    c.push_any_octets.ensures.texts value h
-    ∙ ap (λ captures. with_stretches captures any) (c.push.ensures.texts value)
-    ∙ with_stretches-append (texts value c.args.captures.now) (slice_range value c.args.start c.args.place ∷ []) any
+pub returns-clause-places : goal.returns-clause-places
+returns-clause-places c =
+    let any = any_places c.args.place (tokens_of c.args.segment.now) in
+    c.push_any_octets.ensures.places
+    ∙ ap (λ captures. with_stretches captures any) c.push.ensures.places
+    ∙ with_stretches-append c.args.captures.now (record { start = c.args.start; end = c.args.place } ∷ []) any

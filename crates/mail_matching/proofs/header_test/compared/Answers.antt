@@ -1,5 +1,6 @@
-use Rattle.std.proofs.Common.{◌<◌, [], arith, length}
-use Rattle.mail_matching.specs.Headers.{selected_among}
+use Rattle.std.proofs.Common.{◌<◌, [], arith, length, subst, sym}
+use Rattle.std.proofs.lemmas.Bool.{false≢true}
+use Rattle.mail_matching.specs.Headers.{AreUnfolded, selected_among}
 use Rattle.mail_matching.specs.Selection.{selector_of}
 use Rattle.mail_matching.specs.declared.outcome.Outcome.TheVariants.{Fails}
 use Rattle.mail_matching.proofs.Extents.{all_few}
@@ -26,4 +27,11 @@ loop-place-preserved g c =
     let names = g.N.Texts.texts c.args.names.now in
     let headers = c.args.headers.now in
     let lt : c.loop-place.place < length headers = omega (arith, c.loop-place-test.true, c.count-place-end.ensures.count) in
-    goes_on_more c.args.test.now.how (g.K.Texts.texts c.args.test.now.keys.now) (selected_among selector names) headers c.loop-place.place c.fields.result.now [] (record { outcome = Fails; extent = 0 }) c.loop-place.progress c.take_header.new.self lt c.fields.ensures c.loop-place.invariant c.in_ok-take_header.ensures
+    goes_on_more c.args.test.now.how (g.K.Texts.texts c.args.test.now.keys.now) (selected_among selector names) headers c.loop-place.place c.fields.result.now [] (record { outcome = Fails; extent = 0 }) c.loop-place.progress c.take_header.new.self lt c.fields.ensures c.loop-place.invariant c.in_ok-take_header.ensures.goes
+
+pub returns-in_err-take_header-clause-told : goal.returns-in_err-take_header-clause-told
+returns-in_err-take_header-clause-told g c = λ value plain.
+    let headers = c.args.headers.now in
+    let lt : c.loop-place.place < length headers = omega (arith, c.loop-place-test.true, c.count-place-end.ensures.count) in
+    absurd (false≢true (c.in_err-take_header.ensures.told value
+    (subst (AreUnfolded (g.N.Texts.texts c.args.names.now)) (sym c.fields.ensures) (plain c.loop-place.place [] lt))))

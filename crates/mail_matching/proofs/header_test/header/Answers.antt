@@ -18,7 +18,7 @@ returns-clause-outcome g c =
     let mail = c.args.message.now in
     let selected : selected_in_all selector names c.in_scope-headers.result ≡ selected_values scope current selector names mail =
     ap (selected_in_all selector names) c.in_scope-headers.ensures ∙ selected_are_in_all scope current selector names mail in
-    λ captures. c.in_ok-progress.ensures.outcome captures ∙ ap (λ values. first_match c.args.test.how values (g.K.Texts.texts c.args.keys.now) captures) selected
+    λ captures. c.in_ok-progress.ensures.goes.outcome captures ∙ ap (λ values. first_match c.args.test.how values (g.K.Texts.texts c.args.keys.now) captures) selected
 
 pub returns-clause-cost : goal.returns-clause-cost
 returns-clause-cost g c =
@@ -31,7 +31,7 @@ returns-clause-cost g c =
     let values = selected_values scope current selector names mail in
     let selected : selected_in_all selector names c.in_scope-headers.result ≡ values =
     ap (selected_in_all selector names) c.in_scope-headers.ensures ∙ selected_are_in_all scope current selector names mail in
-    let extent : c.in_ok-progress.progress.extent ≡ extent_of values = omega (arith, c.in_ok-progress.ensures.extent, ap extent_of selected) in
+    let extent : c.in_ok-progress.progress.extent ≡ extent_of values = omega (arith, c.in_ok-progress.ensures.goes.extent, ap extent_of selected) in
     let second : c.product.result ≡ values_cost values keys =
     c.product.ensures ∙ ap (λ n. n * c.extent_of.result) extent ∙ ap (λ n. extent_of values * n) c.extent_of.ensures ∙ sym (values_cost-product values keys) in
     let fields = ap all_fields c.in_scope-headers.ensures ∙ fields_are scope current mail in

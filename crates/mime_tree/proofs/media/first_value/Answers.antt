@@ -5,7 +5,7 @@ use Rattle.mime_tree.proofs.media.first_value.Goals as goal
 
 pub returns-then-name_is : goal.returns-then-name_is
 returns-then-name_is c =
-    ap (λ v. Some v) c.in_ok-unfold.ensures
+    ap (λ v. Some v) c.in_ok-unfold.ensures.value
     ∙ sym (first_here c.args.name.now c.args.fields.now c.loop-field.field-index c.field-item.result c.loop-field-test.true c.field-item.is (c.name_is.ensures.0 c.if-name_is.true))
     ∙ c.loop-field.invariant
 

@@ -1,4 +1,4 @@
-use Rattle.std.proofs.Common.{◌≡◌, ◌∙◌, [], arith, ap, length, subst, sym}
+use Rattle.std.proofs.Common.{◌≡◌, ◌∙◌, [], arith, ap, length, refl, subst, sym}
 use Rattle.octets.specs.Limits.{max_message}
 use Rattle.mime_decode.specs.Scope.{params_of, reading_of}
 use Rattle.mail_matching.specs.Headers.{AreWithin, values_of_params}
@@ -30,4 +30,7 @@ returns g c =
     let names = g.P.Texts.texts c.args.test.now.params.now in
     let none : params_of (reading_of c.args.field.now) ≡ [] = ap params_of (sym c.in_ok-read-in-Param.ensures) ∙ c.in-None.ensures in
     let nothing = ap (λ params. values_of_params params names) none ∙ values_of_none names in
-    rw c.in-Param.is (subst (λ values. GoesOn c.args.test.now.how values (g.K.Texts.texts c.args.test.now.keys.now) c.args.self.now c.args.self.now) (sym nothing) (goes_on_none c.args.test.now.how (g.K.Texts.texts c.args.test.now.keys.now) c.args.self.now))
+    rw c.in-Param.is (record {
+      goes = subst (λ values. GoesOn c.args.test.now.how values (g.K.Texts.texts c.args.test.now.keys.now) c.args.self.now c.args.self.now) (sym nothing) (goes_on_none c.args.test.now.how (g.K.Texts.texts c.args.test.now.keys.now) c.args.self.now);
+      told = λ value plain. refl;
+    })

@@ -1,5 +1,6 @@
-use Rattle.std.proofs.Common.{◌<◌, [], arith, length}
-use Rattle.mail_matching.specs.Headers.{selected_named}
+use Rattle.std.proofs.Common.{◌<◌, [], All, arith, length, subst, sym}
+use Rattle.std.proofs.lemmas.Bool.{false≢true}
+use Rattle.mail_matching.specs.Headers.{IsUnfolded, selected_named}
 use Rattle.mail_matching.specs.Selection.{selector_of}
 use Rattle.mail_matching.proofs.Onward.{goes_on_more, values_room}
 use Rattle.mail_matching.proofs.progress.Progress.take_header.Goals as goal
@@ -21,4 +22,11 @@ loop-place-preserved g c =
     let selector = selector_of c.args.test.now.selector (g.P.Texts.texts c.args.test.now.params.now) in
     let names = g.N.Texts.texts c.args.names.now in
     let lt : c.loop-place.place < length names = omega (arith, c.loop-place-test.true, c.count-place-end.ensures) in
-    goes_on_more c.args.test.now.how (g.K.Texts.texts c.args.test.now.keys.now) (selected_named selector c.args.fields.now) names c.loop-place.place c.text.result.now [] c.args.self.now c.loop-place.self c.take_named.new.self lt c.text.ensures c.loop-place.invariant c.in_ok-take_named.ensures
+    goes_on_more c.args.test.now.how (g.K.Texts.texts c.args.test.now.keys.now) (selected_named selector c.args.fields.now) names c.loop-place.place c.text.result.now [] c.args.self.now c.loop-place.self c.take_named.new.self lt c.text.ensures c.loop-place.invariant c.in_ok-take_named.ensures.goes
+
+pub returns-in_err-take_named-clause-told : goal.returns-in_err-take_named-clause-told
+returns-in_err-take_named-clause-told g c = λ value plain.
+    let names = g.N.Texts.texts c.args.names.now in
+    let lt : c.loop-place.place < length names = omega (arith, c.loop-place-test.true, c.count-place-end.ensures) in
+    absurd (false≢true (c.in_err-take_named.ensures.told value
+    (subst (λ name. All (IsUnfolded name) c.args.fields.now) (sym c.text.ensures) (plain c.loop-place.place [] lt))))

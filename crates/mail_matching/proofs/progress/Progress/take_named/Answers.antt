@@ -1,4 +1,6 @@
 use Rattle.std.proofs.Common.{sym, ap, arith, subst}
+use Rattle.std.proofs.lemmas.Bool.{false≢true}
+use Rattle.mail_matching.specs.Headers.{IsUnfolded}
 use Rattle.mail_matching.specs.Costs.{extent_of}
 use Rattle.mail_matching.specs.Outcomes.{GoesOn}
 use Rattle.mail_matching.specs.Selection.{selector_of}
@@ -22,10 +24,10 @@ take_where_named-requires-clause-room g c =
 pub loop-field-preserved : goal.loop-field-preserved
 loop-field-preserved g c =
     let selector = selector_of c.args.test.now.selector (g.P.Texts.texts c.args.test.now.params.now) in
-    goes_on_more c.args.test.now.how (g.K.Texts.texts c.args.test.now.keys.now) (where_named selector c.args.name.now) c.args.fields.now c.loop-field.field-index c.field-item.result c.field-item.result c.args.self.now c.loop-field.self c.take_where_named.new.self c.loop-field-test.true c.field-item.is c.loop-field.invariant c.in_ok-take_where_named.ensures
+    goes_on_more c.args.test.now.how (g.K.Texts.texts c.args.test.now.keys.now) (where_named selector c.args.name.now) c.args.fields.now c.loop-field.field-index c.field-item.result c.field-item.result c.args.self.now c.loop-field.self c.take_where_named.new.self c.loop-field-test.true c.field-item.is c.loop-field.invariant c.in_ok-take_where_named.ensures.goes
 
-pub returns : goal.returns
-returns g c =
+pub returns-clause-goes : goal.returns-clause-goes
+returns-clause-goes g c =
     let selector = selector_of c.args.test.now.selector (g.P.Texts.texts c.args.test.now.params.now) in
     let name = c.args.name.now in
     let fields = c.args.fields.now in
@@ -33,3 +35,8 @@ returns g c =
     let keys = g.K.Texts.texts c.args.test.now.keys.now in
     subst (λ values. GoesOn how values keys c.args.self.now c.loop-field.self) (sym (named_each selector name fields))
     (goes_on_all how keys (where_named selector name) fields c.loop-field.field-index c.args.self.now c.loop-field.self (omega (arith, c.loop-field-test.false)) c.loop-field.invariant)
+
+pub returns-in_err-take_where_named-clause-told : goal.returns-in_err-take_where_named-clause-told
+returns-in_err-take_where_named-clause-told g c = λ value plain.
+    absurd (false≢true (c.in_err-take_where_named.ensures.told value
+    (subst (IsUnfolded c.args.name.now) (sym c.field-item.is) (plain c.loop-field.field-index c.field-item.result c.loop-field-test.true))))
