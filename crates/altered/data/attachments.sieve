@@ -1,0 +1,1 @@
+require ["foreverypart", "mime", "vnd.depot"]; foreverypart { if header :mime :param "filename" "Content-Disposition" "a.txt" { store "att"; } } discard;

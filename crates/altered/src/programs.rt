@@ -1,0 +1,87 @@
+// Altered programs, executed on a message without octets and on messages in each other.
+use crate::counts::{Counts, with_octet};
+use refusals::Refusal;
+use sieve_engine::{check_program, execute};
+use std::alloc::{AllocError, Global};
+
+// Four messages in each other.
+const CHAIN: &[u8] = b"Content-Type: message/rfc822\n\nContent-Type: message/rfc822\n\nContent-Type: message/rfc822\n\nContent-Type: message/rfc822\n\n";
+
+// How many pairs of octets are altered.
+const PAIRS: u64 = 200_000;
+
+/// Each proper prefix spells no program.
+pub fn prefixes(alloc: Global, program: &[u8]) -> Result<Counts, AllocError> {
+    let mut counts = Counts::new();
+    for end in 0..program.len() {
+        match check_program(alloc, &program[..end]) {
+            Ok(_) => counts.take(false),
+            Err(refusal) => counts.refuse(matches!(refusal, Refusal::Spelling)),
+        }
+    }
+    Ok(counts)
+}
+
+/// Each octet set to each value: the program is refused, or runs within its budget.
+pub fn one_altered(alloc: Global, program: &[u8]) -> Result<Counts, AllocError> {
+    let mut counts = Counts::new();
+    for place in 0..program.len() {
+        for octet in 0..=255u8 {
+            run_both(alloc, &with_octet(alloc, program, place, octet)?, &mut counts);
+        }
+    }
+    Ok(counts)
+}
+
+/// Two octets, each set to some value, again and again: the same.
+pub fn two_altered(alloc: Global, program: &[u8]) -> Result<Counts, AllocError> {
+    let mut counts = Counts::new();
+    let mut numbers = Numbers { state: 1 };
+    for _ in 0..PAIRS {
+        let first = numbers.below(program.len());
+        let once = with_octet(alloc, program, first, numbers.octet())?;
+        let second = numbers.below(program.len());
+        run_both(alloc, &with_octet(alloc, &once, second, numbers.octet())?, &mut counts);
+    }
+    Ok(counts)
+}
+
+// Numbers that look like any (Marsaglia's xorshift), the same in each run.
+#[derive(Drop)]
+struct Numbers {
+    state: u64,
+}
+
+impl Numbers {
+    fn next(&mut self) -> u64 {
+        self.state ^= self.state << 13;
+        self.state ^= self.state >> 7;
+        self.state ^= self.state << 17;
+        self.state
+    }
+
+    // A number below n, or 0 where n is 0.
+    fn below(&mut self, n: usize) -> usize {
+        match (self.next() >> 20).checked_rem(n as u64) {
+            Some(number) => number as usize,
+            None => 0,
+        }
+    }
+
+    fn octet(&mut self) -> u8 {
+        (self.next() >> 20) as u8
+    }
+}
+
+fn run_both(alloc: Global, program: &[u8], counts: &mut Counts) {
+    run(alloc, program, b"", counts);
+    run(alloc, program, CHAIN, counts);
+}
+
+// A program is refused for its spelling or by the verifier, or charges at most its budget.
+fn run(alloc: Global, program: &[u8], message: &[u8], counts: &mut Counts) {
+    match execute(alloc, program, message) {
+        Ok(report) => counts.take(report.outcome.charged <= report.limit),
+        Err(refusal) => counts.refuse((20..=27).contains(&refusal.number())),
+    }
+}
