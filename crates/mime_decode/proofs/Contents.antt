@@ -34,14 +34,18 @@ values_few text =
     let before = length-take (position_or_len (λ octet. octet == padding) text) text in
     omega (arith, kept, few, number, before)
 
--- MIME base64 reads at most as many octets as the text has
-base64_no_longer : (text : List ℕ) → length (mime_decoding_of text) ≤ length text
+-- MIME base64 reads six bits at most for each octet of the text
+pub base64_fits : (text : List ℕ) → length (mime_decoding_of text) ≤ 6 * length text / 8
 unfolding decoding_of
-base64_no_longer text =
+base64_fits text =
     let values = values_few text in
     let bits = length-all_bits 6 (values_of alphabet.Base64 (before_padding text)) in
     let few = octets_few (all_bits 6 (values_of alphabet.Base64 (before_padding text))) in
     omega (arith, values, bits, few)
+
+-- so at most as many as the text has
+base64_no_longer : (text : List ℕ) → length (mime_decoding_of text) ≤ length text
+base64_no_longer text = omega (arith, base64_fits text)
 
 pub content_fits : (encoding : TransferEncoding) (body : List ℕ) → length (content_of encoding body) ≤ length body
 content_fits SevenBit body = omega arith

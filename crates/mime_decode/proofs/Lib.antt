@@ -1,3 +1,4 @@
 pub mod Contents
 mod Examples
 pub mod MailLemmas
+mod Feeding

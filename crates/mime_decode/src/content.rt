@@ -1,15 +1,18 @@
 // What the body of a part stands for, and its digest.
-ghost use Rattle.std.specs.Prelude.{◌≡◌, false, IfOk, IsOk};
+ghost use Rattle.std.specs.Prelude.{◌≡◌, ◌≤◌, false, IfOk, IsOk, length};
 ghost use Rattle.std.specs.Cow.{cow_slice_items, IsBorrowedSlice};
+ghost use Rattle.lanes_base64_mime.specs.MimeBase64.{mime_decoding_of};
+ghost use Rattle.quoted_printable.specs.QuotedPrintable.{decoding_of};
 ghost use Rattle.mime_decode.specs.Content.{content_of, digest_of, is_decoded};
 
 use hex::encode_to_slice;
-use lanes_base64_mime::decode_mime;
+use lanes_base64_mime::Decoder;
 use mime_params::TransferEncoding;
-use quoted_printable::decode_qp;
+use quoted_printable::QpDecoder;
 use sha2::{Digest, Sha256};
 use std::alloc::{AllocError, Global};
 use std::borrow::CowSlice;
+use text_lines::Lines;
 
 /// The octets that a body in this encoding stands for. One that isn't decoded is lent, and takes no memory.
 pub(crate) fn decoded<'a>(
@@ -22,13 +25,46 @@ pub(crate) fn decoded<'a>(
     ensures told { is_decoded encoding ≡ false → IsOk result }
 {
     match encoding {
-        TransferEncoding::Base64 => Ok(CowSlice::Owned(decode_mime(alloc, body)?)),
-        TransferEncoding::QuotedPrintable => Ok(CowSlice::Owned(decode_qp(alloc, body)?)),
+        TransferEncoding::Base64 => Ok(CowSlice::Owned(decoded_base64(alloc, body)?)),
+        TransferEncoding::QuotedPrintable => Ok(CowSlice::Owned(decoded_qp(alloc, body)?)),
         TransferEncoding::SevenBit
         | TransferEncoding::EightBit
         | TransferEncoding::Binary
         | TransferEncoding::Unknown => Ok(CowSlice::Borrowed(body)),
     }
+}
+
+// The octets of a body in base64, which is fed line by line, each with its break.
+fn decoded_base64(alloc: Global, body: &[u8]) -> Result<Vec<u8>, AllocError>
+    ensures { IfOk result (λ octets. octets.items ≡ mime_decoding_of body.now) }
+{
+    let mut octets = Vec::with_capacity(alloc, base64_room(body))?;
+    let mut decoder = Decoder::new();
+    for line in Lines::new(body) {
+        decoder.feed(&body[line.start..line.stop], &mut octets)?;
+    }
+    decoder.finish();
+    Ok(octets)
+}
+
+// Room for the octets that a body in base64 stands for.
+fn base64_room(body: &[u8]) -> usize
+    ensures { length (mime_decoding_of body.now) ≤ result }
+{
+    (body.len() / 8 + 1) * 6
+}
+
+// The same in quoted-printable, of which no text stands for more octets than it has.
+fn decoded_qp(alloc: Global, body: &[u8]) -> Result<Vec<u8>, AllocError>
+    ensures { IfOk result (λ octets. octets.items ≡ decoding_of body.now) }
+{
+    let mut octets = Vec::with_capacity(alloc, body.len())?;
+    let mut decoder = QpDecoder::new(alloc);
+    for line in Lines::new(body) {
+        decoder.feed(&body[line.start..line.stop], &mut octets)?;
+    }
+    decoder.finish(&mut octets)?;
+    Ok(octets)
 }
 
 /// The digest of octets: their SHA-256 in hexadecimal digits of lower case (FIPS 180-4; RFC 4648, section 8).

@@ -1,4 +1,4 @@
-use Rattle.std.proofs.Common.{◌≡◌, ◌∙◌, true, sym, ap, arith, length}
+use Rattle.std.proofs.Common.{◌≡◌, ◌∙◌, true, sym, ap}
 use Rattle.std.proofs.lemmas.Bool.{true≢false}
 use Rattle.header_fields.specs.Fields.{Field}
 use Rattle.header_fields.specs.Header.{has_feed}
