@@ -1,7 +1,6 @@
 -- What calls of a sink come to where lines are gathered, and texts are written in turn.
-use Rattle.std.proofs.Common.{◌≡◌, ◌∙◌, ◌+◌, ◌-◌, ◌≤◌, ◌<◌, ap, refl, ℕ, suc, zero, List, [], ◌∷◌, ◌++◌, sym, subst, arith, length, take, drop, take_all, length-drop, get_or, append_assoc, append-nil, take-append-drop, Result, Ok, Err, OnErr}
+use Rattle.std.proofs.Common.{◌≡◌, ◌∙◌, ◌+◌, ◌-◌, ◌≤◌, ◌<◌, ap, ℕ, suc, zero, List, [], ◌∷◌, ◌++◌, sym, subst, arith, length, take, drop, take_all, get_or, append_assoc, append-nil, take-append-drop}
 use Rattle.std.specs.List.{flat_map}
-use Rattle.std.proofs.KnownBytes.{Appends-kept, Appends-nil, Appends-trans}
 use Rattle.std.proofs.Math.Seq.{take-add}
 use Rattle.std.proofs.lemmas.List.Concat.{flat_map-cons}
 use Rattle.std.proofs.lemmas.Grind.{flat_map-append}

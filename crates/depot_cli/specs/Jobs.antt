@@ -1,5 +1,6 @@
 -- What jobs answer, why they are refused, and what answering does.
-use Rattle.std.specs.Prelude.{◌≡◌, ◌≢◌, ◌⊎◌, ℕ, List, length, Option, None, Some}
+use Rattle.std.specs.Prelude.{◌≡◌, ◌≢◌, ◌<◌, ◌⊎◌, ℕ, List, length, Option, None, Some}
+use Rattle.octets.specs.Limits.{max_program, max_script}
 use Rattle.octet_lanes.specs.Encoding.{IsOctets}
 use Rattle.depot_actions.specs.Device.{HasBroken, HasTaken, Output}
 use Rattle.depot_actions.specs.Texts.{IsUnread, Reads, text_of}
@@ -62,6 +63,19 @@ IsJobRefusal (Eval script message) refusal old new = IsEvaluationRefusal script.
 IsJobRefusal (Parts message) refusal old new = engine.IsUnread message.now refusal × (new ≡ old)
 IsJobRefusal (Encode encoding octets) refusal old new = (refusal ≡ refusals.Memory) × (new ≡ old)
 IsJobRefusal (Decode encoding text) refusal old new = IsUnread encoding text.now refusal × (new ≡ old)
+
+-- The job's script, or its program, has more octets than the limit, which is judged before memory is taken. To explain a script takes
+-- memory, however long it is.
+abbrev pub HasLongScript : Job → Type 0
+HasLongScript (Check script) = max_script < length script.now
+HasLongScript (Compile script name out) = max_script < length script.now
+HasLongScript (Eval script message) = max_script < length script.now
+HasLongScript _ = ⊥
+
+abbrev pub HasLongProgram : Job → Type 0
+HasLongProgram (Verify program) = max_program < length program.now
+HasLongProgram (Run program message) = max_program < length program.now
+HasLongProgram _ = ⊥
 
 -- ---- what answering does
 

@@ -1,5 +1,6 @@
 // Jobs and their answers.
-ghost use Rattle.std.specs.Prelude.{◌≡◌, ◌≢◌, ◌≤◌, ◌⊎◌, IfErr, IfOk, MatchOption, OnErr, OnOk, string_bytes};
+ghost use Rattle.std.specs.Prelude.{◌≡◌, ◌≢◌, ◌<◌, ◌≤◌, ◌⊎◌, IfErr, IfOk, IsErrAnd, MatchOption, OnErr, OnOk, length, string_bytes};
+ghost use Rattle.octets.specs.Limits.{max_program, max_script};
 ghost use Rattle.bytecode_cost.specs.Text.{budget_text};
 ghost use Rattle.bytecode_format.specs.Code.{Code};
 ghost use Rattle.bytecode_format.specs.Spelling.{spelling};
@@ -7,10 +8,10 @@ ghost use Rattle.bytecode_verifier.specs.Budget.{budget_of};
 ghost use Rattle.sieve_check.specs.Typed.{CommandForms};
 ghost use Rattle.sieve_engine.specs.Evaluation.{IsCompiled, IsScript, IsScriptRefusal};
 ghost use Rattle.sieve_explain.specs.Explaining.{Explains};
-ghost use Rattle.refusals.specs.declared.refusal.Refusal.TheVariants.{Memory};
+ghost use Rattle.refusals.specs.declared.refusal.Refusal.TheVariants.{Memory, ScriptTooLong, Spelling};
 ghost use Rattle.sieve_engine.specs.Execution.{IsChecked, IsProgramRefusal};
 ghost use Rattle.depot_actions.specs.Device.{HasBroken, HasTaken};
-ghost use Rattle.depot_cli.specs.Jobs.{HasAnswered, HasFound, HasRefused, HasStopped, HasTold, IsJobRefusal, IsShown, world};
+ghost use Rattle.depot_cli.specs.Jobs.{HasAnswered, HasFound, HasLongProgram, HasLongScript, HasRefused, HasStopped, HasTold, IsJobRefusal, IsShown, world};
 ghost use Rattle.depot_cli.specs.Pieces.{lines_text, refusal_in};
 ghost use Rattle.depot_cli.specs.Printed.{line, ok_text};
 
@@ -106,6 +107,8 @@ pub enum Lines {
 /// Writing follows the job and takes no memory. Where `out` fails, a prefix of the answer is written there, what the job did stands,
 /// the line of `Write` is written to `err`, and the status is 1. Where `err` fails, a prefix of the line is written there.
 ///
+/// A script or a program above its limit is refused as such, without taking memory; but to explain a script takes memory.
+///
 /// The job of compile is refused with `Write` only where a call on the file failed, and then no file is kept.
 pub fn answer<H: Host, O: Sink, E: Sink>(
     alloc: Global,
@@ -126,6 +129,8 @@ pub fn answer<H: Host, O: Sink, E: Sink>(
         ⊎ (HasRefused job.entry
         (world (H.state host.old) (O.output out.old) (E.output err.old)) (world (H.state host.new) (O.output out.new) (E.output err.new))
         × (out.new ≡ out.old))) }
+    ensures long_script { HasLongScript job.entry → (result ≡ 1) × HasTold ScriptTooLong (E.output err.old) (E.output err.new) × (out.new ≡ out.old) }
+    ensures long_program { HasLongProgram job.entry → (result ≡ 1) × HasTold Spelling (E.output err.old) (E.output err.new) × (out.new ≡ out.old) }
 {
     match carry_out(alloc, job, host) {
         Ok(lines) => match put_lines(out, &lines) {
@@ -162,6 +167,8 @@ pub fn tell<E: Sink>(err: &mut E, refusal: &Refusal) -> u8
 fn carry_out<H: Host>(alloc: Global, job: Job<'_>, host: &mut H) -> Result<Lines, Refusal>
     ensures shown { IfOk result (λ lines. IsShown job.entry (lines_text lines) (refusal_in lines) (H.state host.old) (H.state host.new)) }
     ensures refused { IfErr result (λ refusal. IsJobRefusal job.entry refusal (H.state host.old) (H.state host.new)) }
+    ensures long_script { HasLongScript job.entry → IsErrAnd result (λ e. e ≡ ScriptTooLong) }
+    ensures long_program { HasLongProgram job.entry → IsErrAnd result (λ e. e ≡ Spelling) }
 {
     match job {
         Job::Check { script } => {
@@ -204,6 +211,7 @@ fn explain_script(alloc: Global, script: &[u8], name: &str) -> Result<Lines, Ref
 fn program_octets(alloc: Global, script: &[u8]) -> Result<Vec<u8>, Refusal>
     ensures compiled { IfOk result (λ octets. (code : Code) × IsCompiled script.now code × (octets.items ≡ spelling code)) }
     ensures refused { IfErr result (λ refusal. IsScriptRefusal script.now refusal) }
+    ensures large { max_script < length script.now → IsErrAnd result (λ e. e ≡ ScriptTooLong) }
 {
     let program = compile_script(alloc, script)?;
     Ok(program.write(alloc)?)
@@ -213,6 +221,7 @@ fn program_octets(alloc: Global, script: &[u8]) -> Result<Vec<u8>, Refusal>
 fn budget_line(alloc: Global, program: &[u8]) -> Result<String, Refusal>
     ensures accepted { IfOk result (λ text. (code : Code) × IsChecked program.now code × (string_bytes text ≡ budget_text (budget_of code))) }
     ensures refused { IfErr result (λ refusal. IsProgramRefusal program.now refusal) }
+    ensures large { max_program < length program.now → IsErrAnd result (λ e. e ≡ Spelling) }
 {
     let verified = check_program(alloc, program)?;
     Ok(format!(in alloc; "{}", verified.budget())?)

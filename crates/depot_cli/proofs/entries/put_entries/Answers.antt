@@ -1,6 +1,5 @@
 use Rattle.std.proofs.Common.{◌<◌, arith, length, rules}
 use Rattle.part_store.specs.Standing.{listed}
-use Rattle.depot_actions.specs.Device.{HasTaken}
 use Rattle.depot_cli.specs.Printed.{entry_text, line}
 use Rattle.depot_actions.proofs.Outputs.{on_err}
 use Rattle.depot_cli.proofs.OutputLemmas.{broken_in_turn}

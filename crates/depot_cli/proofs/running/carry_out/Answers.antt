@@ -1,4 +1,4 @@
-use Rattle.std.proofs.Common.{◌≡◌, ◌∙◌, inl, refl, subst}
+use Rattle.std.proofs.Common.{◌∙◌, inl, refl, subst}
 use Rattle.depot_cli.specs.Jobs.{world}
 use Rattle.depot_cli.specs.Running.{HaveRead}
 use Rattle.depot_cli.proofs.RunningLemmas.{outcome}

@@ -1,4 +1,4 @@
-use Rattle.std.proofs.Common.{◌≡◌, inl, inr, refl}
+use Rattle.std.proofs.Common.{inl, inr, refl}
 use Rattle.depot_cli.proofs.RunningLemmas.{explained}
 use Rattle.depot_cli.proofs.running.run.Goals as goal
 
