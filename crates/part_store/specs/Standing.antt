@@ -87,11 +87,9 @@ Makes change old new = IsSaved old new × ((before : Entries) → Stands old.now
 abbrev pub DiskFailed : State → State → Type 0
 DiskFailed old new = MoreFaults old.faults new.faults
 
--- The tables are as they were, and what is open shows what is committed. Only a fault of the disk shuts a store; it shows nothing of the tables
--- then, and what is shut stays shut.
+-- The tables are as they were. Only a fault of the disk shuts a store; it shows nothing of the tables then, and what is shut stays shut.
 pub record Spares (old new : State) : Type 0 where
   pub same : old.now.schema ≡ store_schema → IsTrue new.is_open → (new.now ≡ old.now) × (new.committed ≡ old.committed)
-  pub settled : old.now.schema ≡ store_schema → IsTrue new.is_open → new.committed ≡ new.now
   pub shut : IsTrue new.is_open → IsTrue old.is_open
   pub closes : IsTrue old.is_open → IsTrue new.is_open ⊎ DiskFailed old new
 

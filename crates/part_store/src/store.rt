@@ -275,6 +275,7 @@ impl<S: Alter> PartStore<S> {
         ensures told { HasCleanDisk (state S.Store self.new) → IfOk result (λ found. (before : _) → Stands (state S.Store self.old).now before → option_map (λ v. v.items) found ≡ before.programs user.now) }
         ensures open { HasCleanDisk (state S.Store self.new) → OnOk result (IsTrue (state S.Store self.old).is_open) }
         ensures spared { HasCleanDisk (state S.Store self.new) → Spares (state S.Store self.old) (state S.Store self.new) }
+        ensures settled { HasCleanDisk (state S.Store self.new) → IsTrue (state S.Store self.new).is_open → (state S.Store self.new).committed ≡ (state S.Store self.new).now }
         ensures refused { IfErr result (λ e. (e ≡ Memory) ⊎ (e ≡ Database)) }
         ensures survives { Survives (state S.Store self.old) (state S.Store self.new) (λ _. ⊥) }
     {
@@ -318,6 +319,7 @@ impl<S: Alter> PartStore<S> {
         ensures told { HasCleanDisk (state S.Store self.new) → IfOk result (λ rows. (before : _) → Stands (state S.Store self.old).now before → map listed rows.items ≡ map listing_of (entries_of user.now before)) }
         ensures open { HasCleanDisk (state S.Store self.new) → OnOk result (IsTrue (state S.Store self.old).is_open) }
         ensures spared { HasCleanDisk (state S.Store self.new) → Spares (state S.Store self.old) (state S.Store self.new) }
+        ensures settled { HasCleanDisk (state S.Store self.new) → IsTrue (state S.Store self.new).is_open → (state S.Store self.new).committed ≡ (state S.Store self.new).now }
         ensures refused { IfErr result (λ e. (e ≡ Memory) ⊎ (e ≡ Database)) }
         ensures survives { Survives (state S.Store self.old) (state S.Store self.new) (λ _. ⊥) }
     {
@@ -332,6 +334,7 @@ impl<S: Alter> PartStore<S> {
         ensures open { HasCleanDisk (state S.Store self.new) → OnOk result (IsTrue (state S.Store self.old).is_open) }
         ensures absent { HasCleanDisk (state S.Store self.new) → IfErr result (λ e. e ≡ NoSuchEntry → (before : _) → Stands (state S.Store self.old).now before → HasNone before user.now number) }
         ensures spared { HasCleanDisk (state S.Store self.new) → Spares (state S.Store self.old) (state S.Store self.new) }
+        ensures settled { HasCleanDisk (state S.Store self.new) → IsTrue (state S.Store self.new).is_open → (state S.Store self.new).committed ≡ (state S.Store self.new).now }
         ensures refused { IfErr result (λ e. (e ≡ Memory) ⊎ ((e ≡ NoSuchEntry) ⊎ (e ≡ Database))) }
         ensures survives { Survives (state S.Store self.old) (state S.Store self.new) (λ _. ⊥) }
     {
