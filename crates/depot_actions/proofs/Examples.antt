@@ -13,7 +13,7 @@ use Rattle.depot_actions.specs.Drafts.{drafts_of, media_text, name_of}
 use Rattle.depot_actions.specs.Users.{is_user_name}
 
 abbrev field : List ℕ → List ℕ → Field
-field name value = record { name = name; value = value }
+field name value = record { name = name; value = value; folded = false }
 
 abbrev part : List Field → MediaType → List ℕ → Part
 part fields media content =
