@@ -184,6 +184,22 @@
     $ depot verify out
     A0=2 B0=0 A1=20510 B1=23 A2=8 B2=0 A3=0 B3=0
 
+## disguised
+    $ depot eval examples/gallery/disguised.sieve examples/gallery/disguised.eml
+    fileinto "Disguised"
+    charged 3868 of 171888
+
+## disguised plain
+    $ depot eval examples/gallery/disguised.sieve examples/gallery/attachments.eml
+    keep
+    charged 7198 of 5088348
+
+## budget of disguised
+    $ depot compile examples/gallery/disguised.sieve out
+    wrote 318 octets
+    $ depot verify out
+    A0=33 B0=201 A1=0 B1=0 A2=0 B2=0 A3=0 B3=0
+
 ## guards
     $ depot eval examples/gallery/guards.sieve examples/gallery/guards.eml
     none

@@ -23,16 +23,24 @@ pub fn one_altered(alloc: Global, message: &[u8]) -> Result<Counts, AllocError> 
     Ok(counts)
 }
 
-// Whether octets are a message of at least one part, each with a content that isn't longer than its body.
+// Whether octets are a message of at least one part, each with a content that isn't longer than the message.
 fn is_read(alloc: Global, octets: &[u8]) -> bool {
-    let Ok(message) = Message::read(alloc, octets) else {
-        return false;
-    };
+    match Message::read(alloc, octets) {
+        Ok(message) => message.parts() >= 1 && has_contents(alloc, &message),
+        Err(_) => false,
+    }
+}
+
+fn has_contents(alloc: Global, message: &Message) -> bool {
     for part in 0..message.parts() {
-        let longest = message.tree().body(part).len();
-        if !message.content(alloc, part).is_ok_and(|content| content.as_slice().len() <= longest) {
-            return false;
+        match message.content(alloc, part) {
+            Ok(content) => {
+                if content.as_slice().len() > message.size() {
+                    return false;
+                }
+            }
+            Err(_) => return false,
         }
     }
-    message.parts() >= 1
+    true
 }

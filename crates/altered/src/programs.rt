@@ -69,7 +69,7 @@ impl Numbers {
     }
 
     fn octet(&mut self) -> u8 {
-        (self.next() >> 20) as u8
+        ((self.next() >> 20) % 256) as u8
     }
 }
 
