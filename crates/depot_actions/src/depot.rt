@@ -171,7 +171,7 @@ impl<S: Alter> Depot<S> {
     }
 
     /// Writes the octets of the user's entry of this number, in an encoding, and nothing else. The octets are read whole, and
-    /// encoded and written a few thousand at a time.
+    /// encoded and written a few thousand at a time, in quoted-printable a line at a time.
     ///
     /// # Errors
     ///
