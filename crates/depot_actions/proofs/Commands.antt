@@ -1,5 +1,5 @@
 -- What the calls of the store come to for the commands of a depot.
-use Rattle.std.proofs.Common.{◌≡◌, ℕ, List, IsTrue, refl, sym, ap, subst, ◌∙◌, inl, inr, Result, Ok, Err, OnOk, MatchResult, is_ok}
+use Rattle.std.proofs.Common.{◌≡◌, ℕ, List, IsTrue, refl, sym, ap, subst, inl, inr, Result, Ok, Err, OnOk, MatchResult, is_ok}
 use Rattle.sqlite.specs.State.{State, Survives}
 use Rattle.sqlite_trees.specs.Tree.{Trees}
 use Rattle.bytecode_format.specs.Code.{Code}
@@ -7,7 +7,7 @@ use Rattle.bytecode_format.specs.Spelling.{spelling}
 use Rattle.sieve_engine.specs.Evaluation.{IsCompiled}
 use Rattle.part_store.specs.Entries.{Entries, Entry, with_program, without_entry}
 use Rattle.part_store.specs.Standing.{IsEntryAt, Makes, Spares, Stands, StandsFor}
-use Rattle.depot_actions.specs.DepotState.{Does, Done, Leaves, MayLeave, Remove, SetScript}
+use Rattle.depot_actions.specs.DepotState.{Accepts, Command, Does, Done, Leaves, MayLeave, Remove, Reply, SetScript}
 use Rattle.depot_actions.specs.Users.{is_user_name}
 
 -- ---- what calls of the store leave
@@ -22,28 +22,39 @@ survives_more old new P Q f h = record {
   crash = λ clean db may. elim (h.crash clean db may) [ inl earlier ↦ inl earlier | inr made ↦ inr (f db made) ];
 }
 
+-- doing nothing spares
+pub spares_self : (s : State) → Spares s s
+spares_self s = record { same = λ _ _. (refl, refl); shut = λ is_open. is_open; closes = λ is_open. inl is_open }
+
 -- what is spared stands for what it stood for
 pub stands_still : (old new : State) (before : Entries) → Spares old new → Stands old.now before → IsTrue new.is_open → Stands new.now before
-stands_still old new before spares stands is_open = subst (λ d. Stands d before) (sym (spares stands.schema is_open).0) stands
+stands_still old new before spares stands is_open = subst (λ d. Stands d before) (sym (spares.same stands.schema is_open).0) stands
 
-pub left_alone : (old new : State) (before : Entries) → Spares old new → Stands old.now before → IsTrue new.is_open → Leaves before old new
-left_alone old new before spares stands is_open =
-    let same = spares stands.schema is_open in
-    record { stands = stands_still old new before spares stands is_open; committed = λ h. same.1 ∙ h ∙ sym same.0 }
+pub left_alone : (old new : State) (before : Entries) → IsTrue old.is_open → (IsTrue new.is_open → new.committed ≡ new.now) → Spares old new → Stands old.now before
+    → Leaves before before old new
+left_alone old new before was_open settled spares stands = record {
+  stands = λ is_open. (stands_still old new before spares stands is_open, settled is_open);
+  closes = elim (spares.closes was_open) [ inl is_open ↦ inl is_open | inr failed ↦ inr (refl, failed) ];
+}
 
 -- what the store makes is committed
-pub left_made : (change : Entries → Entries) (old new : State) (before : Entries) → Makes change old new → Stands old.now before → Leaves (change before) old new
-left_made change old new before makes stands = let made = makes before stands in record { stands = made.0; committed = λ _. made.1 }
+pub made_done : (change : Entries → Entries) (command : Command) (reply : Reply) (old new : State) → Makes change old new
+    → ((before : Entries) → Stands old.now before → Accepts before command reply (change before)) → Does command reply old new
+made_done change command reply old new makes accepts = (
+  makes.0.0,
+  λ before stands. (
+    change before,
+    accepts before stands,
+    record { stands = λ _. (makes.1 before stands, makes.0.2); closes = inl makes.0.1 },
+  ),
+)
 
 -- ---- commands that are done
 
 module _ (old new : State) (user : List ℕ) (named : IsTrue (is_user_name user)) where
   pub script_done : (script octets : List ℕ) (code : Code) → IsCompiled script code → octets ≡ spelling code → Makes (with_program user octets) old new → Does (SetScript user script) Done old new
-  script_done script octets code compiled is makes = λ before stands. (
-    with_program user octets before,
-    record { named = named; step = (code, compiled, refl, ap (λ p. with_program user p before) is) },
-    λ _. left_made (with_program user octets) old new before makes stands,
-  )
+  script_done script octets code compiled is makes = made_done (with_program user octets) (SetScript user script) Done old new makes
+      (λ before stands. record { named = named; step = (code, compiled, refl, ap (λ p. with_program user p before) is) })
 
   pub script_left : (script octets : List ℕ) (code : Code) → IsCompiled script code → octets ≡ spelling code → (trees : Trees)
       → ((before : Entries) → Stands old.now before → StandsFor trees (with_program user octets before)) → MayLeave (SetScript user script) old trees

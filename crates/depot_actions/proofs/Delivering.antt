@@ -1,5 +1,5 @@
 -- What a delivery comes to: the user's program is read, and then the drafts are filed.
-use Rattle.std.proofs.Common.{◌≡◌, ◌<◌, ◌+◌, ◌==◌, ℕ, zero, suc, Bool, false, List, [], ◌∷◌, Option, IsTrue, length, map, refl, sym, ap, subst, ◌∙◌, arith}
+use Rattle.std.proofs.Common.{◌≡◌, ◌<◌, ◌≤◌, inl, inr, ◌+◌, ◌==◌, ℕ, zero, suc, Bool, false, List, [], ◌∷◌, Option, IsTrue, length, map, refl, sym, ap, subst, ◌∙◌, arith}
 use Rattle.std.proofs.lemmas.List.{length-map}
 use Rattle.std.proofs.lemmas.Slice.Eq.{bytes_eq-Decides}
 use Rattle.std.specs.Prelude.{bytes_eq, true}
@@ -52,43 +52,48 @@ module _ (old mid new : State) (user message : List ℕ) (program : Option (List
   -- the drafts were filed
   pub delivered : 0 < length actions → (rows : List Listing) → IsTrue mid.is_open → ((before : Entries) → Stands mid.now before → Adds user drafts rows mid new before)
       → Does (Deliver user message) (Listed rows) old new
-  delivered some rows is_open adds = λ before stands.
-      let same = spares stands.schema is_open in
-      let added = adds before (stands_still old mid before spares stands is_open) in
-      let more : 0 < length drafts = omega (arith, number, some) in (
-        with_entries user drafts before,
-        record {
-          named = named;
-          step = record {
-            readable = readable;
-            actions = actions;
-            are = actions_are before stands;
-            room = subst (λ n. HasRoom before user n) number added.room;
-            listed = ap Listed added.rows_are;
-            filed = filed_some user drafts before more;
-          };
-        },
-        λ _. record { stands = added.leaves.stands; committed = λ h. added.leaves.committed (same.1 ∙ h ∙ sym same.0) },
-      )
+  delivered some rows is_open adds = (
+    spares.shut is_open,
+    λ before stands.
+        let added = adds before (stands_still old mid before spares stands is_open) in
+        let more : 0 < length drafts = omega (arith, number, some) in (
+          with_entries user drafts before,
+          record {
+            named = named;
+            step = record {
+              readable = readable;
+              actions = actions;
+              are = actions_are before stands;
+              room = subst (λ n. HasRoom before user n) number added.room;
+              listed = ap Listed added.rows_are;
+              filed = filed_some user drafts before more;
+            };
+          },
+          record { stands = λ _. (added.stands, added.committed); closes = inl added.is_open },
+        ),
+  )
 
   -- there was nothing to file
-  pub nothing_delivered : actions ≡ [] → Does (Deliver user message) (Listed []) old mid
-  nothing_delivered none = λ before stands.
-      let empty : drafts ≡ [] = ap (λ (xs : List Action). drafts_of (mail_of message) xs) none in (
-        before,
-        record {
-          named = named;
-          step = record {
-            readable = readable;
-            actions = actions;
-            are = actions_are before stands;
-            room = let few = stands.tables.numbers.limit user in rw none (omega (arith, few));
-            listed = rw empty refl;
-            filed = rw empty refl;
-          };
-        },
-        left_alone old mid before spares stands,
-      )
+  pub nothing_delivered : IsTrue old.is_open → (IsTrue mid.is_open → mid.committed ≡ mid.now) → actions ≡ [] → Does (Deliver user message) (Listed []) old mid
+  nothing_delivered was_open settled none = (
+    was_open,
+    λ before stands.
+        let empty : drafts ≡ [] = ap (λ (xs : List Action). drafts_of (mail_of message) xs) none in (
+          before,
+          record {
+            named = named;
+            step = record {
+              readable = readable;
+              actions = actions;
+              are = actions_are before stands;
+              room = let few = stands.tables.numbers.limit user in rw none (omega (arith, few));
+              listed = rw empty refl;
+              filed = rw empty refl;
+            };
+          },
+          left_alone old mid before was_open settled spares stands,
+        ),
+  )
 
   room_left : (before : Entries) (trees : Trees) → StandsFor trees (with_entries user drafts before) → HasRoom before user (length actions)
   room_left before trees stands =
@@ -150,7 +155,7 @@ module _ (old mid new : State) (user message : List ℕ) (program : Option (List
     named,
     readable,
     λ before stands.
-        let same = spares stands.schema h.0 in
+        let same = spares.same stands.schema h.0 in
         let other = h.1 before (stands_still old mid before spares stands h.0) in
         (actions, actions_are before stands, subst (λ n. HasRoom before user n) number other.0, subst (λ (d : Database). Collides d.trees drafts) same.0 other.1),
   )
@@ -159,9 +164,16 @@ module _ (old mid new : State) (user message : List ℕ) (program : Option (List
   unfiled_cause refusal.Write h = absurd h
   unfiled_cause refusal.Read h = absurd h
 
--- what is spared twice is spared, where what was shut stays shut
-pub spared_twice : (old mid new : State) → (IsTrue new.is_open → IsTrue mid.is_open) → Spares old mid → Spares mid new → Spares old new
-spared_twice old mid new shut first later = λ schema is_open.
-    let one = first schema (shut is_open) in
-    let two = later (ap (λ (d : Database). d.schema) one.0 ∙ schema) is_open in
-    (two.0 ∙ one.0, two.1 ∙ one.1)
+-- what is spared twice is spared
+pub spared_twice : (old mid new : State) → old.faults ≤ mid.faults → mid.faults ≤ new.faults → Spares old mid → Spares mid new → Spares old new
+spared_twice old mid new early late first later = record {
+  same = λ schema is_open.
+      let one = first.same schema (later.shut is_open) in
+      let two = later.same (ap (λ (d : Database). d.schema) one.0 ∙ schema) is_open in
+      (two.0 ∙ one.0, two.1 ∙ one.1);
+  shut = λ is_open. first.shut (later.shut is_open);
+  closes = λ was_open. elim (first.closes was_open) [
+    | inl still ↦ elim (later.closes still) [ inl is_open ↦ inl is_open | inr failed ↦ inr (omega (arith, early, failed)) ]
+    | inr failed ↦ inr (omega (arith, late, failed))
+  ];
+}

@@ -1,5 +1,5 @@
 -- Why a depot refuses a command. The user's name comes first, then the script, program or message, then the store.
-use Rattle.std.specs.Prelude.{IsTrue, List, length}
+use Rattle.std.specs.Prelude.{◌≡◌, ◌⊎◌, IsTrue, List, length}
 use Rattle.sqlite.specs.State.{State}
 use Rattle.sqlite_trees.specs.Tree.{Trees}
 use Rattle.bytecode_format.specs.Code.{Code}
@@ -14,7 +14,7 @@ use Rattle.part_store.specs.declared.error.StoreError.{StoreError}
 use Rattle.part_store.specs.declared.error.StoreError.TheVariants as store
 use Rattle.refusals.specs.declared.refusal.Refusal.{Refusal}
 use Rattle.refusals.specs.declared.refusal.Refusal.TheVariants.{Memory, NoSuchEntry, NumberFull, Collision, Database, UserName, Write}
-use Rattle.depot_actions.specs.DepotState.{AreActions, Command, SetScript, SetCode, Deliver, Export, Remove, user_of}
+use Rattle.depot_actions.specs.DepotState.{AreActions, Command, SetScript, SetCode, Deliver, ListAll, ProgramOf, Export, Remove, user_of}
 use Rattle.depot_actions.specs.Drafts.{drafts_of}
 use Rattle.depot_actions.specs.Users.{is_user_name}
 
@@ -69,6 +69,26 @@ HasCause Collision command state =
 HasCause Database command state = IsNamed command × IsSound command
 HasCause Write command state = IsNamed command × IsExport command
 HasCause refusal command state = IsNamed command × IsUnsound command refusal
+
+-- ---- which refusals a command may get, whatever the disk does
+
+-- The refusals of a command of its own: what its script, program or message is refused for; of a delivery also NumberFull and Collision; of
+-- an export NoSuchEntry and Write; of a removal NoSuchEntry. The others have none.
+abbrev pub IsOwn : Command → Refusal → Type 0
+IsOwn (SetScript user script) refusal = IsScriptRefusal script refusal
+IsOwn (SetCode user program) refusal = IsProgramRefusal program refusal
+IsOwn (Deliver user message) refusal = IsUnread message refusal ⊎ ((refusal ≡ NumberFull) ⊎ (refusal ≡ Collision))
+IsOwn (ListAll user) refusal = ⊥
+IsOwn (ProgramOf user) refusal = ⊥
+IsOwn (Export user number encoding) refusal = (refusal ≡ NoSuchEntry) ⊎ (refusal ≡ Write)
+IsOwn (Remove user number) refusal = refusal ≡ NoSuchEntry
+
+-- UserName where the user's name is none, before all else; else Memory, one of the command's own, or, after its script, program or
+-- message, Database.
+abbrev pub MayRefuse : Command → Refusal → Type 0
+MayRefuse command refusal =
+    ((refusal ≡ UserName) × (IsNamed command → ⊥))
+    ⊎ (IsNamed command × ((refusal ≡ Memory) ⊎ (IsOwn command refusal ⊎ ((refusal ≡ Database) × IsSound command))))
 
 -- an error of the store, as the refusal of its name
 abbrev pub of_store : StoreError → Refusal

@@ -1,6 +1,6 @@
 -- The commands of a depot: what each replies, and what it leaves. What a depot holds is the `Entries` of its store: the entries, and of each user
 -- the program, if he has one, and the last number that was given.
-use Rattle.std.specs.Prelude.{◌≡◌, ℕ, ◌+◌, IsTrue, List, [], ◌∷◌, length, map, Option, None, Some}
+use Rattle.std.specs.Prelude.{◌≡◌, ◌⊎◌, ℕ, ◌+◌, IsTrue, List, [], ◌∷◌, length, map, Option, None, Some}
 use Rattle.sqlite.specs.State.{State}
 use Rattle.sqlite_trees.specs.Tree.{Trees}
 use Rattle.bytecode_format.specs.Code.{Code}
@@ -13,7 +13,7 @@ use Rattle.sieve_engine.specs.Execution.{IsChecked}
 use Rattle.sieve_engine.specs.Evaluation.{IsCompiled}
 use Rattle.part_store.specs.Entries.{Draft, Entries, Entry, Listing, entries_of, listing_of, numbered, with_entries, with_program, without_entry}
 use Rattle.part_store.specs.Filing.{HasRoom}
-use Rattle.part_store.specs.Standing.{IsEntryAt, Stands, StandsFor}
+use Rattle.part_store.specs.Standing.{DiskFailed, IsEntryAt, Stands, StandsFor}
 use Rattle.depot_actions.specs.Drafts.{drafts_of}
 use Rattle.depot_actions.specs.Texts.{text_of}
 use Rattle.depot_actions.specs.Users.{is_user_name}
@@ -84,15 +84,16 @@ pub record Accepts (before : Entries) (command : Command) (reply : Reply) (after
 
 -- ---- on a store
 
--- the tables stand for what a command leaves, and what was committed before still is
-pub record Leaves (after : Entries) (old new : State) : Type 0 where
-  pub stands : Stands new.now after
-  pub committed : old.committed ≡ old.now → new.committed ≡ new.now
+-- What is open stands for what a command leaves, and that is committed. The store is open, unless the command changes nothing and the disk failed
+-- as it ended.
+pub record Leaves (before after : Entries) (old new : State) : Type 0 where
+  pub stands : IsTrue new.is_open → Stands new.now after × (new.committed ≡ new.now)
+  pub closes : IsTrue new.is_open ⊎ ((after ≡ before) × DiskFailed old new)
 
--- the store does the command with this reply; a failure after that may have shut it
+-- the store, which was open, does the command with this reply
 abbrev pub Does : Command → Reply → State → State → Type 0
 Does command reply old new =
-    (before : Entries) → Stands old.now before → (after : Entries) × Accepts before command reply after × (IsTrue new.is_open → Leaves after old new)
+    IsTrue old.is_open × ((before : Entries) → Stands old.now before → (after : Entries) × Accepts before command reply after × Leaves before after old new)
 
 -- tables that stand for what the command leaves: with the step that the store itself makes, all that a crash may leave
 abbrev pub MayLeave : Command → State → Trees → Type 0

@@ -1,5 +1,5 @@
 -- How the code files what actions ask for.
-use Rattle.std.specs.Prelude.{◌≡◌, ℕ, ◌+◌, IsTrue, List, [], Option, None, IfSome, IsSome, length, map, slice_index_or}
+use Rattle.std.specs.Prelude.{◌≡◌, ◌⊎◌, ℕ, ◌+◌, IsTrue, List, [], Option, None, IfSome, IsSome, length, map, slice_index_or}
 use Rattle.std.specs.List.{HoldsAt}
 use Rattle.std.specs.Cow.{cow_slice_items}
 use Rattle.sqlite.specs.State.{State}
@@ -12,7 +12,6 @@ use Rattle.part_store.specs.Filing.{Collides, HasRoom}
 use Rattle.part_store.specs.Standing.{Stands, StandsFor}
 use Rattle.refusals.specs.declared.refusal.Refusal.{Refusal}
 use Rattle.refusals.specs.declared.refusal.Refusal.TheVariants.{Memory, NumberFull, Collision, Database}
-use Rattle.depot_actions.specs.DepotState.{Leaves}
 use Rattle.depot_actions.specs.Drafts.{media_text, name_of}
 use Rattle.depot_actions.specs.declared.stored_part.StoredPart.{StoredPart}
 
@@ -45,7 +44,9 @@ unnumbered draft = listing_of (entry_of [] 0 draft)
 pub record Adds (user : List ℕ) (drafts : List Draft) (rows : List Listing) (old new : State) (before : Entries) : Type 0 where
   pub room : HasRoom before user (length drafts)
   pub rows_are : rows ≡ map listing_of (numbered user (before.lasts user + 1) drafts)
-  pub leaves : Leaves (with_entries user drafts before) old new
+  pub is_open : IsTrue new.is_open
+  pub stands : Stands new.now (with_entries user drafts before)
+  pub committed : new.committed ≡ new.now
 
 -- why they didn't
 abbrev pub IsUnfiled : Refusal → List ℕ → List Draft → State → Type 0
@@ -59,3 +60,7 @@ IsUnfiled _ user drafts old = ⊥
 -- tables that stand for what filing the drafts leaves
 abbrev pub MayFile : List ℕ → List Draft → State → Trees → Type 0
 MayFile user drafts old trees = IsTrue old.is_open × ((before : Entries) → Stands old.now before → StandsFor trees (with_entries user drafts before))
+
+-- the refusals of filing, whatever the disk does
+abbrev pub MayUnfile : Refusal → Type 0
+MayUnfile refusal = (refusal ≡ Memory) ⊎ ((refusal ≡ Database) ⊎ ((refusal ≡ NumberFull) ⊎ (refusal ≡ Collision)))

@@ -1,5 +1,5 @@
 -- Commands one after another.
-use Rattle.std.specs.Prelude.{◌≡◌, List, [], ◌∷◌, Option, None, Some, IsTrue}
+use Rattle.std.specs.Prelude.{◌≡◌, List, [], ◌∷◌, Option, None, Some}
 use Rattle.sqlite_trees.specs.declared.store.Store.{Ghosts}
 use Rattle.sqlite.specs.Held.{Held, state}
 use Rattle.sqlite.specs.State.{State}
@@ -17,11 +17,11 @@ abbrev pub Answers : Command → Option Reply → State → State → Type 0
 Answers command None old new = Spares old new
 Answers command (Some reply) old new = Does command reply old new
 
--- calls of a depot are answered one after another, and no failure shuts its store
+-- calls of a depot are answered one after another, also after a failure has shut its store
 abbrev pub AreAnswered : {S : Type 0} → Ghosts S → List Call → Held S → Held S → Type 0
 AreAnswered g [] old new = new ≡ old
 AreAnswered {S} g (call ∷ calls) old new =
-    (mid : Held S) × IsTrue (state g mid).is_open × Answers call.command call.reply (state g old) (state g mid) × AreAnswered g calls mid new
+    (mid : Held S) × Answers call.command call.reply (state g old) (state g mid) × AreAnswered g calls mid new
 
 -- an accepted command is a step, and a refused one changes nothing
 abbrev pub IsStep : Command → Option Reply → Entries → Entries → Type 0

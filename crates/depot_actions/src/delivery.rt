@@ -9,7 +9,7 @@ ghost use Rattle.part_store.specs.Standing.{Spares, Stands, draft_of, listed};
 ghost use Rattle.refusals.specs.declared.refusal.Refusal.TheVariants.{Memory, Database};
 ghost use Rattle.depot_actions.specs.DepotState.{AreActions};
 ghost use Rattle.depot_actions.specs.Drafts.{drafts_of};
-ghost use Rattle.depot_actions.specs.Filing.{Adds, IsUnfiled, MayFile};
+ghost use Rattle.depot_actions.specs.Filing.{Adds, IsUnfiled, MayFile, MayUnfile};
 
 use crate::entries::new_entries;
 use crate::kept_parts::kept_parts;
@@ -80,6 +80,7 @@ pub(crate) fn file_all<S: Alter>(
     ensures added { HasCleanDisk (state S.Store store.new) → IfOk result (λ rows. IsTrue (state S.Store store.old).is_open × ((before : Entries) → Stands (state S.Store store.old).now before → Adds user.now (drafts_of message.now actions.now) (map listed rows.items) (state S.Store store.old) (state S.Store store.new) before)) }
     ensures shut { HasCleanDisk (state S.Store store.new) → IsTrue (state S.Store store.new).is_open → IsTrue (state S.Store store.old).is_open }
     ensures spared { HasCleanDisk (state S.Store store.new) → OnErr result (Spares (state S.Store store.old) (state S.Store store.new)) }
+    ensures which { IfErr result MayUnfile }
     ensures refused { HasCleanDisk (state S.Store store.new) → IfErr result (λ e. IsUnfiled e user.now (drafts_of message.now actions.now) (state S.Store store.old)) }
     ensures survives { Survives (state S.Store store.old) (state S.Store store.new) (MayFile user.now (drafts_of message.now actions.now) (state S.Store store.old)) }
 {
@@ -99,6 +100,7 @@ fn add_all<S: Alter>(
     ensures added { HasCleanDisk (state S.Store store.new) → IfOk result (λ rows. IsTrue (state S.Store store.old).is_open × ((before : Entries) → Stands (state S.Store store.old).now before → Adds user.now (map draft_of entries.now) (map listed rows.items) (state S.Store store.old) (state S.Store store.new) before)) }
     ensures shut { HasCleanDisk (state S.Store store.new) → IsTrue (state S.Store store.new).is_open → IsTrue (state S.Store store.old).is_open }
     ensures spared { HasCleanDisk (state S.Store store.new) → OnErr result (Spares (state S.Store store.old) (state S.Store store.new)) }
+    ensures which { IfErr result MayUnfile }
     ensures refused { HasCleanDisk (state S.Store store.new) → IfErr result (λ e. IsUnfiled e user.now (map draft_of entries.now) (state S.Store store.old)) }
     ensures survives { Survives (state S.Store store.old) (state S.Store store.new) (MayFile user.now (map draft_of entries.now) (state S.Store store.old)) }
 {

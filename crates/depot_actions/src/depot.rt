@@ -7,7 +7,7 @@ ghost use Rattle.part_store.specs.Entries.{no_entries};
 ghost use Rattle.part_store.specs.Opening.{IsReady};
 ghost use Rattle.part_store.specs.Standing.{Spares, Stands, listed};
 ghost use Rattle.refusals.specs.declared.refusal.Refusal.TheVariants.{Memory, Database, Write};
-ghost use Rattle.depot_actions.specs.Causes.{HasCause};
+ghost use Rattle.depot_actions.specs.Causes.{HasCause, MayRefuse};
 ghost use Rattle.depot_actions.specs.DepotState.{Deliver, Does, Done, Export, ListAll, Listed, MayLeave, Program, ProgramOf, Remove, SetCode, SetScript, Text};
 ghost use Rattle.depot_actions.specs.Device.{HasBegun, HasBroken, HasTaken};
 
@@ -73,6 +73,7 @@ impl<S: Alter> Depot<S> {
     pub fn set_script(&mut self, alloc: Global, user: &str, script: &[u8]) -> Result<(), Refusal>
         ensures done { HasCleanDisk (state S.Store self.new) → OnOk result (Does (SetScript user.now script.now) Done (state S.Store self.old) (state S.Store self.new)) }
         ensures spared { HasCleanDisk (state S.Store self.new) → OnErr result (Spares (state S.Store self.old) (state S.Store self.new)) }
+        ensures which { IfErr result (MayRefuse (SetScript user.now script.now)) }
         ensures refused { HasCleanDisk (state S.Store self.new) → IfErr result (λ e. HasCause e (SetScript user.now script.now) (state S.Store self.old)) }
         ensures survives { Survives (state S.Store self.old) (state S.Store self.new) (MayLeave (SetScript user.now script.now) (state S.Store self.old)) }
     {
@@ -91,6 +92,7 @@ impl<S: Alter> Depot<S> {
     pub fn set_code(&mut self, alloc: Global, user: &str, program: &[u8]) -> Result<(), Refusal>
         ensures done { HasCleanDisk (state S.Store self.new) → OnOk result (Does (SetCode user.now program.now) Done (state S.Store self.old) (state S.Store self.new)) }
         ensures spared { HasCleanDisk (state S.Store self.new) → OnErr result (Spares (state S.Store self.old) (state S.Store self.new)) }
+        ensures which { IfErr result (MayRefuse (SetCode user.now program.now)) }
         ensures refused { HasCleanDisk (state S.Store self.new) → IfErr result (λ e. HasCause e (SetCode user.now program.now) (state S.Store self.old)) }
         ensures survives { Survives (state S.Store self.old) (state S.Store self.new) (MayLeave (SetCode user.now program.now) (state S.Store self.old)) }
     {
@@ -116,6 +118,7 @@ impl<S: Alter> Depot<S> {
     ) -> Result<Vec<EntryRow>, Refusal>
         ensures done { HasCleanDisk (state S.Store self.new) → IfOk result (λ rows. Does (Deliver user.now message.now) (Listed (map listed rows.items)) (state S.Store self.old) (state S.Store self.new)) }
         ensures spared { HasCleanDisk (state S.Store self.new) → OnErr result (Spares (state S.Store self.old) (state S.Store self.new)) }
+        ensures which { IfErr result (MayRefuse (Deliver user.now message.now)) }
         ensures refused { HasCleanDisk (state S.Store self.new) → IfErr result (λ e. HasCause e (Deliver user.now message.now) (state S.Store self.old)) }
         ensures survives { Survives (state S.Store self.old) (state S.Store self.new) (MayLeave (Deliver user.now message.now) (state S.Store self.old)) }
     {
@@ -139,6 +142,7 @@ impl<S: Alter> Depot<S> {
     pub fn list(&mut self, user: &str) -> Result<Vec<EntryRow>, Refusal>
         ensures done { HasCleanDisk (state S.Store self.new) → IfOk result (λ rows. Does (ListAll user.now) (Listed (map listed rows.items)) (state S.Store self.old) (state S.Store self.new)) }
         ensures spared { HasCleanDisk (state S.Store self.new) → Spares (state S.Store self.old) (state S.Store self.new) }
+        ensures which { IfErr result (MayRefuse (ListAll user.now)) }
         ensures refused { HasCleanDisk (state S.Store self.new) → IfErr result (λ e. HasCause e (ListAll user.now) (state S.Store self.old)) }
         ensures survives { Survives (state S.Store self.old) (state S.Store self.new) (λ _. ⊥) }
     {
@@ -156,6 +160,7 @@ impl<S: Alter> Depot<S> {
     pub fn program_of(&mut self, user: &str) -> Result<Option<Vec<u8>>, Refusal>
         ensures done { HasCleanDisk (state S.Store self.new) → IfOk result (λ found. Does (ProgramOf user.now) (Program (option_map (λ v. v.items) found)) (state S.Store self.old) (state S.Store self.new)) }
         ensures spared { HasCleanDisk (state S.Store self.new) → Spares (state S.Store self.old) (state S.Store self.new) }
+        ensures which { IfErr result (MayRefuse (ProgramOf user.now)) }
         ensures refused { HasCleanDisk (state S.Store self.new) → IfErr result (λ e. HasCause e (ProgramOf user.now) (state S.Store self.old)) }
         ensures survives { Survives (state S.Store self.old) (state S.Store self.new) (λ _. ⊥) }
     {
@@ -166,7 +171,7 @@ impl<S: Alter> Depot<S> {
     }
 
     /// Writes the octets of the user's entry of this number, in an encoding, and nothing else. The octets are read whole, and
-    /// encoded and written a few thousand at a time.
+    /// encoded and written a few thousand at a time, in quoted-printable a line at a time.
     ///
     /// # Errors
     ///
@@ -188,6 +193,7 @@ impl<S: Alter> Depot<S> {
             × (HasCleanDisk (state S.Store self.new) → Does (Export user.now number encoding) (Text text) (state S.Store self.old) (state S.Store self.new)))) }
         ensures unwritten { IfErr result (λ e. e ≢ Write → e ≢ Memory → W.output writer.new ≡ W.output writer.old) }
         ensures spared { HasCleanDisk (state S.Store self.new) → Spares (state S.Store self.old) (state S.Store self.new) }
+        ensures which { IfErr result (MayRefuse (Export user.now number encoding)) }
         ensures refused { HasCleanDisk (state S.Store self.new) → IfErr result (λ e. HasCause e (Export user.now number encoding) (state S.Store self.old)) }
         ensures survives { Survives (state S.Store self.old) (state S.Store self.new) (λ _. ⊥) }
     {
@@ -206,6 +212,7 @@ impl<S: Alter> Depot<S> {
     pub fn remove(&mut self, user: &str, number: u32) -> Result<(), Refusal>
         ensures done { HasCleanDisk (state S.Store self.new) → OnOk result (Does (Remove user.now number) Done (state S.Store self.old) (state S.Store self.new)) }
         ensures spared { HasCleanDisk (state S.Store self.new) → OnErr result (Spares (state S.Store self.old) (state S.Store self.new)) }
+        ensures which { IfErr result (MayRefuse (Remove user.now number)) }
         ensures refused { HasCleanDisk (state S.Store self.new) → IfErr result (λ e. HasCause e (Remove user.now number) (state S.Store self.old)) }
         ensures survives { Survives (state S.Store self.old) (state S.Store self.new) (MayLeave (Remove user.now number) (state S.Store self.old)) }
     {

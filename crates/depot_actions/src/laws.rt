@@ -1,7 +1,9 @@
 //! What holds of the definitions alone.
-ghost use Rattle.std.specs.Prelude.{◌≡◌, ◌++◌, ℕ, List};
+ghost use Rattle.std.specs.Prelude.{◌≡◌, ◌++◌, ℕ, List, IsTrue};
 ghost use Rattle.octet_lanes.specs.Encoding.{IsOctets};
 ghost use Rattle.sqlite.specs.Held.{Held, state};
+ghost use Rattle.sqlite.specs.State.{HasCleanDisk};
+ghost use Rattle.sqlite_trees.specs.Tree.{Trees};
 ghost use Rattle.part_store.specs.Entries.{Entries};
 ghost use Rattle.part_store.specs.Standing.{Stands};
 ghost use Rattle.depot_actions.specs.Causes.{IsFull, IsNamed, NamesNone};
@@ -27,9 +29,18 @@ pub fn text_is_the_texts_of_its_pieces()
     ensures { (encoding : Encoding) (piece rest : List ℕ) → IsPiece encoding piece → text_of encoding (piece ++ rest) ≡ text_of encoding piece ++ text_of encoding rest }
 {}
 
-/// Whatever calls a depot is given, it then stands for what the accepted ones make of what it stood for, one after another.
+/// Whatever calls a depot is given, and whichever of them fail, what its store shows while it is open stands for what the accepted ones make of
+/// what it stood for, one after another. A store that a failure has shut accepts nothing more.
 pub fn commands_are_a_fold<S: Alter>()
-    ensures { (calls : List Call) (old new : Held S) (before : Entries) → AreAnswered S.Store calls old new → Stands (state S.Store old).now before → (after : Entries) × AreSteps calls before after × Stands (state S.Store new).now after }
+    ensures { (calls : List Call) (old new : Held S) (before : Entries) → AreAnswered S.Store calls old new → (IsTrue (state S.Store old).is_open → Stands (state S.Store old).now before)
+        → (after : Entries) × AreSteps calls before after × (IsTrue (state S.Store new).is_open → Stands (state S.Store new).now after) }
+{}
+
+/// The disk of a store that is open has returned what was written, and a crash then leaves what is committed, nothing else. So what a command
+/// leaves committed is what a later open finds.
+pub fn open_stores_leave_what_is_committed<S: Alter>()
+    ensures clean { (store : Held S) → IsTrue (state S.Store store).is_open → HasCleanDisk (state S.Store store) }
+    ensures left { (store : Held S) (trees : Trees) → IsTrue (state S.Store store).is_open → (state S.Store store).may_leave trees → trees ≡ (state S.Store store).committed.trees }
 {}
 
 /// An accepted command has none of the causes that commands are refused for: its user is named, an entry that it names is

@@ -1,16 +1,17 @@
-use Rattle.std.proofs.Common.{◌≡◌, IsTrue, IfOk, IfErr, arith, length, map, option_map, rules, subst}
-use Rattle.std.proofs.lemmas.Result.{IfOk-at_ok, IfOk-weaker, IfErr-weaker}
+use Rattle.std.proofs.Common.{◌≡◌, IsTrue, IfOk, IfErr, OnErr, OnOk, arith, length, map, option_map, rules, subst}
+use Rattle.std.proofs.lemmas.Result.{IfOk-at_ok, IfOk-weaker, IfErr-weaker, on_err_weaker}
 use Rattle.std.proofs.lemmas.Grind.{common_steps}
 use Rattle.sqlite.specs.Held.{state}
 use Rattle.sqlite.specs.State.{HasCleanDisk, Survives}
 use Rattle.sqlite.proofs.StateLemmas.{survives_then}
 use Rattle.mime_decode.proofs.MailLemmas.{octets_are}
-use Rattle.part_store.specs.Standing.{listed}
+use Rattle.part_store.specs.Standing.{Spares, listed}
 use Rattle.depot_actions.specs.Causes.{HasCause}
 use Rattle.depot_actions.specs.DepotState.{Deliver, Does, Listed, MayLeave}
 use Rattle.depot_actions.specs.Users.{is_user_name}
-use Rattle.depot_actions.proofs.Commands.{ok_before}
-use Rattle.depot_actions.proofs.Delivering.{delivered, no_actions, may_be_filed, nothing_delivered, some_actions, unfiled_cause}
+use Rattle.depot_actions.proofs.Commands.{ok_before, spares_self}
+use Rattle.depot_actions.proofs.Delivering.{delivered, no_actions, may_be_filed, nothing_delivered, some_actions, spared_twice, unfiled_cause}
+use Rattle.depot_actions.proofs.Outputs.{on_err}
 use Rattle.depot_actions.proofs.depot.Depot.deliver.Goals as goal
 
 pub file_all-requires-clause-octets : goal.file_all-requires-clause-octets
@@ -29,9 +30,10 @@ returns-then-is_empty-clause-done g c clean =
     let are = rw c.in_ok-mail.ensures.read.1 at c.in_ok-actions.ensures.actions in
     let found = ok_before c.program_of.result c.map_err.result _ c.in_ok-program.program c.map_err.ensures.cases c.map_err.ensures.variant c.in_ok-program.was in
     let told = IfOk-at_ok _ found (c.program_of.ensures.told early) in
+    let was_open = subst (λ r. OnOk r (IsTrue old.is_open)) found (c.program_of.ensures.open early) in
     subst (λ h. Does (Deliver user message) (Listed (map listed c.new.result.items)) (state g.S.Store h) mid) c.self.view_is
     (rw c.new.ensures.items
-    (nothing_delivered old mid mid user message (option_map (λ v. v.items) c.in_ok-program.program) actions named c.in_ok-mail.ensures.read.0 are told (c.program_of.ensures.spared early) (no_actions actions zero)))
+    (nothing_delivered old mid mid user message (option_map (λ v. v.items) c.in_ok-program.program) actions named c.in_ok-mail.ensures.read.0 are told (c.program_of.ensures.spared early) was_open (c.program_of.ensures.settled early) (no_actions actions zero)))
 
 pub returns-clause-done : goal.returns-clause-done
 returns-clause-done g c clean =
@@ -89,3 +91,18 @@ returns-clause-survives g c =
     let told = IfOk-at_ok _ found (c.program_of.ensures.told early) in
     may_be_filed old mid new user message (option_map (λ v. v.items) c.in_ok-program.program) actions named c.in_ok-mail.ensures.read.0 are told (c.program_of.ensures.spared early) some db may)
     c.program_of.ensures.survives survives)
+
+pub returns-clause-spared : goal.returns-clause-spared
+returns-clause-spared g c clean =
+    let old = state g.S.Store c.self.inside.store in
+    let mid = state g.S.Store c.program_of.new.self in
+    let new = state g.S.Store c.file_all.new.store in
+    let early : HasCleanDisk mid = omega (arith, c.file_all.ensures.survives.clean) in
+    subst (λ h. OnErr c.file_all.result (Spares (state g.S.Store h) new)) c.self.view_is
+    (on_err_weaker c.file_all.result (spared_twice old mid new c.program_of.ensures.survives.counts c.file_all.ensures.survives.counts (c.program_of.ensures.spared early)) (c.file_all.ensures.spared clean))
+
+pub returns-then-not-is_user_name-clause-spared : goal.returns-then-not-is_user_name-clause-spared
+returns-then-not-is_user_name-clause-spared g c clean = spares_self (state g.S.Store c.args.self.now)
+
+pub returns-in_err-mail-clause-spared : goal.returns-in_err-mail-clause-spared
+returns-in_err-mail-clause-spared g c clean = on_err c.from_residual.result (spares_self (state g.S.Store c.args.self.now))

@@ -4,7 +4,8 @@ use Rattle.sqlite.specs.Held.{state}
 use Rattle.sqlite.specs.State.{Survives}
 use Rattle.depot_actions.specs.DepotState.{Does, Done, MayLeave, SetScript}
 use Rattle.depot_actions.specs.Users.{is_user_name}
-use Rattle.depot_actions.proofs.Commands.{ok_as, script_done, script_left, survives_more}
+use Rattle.depot_actions.proofs.Commands.{spares_self, ok_as, script_done, script_left, survives_more}
+use Rattle.depot_actions.proofs.Outputs.{on_err}
 use Rattle.depot_actions.proofs.depot.Depot.set_script.Goals as goal
 
 pub returns-clause-done : goal.returns-clause-done
@@ -30,3 +31,9 @@ returns-clause-survives g c =
     subst (λ h. Survives (state g.S.Store h) new (MayLeave (SetScript user script) (state g.S.Store h))) c.self.view_is
     (survives_more old new _ _ (λ trees left. script_left old new user named script c.deref.result.now found.0 found.1 (c.deref.ensures.value ∙ found.2) trees left)
     c.set_program.ensures.survives)
+
+pub returns-then-not-is_user_name-clause-spared : goal.returns-then-not-is_user_name-clause-spared
+returns-then-not-is_user_name-clause-spared g c clean = spares_self (state g.S.Store c.args.self.now)
+
+pub returns-in_err-octets-clause-spared : goal.returns-in_err-octets-clause-spared
+returns-in_err-octets-clause-spared g c clean = on_err c.from_residual.result (spares_self (state g.S.Store c.args.self.now))

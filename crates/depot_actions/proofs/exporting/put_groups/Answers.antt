@@ -4,20 +4,20 @@ use Rattle.std.proofs.lemmas.Result.{err_from_is_err_and}
 use Rattle.depot_actions.specs.Texts.{text_of}
 use Rattle.depot_actions.proofs.Outputs.{broken_in_piece, leaves_all, leaves_none, leaves_rest}
 use Rattle.depot_actions.proofs.Pieces.{text_of-none}
-use Rattle.depot_actions.proofs.exporting.put_text.Goals as goal
+use Rattle.depot_actions.proofs.exporting.put_groups.Goals as goal
 
 pub pieces-init : goal.pieces-init
 pieces-init g c = leaves_all _ _
 
 pub pieces-preserved : goal.pieces-preserved
 pieces-preserved g c =
-    let taken = rw c.deref.ensures.value at c.in_ok-put-2.ensures.ok in
+    let taken = rw c.deref.ensures.value at c.in_ok-put.ensures.ok in
     leaves_rest _ _ c.in_ok-text.text.items _ c.pieces.invariant c.in_ok-text.ensures.text taken
 
-pub returns-in_err-put-2-clause-err : goal.returns-in_err-put-2-clause-err
-returns-in_err-put-2-clause-err g c =
-    let p = err_from_is_err_and c.from_residual-in_err-put-2.result c.from_residual-in_err-put-2.ensures.1 in
-    let broken = rw c.deref.ensures.value at c.in_err-put-2.ensures.err in
+pub returns-in_err-put-clause-err : goal.returns-in_err-put-clause-err
+returns-in_err-put-clause-err g c =
+    let p = err_from_is_err_and c.from_residual-in_err-put.result c.from_residual-in_err-put.ensures.1 in
+    let broken = rw c.deref.ensures.value at c.in_err-put.ensures.err in
     rw (p.1, p.2) (broken_in_piece _ _ c.in_ok-text.text.items _ c.pieces.invariant c.in_ok-text.ensures.text broken)
 
 pub returns-clause-ok : goal.returns-clause-ok

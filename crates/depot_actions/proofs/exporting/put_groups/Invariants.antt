@@ -1,7 +1,7 @@
 use Rattle.std.proofs.Common.{length}
 use Rattle.depot_actions.specs.Texts.{text_of}
 use Rattle.depot_actions.proofs.Outputs.{Leaves}
-use Rattle.depot_actions.proofs.exporting.put_text.Given as goal
+use Rattle.depot_actions.proofs.exporting.put_groups.Given as goal
 
 abbrev pub invariant-pieces : goal.invariant-pieces
 invariant-pieces g l = Leaves (text_of l.encoding l.octets) (text_of l.encoding l.rest) (g.W.Sink.output l.initial.writer) (g.W.Sink.output l.writer)
