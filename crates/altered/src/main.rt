@@ -19,11 +19,7 @@ const PROGRAMS: &[&str] = &[
     "every_operation.svbc",
 ];
 
-const MESSAGES: &[&str] = &[
-    "multiparts.eml",
-    "attachment.eml",
-    "quoted_printable.eml",
-];
+const MESSAGES: &[&str] = &["multiparts.eml", "attachment.eml", "quoted_printable.eml"];
 
 const SCRIPTS: &[&str] = &["attachments.sieve"];
 
@@ -41,24 +37,45 @@ fn answer_all(rt: &HostRuntime) -> io::Result<bool> {
     for name in PROGRAMS {
         let program = fs::read(rt, *name)?;
         all &= tell(rt, *name, "prefixes", &programs::prefixes(alloc, &program)?)?;
-        all &= tell(rt, *name, "one octet altered", &programs::one_altered(alloc, &program)?)?;
-        all &= tell(rt, *name, "two octets altered", &programs::two_altered(alloc, &program)?)?;
+        all &= tell(
+            rt,
+            *name,
+            "one octet altered",
+            &programs::one_altered(alloc, &program)?,
+        )?;
+        all &= tell(
+            rt,
+            *name,
+            "two octets altered",
+            &programs::two_altered(alloc, &program)?,
+        )?;
     }
     for name in MESSAGES {
         let message = fs::read(rt, *name)?;
         all &= tell(rt, *name, "prefixes", &messages::prefixes(alloc, &message))?;
-        all &= tell(rt, *name, "one octet altered", &messages::one_altered(alloc, &message)?)?;
+        all &= tell(
+            rt,
+            *name,
+            "one octet altered",
+            &messages::one_altered(alloc, &message)?,
+        )?;
     }
     for name in SCRIPTS {
         let script = fs::read(rt, *name)?;
         all &= tell(rt, *name, "prefixes", &scripts::prefixes(alloc, &script))?;
-        all &= tell(rt, *name, "one octet altered", &scripts::one_altered(alloc, &script)?)?;
+        all &= tell(
+            rt,
+            *name,
+            "one octet altered",
+            &scripts::one_altered(alloc, &script)?,
+        )?;
     }
     Ok(all)
 }
 
 // Prints what came of one series, and gives whether nothing else did.
 fn tell(rt: &HostRuntime, name: &str, series: &str, counts: &Counts) -> io::Result<bool> {
-    rt.stdout().write_all(counts.line(rt.alloc(), name, series)?.as_bytes())?;
+    rt.stdout()
+        .write_all(counts.line(rt.alloc(), name, series)?.as_bytes())?;
     Ok(counts.other == 0)
 }

@@ -5,7 +5,8 @@ use sieve_engine::{check_program, execute};
 use std::alloc::{AllocError, Global};
 
 // Four messages in each other.
-const CHAIN: &[u8] = b"Content-Type: message/rfc822\n\nContent-Type: message/rfc822\n\nContent-Type: message/rfc822\n\nContent-Type: message/rfc822\n\n";
+const CHAIN: &[u8] =
+    b"Content-Type: message/rfc822\n\nContent-Type: message/rfc822\n\nContent-Type: message/rfc822\n\nContent-Type: message/rfc822\n\n";
 
 // How many pairs of octets are altered.
 const PAIRS: u64 = 200_000;
@@ -27,7 +28,11 @@ pub fn one_altered(alloc: Global, program: &[u8]) -> Result<Counts, AllocError> 
     let mut counts = Counts::new();
     for place in 0..program.len() {
         for octet in 0..=255u8 {
-            run_both(alloc, &with_octet(alloc, program, place, octet)?, &mut counts);
+            run_both(
+                alloc,
+                &with_octet(alloc, program, place, octet)?,
+                &mut counts,
+            );
         }
     }
     Ok(counts)
@@ -41,7 +46,11 @@ pub fn two_altered(alloc: Global, program: &[u8]) -> Result<Counts, AllocError> 
         let first = numbers.below(program.len());
         let once = with_octet(alloc, program, first, numbers.octet())?;
         let second = numbers.below(program.len());
-        run_both(alloc, &with_octet(alloc, &once, second, numbers.octet())?, &mut counts);
+        run_both(
+            alloc,
+            &with_octet(alloc, &once, second, numbers.octet())?,
+            &mut counts,
+        );
     }
     Ok(counts)
 }

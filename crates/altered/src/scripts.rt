@@ -17,7 +17,11 @@ pub fn one_altered(alloc: Global, script: &[u8]) -> Result<Counts, AllocError> {
     let mut counts = Counts::new();
     for place in 0..script.len() {
         for octet in 0..=255u8 {
-            check(alloc, &with_octet(alloc, script, place, octet)?, &mut counts);
+            check(
+                alloc,
+                &with_octet(alloc, script, place, octet)?,
+                &mut counts,
+            );
         }
     }
     Ok(counts)
