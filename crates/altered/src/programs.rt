@@ -8,8 +8,8 @@ use std::alloc::{AllocError, Global};
 const CHAIN: &[u8] =
     b"Content-Type: message/rfc822\n\nContent-Type: message/rfc822\n\nContent-Type: message/rfc822\n\nContent-Type: message/rfc822\n\n";
 
-// How many pairs of octets are altered.
-const PAIRS: u64 = 200_000;
+// How many pairs of octets of each program are altered.
+const PAIRS: u64 = 50_000;
 
 /// Each proper prefix spells no program.
 pub fn prefixes(alloc: Global, program: &[u8]) -> Result<Counts, AllocError> {
