@@ -4,7 +4,7 @@
     $ cat > try << 'END'
     > while IFS= read -r field; do
     >     printf 'Content-Type: multipart/mixed; boundary=b\n\n--b\n%b\n\nMZ\n--b--\n' "$field" > mail
-    >     depot eval "$1" mail | head -n 1
+    >     depot eval "$1" mail | sed -n 1p
     > done
     > END
     $ sh try examples/gallery/disguised.sieve << 'END' | sort | uniq -c | sed 's/^ *//'
@@ -37,7 +37,7 @@
     $ cat > try << 'END'
     > while IFS= read -r field; do
     >     printf 'Content-Type: multipart/mixed; boundary=b\n\n--b\n%s\n\nMZ\n--b--\n' "$field" > mail
-    >     depot eval "$1" mail | head -n 1
+    >     depot eval "$1" mail | sed -n 1p
     > done
     > END
     $ cat > names << 'END'
