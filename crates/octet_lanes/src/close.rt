@@ -65,7 +65,7 @@ fn values_in(group: u8x16) -> u64
     group.simd_ne(u8x16::splat(STRAY)).to_bitmask()
 }
 
-// The lanes whose bits are set, in order, then the eighth.
+// The lanes whose bits are set, in order, then lane 8 in those that are left.
 #[inline(always)]
 fn in_order(group: u8x16, bits: u64) -> u8x16
     requires { bits < 256 }
