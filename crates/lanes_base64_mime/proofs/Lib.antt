@@ -1,3 +1,4 @@
 pub mod Lines
 pub mod Examples
 pub mod Pieces
+pub mod Rooms

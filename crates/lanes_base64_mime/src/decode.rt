@@ -1,4 +1,4 @@
-ghost use Rattle.std.specs.Prelude.{◌≡◌, ◌%◌, ◌<◌, ◌++◌, IfOk, OnErr, OnOk, length};
+ghost use Rattle.std.specs.Prelude.{◌≡◌, ◌+◌, ◌%◌, ◌<◌, ◌≤◌, ◌++◌, IfOk, OnErr, OnOk, length};
 ghost use Rattle.octet_lanes.specs.Encoding.{octets_of};
 ghost use Rattle.lanes_base64_mime.specs.MimeBase64.{mime_decoding_of};
 ghost use Rattle.lanes_base64_mime.specs.Pieces.{bits_with, kept_with, nothing_kept};
@@ -65,14 +65,17 @@ impl Decoder {
 pub fn decode_mime(alloc: Global, text: &[u8]) -> Result<Vec<u8>, AllocError>
     ensures { IfOk result (λ octets. octets.items ≡ mime_decoding_of text.now) }
 {
-    let mut out = Vec::with_capacity(alloc, octets_room(text))?;
+    let mut out = Vec::with_capacity(alloc, decoding_room(text))?;
     let mut decoder = Decoder::new();
     decoder.feed(text, &mut out)?;
     decoder.finish();
     Ok(out)
 }
 
-// Room for the octets of a text.
-fn octets_room(text: &[u8]) -> usize {
+/// Room for the octets of a text, and little more: three for each four of its characters, and six.
+pub fn decoding_room(text: &[u8]) -> usize
+    ensures enough { length (mime_decoding_of text.now) ≤ result }
+    ensures few { result ≤ length text.now + 6 }
+{
     (text.len() / 8 + 1) * 6
 }

@@ -1,4 +1,4 @@
-ghost use Rattle.std.specs.Prelude.{◌≡◌, ◌++◌, ◌<◌, ◌≤◌, IfOk, OnOk, drop, length, min, take};
+ghost use Rattle.std.specs.Prelude.{◌≡◌, ◌+◌, ◌*◌, ◌++◌, ◌<◌, ◌≤◌, IfOk, OnOk, drop, length, min, take};
 ghost use Rattle.octet_lanes.specs.Encoding.{encoding_of};
 ghost use Rattle.octet_lanes.specs.declared.alphabet.Alphabet.TheVariants.{Base64};
 ghost use Rattle.lanes_base64_mime.specs.MimeBase64.{line_break, mime_encoding_of};
@@ -27,7 +27,7 @@ const LINE_LEN: usize = 78;
 pub fn encode_mime(alloc: Global, octets: &[u8]) -> Result<Vec<u8>, AllocError>
     ensures { IfOk result (λ text. text.items ≡ mime_encoding_of octets.now) }
 {
-    let mut out = Vec::with_capacity(alloc, text_len(octets.len()))?;
+    let mut out = Vec::with_capacity(alloc, text_room(octets))?;
     let mut rest = octets;
     'lines: while !rest.is_empty() {
         append_line(rest, &mut out)?;
@@ -71,15 +71,10 @@ fn symbols_at(octets: &[u8; LANES], at: usize) -> [u8; 32]
     block_symbols(&lanes.to_array(), Alphabet::Base64)
 }
 
-// The length of the text, and the greatest `usize` where that can't hold it.
-fn text_len(octets: usize) -> usize {
-    let last = octets % LINE_OCTETS;
-    let last_len = if last == 0 {
-        0
-    } else {
-        last.div_ceil(3) * 4 + LINE_BREAK.len()
-    };
-    (octets / LINE_OCTETS)
-        .saturating_mul(LINE_LEN)
-        .saturating_add(last_len)
+// Room for the text of octets: a whole line for each 57 of them, and one more.
+fn text_room(octets: &[u8]) -> usize
+    ensures enough { length (mime_encoding_of octets.now) ≤ result }
+    ensures few { result ≤ 2 * length octets.now + 78 }
+{
+    (octets.len() / LINE_OCTETS + 1) * LINE_LEN
 }

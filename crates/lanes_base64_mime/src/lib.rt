@@ -7,5 +7,5 @@ mod decode;
 mod encode;
 pub mod laws;
 
-pub use decode::{Decoder, decode_mime};
+pub use decode::{Decoder, decode_mime, decoding_room};
 pub use encode::encode_mime;

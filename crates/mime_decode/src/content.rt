@@ -1,12 +1,12 @@
 // What the body of a part stands for, and its digest.
-ghost use Rattle.std.specs.Prelude.{◌≡◌, ◌≤◌, false, IfOk, IsOk, length};
+ghost use Rattle.std.specs.Prelude.{◌≡◌, false, IfOk, IsOk};
 ghost use Rattle.std.specs.Cow.{cow_slice_items, IsBorrowedSlice};
 ghost use Rattle.lanes_base64_mime.specs.MimeBase64.{mime_decoding_of};
 ghost use Rattle.quoted_printable.specs.QuotedPrintable.{decoding_of};
 ghost use Rattle.mime_decode.specs.Content.{content_of, digest_of, is_decoded};
 
 use hex::encode_to_slice;
-use lanes_base64_mime::Decoder;
+use lanes_base64_mime::{Decoder, decoding_room};
 use mime_params::TransferEncoding;
 use quoted_printable::QpDecoder;
 use sha2::{Digest, Sha256};
@@ -38,20 +38,13 @@ pub(crate) fn decoded<'a>(
 fn decoded_base64(alloc: Global, body: &[u8]) -> Result<Vec<u8>, AllocError>
     ensures { IfOk result (λ octets. octets.items ≡ mime_decoding_of body.now) }
 {
-    let mut octets = Vec::with_capacity(alloc, base64_room(body))?;
+    let mut octets = Vec::with_capacity(alloc, decoding_room(body))?;
     let mut decoder = Decoder::new();
     for line in Lines::new(body) {
         decoder.feed(&body[line.start..line.stop], &mut octets)?;
     }
     decoder.finish();
     Ok(octets)
-}
-
-// Room for the octets that a body in base64 stands for.
-fn base64_room(body: &[u8]) -> usize
-    ensures { length (mime_decoding_of body.now) ≤ result }
-{
-    (body.len() / 8 + 1) * 6
 }
 
 // The same in quoted-printable, of which no text stands for more octets than it has.

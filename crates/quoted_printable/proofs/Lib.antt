@@ -9,3 +9,4 @@ pub mod Lengths
 pub mod Pieced
 pub mod ReadBack
 pub mod Stretches
+pub mod Rooms

@@ -1,8 +1,9 @@
 // Texts written.
-ghost use Rattle.std.specs.Prelude.{◌≡◌, ◌++◌, ◌+◌, ◌≤◌, ◌<◌, false, true, ℕ, IfOk, OnErr, OnOk, length, slice_index, take};
+ghost use Rattle.std.specs.Prelude.{◌≡◌, ◌++◌, ◌+◌, ◌-◌, ◌^◌, ◌≤◌, ◌<◌, false, true, ℕ, IfOk, OnErr, OnOk, length, min, not, slice_index, take};
+ghost use Rattle.std.specs.List.{filter};
 ghost use Rattle.quoted_printable.specs.QuotedPrintable.{encoding_of, escape_of, first_line, tokens_of, tokens_of_line, token_of, joined, run_of, is_literal, soft_break, stands};
 
-use crate::lanes::{standing_count, standing_len};
+use crate::lanes::standing_len;
 use std::alloc::{AllocError, Global};
 
 /// The octets of a line without its break; where a soft break follows, its `=` is one of them.
@@ -179,15 +180,23 @@ fn is_literal(octet: u8) -> bool
     octet.is_ascii_graphic() && octet != b'='
 }
 
-// Room for the text of octets: all tokens, and a soft break for each 73 octets of them, the fewest that a line has.
-fn text_room(octets: &[u8]) -> usize {
-    let mut tokens = octets.len();
-    let mut rest = octets;
-    'rooms: while let Some((block, after)) = rest.split_first_chunk::<LANES>() {
-        tokens = tokens.saturating_add((LANES - standing_count(block)) * 2);
-        rest = after;
-    }
-    let escaped = rest.iter().filter(|octet| !is_literal(**octet)).count();
-    tokens = tokens.saturating_add(escaped.saturating_mul(2));
+// Room for the text of octets: all tokens, where the last octet may be a blank, and a soft break for each 73 octets of them,
+// the fewest that a line has.
+fn text_room(octets: &[u8]) -> usize
+    ensures { min (length (encoding_of octets.now)) (2 ^ 64 - 1) ≤ result }
+{
+    let escaped = escaped_count(octets) + 1;
+    let tokens = octets.len().saturating_add(escaped.saturating_mul(2));
     tokens.saturating_add((tokens / 73 + 1).saturating_mul(3))
+}
+
+// How many octets are written with digits, also where others follow.
+fn escaped_count(octets: &[u8]) -> usize
+    ensures number { result ≡ length (filter (λ octet. not (stands octet false)) octets.now) }
+    ensures few { result ≤ length octets.now }
+{
+    octets
+        .iter()
+        .filter(|octet| !stands(**octet, false))
+        .count()
 }

@@ -21,17 +21,6 @@ pub(crate) fn standing_len(octets: &[u8; 32]) -> usize
     written.trailing_zeros() as usize
 }
 
-/// How many of the octets stand as they are.
-#[inline(always)]
-pub(crate) fn standing_count(octets: &[u8; 32]) -> usize
-    ensures { result ≤ 32 }
-{
-    let written = standing_lanes(u8x32::from_array(*octets))
-        .simd_eq(u8x32::splat(0))
-        .to_bitmask();
-    32 - (written.count_ones() as usize).min(32)
-}
-
 // 1 in the lane of each octet that stands, and 0 in the others. 255 is 1 less, in the low 8 bits.
 #[inline(always)]
 fn standing_lanes(lanes: u8x32) -> u8x32
