@@ -1,1 +1,3 @@
+pub mod Chains
+mod Examples
 pub mod Powers

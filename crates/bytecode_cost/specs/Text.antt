@@ -1,4 +1,4 @@
-use Rattle.std.specs.Prelude.{ℕ, List, ◌++◌, codes, slice_index}
+use Rattle.std.specs.Prelude.{ℕ, ◌==◌, List, [], ◌++◌, codes, slice_index, if◌then◌else◌}
 use Rattle.std.specs.Fmt.{decimal}
 use Rattle.bytecode_cost.specs.Sums.{Sums}
 
@@ -10,6 +10,10 @@ level_text k fixed scaled = codes "A" ++ decimal k ++ codes "=" ++ decimal fixed
 abbrev pub level_of : Sums → ℕ → List ℕ
 level_of sums k = level_text k (slice_index sums.fixed k) (slice_index sums.scaled k)
 
+-- what a line of version 2 says after its sums
+unfoldable pub turns_text : ℕ → List ℕ
+turns_text version = if version == 2 then codes " by chains" else []
+
 -- the printed line, without its end
 abbrev pub budget_text : Sums → List ℕ
-budget_text sums = level_of sums 0 ++ codes " " ++ level_of sums 1 ++ codes " " ++ level_of sums 2 ++ codes " " ++ level_of sums 3
+budget_text sums = level_of sums 0 ++ codes " " ++ level_of sums 1 ++ codes " " ++ level_of sums 2 ++ codes " " ++ level_of sums 3 ++ turns_text sums.version

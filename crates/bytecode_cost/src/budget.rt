@@ -1,8 +1,8 @@
 // The eight sums of a program.
 ghost use Rattle.std.specs.Prelude.{◌≡◌, ◌+◌, ◌*◌, ◌^◌, ◌<◌, ◌≤◌, slice_index, Some};
 ghost use Rattle.octets.specs.Limits.{max_message, max_parts};
-ghost use Rattle.bytecode_cost.specs.Sums.{no_sums, with_cap, budget_at, term_at};
-ghost use Rattle.bytecode_cost.specs.Text.{budget_text, level_text};
+ghost use Rattle.bytecode_cost.specs.Sums.{no_sums, with_cap, budget_at, chains, turns};
+ghost use Rattle.bytecode_cost.specs.Text.{budget_text, level_text, turns_text};
 
 use std::fmt::{self, Display};
 use std::marker::Model;
@@ -10,10 +10,15 @@ use std::marker::Model;
 /// How many numbers of open loops there are: none to three.
 const LEVELS: usize = 4;
 
+/// The version of the programs whose turns are counted by chains of parts, each inside of the one
+/// before; those of other programs are powers.
+const BY_CHAINS: u8 = 2;
+
 /// The budget of a program: for each number of open loops, none to three, what the instructions
 /// there may charge however long the message is, and what they may charge for each of its octets.
 ///
-/// A contract sees the version and the eight sums.
+/// A contract sees the version and the eight sums. The version of the program says how often what
+/// stands inside of loops is counted.
 #[derive(Drop)]
 pub struct Budget {
     version: u8,
@@ -61,12 +66,23 @@ impl Budget {
         requires parts { p ≤ max_parts }
         ensures { result ≡ budget_at self.now n p }
     {
-        let one = p as u128;
-        let two = one * one;
-        self.term(0, n, 1)
-            + self.term(1, n, one)
-            + self.term(2, n, two)
-            + self.term(3, n, two * one)
+        let (one, two, three) = self.turns(p as u128);
+        self.term(0, n, 1) + self.term(1, n, one) + self.term(2, n, two) + self.term(3, n, three)
+    }
+
+    // How often what stands inside of one, two and three loops may run, over so many parts.
+    fn turns(&self, parts: u128) -> (u128, u128, u128)
+        requires { parts ≤ max_parts }
+        ensures few { (result.0 ≤ 2 ^ 36) × (result.1 ≤ 2 ^ 36) × (result.2 ≤ 2 ^ 36) }
+        ensures one { result.0 ≡ turns self.now.version parts 1 }
+        ensures two { result.1 ≡ turns self.now.version parts 2 }
+        ensures three { result.2 ≡ turns self.now.version parts 3 }
+    {
+        if self.version == BY_CHAINS {
+            (parts, pairs(parts), triples(parts))
+        } else {
+            (parts, parts * parts, parts * parts * parts)
+        }
     }
 
     // What `k` open loops allow at a message of `n` octets, `turns` times.
@@ -92,6 +108,18 @@ impl Budget {
             scaled: self.scaled[k],
         }
     }
+
+    // What the line says after the sums.
+    #[tactic(auto, unfolding(crate::specs::Text::turns_text))]
+    fn ending(&self) -> &'static str
+        ensures { result.now ≡ turns_text self.now.version }
+    {
+        if self.version == BY_CHAINS {
+            " by chains"
+        } else {
+            ""
+        }
+    }
 }
 
 impl Display for Budget {
@@ -99,8 +127,27 @@ impl Display for Budget {
 
     fn fmt<W: fmt::Write>(&self, f: &mut fmt::Formatter<W>) -> fmt::Result {
         let (none, one, two, three) = (self.level(0), self.level(1), self.level(2), self.level(3));
-        write!(f, "{none} {one} {two} {three}")
+        let ending = self.ending();
+        write!(f, "{none} {one} {two} {three}{ending}")
     }
+}
+
+// How many chains of two of so many parts there are.
+#[tactic(auto, using(crate::proofs::Chains::pairs_halved))]
+fn pairs(parts: u128) -> u128
+    requires { parts ≤ max_parts }
+    ensures { result ≡ chains parts 2 }
+{
+    parts * parts.saturating_sub(1) / 2
+}
+
+// How many chains of three of so many parts there are.
+#[tactic(auto, using(crate::proofs::Chains::triples_divided))]
+fn triples(parts: u128) -> u128
+    requires { parts ≤ max_parts }
+    ensures { result ≡ chains parts 3 }
+{
+    parts * parts.saturating_sub(1) * parts.saturating_sub(2) / 6
 }
 
 // The two sums of one number of open loops.

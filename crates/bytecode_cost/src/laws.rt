@@ -1,9 +1,34 @@
 //! What holds of every budget.
-ghost use Rattle.std.specs.Prelude.{ℕ, ◌^◌, ◌<◌, ◌≤◌};
+ghost use Rattle.std.specs.Prelude.{◌≡◌, ℕ, ◌+◌, ◌*◌, ◌-◌, ◌^◌, ◌<◌, ◌≤◌};
 ghost use Rattle.octets.specs.Limits.{max_message, max_parts};
-ghost use Rattle.bytecode_cost.specs.Sums.{Sums, IsBudget, budget_at};
+ghost use Rattle.bytecode_cost.specs.Sums.{Sums, IsBudget, budget_at, chains, turns, turns_left};
 
 /// At a message of at most 2^26 octets and 4,096 parts every budget is below 2^128.
 pub fn budget_fits()
     ensures { (sums : Sums) → IsBudget sums → (n p : ℕ) → n ≤ max_message → p ≤ max_parts → budget_at sums n p < 2 ^ 128 }
+{}
+
+/// Two parts of `n` can be chosen in `n (n - 1) / 2` ways.
+pub fn chains_of_two()
+    ensures { (n : ℕ) → 2 * chains n 2 ≡ n * (n - 1) }
+{}
+
+/// Three parts of `n` can be chosen in `n (n - 1) (n - 2) / 6` ways.
+pub fn chains_of_three()
+    ensures { (n : ℕ) → 6 * chains n 3 ≡ n * (n - 1) * (n - 2) }
+{}
+
+/// There are no more chains than powers.
+pub fn chains_within_powers()
+    ensures { (n k : ℕ) → chains n k ≤ n ^ k }
+{}
+
+/// The budget of version 2 is nowhere larger than that of another version with the same sums.
+pub fn chains_never_cost_more()
+    ensures { (sums : Sums) → (n p : ℕ) → budget_at (record sums { version = 2 }) n p ≤ budget_at sums n p }
+{}
+
+/// Where all parts are left, what is left of the turns is all of them.
+pub fn all_turns_left()
+    ensures { (version parts k : ℕ) → turns_left version parts parts k ≡ turns version parts k }
 {}

@@ -1,7 +1,13 @@
--- Modifiers and their numbers, by computation.
-use Rattle.std.proofs.Common.{◌≡◌, true, false, [], ◌∷◌, Some, None, codes, decimal, lit<, refl}
+-- Modifiers and their numbers, versions and operations, by computation.
+use Rattle.std.proofs.Common.{◌≡◌, ℕ, true, false, [], ◌∷◌, ◌++◌, length, Some, None, codes, decimal, lit<, refl}
 use Rattle.std.proofs.lemmas.Fmt.{decimal-digits_of}
 use Rattle.bytecode_format.specs.declared.modifiers.Case.TheVariants.{Lower, Upper}
+use Rattle.bytecode_format.specs.declared.instruction.Instruction.{Instruction}
+use Rattle.bytecode_format.specs.declared.operation.Operation.TheVariants.{Halt, Keep, Break, Take}
+use Rattle.bytecode_format.specs.Operations.{operation_of, octet_of}
+use Rattle.bytecode_format.specs.Code.{Code}
+use Rattle.bytecode_format.specs.Spelling.{is_version, spelling}
+use Rattle.bytecode_format.specs.Readers.{version_at}
 use Rattle.bytecode_format.specs.Modifiers.{modified, no_modifiers, modifiers_number, modifiers_numbered}
 
 none_leaves_the_text : modified no_modifiers (codes "juMBlEd lETteRS") ≡ codes "juMBlEd lETteRS"
@@ -42,3 +48,29 @@ numbers = (refl, refl)
 
 no_such_number : (modifiers_numbered 3 ≡ None) × (modifiers_numbered 12 ≡ None) × (modifiers_numbered 64 ≡ None) × (modifiers_numbered 128 ≡ None)
 no_such_number = (refl, refl, refl, refl)
+
+versions : (is_version 0 ≡ false) × (is_version 1 ≡ true) × (is_version 2 ≡ true) × (is_version 3 ≡ false)
+versions = (refl, refl, refl, refl)
+
+version_read : (version_at (2 ∷ 0 ∷ []) ≡ Some (2, 0 ∷ [])) × (version_at (3 ∷ 0 ∷ []) ≡ None) × (version_at [] ≡ None)
+unfolding version_at
+version_read = (refl, refl, refl)
+
+last_operations : (operation_of 0x19 ≡ Some Break) × (operation_of 0x1A ≡ Some Take) × (operation_of 0x1B ≡ None) × (octet_of Take ≡ 26)
+last_operations = (refl, refl, refl, refl)
+
+abbrev plain : ℕ → Instruction
+plain octet = record { op = octet; a = 0; b = 0; c = 0 }
+
+abbrev keeping : ℕ → Code
+keeping version = record { version = version; variables = 0; numbers = []; strings = []; instructions = plain (octet_of Keep) ∷ plain (octet_of Halt) ∷ [] }
+
+-- the fifth octet is the version
+keeping_spelled :
+    spelling (keeping 2)
+    ≡ codes "SVBC"
+    ++ 2 ∷ 0 ∷ 0 ∷ 0 ∷ 0 ∷ 0 ∷ 0 ∷ 0 ∷ 0 ∷ 0 ∷ 2 ∷ 0x13 ∷ 0 ∷ 0 ∷ 0 ∷ 0 ∷ 0 ∷ 0 ∷ 0 ∷ 0x01 ∷ 0 ∷ 0 ∷ 0 ∷ 0 ∷ 0 ∷ 0 ∷ 0 ∷ []
+keeping_spelled = refl
+
+keeping_length : length (spelling (keeping 1)) ≡ 31
+keeping_length = refl

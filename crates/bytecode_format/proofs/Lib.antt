@@ -5,3 +5,4 @@ pub mod Lengths
 pub mod ActionLemmas
 pub mod ModifierLemmas
 pub mod Examples
+pub mod Versions

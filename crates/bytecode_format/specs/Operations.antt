@@ -1,11 +1,11 @@
 use Rattle.std.specs.Prelude.{ℕ, zero, suc, List, [], ◌∷◌, Option, None, slice_get}
 use Rattle.bytecode_format.specs.declared.operation.Operation.{Operation}
-use Rattle.bytecode_format.specs.declared.operation.Operation.TheVariants.{Halt, Literal, Variable, Capture, Join, Set, Bool, Not, Jump, JumpIfTrue, JumpIfFalse, Header, Exists, String, Size, PartSize, PartBody, PartDigest, Keep, Discard, File, Store, Each, Next, Break}
+use Rattle.bytecode_format.specs.declared.operation.Operation.TheVariants.{Halt, Literal, Variable, Capture, Join, Set, Bool, Not, Jump, JumpIfTrue, JumpIfFalse, Header, Exists, String, Size, PartSize, PartBody, PartDigest, Keep, Discard, File, Store, Each, Next, Break, Take}
 
 -- every operation, in the order of their octets: the first one's octet is 1
 abbrev pub operations : List Operation
 operations =
-    Halt ∷ Literal ∷ Variable ∷ Capture ∷ Join ∷ Set ∷ Bool ∷ Not ∷ Jump ∷ JumpIfTrue ∷ JumpIfFalse ∷ Header ∷ Exists ∷ String ∷ Size ∷ PartSize ∷ PartBody ∷ PartDigest ∷ Keep ∷ Discard ∷ File ∷ Store ∷ Each ∷ Next ∷ Break ∷ []
+    Halt ∷ Literal ∷ Variable ∷ Capture ∷ Join ∷ Set ∷ Bool ∷ Not ∷ Jump ∷ JumpIfTrue ∷ JumpIfFalse ∷ Header ∷ Exists ∷ String ∷ Size ∷ PartSize ∷ PartBody ∷ PartDigest ∷ Keep ∷ Discard ∷ File ∷ Store ∷ Each ∷ Next ∷ Break ∷ Take ∷ []
 
 -- the operation of an octet, if it names one
 abbrev pub operation_of : ℕ → Option Operation
@@ -39,3 +39,4 @@ octet_of Store = 0x16
 octet_of Each = 0x17
 octet_of Next = 0x18
 octet_of Break = 0x19
+octet_of Take = 0x1A

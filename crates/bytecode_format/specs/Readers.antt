@@ -1,6 +1,6 @@
 -- Reading a program from left to right, as the private readers do.
 -- A field is a value and the octets after it; None where the octets are no such field.
-use Rattle.std.specs.Prelude.{◌≡◌, ℕ, zero, suc, List, [], ◌∷◌, length, take, drop, Option, Some, None, Result, Ok, Err, nat_lt, nat_eq, ◌==◌, ◌||◌, ◌++◌, codes, if◌then◌else◌}
+use Rattle.std.specs.Prelude.{◌≡◌, ℕ, zero, suc, List, [], ◌∷◌, length, take, drop, Option, Some, None, Result, Ok, Err, nat_lt, nat_eq, ◌==◌, ◌||◌, codes, if◌then◌else◌}
 use Rattle.std.specs.Int.{Width, w16, w32, w64, byte_len, from_be_bytes}
 use Rattle.std.specs.Cmp.Lexicographic.{pointwise}
 use Rattle.octets.specs.Limits.{max_program, max_instructions, max_variables, max_string}
@@ -8,6 +8,7 @@ use Rattle.bytecode_format.specs.declared.error.FormatError.{FormatError}
 use Rattle.bytecode_format.specs.declared.error.FormatError.TheVariants.{Memory, Spelling}
 use Rattle.bytecode_format.specs.declared.instruction.Instruction.{Instruction}
 use Rattle.bytecode_format.specs.Code.{Code}
+use Rattle.bytecode_format.specs.Spelling.{is_version}
 
 infixl 10 ◌>>=◌
 abbrev pub ◌>>=◌ : {A B : Type 0} → Option A → (A → Option B) → Option B
@@ -72,9 +73,26 @@ counts_at octets = do
       then None
       else Some (record { variables = variables.0; numbers = numbers.0; strings = strings.0; instructions = instructions.0 }, instructions.1)
 
--- the version's octet after the name of the format
+-- the name of the format
 abbrev pub opening : List ℕ
-opening = codes "SVBC" ++ 1 ∷ []
+opening = codes "SVBC"
+
+-- an octet that is a version
+unfoldable pub version_at : List ℕ → Option (ℕ × List ℕ)
+version_at octets = do
+  version ← octet_at octets
+  if is_version version.0 then Some version else None
+
+-- the tables of a program of this version, which are all that is left
+unfoldable pub tables_at : ℕ → List ℕ → Option Code
+tables_at version octets =
+    counts_at octets
+    >>= λ counts. many_at (number_at w64) counts.0.numbers counts.1
+    >>= λ numbers. many_at string_at counts.0.strings numbers.1
+    >>= λ strings. many_at instruction_at counts.0.instructions strings.1
+    >>= λ instructions. if length instructions.1 == 0
+    then Some (record { version = version; variables = counts.0.variables; numbers = numbers.0; strings = strings.0; instructions = instructions.0 })
+    else None
 
 -- all of the octets
 unfoldable pub program_at : List ℕ → Option Code
@@ -82,10 +100,5 @@ program_at octets =
     if nat_lt max_program (length octets)
     then None
     else after opening octets
-    >>= λ counted. counts_at counted
-    >>= λ counts. many_at (number_at w64) counts.0.numbers counts.1
-    >>= λ numbers. many_at string_at counts.0.strings numbers.1
-    >>= λ strings. many_at instruction_at counts.0.instructions strings.1
-    >>= λ instructions. if length instructions.1 == 0
-    then Some (record { version = 1; variables = counts.0.variables; numbers = numbers.0; strings = strings.0; instructions = instructions.0 })
-    else None
+    >>= λ versioned. version_at versioned
+    >>= λ version. tables_at version.0 version.1

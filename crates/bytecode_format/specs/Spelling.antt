@@ -1,5 +1,5 @@
 -- The octets of a program, and what a program is. All numbers are big-endian.
-use Rattle.std.specs.Prelude.{◌≡◌, ℕ, ◌^◌, ◌<◌, ◌≤◌, List, [], ◌∷◌, ◌++◌, length, All, codes}
+use Rattle.std.specs.Prelude.{◌≡◌, ◌==◌, ◌||◌, ℕ, Bool, true, ◌^◌, ◌<◌, ◌≤◌, List, [], ◌∷◌, ◌++◌, length, All, codes}
 use Rattle.std.specs.List.{flat_map}
 use Rattle.std.specs.Int.{w16, w32, w64, to_be_bytes}
 use Rattle.octets.specs.Limits.{max_program, max_instructions, max_variables, max_string}
@@ -48,9 +48,13 @@ pub record Fits (i : Instruction) : Type 0 where
   pub b : i.b < 2 ^ 16
   pub c : i.c < 2 ^ 32
 
+-- the versions of the format: all operations are there in version 2, and all but Take in version 1
+abbrev pub is_version : ℕ → Bool
+is_version n = (n == 1) || (n == 2)
+
 -- the limits of a program
 pub record IsProgram (code : Code) : Type 0 where
-  pub version : code.version ≡ 1
+  pub version : is_version code.version ≡ true
   pub variables : code.variables ≤ max_variables
   pub numbers : length code.numbers < 2 ^ 16
   pub each_number : All (λ n. n < 2 ^ 64) code.numbers

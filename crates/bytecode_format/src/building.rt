@@ -8,9 +8,13 @@ ghost use Rattle.bytecode_format.specs.Spelling.{string, Fits, IsProgram};
 use crate::error::FormatError;
 use crate::instruction::Instruction;
 use crate::program::{
-    MAX_INSTRUCTIONS, MAX_PROGRAM, MAX_STRING, MAX_TABLE, MAX_VARIABLES, OPENING, Program, VERSION,
+    MAX_INSTRUCTIONS, MAX_PROGRAM, MAX_STRING, MAX_TABLE, MAX_VARIABLES, OPENING, Program,
+    is_version,
 };
 use octets::Octets;
+
+/// How many octets the version takes.
+const VERSION_LEN: usize = 1;
 
 /// How many octets the four counts take.
 const COUNTS_LEN: usize = 10;
@@ -73,7 +77,7 @@ impl Program {
         ensures built { let code : Code = record { version = version; variables = variables; numbers = numbers.items; strings = strings.items; instructions = instructions.items } in IfOk result (λ p. (p ≡ code) × IsProgram code) }
         ensures refused { let code : Code = record { version = version; variables = variables; numbers = numbers.items; strings = strings.items; instructions = instructions.items } in IfErr result (λ e. (e ≡ FormatError.Spelling) × ¬ IsProgram code) }
     {
-        if version != VERSION || variables > MAX_VARIABLES {
+        if !is_version(version) || variables > MAX_VARIABLES {
             return Err(FormatError::Spelling);
         }
         if numbers.len() > MAX_TABLE
@@ -86,11 +90,13 @@ impl Program {
             return Err(FormatError::Spelling);
         }
         let rows_len = (numbers.len() + instructions.len()) * ROW_LEN;
-        if OPENING.len() + COUNTS_LEN + rows_len + strings_len(&strings) > MAX_PROGRAM {
+        if OPENING.len() + VERSION_LEN + COUNTS_LEN + rows_len + strings_len(&strings)
+            > MAX_PROGRAM
+        {
             return Err(FormatError::Spelling);
         }
         numbers_fit(&numbers);
         instructions_fit(&instructions);
-        Ok(Program::assemble(variables, numbers, strings, instructions))
+        Ok(Program::assemble(version, variables, numbers, strings, instructions))
     }
 }

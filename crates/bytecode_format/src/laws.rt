@@ -12,6 +12,11 @@ pub fn one_program_for_octets()
     ensures { (p q : Code) → IsProgram p → IsProgram q → spelling p ≡ spelling q → p ≡ q }
 {}
 
+/// What is a program in one version is a program in version 2.
+pub fn programs_go_on_in_version_two()
+    ensures { (code : Code) → IsProgram code → IsProgram (record code { version = 2 }) }
+{}
+
 /// What one more action at the end of a run changes.
 pub fn one_more_action()
     ensures { (actions : List Action) (action : Action) → first_occurrences (actions ++ action ∷ []) ≡ with_action (first_occurrences actions) action }

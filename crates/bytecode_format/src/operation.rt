@@ -54,6 +54,8 @@ pub enum Operation {
     Next = 0x18,
     /// Closes loops.
     Break = 0x19,
+    /// Sets a variable from the current part's content.
+    Take = 0x1A,
 }
 
 impl Operation {
@@ -89,6 +91,7 @@ impl Operation {
             0x17 => Operation::Each,
             0x18 => Operation::Next,
             0x19 => Operation::Break,
+            0x1A => Operation::Take,
             _ => return None,
         })
     }

@@ -1,12 +1,16 @@
 // A program as a value.
 ghost use Rattle.std.specs.Prelude.{◌≡◌};
+ghost use Rattle.bytecode_format.specs.Spelling.{is_version};
 
 use crate::instruction::Instruction;
 use octets::Octets;
 use std::marker::Model;
 
-/// The one version of the format.
-pub(crate) const VERSION: u8 = 1;
+/// The version of the format that has all operations but Take.
+const VERSION_ONE: u8 = 1;
+
+/// The version that has all operations.
+const VERSION_TWO: u8 = 2;
 
 /// The most octets that a program has.
 pub(crate) const MAX_PROGRAM: usize = 4_194_304;
@@ -23,8 +27,15 @@ pub(crate) const MAX_STRING: usize = 16_384;
 /// The most instructions that a program has.
 pub(crate) const MAX_INSTRUCTIONS: usize = 65_536;
 
-/// What a program's octets begin with: the name of the format and its version.
-pub(crate) const OPENING: [u8; 5] = *b"SVBC\x01";
+/// What a program's octets begin with: the name of the format. The octet of the version follows.
+pub(crate) const OPENING: [u8; 4] = *b"SVBC";
+
+/// Whether the format has this version.
+pub(crate) fn is_version(number: u8) -> bool
+    ensures { result ≡ is_version number }
+{
+    number == VERSION_ONE || number == VERSION_TWO
+}
 
 /// A program within the limits of the format. A contract sees its `Code`.
 #[derive(Drop)]
@@ -52,16 +63,17 @@ impl Program {
 
     /// A program of parts that are known to be within the limits.
     pub(crate) fn assemble(
+        version: u8,
         variables: u16,
         numbers: Vec<u64>,
         strings: Vec<Octets>,
         instructions: Vec<Instruction>,
     ) -> Program
-        requires { IsProgram (record { version = 1; variables = variables; numbers = numbers.items; strings = strings.items; instructions = instructions.items }) }
-        ensures { result ≡ record { version = 1; variables = variables; numbers = numbers.items; strings = strings.items; instructions = instructions.items } }
+        requires { IsProgram (record { version = version; variables = variables; numbers = numbers.items; strings = strings.items; instructions = instructions.items }) }
+        ensures { result ≡ record { version = version; variables = variables; numbers = numbers.items; strings = strings.items; instructions = instructions.items } }
     {
         Program {
-            version: VERSION,
+            version,
             variables,
             numbers,
             strings,
@@ -69,7 +81,21 @@ impl Program {
         }
     }
 
-    /// The version of the format that the program is in.
+    /// The same program in version 2 of the format. Takes no memory.
+    #[tactic(auto, using(crate::proofs::Versions::in_two))]
+    pub fn in_version_two(self) -> Program
+        ensures { result ≡ record self { version = 2 } }
+    {
+        Program::assemble(
+            VERSION_TWO,
+            self.variables,
+            self.numbers,
+            self.strings,
+            self.instructions,
+        )
+    }
+
+    /// The version of the format that the program is in: 1 or 2.
     pub fn version(&self) -> u8
         ensures value { result ≡ self.now.version }
         ensures program { IsProgram self.now }

@@ -4,11 +4,13 @@ ghost use Rattle.std.specs.Int.{w16, w32, w64};
 ghost use Rattle.octets.specs.Limits.{max_program};
 ghost use Rattle.bytecode_format.specs.Code.{Code};
 ghost use Rattle.bytecode_format.specs.Spelling.{IsProgram, spelling};
-ghost use Rattle.bytecode_format.specs.Readers.{Gives, after, octet_at, number_at, string_at, instruction_at, many_at, counts_at, program_at, opening};
+ghost use Rattle.bytecode_format.specs.Readers.{Gives, after, octet_at, number_at, string_at, instruction_at, many_at, counts_at, version_at, program_at, opening};
 
 use crate::error::FormatError;
 use crate::instruction::Instruction;
-use crate::program::{MAX_INSTRUCTIONS, MAX_PROGRAM, MAX_STRING, MAX_VARIABLES, OPENING, Program};
+use crate::program::{
+    MAX_INSTRUCTIONS, MAX_PROGRAM, MAX_STRING, MAX_VARIABLES, OPENING, Program, is_version,
+};
 use octets::Octets;
 use std::alloc::Global;
 
@@ -62,6 +64,17 @@ fn u64_of(octets: &[u8]) -> Result<(u64, &[u8]), FormatError>
         prefix[0], prefix[1], prefix[2], prefix[3], prefix[4], prefix[5], prefix[6], prefix[7],
     ]);
     Ok((number, rest))
+}
+
+#[tactic(auto, unfolding(crate::specs::Readers::version_at))]
+fn version_of(octets: &[u8]) -> Result<(u8, &[u8]), FormatError>
+    ensures { Gives (λ x. (x.0, x.1.now)) result (version_at octets.now) }
+{
+    let (version, rest) = octet_of(octets)?;
+    if !is_version(version) {
+        return Err(FormatError::Spelling);
+    }
+    Ok((version, rest))
 }
 
 #[tactic(auto, unfolding(crate::specs::Readers::string_at))]
@@ -154,21 +167,23 @@ fn instructions_of(
 /// What the octets of a program hold.
 #[derive(Drop)]
 struct Parts {
+    version: u8,
     variables: u16,
     numbers: Vec<u64>,
     strings: Vec<Octets>,
     instructions: Vec<Instruction>,
 }
 
-#[tactic(auto, unfolding(crate::specs::Readers::program_at, crate::specs::Readers::after))]
+#[tactic(auto, unfolding(crate::specs::Readers::program_at, crate::specs::Readers::tables_at, crate::specs::Readers::after))]
 fn parts_of(alloc: Global, octets: &[u8]) -> Result<Parts, FormatError>
-    ensures parts { Gives (λ p. record { version = 1; variables = p.variables; numbers = p.numbers.items; strings = p.strings.items; instructions = p.instructions.items }) result (program_at octets.now) }
+    ensures parts { Gives (λ p. record { version = p.version; variables = p.variables; numbers = p.numbers.items; strings = p.strings.items; instructions = p.instructions.items }) result (program_at octets.now) }
     ensures large { max_program < length octets.now → IsErrAnd result (λ e. e ≡ FormatError.Spelling) }
 {
     if octets.len() > MAX_PROGRAM {
         return Err(FormatError::Spelling);
     }
     let rest = octets.strip_prefix(&OPENING).ok_or(FormatError::Spelling)?;
+    let (version, rest) = version_of(rest)?;
     let (counts, rest) = counts_of(rest)?;
     let (numbers, rest) = numbers_of(alloc, counts.numbers, rest)?;
     let (strings, rest) = strings_of(alloc, counts.strings, rest)?;
@@ -177,6 +192,7 @@ fn parts_of(alloc: Global, octets: &[u8]) -> Result<Parts, FormatError>
         return Err(FormatError::Spelling);
     }
     Ok(Parts {
+        version,
         variables: counts.variables,
         numbers,
         strings,
@@ -187,7 +203,7 @@ fn parts_of(alloc: Global, octets: &[u8]) -> Result<Parts, FormatError>
 impl Program {
     /// The program that the octets spell, all of the octets.
     ///
-    /// `Spelling` comes exactly where they spell no program: where the opening, a count or a length
+    /// `Spelling` comes exactly where they spell no program: where the opening, the version, a count or a length
     /// is outside the limits, a table passes the end, or octets stand after the last instruction.
     /// `Memory` comes only where an allocation was refused, and never for more octets than the limit: their
     /// number is judged before memory is taken. What is allocated grows with what is read, and not with what a
@@ -199,6 +215,7 @@ impl Program {
     {
         let parts = parts_of(alloc, octets)?;
         Ok(Program::assemble(
+            parts.version,
             parts.variables,
             parts.numbers,
             parts.strings,

@@ -50,6 +50,7 @@ impl Program {
     {
         let mut out = Vec::new(alloc);
         out.extend_from_slice(&OPENING)?;
+        out.push(self.version())?;
         out.extend_from_slice(&self.variables().to_be_bytes())?;
         out.extend_from_slice(&(self.numbers().len() as u16).to_be_bytes())?;
         out.extend_from_slice(&(self.strings().len() as u16).to_be_bytes())?;

@@ -8,7 +8,7 @@ use Rattle.std.proofs.lemmas.List.Elements.{All-cons, All-nil}
 use Rattle.octets.specs.Limits.{max_message, max_parts}
 use Rattle.bytecode_format.specs.declared.instruction.Instruction.{Instruction}
 use Rattle.bytecode_format.specs.declared.operation.Operation.{Operation}
-use Rattle.bytecode_format.specs.declared.operation.Operation.TheVariants.{Join, Set, Header, Exists, String, PartBody, PartDigest, File, Store}
+use Rattle.bytecode_format.specs.declared.operation.Operation.TheVariants.{Join, Set, Header, Exists, String, PartBody, PartDigest, File, Store, Take}
 use Rattle.bytecode_format.specs.Operations.{operation_of}
 use Rattle.bytecode_format.specs.Code.{Code}
 use Rattle.bytecode_format.specs.Spelling.{IsProgram}
@@ -22,7 +22,7 @@ use Rattle.bytecode_verifier.specs.declared.cap.Cap.{Cap}
 use Rattle.bytecode_verifier.specs.Budget.{one_more_each, cap_of_octets, cap_of_names, cap_of_matching, cap_of_comparing, cap_of_body, cap_of_digest, one_charge, cap_of, cap_found, cap_at, sum_inside, sums_inside, budget_of}
 use Rattle.bytecode_verifier.specs.Pass.{IsSmall, max_cap}
 use Rattle.bytecode_verifier.proofs.Taking.{taken, taken_lists}
-use Rattle.bytecode_verifier.proofs.Short.{shape_small}
+use Rattle.bytecode_verifier.proofs.Short.{length_short, shape_small}
 
 -- no cap is larger than this
 abbrev pub Fits : Cap → Type 0
@@ -82,38 +82,39 @@ texts_fit number entries small cap fits = go (take_texts number entries) refl
     go None h = one_fits
     go (Some texts) h = let t = taken number entries texts small.short h in fits texts (omega (arith, t.total, t.left, small.few))
 
-pub cap_fits : (o : Option Operation) (i : Instruction) (entries : Entries) → IsSmall entries → Fits (cap_of o i entries)
-cap_fits (Some Header) i entries small = go (take_lists i.b (params_in i.c) (keys_in i.c) entries) refl
+pub cap_fits : (o : Option Operation) (i : Instruction) (entries : Entries) → i.b < 2 ^ 16 → IsSmall entries → Fits (cap_of o i entries)
+cap_fits (Some Header) i entries below small = go (take_lists i.b (params_in i.c) (keys_in i.c) entries) refl
   where
     go : (o : Option Lists) → take_lists i.b (params_in i.c) (keys_in i.c) entries ≡ o → Fits (option_map_or cap_of_matching o one_charge)
     go None h = one_fits
     go (Some lists) h =
         let t = taken_lists i.b (params_in i.c) (keys_in i.c) entries lists small.short h in
         (lit≤ tt, matching_fits i.b (params_in i.c) (keys_in i.c) (one_more_each lists.names) (one_more_each lists.keys) (length lists.names) (length lists.params) (omega (arith, t.left, small.few)) t.names_total t.keys_total t.names_are t.params_are)
-cap_fits (Some Exists) i entries small = texts_fit i.b entries small cap_of_names (λ names total. (lit≤ tt, omega (arith, total)))
-cap_fits (Some PartBody) i entries small = texts_fit i.c entries small cap_of_body (λ keys total. (lit≤ tt, omega (arith, total)))
-cap_fits (Some PartDigest) i entries small = texts_fit i.c entries small cap_of_digest (λ keys total. (omega (arith, total), lit≤ tt))
-cap_fits (Some File) i entries small = octets_fit 1 entries small (take_texts 1 entries) refl
-cap_fits (Some Store) i entries small = octets_fit 1 entries small (take_texts 1 entries) refl
-cap_fits (Some Join) i entries small = octets_fit i.b entries small (take_texts i.b entries) refl
-cap_fits (Some Set) i entries small = octets_fit 1 entries small (take_texts 1 entries) refl
-cap_fits (Some String) i entries small = go (take_lists i.b 0 i.c entries) refl
+cap_fits (Some Exists) i entries below small = texts_fit i.b entries small cap_of_names (λ names total. (lit≤ tt, omega (arith, total)))
+cap_fits (Some PartBody) i entries below small = texts_fit i.c entries small cap_of_body (λ keys total. (lit≤ tt, omega (arith, total)))
+cap_fits (Some PartDigest) i entries below small = texts_fit i.c entries small cap_of_digest (λ keys total. (omega (arith, total), lit≤ tt))
+cap_fits (Some File) i entries below small = octets_fit 1 entries small (take_texts 1 entries) refl
+cap_fits (Some Store) i entries below small = octets_fit 1 entries small (take_texts 1 entries) refl
+cap_fits (Some Join) i entries below small = octets_fit i.b entries small (take_texts i.b entries) refl
+cap_fits (Some Set) i entries below small = octets_fit 1 entries small (take_texts 1 entries) refl
+cap_fits (Some String) i entries below small = go (take_lists i.b 0 i.c entries) refl
   where
     go : (o : Option Lists) → take_lists i.b 0 i.c entries ≡ o → Fits (option_map_or cap_of_comparing o one_charge)
     go None h = one_fits
     go (Some lists) h =
         let t = taken_lists i.b 0 i.c entries lists small.short h in
         (comparing_fits i.b i.c (one_more_each lists.names) (one_more_each lists.keys) (omega (arith, t.left, small.few)) t.names_total t.keys_total, lit≤ tt)
-cap_fits _ i entries small = one_fits
+cap_fits (Some Take) i entries below small = (omega (arith, below), lit≤ tt)
+cap_fits _ i entries below small = one_fits
 
 -- the cap at a place
 pub cap_at_fits : (code : Code) → IsProgram code → (place : ℕ) → Fits (cap_at code place)
-cap_at_fits code fits place = found (slice_get code.instructions place) (shape_at code place) refl
+cap_at_fits code fits place = found (slice_get code.instructions place) (shape_at code place) refl refl
   where
-    found : (i : Option Instruction) (o : Option Entries) → shape_at code place ≡ o → Fits (cap_found i o)
-    found None o h = (lit≤ tt, lit≤ tt)
-    found (Some i) None h = (lit≤ tt, lit≤ tt)
-    found (Some i) (Some entries) h = cap_fits (operation_of i.op) i entries (shape_small code fits place entries h)
+    found : (i : Option Instruction) (o : Option Entries) → slice_get code.instructions place ≡ i → shape_at code place ≡ o → Fits (cap_found i o)
+    found None o here h = (lit≤ tt, lit≤ tt)
+    found (Some i) None here h = (lit≤ tt, lit≤ tt)
+    found (Some i) (Some entries) here h = cap_fits (operation_of i.op) i entries (length_short code.instructions place i fits.each_instruction here) (shape_small code fits place entries h)
 
 sum_small : (f : ℕ → ℕ) (n most : ℕ) → ((place : ℕ) → f place ≤ most) → sum_below f n ≤ n * most
 sum_small f zero most h = omega arith

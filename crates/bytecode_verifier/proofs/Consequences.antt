@@ -3,9 +3,9 @@ use Rattle.std.proofs.Common.{◌≡◌, ℕ, zero, suc, ◌+◌, ◌-◌, ◌<�
 use Rattle.std.proofs.lemmas.Bool.{cases_lt, eqb-true, eqb-false, ltb-true, ltb-false}
 use Rattle.std.proofs.lemmas.Option.{slice_get_within}
 use Rattle.std.proofs.lemmas.Map.Keys.{any_passes_from_place}
-use Rattle.octets.specs.Limits.{max_test_strings, max_loops}
+use Rattle.octets.specs.Limits.{max_test_strings, max_loops, max_value}
 use Rattle.bytecode_format.specs.declared.instruction.Instruction.{Instruction}
-use Rattle.bytecode_format.specs.declared.operation.Operation.TheVariants.{Literal, Variable, Set, Size, Header, Exists, PartSize, PartBody, PartDigest, Break}
+use Rattle.bytecode_format.specs.declared.operation.Operation.TheVariants.{Literal, Variable, Set, Size, Header, Exists, PartSize, PartBody, PartDigest, Break, Take}
 use Rattle.bytecode_format.specs.Operations.{operation_of}
 use Rattle.bytecode_format.specs.Code.{Code}
 use Rattle.bytecode_format.specs.declared.modifiers.Modifiers.{Modifiers}
@@ -13,7 +13,8 @@ use Rattle.bytecode_format.specs.Modifiers.{modifiers_numbered}
 use Rattle.bytecode_verifier.specs.Loops.{open_loops, same_loops}
 use Rattle.std.specs.Option.{option_and_then}
 use Rattle.bytecode_format.specs.declared.operation.Operation.{Operation}
-use Rattle.bytecode_verifier.specs.Rows.{row_of, scopes, selectors, is_match_number, match_in, scope_in, selector_in, keys_in, params_in, is_selection, selects_params, is_list, are_counts, is_well_formed, is_jump, needs_part}
+use Rattle.bytecode_verifier.specs.declared.row.Row.{Row}
+use Rattle.bytecode_verifier.specs.Rows.{row_of, row_in_version, scopes, selectors, is_match_number, match_in, scope_in, selector_in, keys_in, params_in, is_selection, selects_params, is_list, are_counts, is_well_formed, is_jump, needs_part}
 use Rattle.bytecode_verifier.specs.Shape.{Entries, is_empty, is_target, entries_after, shape_after, shape_at}
 use Rattle.bytecode_verifier.specs.Rules.{row_in, misses_index, is_halt, breaks_form}
 use Rattle.bytecode_verifier.specs.Acceptance.{IsAccepted}
@@ -69,6 +70,11 @@ counts_of true false params none h = absurd cc
 counts_of false true params none h = (refl, λ s. absurd cc, λ s. h)
 counts_of false false params none h = absurd cc
 
+-- an operation of version 2 alone that is allowed is so in version 2
+in_two : (row : Row) (i : Instruction) (two : Bool) → is_well_formed (if not two then None else Some row) i ≡ true → two ≡ true
+in_two row i true h = refl
+in_two row i false h = absurd cc
+
 -- what the fields of a test of fields say
 pub record IsFieldTest (i : Instruction) : Type 0 where
   pub matching : is_match_number (match_in i.a) ≡ true
@@ -97,32 +103,32 @@ module _ (code : Code) (is : IsAccepted code) where
     pub number_known : operation_of i.op ≡ Some Size → i.c < length code.numbers
     number_known size =
         let broken : misses_index code (row_in code i) i ≡ false = rw here at (is.index place) in
-        leb-false (length code.numbers) i.c (ap (λ o. misses_index code (option_and_then (row_of code.version) o) i) (sym size) ∙ broken)
+        leb-false (length code.numbers) i.c (ap (λ o. misses_index code (option_and_then (row_in_version code.version) o) i) (sym size) ∙ broken)
 
     -- the index is below the count of strings
     pub string_known : operation_of i.op ≡ Some Literal → i.c < length code.strings
     string_known literal =
         let broken : misses_index code (row_in code i) i ≡ false = rw here at (is.index place) in
-        leb-false (length code.strings) i.c (ap (λ o. misses_index code (option_and_then (row_of code.version) o) i) (sym literal) ∙ broken)
+        leb-false (length code.strings) i.c (ap (λ o. misses_index code (option_and_then (row_in_version code.version) o) i) (sym literal) ∙ broken)
 
     -- the index is below the count of variables
     pub variable_known : operation_of i.op ≡ Some Variable → i.c < code.variables
     variable_known variable =
         let broken : misses_index code (row_in code i) i ≡ false = rw here at (is.index place) in
-        leb-false code.variables i.c (ap (λ o. misses_index code (option_and_then (row_of code.version) o) i) (sym variable) ∙ broken)
+        leb-false code.variables i.c (ap (λ o. misses_index code (option_and_then (row_in_version code.version) o) i) (sym variable) ∙ broken)
 
     pub set_known : operation_of i.op ≡ Some Set → i.c < code.variables
     set_known set =
         let broken : misses_index code (row_in code i) i ≡ false = rw here at (is.index place) in
-        leb-false code.variables i.c (ap (λ o. misses_index code (option_and_then (row_of code.version) o) i) (sym set) ∙ broken)
+        leb-false code.variables i.c (ap (λ o. misses_index code (option_and_then (row_in_version code.version) o) i) (sym set) ∙ broken)
 
     pub part_number_known : operation_of i.op ≡ Some PartSize → i.c < length code.numbers
     part_number_known size =
         let broken : misses_index code (row_in code i) i ≡ false = rw here at (is.index place) in
-        leb-false (length code.numbers) i.c (ap (λ o. misses_index code (option_and_then (row_of code.version) o) i) (sym size) ∙ broken)
+        leb-false (length code.numbers) i.c (ap (λ o. misses_index code (option_and_then (row_in_version code.version) o) i) (sym size) ∙ broken)
 
-    formed_as : (operation : Operation) → operation_of i.op ≡ Some operation → is_well_formed (row_of code.version operation) i ≡ true
-    formed_as operation named = ap (λ o. is_well_formed (option_and_then (row_of code.version) o) i) (sym named) ∙ well_formed
+    formed_as : (operation : Operation) → operation_of i.op ≡ Some operation → is_well_formed (row_in_version code.version operation) i ≡ true
+    formed_as operation named = ap (λ o. is_well_formed (option_and_then (row_in_version code.version) o) i) (sym named) ∙ well_formed
 
     -- the fields of a test of fields are in their ranges
     pub header_known : operation_of i.op ≡ Some Header → IsFieldTest i
@@ -178,8 +184,29 @@ module _ (code : Code) (is : IsAccepted code) where
     -- the number is that of modifiers
     pub modifiers_known : operation_of i.op ≡ Some Set → (modifiers : Modifiers) × (modifiers_numbered i.a ≡ Some modifiers)
     modifiers_known set =
-        let formed : is_well_formed (row_of code.version Set) i ≡ true = ap (λ o. is_well_formed (option_and_then (row_of code.version) o) i) (sym set) ∙ well_formed in
+        let formed : is_well_formed (row_in_version code.version Set) i ≡ true = ap (λ o. is_well_formed (option_and_then (row_in_version code.version) o) i) (sym set) ∙ well_formed in
         some_modifiers (modifiers_numbered i.a) (first_of_three _ _ _ formed)
+
+    -- a Take stands in programs of version 2 alone
+    pub take_version : operation_of i.op ≡ Some Take → code.version ≡ 2
+    take_version named = eqb-true code.version 2 (in_two (row_of Take) i (code.version == 2) (formed_as Take named))
+
+    pub take_row : operation_of i.op ≡ Some Take → row_in code i ≡ Some (row_of Take)
+    take_row named = ap (λ o. option_and_then (row_in_version code.version) o) named ∙ rw (take_version named) refl
+
+    -- the index of a Take is below the count of variables
+    pub take_variable_known : operation_of i.op ≡ Some Take → i.c < code.variables
+    take_variable_known named =
+        let broken : misses_index code (row_in code i) i ≡ false = rw here at (is.index place) in
+        leb-false code.variables i.c (ap (λ row. misses_index code row i) (sym (take_row named)) ∙ broken)
+
+    -- a Take is of one octet or more, and of no more than a value has
+    pub take_known : operation_of i.op ≡ Some Take → (1 ≤ i.b) × (i.b ≤ max_value)
+    take_known named =
+        let formed : is_well_formed (Some (row_of Take)) i ≡ true = ap (λ row. is_well_formed row i) (sym (take_row named)) ∙ well_formed in
+        let parts = all_three (i.a == 0) (nat_le 1 i.b && nat_le i.b max_value) true formed in
+        let range = both (nat_le 1 i.b) (nat_le i.b max_value) parts.1 in
+        (leb-true 1 i.b range.0, leb-true i.b max_value range.1)
 
     -- an instruction that doesn't end the run isn't the last
     pub not_last : is_halt (operation_of i.op) ≡ false → place + 1 < length code.instructions

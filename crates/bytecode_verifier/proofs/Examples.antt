@@ -2,12 +2,13 @@
 use Rattle.std.proofs.Common.{◌≡◌, ℕ, Bool, List, [], ◌∷◌, Some, None, refl, true, false}
 use Rattle.bytecode_format.specs.declared.instruction.Instruction.{Instruction}
 use Rattle.bytecode_format.specs.declared.operation.Operation.{Operation}
-use Rattle.bytecode_format.specs.declared.operation.Operation.TheVariants.{Halt, Literal, Variable, Capture, Join, Set, Bool as BoolOp, Not, Jump as Goto, JumpIfTrue, JumpIfFalse, Header, Exists, String, Size, PartSize, PartBody, PartDigest, Keep, Discard, File, Store, Each, Next, Break}
+use Rattle.bytecode_format.specs.declared.operation.Operation.TheVariants.{Halt, Literal, Variable, Capture, Join, Set, Bool as BoolOp, Not, Jump as Goto, JumpIfTrue, JumpIfFalse, Header, Exists, String, Size, PartSize, PartBody, PartDigest, Keep, Discard, File, Store, Each, Next, Break, Take}
 use Rattle.bytecode_format.specs.Operations.{octet_of}
 use Rattle.bytecode_format.specs.Code.{Code}
 use Rattle.bytecode_verifier.specs.declared.error.Refusal.TheVariants.{Index, Form, End, Loop, Jump, NoPart, Stack}
 use Rattle.bytecode_verifier.specs.Acceptance.{refusal_of}
 use Rattle.bytecode_verifier.specs.Loops.{loops, open_loops, same_loops}
+use Rattle.bytecode_cost.specs.Sums.{Sums, budget_at}
 use Rattle.bytecode_verifier.specs.Budget.{budget_of}
 use Rattle.bytecode_verifier.specs.Rows.{row_named, is_well_formed}
 
@@ -368,3 +369,60 @@ parameters_budget = refl
 -- a parameter is missing on the stack
 parameter_missing : refusal_of (with_strings lengths (at Literal 0 1 ∷ at Literal 0 3 ∷ at Literal 0 2 ∷ lists Header 128 1 0x20001 ∷ at JumpIfFalse 0 5 ∷ plain Halt ∷ [])) ≡ Some (Stack 3)
 parameter_missing = refl
+
+-- ---- Take, and version 2
+
+abbrev in_version : ℕ → ℕ → List Instruction → Code
+in_version version variables instructions = record { version = version; variables = variables; numbers = []; strings = (1 ∷ []) ∷ []; instructions = instructions }
+
+abbrev takes_at_once : List Instruction
+takes_at_once = lists Take 0 1 0 ∷ plain Halt ∷ []
+
+take_of_no_variable : refusal_of (in_version 2 0 takes_at_once) ≡ Some (Index 0)
+take_of_no_variable = refl
+
+take_outside : refusal_of (in_version 2 1 takes_at_once) ≡ Some (NoPart 0)
+take_outside = refl
+
+-- in version 1 there is no such operation
+take_in_version_one : (refusal_of (in_version 1 0 takes_at_once) ≡ Some (Form 0)) × (refusal_of (in_version 1 1 takes_at_once) ≡ Some (Form 0))
+take_in_version_one = (refl, refl)
+
+abbrev takes : ℕ → ℕ → ℕ → List Instruction
+takes a b c = at Each 0 2 ∷ lists Take a b c ∷ at Next 0 0 ∷ plain Halt ∷ []
+
+takes_in_a_loop : (refusal_of (in_version 2 1 (takes 0 1 0)) ≡ None) × (refusal_of (in_version 1 1 (takes 0 1 0)) ≡ Some (Form 1))
+takes_in_a_loop = (refl, refl)
+
+takes_no_octet : refusal_of (in_version 2 1 (takes 0 0 0)) ≡ Some (Form 1)
+takes_no_octet = refl
+
+takes_most : refusal_of (in_version 2 1 (takes 0 4096 0)) ≡ None
+takes_most = refl
+
+takes_one_more : refusal_of (in_version 2 1 (takes 0 4097 0)) ≡ Some (Form 1)
+takes_one_more = refl
+
+takes_with_a_field_too_many : refusal_of (in_version 2 1 (takes 1 1 0)) ≡ Some (Form 1)
+takes_with_a_field_too_many = refl
+
+takes_another_variable : refusal_of (in_version 2 1 (takes 0 1 1)) ≡ Some (Index 1)
+takes_another_variable = refl
+
+-- what stands on the stack stays
+takes_below_a_folder : refusal_of (in_version 2 1 (at Each 0 4 ∷ at Literal 0 0 ∷ lists Take 0 1 0 ∷ plain Store ∷ at Next 0 0 ∷ plain Halt ∷ [])) ≡ None
+takes_below_a_folder = refl
+
+-- a loop that takes three octets, and a folder of that name
+take_budget : budget_of (in_version 2 1 (at Each 0 2 ∷ lists Take 0 3 0 ∷ at Next 0 0 ∷ at Variable 0 0 ∷ plain File ∷ plain Halt ∷ []))
+    ≡ (let sums : Sums = record { version = 2; fixed = 4100 ∷ 5 ∷ 0 ∷ 0 ∷ []; scaled = 0 ∷ 0 ∷ 0 ∷ 0 ∷ [] } in sums)
+take_budget = refl
+
+keeps_in_version_two : (refusal_of (in_version 2 0 (plain Keep ∷ plain Halt ∷ [])) ≡ None) × ((budget_of (in_version 2 0 (plain Keep ∷ plain Halt ∷ []))).fixed ≡ 2 ∷ 0 ∷ 0 ∷ 0 ∷ [])
+keeps_in_version_two = (refl, refl)
+
+abbrev loops_in_loops : List Instruction
+loops_in_loops = at Each 0 6 ∷ at Each 0 5 ∷ at Each 0 4 ∷ plain Keep ∷ at Next 0 2 ∷ at Next 0 1 ∷ at Next 0 0 ∷ plain Halt ∷ []
+
+loops_in_loops_budget : (budget_at (budget_of (in_version 2 0 loops_in_loops)) 0 5 ≡ 52) × (budget_at (budget_of (in_version 1 0 loops_in_loops)) 0 5 ≡ 312)
+loops_in_loops_budget = (refl, refl)

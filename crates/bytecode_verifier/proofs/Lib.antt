@@ -15,3 +15,4 @@ pub mod Open
 pub mod Around
 pub mod LoopRules
 pub mod Nesting
+pub mod Versions

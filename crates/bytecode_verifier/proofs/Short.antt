@@ -1,5 +1,5 @@
 -- The entries of a shape: how many they are, and how long their texts.
-use Rattle.std.proofs.Common.{◌≡◌, ℕ, zero, suc, ◌<◌, ◌≤◌, Bool, true, false, cond, nat_lt, List, [], ◌∷◌, Option, Some, None, All, min, sum, lit≤, length, slice_get, refl, subst, arith}
+use Rattle.std.proofs.Common.{◌≡◌, ℕ, zero, suc, ◌^◌, ◌<◌, ◌≤◌, Bool, true, false, cond, nat_lt, List, [], ◌∷◌, Option, Some, None, All, min, sum, lit≤, length, slice_get, refl, subst, arith}
 use Rattle.std.proofs.lemmas.Bool.{ltb-true}
 use Rattle.std.proofs.lemmas.Option.{slice_get_within, get_or_from_slice_get}
 use Rattle.std.proofs.lemmas.List.Elements.{All-get_or}
@@ -7,10 +7,10 @@ use Rattle.std.specs.Option.{option_and_then, option_map, option_map_or}
 use Rattle.octets.specs.Limits.{max_string, max_stack, max_value}
 use Rattle.bytecode_format.specs.declared.instruction.Instruction.{Instruction}
 use Rattle.bytecode_format.specs.declared.operation.Operation.{Operation}
-use Rattle.bytecode_format.specs.declared.operation.Operation.TheVariants.{Halt, Literal, Variable, Capture, Join, Set, Bool as BoolOp, Not, Jump, JumpIfTrue, JumpIfFalse, Header, Exists, String, Size, PartSize, PartBody, PartDigest, Keep, Discard, File, Store, Each, Next, Break}
+use Rattle.bytecode_format.specs.declared.operation.Operation.TheVariants.{Halt, Literal, Variable, Capture, Join, Set, Bool as BoolOp, Not, Jump, JumpIfTrue, JumpIfFalse, Header, Exists, String, Size, PartSize, PartBody, PartDigest, Keep, Discard, File, Store, Each, Next, Break, Take}
 use Rattle.bytecode_format.specs.Operations.{operation_of}
 use Rattle.bytecode_format.specs.Code.{Code}
-use Rattle.bytecode_format.specs.Spelling.{IsProgram}
+use Rattle.bytecode_format.specs.Spelling.{Fits, IsProgram}
 use Rattle.bytecode_verifier.specs.declared.shape.Entry.{Entry}
 use Rattle.bytecode_verifier.specs.declared.shape.Entry.TheVariants.{Truth, Text}
 use Rattle.bytecode_verifier.specs.Rows.{keys_in, params_in}
@@ -46,6 +46,12 @@ pub string_short : (strings : List (List ℕ)) (k : ℕ) (octets : List ℕ) →
 string_short strings k octets each e =
     let P : List ℕ → Type 0 = λ text. length text ≤ max_string in
     subst P (get_or_from_slice_get strings k octets octets e) (All-get_or P strings k octets (slice_get_within strings k octets e) each)
+
+-- the length that an instruction of a program names takes two octets
+pub length_short : (instructions : List Instruction) (k : ℕ) (i : Instruction) → All Fits instructions → slice_get instructions k ≡ Some i → i.b < 2 ^ 16
+length_short instructions k i each e =
+    let fits : Fits i = subst Fits (get_or_from_slice_get instructions k i i e) (All-get_or Fits instructions k i (slice_get_within instructions k i e) each) in
+    fits.b
 
 -- the text on top is taken
 taken_one : (entries after : Entries) → IsSmall entries → option_map (λ (taken : Texts). taken.rest) (take_texts 1 entries) ≡ Some after → IsSmall after
@@ -116,6 +122,7 @@ module _ (code : Code) (fits : IsProgram code) where
   small_after Store i entries after small e = taken_one entries after small e
   small_after Keep i entries after small e = let same : entries ≡ after = cc in subst IsSmall same small
   small_after Discard i entries after small e = let same : entries ≡ after = cc in subst IsSmall same small
+  small_after Take i entries after small e = let same : entries ≡ after = cc in subst IsSmall same small
 
   -- the entries of the shape at a place
   pub shape_small : (place : ℕ) (entries : Entries) → shape_at code place ≡ Some entries → IsSmall entries

@@ -21,7 +21,7 @@ use Rattle.bytecode_verifier.specs.declared.cap.Cap.{Cap}
 use Rattle.bytecode_verifier.specs.Budget.{one_charge, cap_of, cap_at}
 use Rattle.bytecode_verifier.specs.Pass.{IsSmall, Passes, max_cap, unless_failed, sum_below_place, sums_below, budget_below, with_charge, HasPassed}
 use Rattle.bytecode_verifier.proofs.Open.{lt-not-le}
-use Rattle.bytecode_verifier.proofs.Short.{shape_small}
+use Rattle.bytecode_verifier.proofs.Short.{length_short, shape_small}
 use Rattle.bytecode_verifier.proofs.Budgets.{Fits, cap_fits}
 use Rattle.bytecode_verifier.proofs.Least.{least_more}
 
@@ -184,7 +184,7 @@ module _ (code : Code) (place : ℕ) (i : Instruction) (pass : Pass) (fits : IsP
   cap_fits_here targeted operation cap added now op p same = subst Fits (sym same) (found_fits cap now _ _ p (λ entries e. go pass.stack refl e))
     where
       go : (s : Option ℕ) → pass.stack ≡ s → {entries : Entries} → option_and_then (shape_after code targeted operation i) (unless_failed s pass.shape) ≡ Some entries → Fits (cap_of operation i pass.shape)
-      go None e h = rw op (cap_fits (operation_of i.op) i pass.shape (shape_small code fits place pass.shape (before.shape ∙ ap (λ s. unless_failed s pass.shape) e)))
+      go None e h = rw op (cap_fits (operation_of i.op) i pass.shape (length_short code.instructions place i fits.each_instruction here) (shape_small code fits place pass.shape (before.shape ∙ ap (λ s. unless_failed s pass.shape) e)))
       go (Some q) e h = absurd cc
 
 -- the pass goes on by the instruction at a place

@@ -3,7 +3,7 @@ use Rattle.std.specs.Prelude.{ℕ, ◌+◌, ◌*◌, max, Option, Some, None, Li
 use Rattle.std.specs.Option.{option_map_or}
 use Rattle.bytecode_format.specs.declared.instruction.Instruction.{Instruction}
 use Rattle.bytecode_format.specs.declared.operation.Operation.{Operation}
-use Rattle.bytecode_format.specs.declared.operation.Operation.TheVariants.{Halt, Literal, Variable, Capture, Join, Set, Bool as BoolOp, Not, Jump, JumpIfTrue, JumpIfFalse, Header, Exists, String, Size, PartSize, PartBody, PartDigest, Keep, Discard, File, Store, Each, Next, Break}
+use Rattle.bytecode_format.specs.declared.operation.Operation.TheVariants.{Halt, Literal, Variable, Capture, Join, Set, Bool as BoolOp, Not, Jump, JumpIfTrue, JumpIfFalse, Header, Exists, String, Size, PartSize, PartBody, PartDigest, Keep, Discard, File, Store, Each, Next, Break, Take}
 use Rattle.bytecode_format.specs.Operations.{operation_of}
 use Rattle.bytecode_format.specs.Code.{Code}
 use Rattle.bytecode_cost.specs.Sums.{Sums}
@@ -46,6 +46,10 @@ cap_of_comparing lists = record { fixed = 1 + one_more_each lists.names * one_mo
 abbrev pub cap_of_body : Texts → Cap
 cap_of_body keys = record { fixed = 1; scaled = one_more_each keys.bounds }
 
+-- one charge, and one for each octet of a part's content that a variable may be set to
+abbrev pub cap_of_content : ℕ → Cap
+cap_of_content most = record { fixed = 1 + most; scaled = 0 }
+
 -- how many octets a digest has
 abbrev pub digest_length : ℕ
 digest_length = 64
@@ -82,6 +86,7 @@ cap_of (Some Store) i entries = option_map_or cap_of_octets (take_texts 1 entrie
 cap_of (Some Each) i entries = one_charge
 cap_of (Some Next) i entries = one_charge
 cap_of (Some Break) i entries = one_charge
+cap_of (Some Take) i entries = cap_of_content i.b
 
 -- where there is an instruction, and the shape goes up to it
 abbrev pub cap_found : Option Instruction → Option Entries → Cap

@@ -1,10 +1,10 @@
 -- What the verifier knows of each operation before it looks at what the operation does: one row each.
-use Rattle.std.specs.Prelude.{ℕ, ◌/◌, ◌%◌, Bool, true, false, ◌&&◌, Option, Some, None, nat_lt, nat_le, ◌==◌, is_some, if◌then◌else◌}
+use Rattle.std.specs.Prelude.{ℕ, ◌/◌, ◌%◌, Bool, true, false, ◌&&◌, not, Option, Some, None, nat_lt, nat_le, ◌==◌, is_some, if◌then◌else◌}
 use Rattle.std.specs.Option.{option_and_then, option_map_or}
-use Rattle.octets.specs.Limits.{max_loops, max_segments, max_test_strings}
+use Rattle.octets.specs.Limits.{max_loops, max_segments, max_test_strings, max_value}
 use Rattle.bytecode_format.specs.declared.instruction.Instruction.{Instruction}
 use Rattle.bytecode_format.specs.declared.operation.Operation.{Operation}
-use Rattle.bytecode_format.specs.declared.operation.Operation.TheVariants.{Halt, Literal, Variable, Capture, Join, Set, Bool as BoolOp, Not, Jump, JumpIfTrue, JumpIfFalse, Header, Exists, String, Size, PartSize, PartBody, PartDigest, Keep, Discard, File, Store, Each, Next, Break}
+use Rattle.bytecode_format.specs.declared.operation.Operation.TheVariants.{Halt, Literal, Variable, Capture, Join, Set, Bool as BoolOp, Not, Jump, JumpIfTrue, JumpIfFalse, Header, Exists, String, Size, PartSize, PartBody, PartDigest, Keep, Discard, File, Store, Each, Next, Break, Take}
 use Rattle.bytecode_format.specs.Operations.{operation_of}
 use Rattle.bytecode_format.specs.Modifiers.{modifiers_numbered}
 use Rattle.bytecode_verifier.specs.declared.row.Range.{Range}
@@ -26,43 +26,48 @@ selectors = 5
 
 -- an operation that names no field
 abbrev pub plain : Row
-plain = record { a = Unnamed; b = Unnamed; c = Unnamed; index = None; jumps = false; needs_part = false }
+plain = record { a = Unnamed; b = Unnamed; c = Unnamed; index = None; jumps = false; needs_part = false; since_two = false }
 
 -- an operation that jumps to c
 abbrev pub jump : Row
 jump = record plain { c = Any; jumps = true }
 
--- the row of an operation in programs of a version, or None where it hasn't come
-abbrev pub row_of : ℕ → Operation → Option Row
-row_of version Halt = Some plain
-row_of version Literal = Some (record plain { c = Any; index = Some Strings })
-row_of version Variable = Some (record plain { c = Any; index = Some Variables })
-row_of version Capture = Some (record plain { a = Below captures })
-row_of version Join = Some (record plain { b = Between 2 max_segments })
-row_of version Set = Some (record plain { a = Modifiers; c = Any; index = Some Variables })
-row_of version BoolOp = Some (record plain { a = Below 2 })
-row_of version Not = Some plain
-row_of version Jump = Some jump
-row_of version JumpIfTrue = Some jump
-row_of version JumpIfFalse = Some jump
-row_of version Header = Some (record plain { a = Selection; b = Between 1 max_test_strings; c = Counts })
-row_of version Exists = Some (record plain { a = Below scopes; b = Between 1 max_test_strings })
-row_of version String = Some (record plain { a = Match; b = Between 1 max_test_strings; c = Between 1 max_test_strings })
-row_of version Size = Some (record plain { a = Below 2; c = Any; index = Some Numbers })
-row_of version PartSize = Some (record plain { a = Below 2; c = Any; index = Some Numbers; needs_part = true })
-row_of version PartBody = Some (record plain { a = Match; c = Between 1 max_test_strings; needs_part = true })
-row_of version PartDigest = Some (record plain { c = Between 1 max_test_strings; needs_part = true })
-row_of version Keep = Some plain
-row_of version Discard = Some plain
-row_of version File = Some plain
-row_of version Store = Some (record plain { needs_part = true })
-row_of version Each = Some (record plain { c = Any })
-row_of version Next = Some (record plain { c = Any })
-row_of version Break = Some (record plain { a = Between 1 max_loops })
+-- the row of an operation
+abbrev pub row_of : Operation → Row
+row_of Halt = plain
+row_of Literal = record plain { c = Any; index = Some Strings }
+row_of Variable = record plain { c = Any; index = Some Variables }
+row_of Capture = record plain { a = Below captures }
+row_of Join = record plain { b = Between 2 max_segments }
+row_of Set = record plain { a = Modifiers; c = Any; index = Some Variables }
+row_of BoolOp = record plain { a = Below 2 }
+row_of Not = plain
+row_of Jump = jump
+row_of JumpIfTrue = jump
+row_of JumpIfFalse = jump
+row_of Header = record plain { a = Selection; b = Between 1 max_test_strings; c = Counts }
+row_of Exists = record plain { a = Below scopes; b = Between 1 max_test_strings }
+row_of String = record plain { a = Match; b = Between 1 max_test_strings; c = Between 1 max_test_strings }
+row_of Size = record plain { a = Below 2; c = Any; index = Some Numbers }
+row_of PartSize = record plain { a = Below 2; c = Any; index = Some Numbers; needs_part = true }
+row_of PartBody = record plain { a = Match; c = Between 1 max_test_strings; needs_part = true }
+row_of PartDigest = record plain { c = Between 1 max_test_strings; needs_part = true }
+row_of Keep = plain
+row_of Discard = plain
+row_of File = plain
+row_of Store = record plain { needs_part = true }
+row_of Each = record plain { c = Any }
+row_of Next = record plain { c = Any }
+row_of Break = record plain { a = Between 1 max_loops }
+row_of Take = record plain { b = Between 1 max_value; c = Any; index = Some Variables; needs_part = true; since_two = true }
 
--- the row of an octet, where it names an operation that has come
+-- the row of an operation in programs of a version, or None where they don't have it
+abbrev pub row_in_version : ℕ → Operation → Option Row
+row_in_version version operation = if (row_of operation).since_two && not (version == 2) then None else Some (row_of operation)
+
+-- the row of an octet, where it names an operation of the version
 abbrev pub row_named : ℕ → ℕ → Option Row
-row_named version octet = option_and_then (row_of version) (operation_of octet)
+row_named version octet = option_and_then (row_in_version version) (operation_of octet)
 
 -- how values are matched with keys: bits 0 and 1 say by which of three ways, bit 2 by which of two comparators
 abbrev pub is_match_number : ℕ → Bool
@@ -111,7 +116,7 @@ takes a Counts n = are_counts a n
 takes a Modifiers n = is_some (modifiers_numbered n)
 takes a Any n = true
 
--- the operation has come, its fields are in their ranges, and the fields that it doesn't name are 0
+-- the version has the operation, its fields are in their ranges, and the fields that it doesn't name are 0
 abbrev pub is_well_formed : Option Row → Instruction → Bool
 is_well_formed row i = option_map_or (λ (r : Row). takes i.a r.a i.a && takes i.a r.b i.b && takes i.a r.c i.c) row false
 

@@ -5,7 +5,7 @@ use Rattle.std.specs.Option.{option_and_then, option_map, option_map_or}
 use Rattle.octets.specs.Limits.{max_stack, max_string, max_value}
 use Rattle.bytecode_format.specs.declared.instruction.Instruction.{Instruction}
 use Rattle.bytecode_format.specs.declared.operation.Operation.{Operation}
-use Rattle.bytecode_format.specs.declared.operation.Operation.TheVariants.{Halt, Literal, Variable, Capture, Join, Set, Bool as BoolOp, Not, Jump, JumpIfTrue, JumpIfFalse, Header, Exists, String, Size, PartSize, PartBody, PartDigest, Keep, Discard, File, Store, Each, Next, Break}
+use Rattle.bytecode_format.specs.declared.operation.Operation.TheVariants.{Halt, Literal, Variable, Capture, Join, Set, Bool as BoolOp, Not, Jump, JumpIfTrue, JumpIfFalse, Header, Exists, String, Size, PartSize, PartBody, PartDigest, Keep, Discard, File, Store, Each, Next, Break, Take}
 use Rattle.bytecode_format.specs.Operations.{operation_of}
 use Rattle.bytecode_format.specs.Code.{Code}
 use Rattle.bytecode_verifier.specs.Rows.{row_named, is_jump, keys_in, params_in}
@@ -106,6 +106,7 @@ entries_after code Store i entries = option_map (λ (folder : Texts). folder.res
 entries_after code Each i entries = if is_empty entries then Some [] else None
 entries_after code Next i entries = if is_empty entries then Some [] else None
 entries_after code Break i entries = if is_empty entries then Some [] else None
+entries_after code Take i entries = Some entries
 
 -- an instruction of these jumps to the place
 abbrev pub is_target : ℕ → List Instruction → ℕ → Bool

@@ -25,6 +25,12 @@ const PARAMS: u32 = 4;
 /// What a parameter counts in the number of keys and parameters.
 const PARAMS_UNIT: u32 = 65_536;
 
+/// The most octets that the value of a variable has, or a capture.
+pub const MAX_VALUE: u32 = 4096;
+
+/// The version that has all operations.
+const VERSION_TWO: u8 = 2;
+
 /// The most loops that are open at a place.
 pub const MAX_LOOPS: u32 = 3;
 
@@ -72,6 +78,8 @@ pub struct Row {
     pub jumps: bool,
     /// Whether it is on the current part.
     pub needs_part: bool,
+    /// Whether programs of version 2 alone have it.
+    pub since_two: bool,
 }
 
 /// An operation that names no field.
@@ -82,6 +90,7 @@ const PLAIN: Row = Row {
     index: None,
     jumps: false,
     needs_part: false,
+    since_two: false,
 };
 
 /// An operation that jumps to c.
@@ -109,78 +118,96 @@ const PART: Row = Row {
 const LIST: Range = Range::Between(1, MAX_TEST_STRINGS);
 
 /// The row of an operation in programs of a version, if they may have it.
-pub fn row_of(_version: u8, operation: Operation) -> Option<Row>
-    ensures { result ≡ Rows.row_of _version operation }
+pub fn row_in_version(version: u8, operation: Operation) -> Option<Row>
+    ensures { result ≡ Rows.row_in_version version operation }
+{
+    let row = row_of(operation);
+    if row.since_two && version != VERSION_TWO {
+        return None;
+    }
+    Some(row)
+}
+
+// The row of an operation.
+fn row_of(operation: Operation) -> Row
+    ensures { result ≡ Rows.row_of operation }
 {
     match operation {
         Operation::Halt | Operation::Not | Operation::Keep | Operation::Discard | Operation::File =>
-            Some(PLAIN),
-        Operation::Literal => Some(Row {
+            PLAIN,
+        Operation::Literal => Row {
             c: Range::Any,
             index: Some(Table::Strings),
             ..PLAIN
-        }),
-        Operation::Variable => Some(Row {
+        },
+        Operation::Variable => Row {
             c: Range::Any,
             index: Some(Table::Variables),
             ..PLAIN
-        }),
-        Operation::Capture => Some(Row {
+        },
+        Operation::Capture => Row {
             a: Range::Below(CAPTURES),
             ..PLAIN
-        }),
-        Operation::Join => Some(Row {
+        },
+        Operation::Join => Row {
             b: Range::Between(2, MAX_SEGMENTS),
             ..PLAIN
-        }),
-        Operation::Set => Some(Row {
+        },
+        Operation::Set => Row {
             a: Range::Modifiers,
             c: Range::Any,
             index: Some(Table::Variables),
             ..PLAIN
-        }),
-        Operation::Bool => Some(Row {
+        },
+        Operation::Bool => Row {
             a: Range::Below(2),
             ..PLAIN
-        }),
-        Operation::Jump | Operation::JumpIfTrue | Operation::JumpIfFalse => Some(JUMP),
-        Operation::Size => Some(SIZE),
-        Operation::Header => Some(Row {
+        },
+        Operation::Jump | Operation::JumpIfTrue | Operation::JumpIfFalse => JUMP,
+        Operation::Size => SIZE,
+        Operation::Header => Row {
             a: Range::Selection,
             b: LIST,
             c: Range::Counts,
             ..PLAIN
-        }),
-        Operation::Exists => Some(Row {
+        },
+        Operation::Exists => Row {
             a: Range::Below(SCOPES),
             b: LIST,
             ..PLAIN
-        }),
-        Operation::String => Some(Row {
+        },
+        Operation::String => Row {
             a: Range::Match,
             b: LIST,
             c: LIST,
             ..PLAIN
-        }),
-        Operation::PartSize => Some(Row {
+        },
+        Operation::PartSize => Row {
             needs_part: true,
             ..SIZE
-        }),
-        Operation::PartBody => Some(Row {
+        },
+        Operation::PartBody => Row {
             a: Range::Match,
             c: LIST,
             ..PART
-        }),
-        Operation::PartDigest => Some(Row { c: LIST, ..PART }),
-        Operation::Store => Some(PART),
-        Operation::Each | Operation::Next => Some(Row {
+        },
+        Operation::PartDigest => Row { c: LIST, ..PART },
+        Operation::Store => PART,
+        Operation::Each | Operation::Next => Row {
             c: Range::Any,
             ..PLAIN
-        }),
-        Operation::Break => Some(Row {
+        },
+        Operation::Break => Row {
             a: Range::Between(1, MAX_LOOPS),
             ..PLAIN
-        }),
+        },
+        Operation::Take => Row {
+            b: Range::Between(1, MAX_VALUE),
+            c: Range::Any,
+            index: Some(Table::Variables),
+            since_two: true,
+            ..PART
+        },
     }
 }
 

@@ -3,14 +3,14 @@ ghost use Rattle.std.specs.Prelude.{◌≡◌};
 ghost use Rattle.bytecode_verifier.specs.Rows;
 ghost use Rattle.bytecode_verifier.specs.Rules;
 
-use crate::row::{Row, Table, row_of};
+use crate::row::{Row, Table, row_in_version};
 use bytecode_format::{Instruction, Operation, Program};
 
 /// The row of an octet, if it names an operation of the version.
 pub fn row_named(version: u8, octet: u8) -> Option<Row>
     ensures { result ≡ Rows.row_named version octet }
 {
-    row_of(version, Operation::of(octet)?)
+    row_in_version(version, Operation::of(octet)?)
 }
 
 /// Whether there is a row, the fields are in its ranges, and the others are 0.

@@ -3,11 +3,11 @@ ghost use Rattle.std.specs.Prelude.{◌≡◌, ◌+◌, ◌*◌, ◌≤◌, [], 
 ghost use Rattle.std.specs.Option.{option_and_then, option_map, option_map_or};
 ghost use Rattle.octets.specs.Limits.{max_stack, max_string};
 ghost use Rattle.bytecode_verifier.specs.Shape.{Texts, Lists, is_empty, has_truth, with_entry, without_truth, with_string, with_joined, take_texts, take_lists, entries_after};
-ghost use Rattle.bytecode_verifier.specs.Budget.{one_charge, cap_of_octets, cap_of_names, cap_of_matching, cap_of_comparing, cap_of_body, cap_of_digest, cap_of};
+ghost use Rattle.bytecode_verifier.specs.Budget.{one_charge, cap_of_octets, cap_of_names, cap_of_matching, cap_of_comparing, cap_of_body, cap_of_digest, cap_of_content, cap_of};
 ghost use Rattle.bytecode_verifier.specs.Pass.{IsSmall, Passes, Takes, TakesLists};
 
 use crate::cap::{Cap, ONE_CHARGE};
-use crate::row::{keys_in, params_in};
+use crate::row::{MAX_VALUE, keys_in, params_in};
 use bytecode_format::{Instruction, Operation, Program};
 use std::alloc::{AllocError, Global};
 use std::marker::Model;
@@ -17,9 +17,6 @@ const MAX_STACK: usize = 1024;
 
 /// How many octets a text has at most.
 const MAX_STRING: usize = 16_384;
-
-/// How many octets the value of a variable has at most, and a capture.
-const MAX_VALUE: usize = 4096;
 
 /// How many octets a digest has.
 const DIGEST_LENGTH: u64 = 64;
@@ -109,6 +106,7 @@ impl Shape {
             Some(Operation::PartBody) => return self.take_body_keys(c),
             Some(Operation::PartDigest) => return self.take_digest_keys(c),
             Some(Operation::Join) => return self.join(b),
+            Some(Operation::Take) => return Ok(Some(cap_of_content(b))),
             Some(Operation::Set | Operation::File | Operation::Store) => return Ok(
                 self.take_text(),
             ),
@@ -120,7 +118,9 @@ impl Shape {
                 | Operation::Break,
             ) => self.is_empty(),
             Some(Operation::Literal) => self.push_string(program, c)?,
-            Some(Operation::Variable | Operation::Capture) => self.push(Entry::Text(MAX_VALUE))?,
+            Some(Operation::Variable | Operation::Capture) => self.push(Entry::Text(
+                MAX_VALUE as usize,
+            ))?,
             Some(Operation::Bool | Operation::Size | Operation::PartSize) => self.push(
                 Entry::Truth,
             )?,
@@ -275,5 +275,15 @@ impl Shape {
             total += bound as u64 + 1;
         }
         Some(total)
+    }
+}
+
+// What setting a variable to at most so many octets of a part's content may charge.
+fn cap_of_content(most: u16) -> Cap
+    ensures { result ≡ cap_of_content most }
+{
+    Cap {
+        fixed: 1 + u64::from(most),
+        scaled: 0,
     }
 }

@@ -1,7 +1,8 @@
 use Rattle.std.proofs.Common.{refl}
-use Rattle.bytecode_cost.proofs.Powers.{power_none, power_one, power_two, power_three}
+use Rattle.bytecode_cost.proofs.Powers.{turns_none}
 use Rattle.bytecode_cost.proofs.budget.Budget.at.Goals as goal
 
 pub returns : goal.returns
 returns c =
-    rw (c.term.ensures.value, c.term-2.ensures.value, c.term-3.ensures.value, c.term-4.ensures.value, power_none c.args.p, power_one c.args.p, power_two c.args.p, power_three c.args.p) refl
+    let turns = c.turns-one.ensures in
+    rw (c.term.ensures.value, c.term-2.ensures.value, c.term-3.ensures.value, c.term-4.ensures.value, turns.one, turns.two, turns.three, turns_none c.args.self.now.version c.args.p) refl

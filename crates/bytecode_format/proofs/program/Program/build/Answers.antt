@@ -13,10 +13,10 @@ returns-then-rows_len-strings_len-gt-MAX_PROGRAM-clause-refused c =
 
 pub assemble-requires : goal.assemble-requires
 assemble-requires c =
-    let code : Code = record { version = 1; variables = c.args.variables; numbers = c.args.numbers.items; strings = c.args.strings.items; instructions = c.args.instructions.items } in
+    let code : Code = record { version = c.args.version; variables = c.args.variables; numbers = c.args.numbers.items; strings = c.args.strings.items; instructions = c.args.instructions.items } in
     let strings : c.strings_len.result ≡ length (flat_map string c.args.strings.items) = cc in
     record {
-      version = refl;
+      version = search rules;
       variables = search rules;
       numbers = search rules;
       each_number = search rules;
