@@ -1,10 +1,10 @@
 -- What an instruction charges is within its cap.
-use Rattle.std.proofs.Common.{◌≡◌, ℕ, zero, suc, ◌+◌, ◌*◌, ◌≤◌, max, slice_get, List, [], ◌∷◌, Option, Some, None, length, refl, arith}
+use Rattle.std.proofs.Common.{◌≡◌, ℕ, zero, suc, ◌+◌, ◌*◌, ◌≤◌, max, min, slice_get, List, [], ◌∷◌, Option, Some, None, length, refl, arith}
 use Rattle.std.proofs.Math.Nat.{mul-le-mul}
 use Rattle.std.specs.Option.{option_and_then, option_map, option_map_or}
 use Rattle.bytecode_format.specs.declared.instruction.Instruction.{Instruction}
 use Rattle.bytecode_format.specs.declared.operation.Operation.{Operation}
-use Rattle.bytecode_format.specs.declared.operation.Operation.TheVariants.{Join, Set, Header, Exists, String, PartBody, PartDigest, File, Store}
+use Rattle.bytecode_format.specs.declared.operation.Operation.TheVariants.{Join, Set, Header, Exists, String, PartBody, PartDigest, File, Store, Take}
 use Rattle.bytecode_format.specs.Code.{Code}
 use Rattle.bytecode_verifier.specs.declared.shape.Entry.TheVariants.{Truth, Text}
 use Rattle.bytecode_verifier.specs.Shape.{Entries, Texts, Lists as ListBounds, with_entry, with_joined, take_texts, take_lists}
@@ -20,7 +20,7 @@ use Rattle.mail_matching.proofs.Extents.{names_cost-within, values_cost-within, 
 use Rattle.sieve_vm.specs.MatchNumbers.{scope_numbered, selector_numbered}
 use Rattle.sieve_vm.specs.State.{Value, truth, text, State, current_part}
 use Rattle.sieve_vm.specs.Stack.{OnTop, texts_on_top, lists_on_top, length_on_top}
-use Rattle.sieve_vm.specs.Charge.{cost_of_names, cost_of_matching, cost_of_comparing, cost_with_part, octets_on_top, charge_of}
+use Rattle.sieve_vm.specs.Charge.{cost_of_names, cost_of_matching, cost_of_comparing, cost_with_part, octets_on_top, octets_taken, charge_of}
 use Rattle.sieve_vm.specs.Potential.{cap_value}
 use Rattle.sieve_vm.proofs.Taking.{Describes, on_top, lists_are_on_top, octets_within}
 
@@ -156,6 +156,15 @@ module _ (code : Code) (mail : Mail) (known : IsMail mail) (i : Instruction) (s 
           let most : extent_of lists.top.names * extent_of lists.top.keys ≤ one_more_each bounds.names * one_more_each bounds.keys = mul-le-mul lists.names_extent lists.keys_extent in
           rw lists.is (record { some = omega arith; most = omega (arith, product, most) })
 
+-- what a variable gets of a part is no more than it may
+taken_fits : (mail : Mail) (most : ℕ) (current : Option ℕ) → octets_taken most mail current ≤ most
+taken_fits mail most None = omega arith
+taken_fits mail most (Some current) = go (slice_get mail.parts current)
+  where
+    go : (found : Option Part) → option_map_or (λ (part : Part). min most (length part.content)) found 0 ≤ most
+    go None = omega arith
+    go (Some part) = omega arith
+
 -- the charge of an instruction that the shape goes over
 pub charge_fits : (code : Code) (mail : Mail) → IsMail mail → (o : Operation) (i : Instruction) (s : State) (entries : Entries) → Describes entries s.stack → (after : Entries) → left_by code (Some o) i entries ≡ Some after
     → IsWithinCap mail (charge_of code mail o i s) (cap_of (Some o) i entries)
@@ -168,4 +177,7 @@ charge_fits code mail known PartDigest i s entries d after e = keys_fit code mai
 charge_fits code mail known Set i s entries d after e = file_fits code mail known i s entries d after e
 charge_fits code mail known Join i s entries d after e = parts_fit code mail known i s entries d after e
 charge_fits code mail known String i s entries d after e = sources_fit code mail known i s entries d after e
+charge_fits code mail known Take i s entries d after e =
+    let most = taken_fits mail i.b (current_part s.frames) in
+    record { some = omega arith; most = omega (arith, most) }
 charge_fits code mail known _ i s entries d after e = one mail

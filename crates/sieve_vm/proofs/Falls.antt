@@ -1,16 +1,18 @@
 -- The potential: what is left of the open loops' bodies, and of the program.
-use Rattle.std.proofs.Common.{◌≡◌, ℕ, zero, suc, ◌+◌, ◌-◌, ◌*◌, ◌^◌, ◌<◌, ◌≤◌, Bool, true, false, nat_le, nat_eq, cond, List, [], ◌∷◌, drop, length, refl, ap, ◌∙◌, inl, inr, mul-add, arith}
+use Rattle.std.proofs.Common.{◌≡◌, ◌==◌, ℕ, zero, suc, ◌+◌, ◌-◌, ◌*◌, ◌^◌, ◌<◌, ◌≤◌, Bool, true, false, nat_le, nat_eq, cond, List, [], ◌∷◌, Some, drop, length, refl, sym, ap, subst, ◌∙◌, inl, inr, mul-add, arith}
 use Rattle.std.proofs.lemmas.Bool.{cases_lt, le-leb, leb-true}
 use Rattle.std.proofs.Math.Nat.{mul-le-mul}
-use native.Mathlib.Numerals.{unary_clauses}
+use Rattle.bytecode_cost.specs.Sums.{chains, turns, powers_left, turns_left}
+use Rattle.bytecode_cost.proofs.Chains.{all_left}
 use Rattle.bytecode_format.specs.Code.{Code}
 use Rattle.bytecode_verifier.specs.Places.{sum_below}
 use Rattle.bytecode_verifier.specs.Loops.{open_loops}
 use Rattle.bytecode_verifier.specs.Budget.{cap_at, sum_inside}
 use Rattle.bytecode_verifier.proofs.Nesting.{Nesting}
 use Rattle.mime_decode.specs.Mail.{Mail, size_of}
-use Rattle.sieve_vm.specs.State.{Frame, start}
-use Rattle.sieve_vm.specs.Potential.{cap_value, weight_at, stretch, potential_from, potential, limit_of}
+use Rattle.mime_decode.specs.Scope.{numbers_from, visited}
+use Rattle.sieve_vm.specs.State.{Frame, start, current_part}
+use Rattle.sieve_vm.specs.Potential.{cap_value, weight_at, stretch, visits_now, potential_from, potential, limit_of}
 
 -- ---- sums over places
 
@@ -23,26 +25,26 @@ sum-zero zero = refl
 sum-zero (suc n) = omega (arith, sum-zero n)
 
 -- the sum of f over the places from a first one on, below n
-abbrev from : (ℕ → ℕ) → ℕ → ℕ → ℕ
+abbrev pub from : (ℕ → ℕ) → ℕ → ℕ → ℕ
 from f first n = sum_below (λ p. cond (nat_le first p) (f p) 0) n
 
-counted : (f : ℕ → ℕ) (first p : ℕ) → first ≤ p → cond (nat_le first p) (f p) 0 ≡ f p
+pub counted : (f : ℕ → ℕ) (first p : ℕ) → first ≤ p → cond (nat_le first p) (f p) 0 ≡ f p
 counted f first p le = rw (le-leb first p le) refl
 
-uncounted : (f : ℕ → ℕ) (first p : ℕ) → p < first → cond (nat_le first p) (f p) 0 ≡ 0
+pub uncounted : (f : ℕ → ℕ) (first p : ℕ) → p < first → cond (nat_le first p) (f p) 0 ≡ 0
 uncounted f first p lt = go (nat_le first p) refl
   where
     go : (b : Bool) → nat_le first p ≡ b → cond b (f p) 0 ≡ 0
     go true e = absurd (omega (arith, leb-true first p e))
     go false e = refl
 
-from-none : (f : ℕ → ℕ) (first n : ℕ) → n ≤ first → from f first n ≡ 0
+pub from-none : (f : ℕ → ℕ) (first n : ℕ) → n ≤ first → from f first n ≡ 0
 from-none f first n le = sum-equal (λ p. cond (nat_le first p) (f p) 0) (λ p. 0) n (λ p lt. uncounted f first p (omega arith)) ∙ sum-zero n
 
 from-all : (f : ℕ → ℕ) (n : ℕ) → from f 0 n ≡ sum_below f n
 from-all f n = sum-equal (λ p. cond (nat_le 0 p) (f p) 0) f n (λ p lt. counted f 0 p (omega arith))
 
-from-first : (f : ℕ → ℕ) (first n : ℕ) → first < n → from f first n ≡ f first + from f (suc first) n
+pub from-first : (f : ℕ → ℕ) (first n : ℕ) → first < n → from f first n ≡ f first + from f (suc first) n
 from-first f first zero lt = absurd (omega arith)
 from-first f first (suc n) lt =
     elim (cases_lt first n) [
@@ -71,14 +73,14 @@ from-split f first middle (suc n) before after =
       | inr within ↦ omega (arith, from-split f first middle n before within, counted f first n (omega arith), counted f middle n within)
     ]
 
--- each so many times another
-from-scaled : (f g : ℕ → ℕ) (k first n : ℕ) → ((p : ℕ) → first ≤ p → p < n → f p ≡ k * g p) → from f first n ≡ k * from g first n
-from-scaled f g k first zero h = omega arith
-from-scaled f g k first (suc n) h =
-    let before = from-scaled f g k first n (λ p le lt. h p le (omega arith)) in
+-- each two of them no more than a third
+from-below : (f g h : ℕ → ℕ) (first n : ℕ) → ((p : ℕ) → first ≤ p → p < n → f p + g p ≤ h p) → from f first n + from g first n ≤ from h first n
+from-below f g h first zero each = omega arith
+from-below f g h first (suc n) each =
+    let before = from-below f g h first n (λ p le lt. each p le (omega arith)) in
     elim (cases_lt n first) [
-      | inl lt ↦ omega (arith, before, uncounted f first n lt, uncounted g first n lt, ap (λ x. k * x) (uncounted g first n lt), mul-add k (from g first n) (cond (nat_le first n) (g n) 0))
-      | inr le ↦ omega (arith, before, counted f first n le, h n le (omega arith), mul-add k (from g first n) (cond (nat_le first n) (g n) 0), ap (λ x. k * x) (counted g first n le))
+      | inl lt ↦ omega (arith, before, uncounted f first n lt, uncounted g first n lt, uncounted h first n lt)
+      | inr le ↦ omega (arith, before, counted f first n le, counted g first n le, counted h first n le, each n le (omega arith))
     ]
 
 -- the sums of two columns, where a test passes
@@ -106,20 +108,62 @@ sum-four w a b c d zero h = omega arith
 sum-four w a b c d (suc n) h = omega (arith, sum-four w a b c d n h, h n)
 
 -- what a place adds, to the column of its own number of loops alone
-four_columns : (cost parts l : ℕ) → l ≤ 3 → cost * parts ^ (l - 0) ≡ cond (nat_eq l 0) (cost * parts ^ 0) 0 + cond (nat_eq l 1) (cost * parts ^ 1) 0 + cond (nat_eq l 2) (cost * parts ^ 2) 0 + cond (nat_eq l 3) (cost * parts ^ 3) 0
-four_columns cost parts zero few = omega arith
-four_columns cost parts (suc zero) few = omega arith
-four_columns cost parts (suc (suc zero)) few = omega arith
-four_columns cost parts (suc (suc (suc zero))) few = omega arith
-four_columns cost parts (suc (suc (suc (suc l)))) few = absurd (omega (arith, few))
+four_columns : (turn : ℕ → ℕ) (cost l : ℕ) → l ≤ 3 → cost * turn l ≡ cond (nat_eq l 0) (cost * turn 0) 0 + cond (nat_eq l 1) (cost * turn 1) 0 + cond (nat_eq l 2) (cost * turn 2) 0 + cond (nat_eq l 3) (cost * turn 3) 0
+four_columns turn cost zero few = omega arith
+four_columns turn cost (suc zero) few = omega arith
+four_columns turn cost (suc (suc zero)) few = omega arith
+four_columns turn cost (suc (suc (suc zero))) few = omega arith
+four_columns turn cost (suc (suc (suc (suc l)))) few = absurd (omega (arith, few))
 
--- ---- powers
+-- ---- turns
 
-once : (cost parts k : ℕ) → k ≡ 0 → cost * parts ^ k ≡ cost
-once cost parts k none = rw none (simp unary_clauses (omega arith))
+turns-none : (version parts visits : ℕ) → turns_left version parts visits 0 ≡ 1
+turns-none version parts visits = pick (version == 2)
+  where
+    pick : (b : Bool) → cond b (chains visits 0) (powers_left parts visits 0) ≡ 1
+    pick true = refl
+    pick false = refl
 
-again : (cost parts k more : ℕ) → more ≡ suc k → cost * parts ^ more ≡ parts * (cost * parts ^ k)
-again cost parts k more one = rw one (simp unary_clauses (grind arith))
+pub chains-more : (a b k : ℕ) → a ≤ b → chains a k ≤ chains b k
+chains-more a b zero le = omega arith
+chains-more zero b (suc k) le = omega arith
+chains-more (suc a) zero (suc k) le = absurd (omega (arith, le))
+chains-more (suc a) (suc b) (suc k) le = omega (arith, chains-more a b k (omega (arith, le)), chains-more a b (suc k) (omega (arith, le)))
+
+turns-more : (version parts a b k : ℕ) → a ≤ b → turns_left version parts a k ≤ turns_left version parts b k
+turns-more version parts a b k le = pick (version == 2)
+  where
+    powers : (j : ℕ) → powers_left parts a j ≤ powers_left parts b j
+    powers zero = omega arith
+    powers (suc j) = let same : parts ^ j ≤ parts ^ j = omega arith in mul-le-mul le same
+
+    pick : (c : Bool) → cond c (chains a k) (powers_left parts a k) ≤ cond c (chains b k) (powers_left parts b k)
+    pick true = chains-more a b k le
+    pick false = powers k
+
+-- the turns of a part and of those that are left then are no more than those of all that were left: what the part has inside is among
+-- those after it, where turns are chains
+turn-taken : (version parts inside left k : ℕ) → ((version == 2) ≡ true → inside ≤ left) → ((version == 2) ≡ false → inside ≡ parts)
+    → turns_left version parts inside k + turns_left version parts left (suc k) ≤ turns_left version parts (suc left) (suc k)
+turn-taken version parts inside left k among all = pick (version == 2) refl
+  where
+    pick : (c : Bool) → (version == 2) ≡ c
+        → cond c (chains inside k) (powers_left parts inside k) + cond c (chains left (suc k)) (powers_left parts left (suc k)) ≤ cond c (chains (suc left) (suc k)) (powers_left parts (suc left) (suc k))
+    pick true e = let more = chains-more inside left k (among e) in omega (arith, more)
+    pick false e =
+        let whole : powers_left parts inside k ≡ parts ^ k = ap (λ n. powers_left parts n k) (all e) ∙ all_left 1 parts k in
+        let one : suc left * parts ^ k ≡ parts ^ k + left * parts ^ k = grind arith in
+        omega (arith, whole, one)
+
+times-both : (cap a b c : ℕ) → a + b ≤ c → cap * a + cap * b ≤ cap * c
+times-both cap a b c le =
+    let same : cap ≤ cap = omega arith in
+    let whole : cap * (a + b) ≤ cap * c = mul-le-mul same le in
+    omega (arith, whole, mul-add cap a b)
+
+pub numbers-length : (first n : ℕ) → length (numbers_from first n) ≡ n
+numbers-length first zero = refl
+numbers-length first (suc n) = ap suc (numbers-length (suc first) n)
 
 -- ---- what is left
 
@@ -134,11 +178,46 @@ module _ (code : Code) (mail : Mail) where
   abbrev pub cap_there : ℕ → ℕ
   cap_there place = cap_value mail (cap_at code place)
 
-  weight-here : (depth place : ℕ) → depth_at place ≡ depth → weight_at code mail depth place ≡ cap_there place
-  weight-here depth place same = once (cap_there place) parts (depth_at place - depth) (omega (arith, same))
+  -- the weights of the places of the innermost body
+  abbrev pub weights : List Frame → ℕ → ℕ
+  weights frames = weight_at code mail (visits_now code mail frames) (length frames)
 
-  weight-deeper : (depth place : ℕ) → suc depth ≤ depth_at place → weight_at code mail depth place ≡ parts * weight_at code mail (suc depth) place
-  weight-deeper depth place deeper = again (cap_there place) parts (depth_at place - suc depth) (depth_at place - depth) (omega (arith, deeper))
+  pub weight-here : (visits depth place : ℕ) → depth_at place ≡ depth → weight_at code mail visits depth place ≡ cap_there place
+  weight-here visits depth place same =
+      let none : depth_at place - depth ≡ 0 = omega (arith, same) in
+      let once : turns_left code.version parts visits (depth_at place - depth) ≡ 1 = ap (turns_left code.version parts visits) none ∙ turns-none code.version parts visits in
+      ap (λ t. cap_there place * t) once ∙ omega arith
+
+  -- deeper inside, for a part and for those that are left then
+  weight-taken : (visits inside left depth place : ℕ) → suc depth ≤ depth_at place → suc left ≤ visits → ((code.version == 2) ≡ true → inside ≤ left) → ((code.version == 2) ≡ false → inside ≡ parts)
+      → weight_at code mail inside (suc depth) place + weight_at code mail left depth place ≤ weight_at code mail visits depth place
+  weight-taken visits inside left depth place deeper few among all =
+      let k : ℕ = depth_at place - suc depth in
+      let more : depth_at place - depth ≡ suc k = omega (arith, deeper) in
+      let t : ℕ → ℕ → ℕ = turns_left code.version parts in
+      let turns : t inside k + t left (suc k) ≤ t visits (suc k) = omega (arith, turn-taken code.version parts inside left k among all, turns-more code.version parts (suc left) visits (suc k) few) in
+      subst (λ n. cap_there place * t inside k + cap_there place * t left n ≤ cap_there place * t visits n) (sym more) (times-both (cap_there place) (t inside k) (t left (suc k)) (t visits (suc k)) turns)
+
+  -- what counts for a loop is all parts, or those that it would visit
+  visits-all : (frames : List Frame) → (code.version == 2) ≡ false → visits_now code mail frames ≡ parts
+  visits-all frames e = rw e refl
+
+  visits-few : (frames : List Frame) (n : ℕ) → length (visited (current_part frames) mail) ≤ n → (code.version == 2) ≡ true → visits_now code mail frames ≤ n
+  visits-few frames n le e = rw e le
+
+  visits-some : (frames : List Frame) (n : ℕ) → n ≤ length (visited (current_part frames) mail) → n ≤ parts → n ≤ visits_now code mail frames
+  visits-some frames n here there = pick (code.version == 2)
+    where
+      pick : (c : Bool) → n ≤ cond c (length (visited (current_part frames) mail)) parts
+      pick true = here
+      pick false = there
+
+  visits-start : visits_now code mail [] ≡ parts
+  visits-start = pick (code.version == 2)
+    where
+      pick : (c : Bool) → cond c (length (numbers_from 0 parts)) parts ≡ parts
+      pick true = numbers-length 0 parts
+      pick false = refl
 
   -- the place after the innermost body
   abbrev pub end_of : List Frame → ℕ
@@ -147,54 +226,64 @@ module _ (code : Code) (mail : Mail) where
 
   -- what is left up to a later place, and from it on
   pub potential-split : (frames : List Frame) (place later : ℕ) → place ≤ later → later ≤ end_of frames
-      → potential_from code mail place frames ≡ stretch code mail (length frames) place later + potential_from code mail later frames
-  potential-split [] place later before after = from-split (weight_at code mail 0) place later (length code.instructions) before after
+      → potential_from code mail place frames ≡ stretch code mail (visits_now code mail frames) (length frames) place later + potential_from code mail later frames
+  potential-split [] place later before after = from-split (weights []) place later (length code.instructions) before after
   potential-split (frame ∷ frames) place later before after =
-      omega (arith, from-split (weight_at code mail (suc (length frames))) place later (suc frame.next) before after)
+      omega (arith, from-split (weights (frame ∷ frames)) place later (suc frame.next) before after)
 
   -- on from a place to a later one of the same body: the cap of the instruction there falls away at least
   pub potential-forward : (frames : List Frame) (place later : ℕ) → depth_at place ≡ length frames → place < end_of frames → place < later
       → potential_from code mail later frames + cap_there place ≤ potential_from code mail place frames
   potential-forward [] place later depth within forward =
-      let weight : ℕ → ℕ = weight_at code mail 0 in
-      omega (arith, from-first weight place (length code.instructions) within, weight-here 0 place depth, from-later weight (suc place) later (length code.instructions) forward)
+      let weight : ℕ → ℕ = weights [] in
+      omega (arith, from-first weight place (length code.instructions) within, weight-here (visits_now code mail []) 0 place depth, from-later weight (suc place) later (length code.instructions) forward)
   potential-forward (frame ∷ frames) place later depth within forward =
-      let weight : ℕ → ℕ = weight_at code mail (suc (length frames)) in
-      omega (arith, from-first weight place (suc frame.next) within, weight-here (suc (length frames)) place depth, from-later weight (suc place) later (suc frame.next) forward)
+      let weight : ℕ → ℕ = weights (frame ∷ frames) in
+      omega (arith, from-first weight place (suc frame.next) within, weight-here (visits_now code mail (frame ∷ frames)) (suc (length frames)) place depth, from-later weight (suc place) later (suc frame.next) forward)
 
   -- an instruction that is there may still charge its cap
   pub potential-here : (frames : List Frame) (place : ℕ) → depth_at place ≡ length frames → place < end_of frames → cap_there place ≤ potential_from code mail place frames
   potential-here frames place depth within = omega (arith, potential-forward frames place (suc place) depth within (omega arith))
 
+  -- the body of a loop, for its current part and for those that it has left, is no more than it is for all
+  body-taken : (frame : Frame) (frames : List Frame) (visits : ℕ) → ((p : ℕ) → frame.each < p → p ≤ frame.next → suc (length frames) ≤ depth_at p)
+      → suc (length frame.rest) ≤ visits → length (visited (Some frame.part) mail) ≤ length frame.rest
+      → stretch code mail (visits_now code mail (frame ∷ frames)) (suc (length frames)) (suc frame.each) (suc frame.next) + stretch code mail (length frame.rest) (length frames) (suc frame.each) (suc frame.next)
+      ≤ stretch code mail visits (length frames) (suc frame.each) (suc frame.next)
+  body-taken frame frames visits deeper few below =
+      from-below (weights (frame ∷ frames)) (weight_at code mail (length frame.rest) (length frames)) (weight_at code mail visits (length frames)) (suc frame.each) (suc frame.next)
+      (λ p le lt. weight-taken visits (visits_now code mail (frame ∷ frames)) (length frame.rest) (length frames) p (deeper p (omega (arith, le)) (omega (arith, lt))) few (visits-few (frame ∷ frames) (length frame.rest) below) (visits-all (frame ∷ frames)))
+
   -- a loop is opened
   pub potential-enter : (frames : List Frame) (place next part : ℕ) (rest : List ℕ) → depth_at place ≡ length frames → place < next → suc next ≤ end_of frames
-      → ((p : ℕ) → place < p → p ≤ next → suc (length frames) ≤ depth_at p) → suc (length rest) ≤ parts
+      → ((p : ℕ) → place < p → p ≤ next → suc (length frames) ≤ depth_at p) → visited (current_part frames) mail ≡ part ∷ rest → suc (length rest) ≤ parts → length (visited (Some part) mail) ≤ length rest
       → potential_from code mail (suc place) (record { each = place; next = next; part = part; rest = rest } ∷ frames) + cap_there place ≤ potential_from code mail place frames
-  potential-enter frames place next part rest depth before within deeper few =
-      let outside : ℕ → ℕ = weight_at code mail (length frames) in
-      let inside : ℕ → ℕ = weight_at code mail (suc (length frames)) in
-      let body : ℕ = from inside (suc place) (suc next) in
-      let whole : from outside (suc place) (suc next) ≡ parts * body = from-scaled outside inside parts (suc place) (suc next) (λ p le lt. weight-deeper (length frames) p (deeper p (omega arith) (omega arith))) in
-      let same : body ≤ body = omega arith in
-      let turns : suc (length rest) * body ≤ parts * body = mul-le-mul few same in
-      let one : suc (length rest) * body ≡ body + length rest * body = grind arith in
-      omega (arith, whole, turns, one, potential-split frames (suc place) (suc next) (omega arith) within, potential-forward frames place (suc place) depth (omega arith) (omega arith))
+  potential-enter frames place next part rest depth before within deeper all few below =
+      let number : suc (length rest) ≤ visits_now code mail frames = visits-some frames (suc (length rest)) (omega (arith, ap length all)) few in
+      omega (
+        arith,
+        body-taken (record { each = place; next = next; part = part; rest = rest }) frames (visits_now code mail frames) deeper number below,
+        potential-split frames (suc place) (suc next) (omega (arith, before)) within,
+        potential-forward frames place (suc place) depth (omega (arith, before, within)) (omega arith),
+      )
 
   -- a loop goes on with its next part
-  pub potential-again : (frame : Frame) (frames : List Frame) (part : ℕ) (rest : List ℕ) → depth_at frame.next ≡ suc (length frames) → frame.rest ≡ part ∷ rest
+  pub potential-again : (frame : Frame) (frames : List Frame) (part : ℕ) (rest : List ℕ) → depth_at frame.next ≡ suc (length frames) → ((p : ℕ) → frame.each < p → p ≤ frame.next → suc (length frames) ≤ depth_at p)
+      → frame.rest ≡ part ∷ rest → length (visited (Some part) mail) ≤ length rest
       → potential_from code mail (suc frame.each) (record frame { part = part; rest = rest } ∷ frames) + cap_there frame.next ≤ potential_from code mail frame.next (frame ∷ frames)
-  potential-again frame frames part rest depth left =
-      let weight : ℕ → ℕ = weight_at code mail (suc (length frames)) in
-      let body : ℕ = from weight (suc frame.each) (suc frame.next) in
-      let number : length frame.rest * body ≡ body + length rest * body = rw left (grind arith) in
-      omega (arith, number, from-first weight frame.next (suc frame.next) (omega arith), weight-here (suc (length frames)) frame.next depth)
+  potential-again frame frames part rest depth deeper left below =
+      omega (
+        arith,
+        body-taken (record frame { part = part; rest = rest }) frames (length frame.rest) deeper (omega (arith, ap length left)) below,
+        from-first (weights (frame ∷ frames)) frame.next (suc frame.next) (omega arith),
+        weight-here (visits_now code mail (frame ∷ frames)) (suc (length frames)) frame.next depth,
+      )
 
   -- a loop is closed
   pub potential-leave : (frame : Frame) (frames : List Frame) (place : ℕ) → depth_at place ≡ suc (length frames) → place ≤ frame.next
       → potential_from code mail (suc frame.next) frames + cap_there place ≤ potential_from code mail place (frame ∷ frames)
   potential-leave frame frames place depth within =
-      let weight : ℕ → ℕ = weight_at code mail (suc (length frames)) in
-      omega (arith, from-first weight place (suc frame.next) (omega arith), weight-here (suc (length frames)) place depth)
+      omega (arith, from-first (weights (frame ∷ frames)) place (suc frame.next) (omega (arith, within)), weight-here (visits_now code mail (frame ∷ frames)) (suc (length frames)) place depth)
 
   potential-outer : (number : ℕ) (frames : List Frame) (frame : Frame) (outer : List Frame) (place : ℕ) → drop number frames ≡ frame ∷ outer
       → potential_from code mail (suc frame.next) outer ≤ potential_from code mail place frames
@@ -223,9 +312,12 @@ module _ (code : Code) (mail : Mail) where
   potential-start nesting =
       let n : ℕ = length code.instructions in
       let cost : ℕ → ℕ = cap_there in
-      let inside : (k : ℕ) → (sum_inside (λ cap. cap.fixed) code k + sum_inside (λ cap. cap.scaled) code k * (size_of mail + 1)) * parts ^ k ≡ sum_below (λ p. cond (nat_eq (depth_at p) k) (cost p * parts ^ k) 0) n =
-      λ k. sum-linear (λ p. (cap_at code p).fixed) (λ p. (cap_at code p).scaled) (λ p. nat_eq (depth_at p) k) (size_of mail + 1) (parts ^ k) n in
-      let all : potential code mail (start code) ≡ sum_below (weight_at code mail 0) n = from-all (weight_at code mail 0) n in
-      let four = sum-four (weight_at code mail 0) (λ p. cond (nat_eq (depth_at p) 0) (cost p * parts ^ 0) 0) (λ p. cond (nat_eq (depth_at p) 1) (cost p * parts ^ 1) 0) (λ p. cond (nat_eq (depth_at p) 2) (cost p * parts ^ 2) 0) (λ p. cond (nat_eq (depth_at p) 3) (cost p * parts ^ 3) 0) n
-      (λ p. four_columns (cost p) parts (depth_at p) (nesting.few p)) in
+      let turn : ℕ → ℕ = turns code.version parts in
+      let column : ℕ → ℕ → ℕ = λ k p. cond (nat_eq (depth_at p) k) (cost p * turn k) 0 in
+      let inside : (k : ℕ) → (sum_inside (λ cap. cap.fixed) code k + sum_inside (λ cap. cap.scaled) code k * (size_of mail + 1)) * turn k ≡ sum_below (column k) n =
+      λ k. sum-linear (λ p. (cap_at code p).fixed) (λ p. (cap_at code p).scaled) (λ p. nat_eq (depth_at p) k) (size_of mail + 1) (turn k) n in
+      let all : potential code mail (start code) ≡ sum_below (weights []) n = from-all (weights []) n in
+      let each : (p : ℕ) → weights [] p ≡ cost p * turn (depth_at p) =
+      λ p. ap (λ v. cost p * turns_left code.version parts v (depth_at p - 0)) visits-start ∙ ap (λ t. cost p * t) (all_left code.version parts (depth_at p - 0)) ∙ ap (λ l. cost p * turn l) (omega arith) in
+      let four = sum-four (weights []) (column 0) (column 1) (column 2) (column 3) n (λ p. each p ∙ four_columns turn (cost p) (depth_at p) (nesting.few p)) in
       omega (arith, all, four, inside 0, inside 1, inside 2, inside 3)

@@ -4,6 +4,10 @@ pub mod Charges
 pub mod Reached
 pub mod Falls
 pub mod Opened
+pub mod Chained
+pub mod Kept
+pub mod PlainRuns
+pub mod Versions
 pub mod Bounds
 pub mod Steps
 pub mod Holding

@@ -3,7 +3,7 @@ use Rattle.std.proofs.Common.{◌≡◌, ℕ, zero, suc, ◌+◌, ◌*◌, true,
 use Rattle.bytecode_format.specs.declared.action.Action.TheVariants as action
 use Rattle.bytecode_format.specs.declared.instruction.Instruction.{Instruction}
 use Rattle.bytecode_format.specs.declared.operation.Operation.{Operation}
-use Rattle.bytecode_format.specs.declared.operation.Operation.TheVariants.{Halt, Header, Exists, PartSize, PartBody, PartDigest, Keep, Store, Each, Next, Break}
+use Rattle.bytecode_format.specs.declared.operation.Operation.TheVariants.{Halt, Header, Exists, PartSize, PartBody, PartDigest, Variable, Keep, File, Store, Each, Next, Break, Take}
 use Rattle.bytecode_format.specs.Operations.{octet_of}
 use Rattle.bytecode_format.specs.Code.{Code}
 use Rattle.mime_decode.specs.Mail.{Mail, Part}
@@ -11,6 +11,7 @@ use Rattle.mail_matching.proofs.Extents.{digest_cost-is}
 use Rattle.sieve_vm.specs.State.{Value, truth, text, Frame, State, Turn, goes, ends, traps, start}
 use Rattle.sieve_vm.specs.Charge.{charge_of}
 use Rattle.sieve_vm.specs.Machine.{on, jumps, fails, effect, step}
+use Rattle.sieve_vm.specs.Potential.{potential, limit_of}
 
 module _ (root : Part) where
   -- a part with so many below it, a subject and a content
@@ -36,11 +37,14 @@ module _ (root : Part) where
   program instructions = record { version = 1; variables = 0; numbers = 3 ∷ []; strings = []; instructions = instructions }
 
   -- so many steps
+  abbrev steps_of : ℕ → Code → Mail → Turn → Turn
+  steps_of zero code message turn = turn
+  steps_of (suc n) code message (goes state) = steps_of n code message (step code message state)
+  steps_of (suc n) code message (ends state) = ends state
+  steps_of (suc n) code message traps = traps
+
   abbrev after : ℕ → Code → Turn → Turn
-  after zero code turn = turn
-  after (suc n) code (goes state) = after n code (step code mail state)
-  after (suc n) code (ends state) = ends state
-  after (suc n) code traps = traps
+  after n code turn = steps_of n code mail turn
 
   abbrev keeps : List Instruction → ℕ → ℕ → State
   keeps instructions place charge =
@@ -79,6 +83,44 @@ module _ (root : Part) where
   break_three : after 3 (program (nested (instruction Break 3 0 0))) (goes (start (program (nested (instruction Break 3 0 0))))) ≡ traps
   break_three = refl
 
+  -- ---- what may still be charged
+
+  -- the same program in the other version, whose inner loop counts for each pair of parts of which one may be below the other
+  abbrev in_version : ℕ → Code
+  in_version version = record (program (nested (instruction Keep 0 0 0))) { version = version }
+
+  -- what a state has been charged, and what it may still be charged
+  abbrev in_all : Code → Turn → ℕ
+  in_all code (goes state) = potential code mail state + state.charge
+  in_all code (ends state) = state.charge
+  in_all code traps = 0
+
+  by_powers : limit_of (in_version 1) mail ≡ 2 + 2 * 3 + 2 * 9
+  by_powers = refl
+
+  by_chains : limit_of (in_version 2) mail ≡ 2 + 2 * 3 + 2 * 3
+  by_chains = refl
+
+  -- at the first part, inside of both loops, at its Next, at the last part, and at the end
+  at_start : in_all (in_version 2) (after 0 (in_version 2) (goes (start (in_version 2)))) ≡ 14
+  at_start = refl
+
+  inside_both : in_all (in_version 2) (after 3 (in_version 2) (goes (start (in_version 2)))) ≡ 14
+  inside_both = refl
+
+  went_on : in_all (in_version 2) (after 8 (in_version 2) (goes (start (in_version 2)))) ≡ 14
+  went_on = refl
+
+  at_the_last : in_all (in_version 2) (after 12 (in_version 2) (goes (start (in_version 2)))) ≡ 14
+  at_the_last = refl
+
+  at_the_end : in_all (in_version 2) (after 14 (in_version 2) (goes (start (in_version 2)))) ≡ 14
+  at_the_end = refl
+
+  -- with powers both loops may run over all parts once more
+  powers_inside : in_all (in_version 1) (after 3 (in_version 1) (goes (start (in_version 1)))) ≡ 24
+  powers_inside = refl
+
   -- ---- operations on the current part, which is the first below the root
 
   abbrev frame : Frame
@@ -110,6 +152,50 @@ module _ (root : Part) where
   -- the part's number is stored, and the implicit keep stays
   stored : effect code mail Store (instruction Store 0 0 0) (in_loop (text (codes "box") ∷ [])) ≡ on (record (in_loop []) { actions = action.Store (codes "box") 1 ∷ [] })
   stored = refl
+
+  -- ---- the first octets of the current part's content
+
+  abbrev with_variable : List (List ℕ) → State
+  with_variable variables = record (in_loop []) { variables = variables }
+
+  takes_two : effect code mail Take (instruction Take 0 2 0) (with_variable (codes "old" ∷ [])) ≡ on (with_variable (codes "on" ∷ []))
+  takes_two = refl
+
+  takes_all : effect code mail Take (instruction Take 0 9 0) (with_variable (codes "old" ∷ [])) ≡ on (with_variable (codes "one" ∷ []))
+  takes_all = refl
+
+  two_charge : charge_of code mail Take (instruction Take 0 2 0) (with_variable (codes "old" ∷ [])) ≡ 3
+  two_charge = refl
+
+  all_charge : charge_of code mail Take (instruction Take 0 9 0) (with_variable (codes "old" ∷ [])) ≡ 4
+  all_charge = refl
+
+  no_variable : effect code mail Take (instruction Take 0 2 1) (with_variable (codes "old" ∷ [])) ≡ fails
+  no_variable = refl
+
+  outside_loops : effect code mail Take (instruction Take 0 2 0) (record (with_variable (codes "old" ∷ [])) { frames = [] }) ≡ fails
+  outside_loops = refl
+
+  -- it is filed after the loop
+  abbrev taking : Code
+  taking =
+      record {
+        version = 2;
+        variables = 1;
+        numbers = [];
+        strings = [];
+        instructions = instruction Each 0 0 2 ∷ instruction Take 0 3 0 ∷ instruction Next 0 0 0 ∷ instruction Variable 0 0 0 ∷ instruction File 0 0 0 ∷ instruction Halt 0 0 0 ∷ [];
+      }
+
+  abbrev six_octets : Mail
+  six_octets = record { octets = codes "_abcdef"; parts = part 0 (codes "root") (codes "abcdef") ∷ [] }
+
+  taken_and_filed : steps_of 6 taking six_octets (goes (start taking))
+      ≡ ends (record (start taking) { place = 5; variables = codes "abc" ∷ []; actions = action.File (codes "abc") ∷ []; implicit_keep = false; charge = 12 })
+  taken_and_filed = refl
+
+  budget_of_taking : limit_of taking six_octets ≡ 4105
+  budget_of_taking = refl
 
   -- the root; the current part; that with those below it
   root_alone : effect code mail Header (instruction Header 0 1 1) (in_loop (text (codes "root") ∷ text (codes "Subject") ∷ [])) ≡ on (in_loop (truth true ∷ []))

@@ -5,7 +5,7 @@ use Rattle.std.specs.Option.{option_and_then, option_map}
 use Rattle.octets.specs.Limits.{max_stack}
 use Rattle.mail_matching.specs.Texts.{AreTexts}
 use Rattle.sieve_vm.specs.declared.entry.Entry.{Entry}
-use Rattle.sieve_vm.specs.declared.entry.Entry.TheVariants.{Truth, Text, Variable, Capture}
+use Rattle.sieve_vm.specs.declared.entry.Entry.TheVariants.{Truth, Text}
 use Rattle.sieve_vm.specs.State.{Value}
 use Rattle.sieve_vm.specs.Stack.{OnTop, texts_on_top, Lists, with_params_and_keys, lists_below, lists_on_top}
 use Rattle.sieve_vm.specs.Standing.{value_of, octets_of}
@@ -60,108 +60,99 @@ range_of xs from to le =
     let whole : to ≡ from + (to - from) = omega arith in
     ap (λ n. drop from (take n xs)) whole ∙ drop-take from (to - from) xs
 
-module _ (variables captures : List (List ℕ)) where
-  abbrev value : Entry → Value
-  value = value_of variables captures
+pub same_octets : (e : Entry) → octets_in (value_of e) ≡ octets_of e
+same_octets (Truth b) = refl
+same_octets (Text t) = refl
 
-  abbrev octets : Entry → List ℕ
-  octets = octets_of variables captures
+octets_of_values : (es : List Entry) → map octets_in (map value_of es) ≡ map octets_of es
+octets_of_values [] = refl
+octets_of_values (e ∷ es) = ap (λ o. o ∷ map octets_in (map value_of es)) (same_octets e) ∙ ap (λ os. octets_of e ∷ os) (octets_of_values es)
 
-  pub same_octets : (e : Entry) → octets_in (value e) ≡ octets e
-  same_octets (Truth b) = refl
-  same_octets (Text octets) = refl
-  same_octets (Variable number) = refl
-  same_octets (Capture number) = refl
+reversed : (es : List Entry) → map octets_of (reverse es) ≡ reverse (map octets_of es)
+reversed [] = refl
+reversed (e ∷ es) =
+    ap (map octets_of) (reverse-append (e ∷ []) es) ∙ map-append octets_of (reverse es) (e ∷ []) ∙ ap (λ os. os ++ octets_of e ∷ []) (reversed es) ∙ sym (reverse-append (octets_of e ∷ []) (map octets_of es))
 
-  octets_of_values : (es : List Entry) → map octets_in (map value es) ≡ map octets es
-  octets_of_values [] = refl
-  octets_of_values (e ∷ es) = ap (λ o. o ∷ map octets_in (map value es)) (same_octets e) ∙ ap (λ os. octets e ∷ os) (octets_of_values es)
+-- the last entries are the texts that are taken, and the others are what is left
+pub record IsLent (n : ℕ) (items : List Entry) (top : OnTop) : Type 0 where
+  pub within : n ≤ length items
+  pub texts : top.texts ≡ map octets_of (drop (length items - n) items)
+  pub below : top.below ≡ map value_of (reverse (take (length items - n) items))
 
-  reversed : (es : List Entry) → map octets (reverse es) ≡ reverse (map octets es)
-  reversed [] = refl
-  reversed (e ∷ es) =
-      ap (map octets) (reverse-append (e ∷ []) es) ∙ map-append octets (reverse es) (e ∷ []) ∙ ap (λ os. os ++ octets e ∷ []) (reversed es) ∙ sym (reverse-append (octets e ∷ []) (map octets es))
+pub lent : (n : ℕ) (items : List Entry) (stack : List Value) (top : OnTop) → map value_of (reverse items) ≡ stack → texts_on_top n stack ≡ Some top → IsLent n items top
+lent n items stack top stands e =
+    let is = is_top n stack top e in
+    let k : ℕ = length items - n in
+    let front : List Entry = take k items in
+    let back : List Entry = drop k items in
+    let few : length stack ≡ length items = ap length (sym stands) ∙ length-map (reverse items) value_of ∙ length-reverse items in
+    let within : n ≤ length items = let w = is.within in omega arith in
+    let split : stack ≡ map value_of (reverse back) ++ map value_of (reverse front) =
+    sym stands ∙ ap (λ es. map value_of (reverse es)) (sym (take-append-drop k items)) ∙ ap (map value_of) (reverse-append front back) ∙ map-append value_of (reverse back) (reverse front) in
+    let number : length (map value_of (reverse back)) ≡ n = omega (arith, length-map (reverse back) value_of, length-reverse back, length-drop k items) in
+    record {
+      within = within;
+      texts = is.texts ∙ ap (λ vs. reverse (map octets_in (take n vs))) split ∙ ap (λ vs. reverse (map octets_in vs)) (take_at (map value_of (reverse back)) (map value_of (reverse front)) n number)
+          ∙ ap reverse (octets_of_values (reverse back) ∙ reversed back) ∙ reverse-reverse (map octets_of back);
+      below = is.below ∙ ap (drop n) split ∙ drop_at (map value_of (reverse back)) (map value_of (reverse front)) n number;
+    }
 
-  -- the last entries are the texts that are taken, and the others are what is left
-  pub record IsLent (n : ℕ) (items : List Entry) (top : OnTop) : Type 0 where
-    pub within : n ≤ length items
-    pub texts : top.texts ≡ map octets (drop (length items - n) items)
-    pub below : top.below ≡ map value (reverse (take (length items - n) items))
+-- the same of the entries before a place
+record LentBefore (n end : ℕ) (items : List Entry) (top : OnTop) : Type 0 where
+  within : n ≤ end
+  texts : top.texts ≡ map octets_of (take (end - (end - n)) (drop (end - n) items))
+  below : top.below ≡ map value_of (reverse (take (end - n) items))
 
-  pub lent : (n : ℕ) (items : List Entry) (stack : List Value) (top : OnTop) → map value (reverse items) ≡ stack → texts_on_top n stack ≡ Some top → IsLent n items top
-  lent n items stack top stands e =
-      let is = is_top n stack top e in
-      let k : ℕ = length items - n in
-      let front : List Entry = take k items in
-      let back : List Entry = drop k items in
-      let few : length stack ≡ length items = ap length (sym stands) ∙ length-map (reverse items) value ∙ length-reverse items in
-      let within : n ≤ length items = let w = is.within in omega arith in
-      let split : stack ≡ map value (reverse back) ++ map value (reverse front) =
-      sym stands ∙ ap (λ es. map value (reverse es)) (sym (take-append-drop k items)) ∙ ap (map value) (reverse-append front back) ∙ map-append value (reverse back) (reverse front) in
-      let number : length (map value (reverse back)) ≡ n = omega (arith, length-map (reverse back) value, length-reverse back, length-drop k items) in
-      record {
-        within = within;
-        texts = is.texts ∙ ap (λ vs. reverse (map octets_in (take n vs))) split ∙ ap (λ vs. reverse (map octets_in vs)) (take_at (map value (reverse back)) (map value (reverse front)) n number)
-            ∙ ap reverse (octets_of_values (reverse back) ∙ reversed back) ∙ reverse-reverse (map octets back);
-        below = is.below ∙ ap (drop n) split ∙ drop_at (map value (reverse back)) (map value (reverse front)) n number;
-      }
+lent_before : (n end : ℕ) (items : List Entry) (stack : List Value) (top : OnTop) → end ≤ length items → map value_of (reverse (take end items)) ≡ stack → texts_on_top n stack ≡ Some top → LentBefore n end items top
+lent_before n end items stack top there stands e =
+    let is = lent n (take end items) stack top stands e in
+    let number : length (take end items) ≡ end = length-take-le end items there in
+    let within : n ≤ end = let w = is.within in omega arith in
+    record {
+      within = within;
+      texts = is.texts ∙ ap (λ l. map octets_of (drop (l - n) (take end items))) number ∙ ap (map octets_of) (range_of items (end - n) end (omega arith));
+      below = is.below ∙ ap (λ l. map value_of (reverse (take (l - n) (take end items)))) number ∙ ap (λ es. map value_of (reverse es)) (take-take (end - n) end items (omega arith));
+    }
 
-  -- the same of the entries before a place
-  record LentBefore (n end : ℕ) (items : List Entry) (top : OnTop) : Type 0 where
-    within : n ≤ end
-    texts : top.texts ≡ map octets (take (end - (end - n)) (drop (end - n) items))
-    below : top.below ≡ map value (reverse (take (end - n) items))
+-- three lists of the last entries, and the others
+pub record AreLent (names params keys : ℕ) (items : List Entry) (top : Lists) : Type 0 where
+  pub within : keys + params + names ≤ length items
+  pub keys_are : top.keys ≡ map octets_of (slice_range items (length items - keys) (length items))
+  pub params_are : top.params ≡ map octets_of (slice_range items (length items - keys - params) (length items - keys))
+  pub names_are : top.names ≡ map octets_of (slice_range items (length items - keys - params - names) (length items - keys - params))
+  pub below : top.below ≡ map value_of (reverse (take (length items - keys - params - names) items))
 
-  lent_before : (n end : ℕ) (items : List Entry) (stack : List Value) (top : OnTop) → end ≤ length items → map value (reverse (take end items)) ≡ stack → texts_on_top n stack ≡ Some top → LentBefore n end items top
-  lent_before n end items stack top there stands e =
-      let is = lent n (take end items) stack top stands e in
-      let number : length (take end items) ≡ end = length-take-le end items there in
-      let within : n ≤ end = let w = is.within in omega arith in
-      record {
-        within = within;
-        texts = is.texts ∙ ap (λ l. map octets (drop (l - n) (take end items))) number ∙ ap (map octets) (range_of items (end - n) end (omega arith));
-        below = is.below ∙ ap (λ l. map value (reverse (take (l - n) (take end items)))) number ∙ ap (λ es. map value (reverse es)) (take-take (end - n) end items (omega arith));
-      }
+pub lists_lent : (names params keys : ℕ) (items : List Entry) (stack : List Value) (top : Lists) → map value_of (reverse items) ≡ stack → lists_on_top names params keys stack ≡ Some top → AreLent names params keys items top
+lists_lent names params keys items stack top stands e = go (texts_on_top keys stack) refl e
+  where
+    n : ℕ
+    n = length items
 
-  -- three lists of the last entries, and the others
-  pub record AreLent (names params keys : ℕ) (items : List Entry) (top : Lists) : Type 0 where
-    pub within : keys + params + names ≤ length items
-    pub keys_are : top.keys ≡ map octets (slice_range items (length items - keys) (length items))
-    pub params_are : top.params ≡ map octets (slice_range items (length items - keys - params) (length items - keys))
-    pub names_are : top.names ≡ map octets (slice_range items (length items - keys - params - names) (length items - keys - params))
-    pub below : top.below ≡ map value (reverse (take (length items - keys - params - names) items))
+    then_names : (above between : OnTop) → LentBefore keys n items above → LentBefore params (n - keys) items between → (o : Option OnTop) → texts_on_top names between.below ≡ o
+        → option_map (with_params_and_keys between.texts above.texts) o ≡ Some top → AreLent names params keys items top
+    then_names above between k p None h f = absurd cc
+    then_names above between k p (Some under) h f =
+        let same : with_params_and_keys between.texts above.texts under ≡ top = cc in
+        let kw = k.within in
+        let pw = p.within in
+        let l = lent_before names (n - keys - params) items between.below under (omega arith) (sym p.below) h in
+        let lw = l.within in
+        subst (AreLent names params keys items) same (record { within = omega arith; keys_are = k.texts; params_are = p.texts; names_are = l.texts; below = l.below })
 
-  pub lists_lent : (names params keys : ℕ) (items : List Entry) (stack : List Value) (top : Lists) → map value (reverse items) ≡ stack → lists_on_top names params keys stack ≡ Some top → AreLent names params keys items top
-  lists_lent names params keys items stack top stands e = go (texts_on_top keys stack) refl e
-    where
-      n : ℕ
-      n = length items
+    then_params : (above : OnTop) → LentBefore keys n items above → (o : Option OnTop) → texts_on_top params above.below ≡ o
+        → option_and_then (λ (between : OnTop). option_map (with_params_and_keys between.texts above.texts) (texts_on_top names between.below)) o ≡ Some top → AreLent names params keys items top
+    then_params above k None h f = absurd cc
+    then_params above k (Some between) h f = then_names above between k (lent_before params (n - keys) items above.below between (omega arith) (sym k.below) h) (texts_on_top names between.below) refl f
 
-      then_names : (above between : OnTop) → LentBefore keys n items above → LentBefore params (n - keys) items between → (o : Option OnTop) → texts_on_top names between.below ≡ o
-          → option_map (with_params_and_keys between.texts above.texts) o ≡ Some top → AreLent names params keys items top
-      then_names above between k p None h f = absurd cc
-      then_names above between k p (Some under) h f =
-          let same : with_params_and_keys between.texts above.texts under ≡ top = cc in
-          let kw = k.within in
-          let pw = p.within in
-          let l = lent_before names (n - keys - params) items between.below under (omega arith) (sym p.below) h in
-          let lw = l.within in
-          subst (AreLent names params keys items) same (record { within = omega arith; keys_are = k.texts; params_are = p.texts; names_are = l.texts; below = l.below })
+    go : (o : Option OnTop) → texts_on_top keys stack ≡ o → option_and_then (lists_below names params) o ≡ Some top → AreLent names params keys items top
+    go None h f = absurd cc
+    go (Some above) h f =
+        let all : map value_of (reverse (take n items)) ≡ stack = ap (λ es. map value_of (reverse es)) (take_all n items (omega arith)) ∙ stands in
+        then_params above (lent_before keys n items stack above (omega arith) all h) (texts_on_top params above.below) refl f
 
-      then_params : (above : OnTop) → LentBefore keys n items above → (o : Option OnTop) → texts_on_top params above.below ≡ o
-          → option_and_then (λ (between : OnTop). option_map (with_params_and_keys between.texts above.texts) (texts_on_top names between.below)) o ≡ Some top → AreLent names params keys items top
-      then_params above k None h f = absurd cc
-      then_params above k (Some between) h f = then_names above between k (lent_before params (n - keys) items above.below between (omega arith) (sym k.below) h) (texts_on_top names between.below) refl f
+-- ---- as the code slices the stack
 
-      go : (o : Option OnTop) → texts_on_top keys stack ≡ o → option_and_then (lists_below names params) o ≡ Some top → AreLent names params keys items top
-      go None h f = absurd cc
-      go (Some above) h f =
-          let all : map value (reverse (take n items)) ≡ stack = ap (λ es. map value (reverse es)) (take_all n items (omega arith)) ∙ stands in
-          then_params above (lent_before keys n items stack above (omega arith) all h) (texts_on_top params above.below) refl f
-
-  -- ---- as the code slices the stack
-
-  -- the entries from a place on
-  pub last_texts : (n len : ℕ) (items slice : List Entry) (texts : List (List ℕ)) → slice ≡ items → len ≡ length items → texts ≡ map octets (drop (length items - n) items) → map octets (take (length slice - (len - n)) (drop (len - n) slice)) ≡ texts
-  last_texts n len items slice texts same counted are =
-      ap (map octets) (take_rest slice (len - n)) ∙ ap (λ l. map octets (drop (l - n) slice)) counted ∙ ap (λ es. map octets (drop (length items - n) es)) same ∙ sym are
+-- the entries from a place on
+pub last_texts : (n len : ℕ) (items slice : List Entry) (texts : List (List ℕ)) → slice ≡ items → len ≡ length items → texts ≡ map octets_of (drop (length items - n) items) → map octets_of (take (length slice - (len - n)) (drop (len - n) slice)) ≡ texts
+last_texts n len items slice texts same counted are =
+    ap (map octets_of) (take_rest slice (len - n)) ∙ ap (λ l. map octets_of (drop (l - n) slice)) counted ∙ ap (λ es. map octets_of (drop (length items - n) es)) same ∙ sym are

@@ -8,20 +8,20 @@ use Rattle.std.proofs.lemmas.List.Concat.{concat_is, length-flat_map}
 use Rattle.std.specs.List.{concat}
 use Rattle.bytecode_format.specs.declared.instruction.Instruction.{Instruction}
 use Rattle.bytecode_format.specs.declared.operation.Operation.{Operation}
-use Rattle.bytecode_format.specs.declared.operation.Operation.TheVariants.{Halt, Literal, Variable, Capture, Join, Set, Bool as BoolOp, Not, Jump, JumpIfTrue, JumpIfFalse, Header, Exists, String, Size, PartSize, PartBody, PartDigest, Keep, Discard, File, Store, Each, Next, Break}
+use Rattle.bytecode_format.specs.declared.operation.Operation.TheVariants.{Halt, Literal, Variable, Capture, Join, Set, Bool as BoolOp, Not, Jump, JumpIfTrue, JumpIfFalse, Header, Exists, String, Size, PartSize, PartBody, PartDigest, Keep, Discard, File, Store, Each, Next, Break, Take}
 use Rattle.bytecode_format.specs.Operations.{operation_of}
 use Rattle.bytecode_format.specs.Code.{Code}
 use Rattle.bytecode_verifier.specs.declared.shape.Entry.{Entry}
 use Rattle.bytecode_verifier.specs.declared.shape.Entry.TheVariants.{Truth, Text}
 use Rattle.std.specs.Option.{option_and_then, option_map, option_map_or}
-use Rattle.bytecode_verifier.specs.Rows.{row_of, is_well_formed, is_jump, needs_part, keys_in, params_in, match_in, scope_in, selector_in}
+use Rattle.bytecode_verifier.specs.Rows.{row_in_version, is_well_formed, is_jump, needs_part, keys_in, params_in, match_in, scope_in, selector_in}
 use Rattle.bytecode_verifier.specs.Shape.{Entries, Texts, Lists as ListBounds, is_empty, has_truth, with_entry, with_string, with_joined, without_truth, take_texts, take_lists, shape_at}
 use Rattle.bytecode_verifier.specs.Places.{holds_at}
 use Rattle.bytecode_verifier.specs.Loops.{Loop, opens, closes, open_loops}
 use Rattle.bytecode_verifier.specs.Rules.{row_in, is_halt}
 use Rattle.bytecode_verifier.specs.Acceptance.{IsAccepted}
 use Rattle.bytecode_verifier.proofs.Tests.{same_place}
-use Rattle.bytecode_verifier.proofs.Consequences.{left_by, well_formed, number_known, part_number_known, break_known, string_known, variable_known, set_known, modifiers_known, not_last, jump_forward, jump_within, jump_same_loops, jump_target, shape_known, shape_next, target_empty}
+use Rattle.bytecode_verifier.proofs.Consequences.{left_by, well_formed, number_known, part_number_known, break_known, string_known, variable_known, set_known, take_version, take_variable_known, take_known, modifiers_known, not_last, jump_forward, jump_within, jump_same_loops, jump_target, shape_known, shape_next, target_empty}
 use Rattle.bytecode_verifier.proofs.Nesting.{Nesting}
 use Rattle.bytecode_format.specs.declared.action.Action.TheVariants as action
 use Rattle.mime_decode.specs.Content.{digest_of}
@@ -49,7 +49,7 @@ use Rattle.mail_matching.specs.HeaderTests.{exists_in}
 use Rattle.bytecode_verifier.proofs.Nesting.{nesting}
 use Rattle.sieve_vm.proofs.Charges.{charge_fits}
 use Rattle.sieve_vm.proofs.Falls.{depth_at, cap_there, end_of, potential-forward, potential-enter, potential-again, potential-leave, potential-break}
-use Rattle.sieve_vm.proofs.Opened.{loop_of, IsPart, AreOpen, open-length, last_of_both, is_among, some_left, close-is, AreVisited, are_visited, inside}
+use Rattle.sieve_vm.proofs.Opened.{loop_of, IsPart, AreOpen, open-length, last_of_both, is_among, some_left, close-is, AreVisited, are_visited, first_inside, IsUnderWay, visited-inside, under_way, below-left, inside}
 use Rattle.sieve_vm.proofs.Taking.{Describes, on_top, lists_are_on_top, octets_within}
 
 -- a value of a variable, and a capture, are cut
@@ -157,7 +157,7 @@ with_entry-some entry entries after e = go (nat_lt (length entries) 1024) refl e
     go true h f = (ltb-true _ _ h, cc)
     go false h f = absurd cc
 
-empty-some : (entries after : Entries) → cond (is_empty entries) (Some []) None ≡ Some after → entries ≡ []
+pub empty-some : (entries after : Entries) → cond (is_empty entries) (Some []) None ≡ Some after → entries ≡ []
 empty-some [] after e = refl
 empty-some (x ∷ xs) after e = absurd cc
 
@@ -196,6 +196,10 @@ instructions_there code is = go code.instructions refl
     go (x ∷ xs) e = rw e (omega arith)
     go [] e = absurd (let broken : true ≡ false = rw e at (is.end 0) in cc)
 
+-- a program that has Take is of a version in which it is on the current part
+pub take_needs_part : (code : Code) → IsAccepted code → (place : ℕ) (i : Instruction) → slice_get code.instructions place ≡ Some i → operation_of i.op ≡ Some Take → needs_part (row_in_version code.version Take) ≡ true
+take_needs_part code is place i here named = rw (take_version code is place i here named) refl
+
 -- the part of this number
 pub part_there : (parts : List Part) (number : ℕ) → number < length parts → (part : Part) × (slice_get parts number ≡ Some part)
 part_there [] number lt = absurd (omega (arith, lt))
@@ -218,7 +222,7 @@ first_of_two : (a b : Bool) → (a && b) ≡ true → a ≡ true
 first_of_two true b h = refl
 first_of_two false b h = absurd cc
 
-All-head : (P : ℕ → Type 0) (x : ℕ) (xs : List ℕ) → All P (x ∷ xs) → P x
+pub All-head : (P : ℕ → Type 0) (x : ℕ) (xs : List ℕ) → All P (x ∷ xs) → P x
 All-head P x xs all = all 0 x (omega arith)
 
 All-tail : (P : ℕ → Type 0) (x : ℕ) (xs : List ℕ) → All P (x ∷ xs) → All P xs
@@ -251,6 +255,7 @@ opens_each (Some Store) h = absurd cc
 opens_each (Some Each) h = refl
 opens_each (Some Next) h = absurd cc
 opens_each (Some Break) h = absurd cc
+opens_each (Some Take) h = absurd cc
 
 closes_next : (o : Option Operation) → closes o ≡ true → o ≡ Some Next
 closes_next None h = absurd cc
@@ -279,6 +284,7 @@ closes_next (Some Store) h = absurd cc
 closes_next (Some Each) h = absurd cc
 closes_next (Some Next) h = refl
 closes_next (Some Break) h = absurd cc
+closes_next (Some Take) h = absurd cc
 
 -- an instruction that passes a test
 held_at : (code : Code) (place : ℕ) (test : Instruction → Bool) → holds_at code place test ≡ true → (i : Instruction) × (slice_get code.instructions place ≡ Some i) × (test i ≡ true)
@@ -294,19 +300,19 @@ empty_after (x ∷ xs) next e = absurd cc
 
 module _ (code : Code) (is : IsAccepted code) where
   -- where an operation leaves no entries there are none after it
-  shape_after : (place : ℕ) (i : Instruction) (o : Operation) → slice_get code.instructions place ≡ Some i → operation_of i.op ≡ Some o → ((es : Entries) → left_by code (Some o) i es ≡ cond (is_empty es) (Some []) None) → shape_at code (suc place) ≡ Some []
+  pub shape_after : (place : ℕ) (i : Instruction) (o : Operation) → slice_get code.instructions place ≡ Some i → operation_of i.op ≡ Some o → ((es : Entries) → left_by code (Some o) i es ≡ cond (is_empty es) (Some []) None) → shape_at code (suc place) ≡ Some []
   shape_after place i o here e takes =
       let there = shape_known code is place in
       let n = shape_next code is place i there.0 here there.1 in
       let none : n.0 ≡ [] = empty_after there.0 n.0 (sym (takes there.0) ∙ ap (λ x. left_by code x i there.0) (sym e) ∙ n.1) in
       n.2 ∙ ap (λ (x : Entries). Some x) none
 
-  shape_after_each : (place : ℕ) (test : Instruction → Bool) → holds_at code place (λ i. opens (operation_of i.op) && test i) ≡ true → shape_at code (suc place) ≡ Some []
+  pub shape_after_each : (place : ℕ) (test : Instruction → Bool) → holds_at code place (λ i. opens (operation_of i.op) && test i) ≡ true → shape_at code (suc place) ≡ Some []
   shape_after_each place test h =
       let at = held_at code place (λ i. opens (operation_of i.op) && test i) h in
       shape_after place at.0 Each at.1 (opens_each (operation_of at.0.op) (first_of_two _ _ at.2)) (λ es. refl)
 
-  shape_after_next : (place : ℕ) (test : Instruction → Bool) → holds_at code place (λ i. closes (operation_of i.op) && test i) ≡ true → shape_at code (suc place) ≡ Some []
+  pub shape_after_next : (place : ℕ) (test : Instruction → Bool) → holds_at code place (λ i. closes (operation_of i.op) && test i) ≡ true → shape_at code (suc place) ≡ Some []
   shape_after_next place test h =
       let at = held_at code place (λ i. closes (operation_of i.op) && test i) h in
       shape_after place at.0 Next at.1 (closes_next (operation_of at.0.op) (first_of_two _ _ at.2)) (λ es. refl)
@@ -559,18 +565,18 @@ module _ (code : Code) (mail : Mail) (is : IsAccepted code) (known : IsMail mail
     leads_jump : operation_of i.op ≡ Some Jump → Leads code mail s (effect code mail Jump i s)
     leads_jump e =
         let a = after_of (Some Jump) e in
-        let jump : is_jump (row_in code i) ≡ true = ap (λ o. is_jump (option_and_then (row_of code.version) o)) e in
+        let jump : is_jump (row_in code i) ≡ true = ap (λ o. is_jump (option_and_then (row_in_version code.version) o)) e in
         let none : s.stack ≡ [] = no_stack s.stack (subst (λ (x : Entries). Describes x s.stack) (empty-some entries a.0 a.1) d) in
         subst (λ (b : Bool). Leads code mail s (cond b (jumps i.c s) fails)) (sym (sound_jump jump))
         (leads_target s jump none refl refl held from.stores)
 
     -- a jump that takes a truth value
-    leads_branch : (o : Operation) (wanted : Bool) → operation_of i.op ≡ Some o → is_jump (row_of code.version o) ≡ true → is_plain (Some o) ≡ true → left_by code (Some o) i entries ≡ without_truth entries
+    leads_branch : (o : Operation) (wanted : Bool) → operation_of i.op ≡ Some o → is_jump (row_in_version code.version o) ≡ true → is_plain (Some o) ≡ true → left_by code (Some o) i entries ≡ without_truth entries
         → Leads code mail s (cond (is_sound_jump code s i) (with_truth (branch i.c wanted) s s.stack) fails)
     leads_branch o wanted e jump_op goes_on takes =
         let a = after_of (Some o) e in
         let w = without_truth-some entries a.0 (sym takes ∙ a.1) in
-        let jump : is_jump (row_in code i) ≡ true = ap (λ x. is_jump (option_and_then (row_of code.version) x)) e ∙ jump_op in
+        let jump : is_jump (row_in code i) ≡ true = ap (λ x. is_jump (option_and_then (row_in_version code.version) x)) e ∙ jump_op in
         let top = top_truth [] s.stack (subst (λ (x : Entries). Describes x s.stack) w.0 d) in
         let alone : s.stack ≡ truth top.value ∷ [] = top.is ∙ ap (λ (r : List Value). truth top.value ∷ r) (no_stack top.rest top.below) in
         let shape : left_by code (operation_of i.op) i entries ≡ Some [] = ap (λ x. left_by code x i entries) e ∙ a.1 ∙ ap (λ (x : Entries). Some x) w.1 in
@@ -579,13 +585,13 @@ module _ (code : Code) (mail : Mail) (is : IsAccepted code) (known : IsMail mail
 
     -- ---- the operations on the current part
 
-    pub has_part : (o : Operation) → operation_of i.op ≡ Some o → needs_part (row_of code.version o) ≡ true → HasPart mail s
+    pub has_part : (o : Operation) → operation_of i.op ≡ Some o → needs_part (row_in_version code.version o) ≡ true → HasPart mail s
     has_part o e needs = go s.frames refl from.opened
       where
         some : (length (open_loops code s.place) == 0) ≡ false
         some =
             let broken : (needs_part (row_in code i) && (length (open_loops code s.place) == 0)) ≡ false = rw here at (is.no_part s.place) in
-            second_false _ _ (ap (λ x. needs_part (option_and_then (row_of code.version) x)) e ∙ needs) broken
+            second_false _ _ (ap (λ x. needs_part (option_and_then (row_in_version code.version) x)) e ∙ needs) broken
 
         go : (fs : List Frame) → s.frames ≡ fs → AreOpen mail fs (open_loops code s.place) → HasPart mail s
         go [] same opened = absurd (let none : (length (open_loops code s.place) == 0) ≡ true = rw opened refl in let both : true ≡ false = sym none ∙ some in cc)
@@ -646,6 +652,18 @@ module _ (code : Code) (mail : Mail) (is : IsAccepted code) (known : IsMail mail
             leads_on (record s { stack = vs; actions = s.actions ++ action.Store folder number ∷ [] }) after (ap is_plain e) leaves (subst (λ (x : Entries). Describes x vs) same h.1) refl refl refl held
             (All-push (NamesPart mail) s.actions (action.Store folder number) from.stores there)
 
+    leads_take : operation_of i.op ≡ Some Take → Leads code mail s (effect code mail Take i s)
+    leads_take e =
+        let a = after_of (Some Take) e in
+        let same : entries ≡ a.0 = (let f : Some entries ≡ Some a.0 = a.1 in cc) in
+        let p = has_part Take e (take_needs_part code is s.place i here e) in
+        let next : List ℕ = take i.b p.part.content in
+        let within : nat_lt i.c (length s.variables) ≡ true = lt-ltb _ _ (omega (arith, held.number, take_variable_known code is s.place i here e)) in
+        let cut : length next ≤ max_value = omega (arith, length-take i.b p.part.content, (take_known code is s.place i here e).1) in
+        in_part (machine.set_content i) p
+        (subst (λ (b : Bool). Leads code mail s (cond b (on (record s { variables = slice_set s.variables i.c next })) fails)) (sym within)
+        (leads_on _ a.0 (ap is_plain e) (left Take a.0 e a.1) (subst (λ (x : Entries). Describes x s.stack) same d) refl refl refl (set_one code.variables i.c s.variables s.captures next held cut) from.stores))
+
     -- ---- the operations of loops
 
     -- one that leaves no entries found none
@@ -675,7 +693,7 @@ module _ (code : Code) (mail : Mail) (is : IsAccepted code) (known : IsMail mail
     leads_each : operation_of i.op ≡ Some Each → Leads code mail s (effect code mail Each i s)
     leads_each e =
         subst (λ (b : Bool). Leads code mail s (cond b (open_loop i.c (visited (current_part s.frames) mail) s) fails)) (sym fits)
-        (go (visited (current_part s.frames) mail) (are_visited mail known (current_part s.frames)))
+        (go (visited (current_part s.frames) mail) refl (are_visited mail known (current_part s.frames)))
       where
         loop : Loop
         loop = record { each = s.place; next = i.c }
@@ -710,18 +728,24 @@ module _ (code : Code) (mail : Mail) (is : IsAccepted code) (known : IsMail mail
             let b = nested.body (suc s.place) outer loop [] opened p after before in
             omega (arith, ap length b.1, length-append outer (loop ∷ b.0), depth)
 
-        go : (parts : List ℕ) → AreVisited mail parts → Leads code mail s (open_loop i.c parts s)
-        go [] are =
+        -- the loop at its first part
+        at_first : ℕ → List ℕ → Frame
+        at_first part rest = record { each = s.place; next = i.c; part = part; rest = rest }
+
+        go : (parts : List ℕ) → visited (current_part s.frames) mail ≡ parts → AreVisited mail parts → Leads code mail s (open_loop i.c parts s)
+        go [] all are =
             leads_to_bracket (suc i.c) s within.2 (shape_after_next code is i.c _ (nested.partners (suc s.place) outer loop [] opened).1) none refl
             (subst (AreOpen mail s.frames) (sym (nested.around (suc s.place) outer loop [] opened).1) from.opened) refl refl refl
             (potential-forward code mail s.frames s.place (suc i.c) depth before_end (omega (arith, within.1)))
-        go (part ∷ rest) are = (
-          refl,
-          leads_to_bracket (suc s.place) (record s { frames = record { each = s.place; next = i.c; part = part; rest = rest } ∷ s.frames }) (omega (arith, within.1, within.2))
-              (shape_after_each code is s.place _ (nested.partners (suc s.place) outer loop [] opened).0) none refl
-              (outer, opened, from.opened, All-head (IsPart mail) part rest are.each, All-tail (IsPart mail) part rest are.each) refl refl refl
-              (potential-enter code mail s.frames s.place i.c part rest depth (omega (arith, within.1)) (ends s.frames from.opened) deeper are.few),
-        )
+        go (part ∷ rest) all are =
+            let way : IsUnderWay mail (at_first part rest) s.frames =
+            under_way mail s.place i.c s.frames (first_inside s.frames) part rest known (omega arith) (sym (visited-inside mail s.frames) ∙ all) in (
+              refl,
+              leads_to_bracket (suc s.place) (record s { frames = at_first part rest ∷ s.frames }) (omega (arith, within.1, within.2))
+                  (shape_after_each code is s.place _ (nested.partners (suc s.place) outer loop [] opened).0) none refl
+                  (outer, opened, from.opened, All-head (IsPart mail) part rest are.each, All-tail (IsPart mail) part rest are.each, way) refl refl refl
+                  (potential-enter code mail s.frames s.place i.c part rest depth (omega (arith, within.1)) (ends s.frames from.opened) deeper all are.few (below-left mail (at_first part rest) s.frames way)),
+            )
 
     leads_next : operation_of i.op ≡ Some Next → Leads code mail s (effect code mail Next i s)
     leads_next e = go s.frames refl from.opened
@@ -751,24 +775,30 @@ module _ (code : Code) (mail : Mail) (is : IsAccepted code) (known : IsMail mail
         shape_next_is = shape_after_next code is s.place _ (nested.partners s.place outer loop [] closed).1
 
         -- the frame is that of the two brackets
-        turn_of_frame : (f : Frame) (fs : List Frame) → s.frames ≡ f ∷ fs → f.each ≡ i.c → f.next ≡ s.place → AreOpen mail fs outer → IsPart mail f.part → (rest : List ℕ) → f.rest ≡ rest → All (IsPart mail) rest
+        turn_of_frame : (f : Frame) (fs : List Frame) → s.frames ≡ f ∷ fs → f.each ≡ i.c → f.next ≡ s.place → AreOpen mail fs outer → IsUnderWay mail f fs → (rest : List ℕ) → f.rest ≡ rest → All (IsPart mail) rest
             → depth_at code mail s.place ≡ suc (length fs) → Leads code mail s (next_part f fs rest s)
-        turn_of_frame f fs same each_is next_is are part [] rest_is rest deep = (
+        turn_of_frame f fs same each_is next_is are way [] rest_is rest deep = (
           refl,
           leads_to_bracket (suc s.place) (record s { frames = fs }) within.2 shape_next_is none refl are refl refl refl
               (subst (λ gs. potential_from code mail (suc s.place) fs + cap_there code mail s.place ≤ potential_from code mail s.place gs) (sym same)
               (subst (λ p. potential_from code mail (suc p) fs + cap_there code mail s.place ≤ potential_from code mail s.place (f ∷ fs)) next_is
               (potential-leave code mail f fs s.place deep (omega (arith, next_is))))),
         )
-        turn_of_frame f fs same each_is next_is are part (p ∷ rest) rest_is all deep =
+        turn_of_frame f fs same each_is next_is are way (p ∷ rest) rest_is all deep =
+            let after = way.after in
+            let on : IsUnderWay mail (record f { part = p; rest = rest }) fs = under_way mail f.each f.next fs (suc f.part) p rest known (omega arith) (sym way.left ∙ rest_is) in
+            let deeper : (q : ℕ) → f.each < q → q ≤ f.next → suc (length fs) ≤ depth_at code mail q =
+            λ q behind before.
+            let b = nested.body s.place outer loop [] closed q (omega (arith, each_is)) (omega (arith, next_is)) in
+            omega (arith, ap length b.1, length-append outer (loop ∷ b.0), open-length mail fs outer are) in
             let here_again : open_loops code (suc f.each) ≡ outer ++ loop ∷ [] = ap (λ n. open_loops code (suc n)) each_is ∙ (nested.around s.place outer loop [] closed).2 in
             let same_loop : loop ≡ loop_of f = ap (λ n. let l : Loop = record { each = n; next = s.place } in l) (sym each_is) ∙ ap (λ n. let l : Loop = record { each = f.each; next = n } in l) (sym next_is) in
             leads_to_bracket (suc f.each) (record s { frames = record f { part = p; rest = rest } ∷ fs }) (omega (arith, each_is, within.0, from.within))
             (subst (λ n. shape_at code (suc n) ≡ Some []) (sym each_is) shape_each) none refl
-            (outer, here_again ∙ ap (λ l. outer ++ l ∷ []) same_loop, are, All-head (IsPart mail) p rest all, All-tail (IsPart mail) p rest all) refl refl refl
+            (outer, here_again ∙ ap (λ l. outer ++ l ∷ []) same_loop, are, All-head (IsPart mail) p rest all, All-tail (IsPart mail) p rest all, on) refl refl refl
             (subst (λ gs. potential_from code mail (suc f.each) (record f { part = p; rest = rest } ∷ fs) + cap_there code mail s.place ≤ potential_from code mail s.place gs) (sym same)
             (subst (λ n. potential_from code mail (suc f.each) (record f { part = p; rest = rest } ∷ fs) + cap_there code mail n ≤ potential_from code mail n (f ∷ fs)) next_is
-            (potential-again code mail f fs p rest (ap (depth_at code mail) next_is ∙ deep) rest_is)))
+            (potential-again code mail f fs p rest (ap (depth_at code mail) next_is ∙ deep) deeper rest_is (below-left mail (record f { part = p; rest = rest }) fs on))))
 
         go : (fs : List Frame) → s.frames ≡ fs → AreOpen mail fs (open_loops code s.place) → Leads code mail s (next code i.c s fs)
         go [] same are = absurd (omega (arith, ap length (sym closed ∙ are), length-append outer (loop ∷ [])))
@@ -778,7 +808,7 @@ module _ (code : Code) (mail : Mail) (is : IsAccepted code) (known : IsMail mail
             let next_is : f.next ≡ s.place = ap (λ (l : Loop). l.next) (sym both.1) in
             let sound : (are_partners code i.c s.place && (f.each == i.c) && (f.next == s.place)) ≡ true = rw (partners, each_is, next_is, same_place i.c, same_place s.place) refl in
             subst (λ (b : Bool). Leads code mail s (cond b (next_part f fs f.rest s) fails)) (sym sound)
-            (turn_of_frame f fs same each_is next_is (subst (AreOpen mail fs) (sym both.0) are.2) are.3 f.rest refl are.4 (depth ∙ ap length same))
+            (turn_of_frame f fs same each_is next_is (subst (AreOpen mail fs) (sym both.0) are.2) are.5 f.rest refl are.4 (depth ∙ ap length same))
 
     leads_break : operation_of i.op ≡ Some Break → Leads code mail s (effect code mail Break i s)
     leads_break e =
@@ -820,10 +850,11 @@ module _ (code : Code) (mail : Mail) (is : IsAccepted code) (known : IsMail mail
     leads Each e = leads_each e
     leads Next e = leads_next e
     leads Break e = leads_break e
+    leads Take e = leads_take e
 
     -- the turn of an instruction
     sound : (o : Option Operation) → operation_of i.op ≡ o → IsSound code mail s (turn_of code mail o i s)
-    sound None e = absurd (let g : false ≡ true = ap (λ x. is_well_formed (option_and_then (row_of code.version) x) i) (sym e) ∙ well_formed code is s.place i here in cc)
+    sound None e = absurd (let g : false ≡ true = ap (λ x. is_well_formed (option_and_then (row_in_version code.version) x) i) (sym e) ∙ well_formed code is s.place i here in cc)
     sound (Some o) e =
         let cost = charge_fits code mail known o i s entries d (after_of (Some o) e).0 (after_of (Some o) e).1 in
         let cap : cap_at code s.place ≡ cap_of (Some o) i entries = rw (here, at, e) refl in

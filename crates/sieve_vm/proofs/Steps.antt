@@ -1,5 +1,5 @@
 -- How the machine goes on as the run does.
-use Rattle.std.proofs.Common.{◌≡◌, ℕ, suc, ◌+◌, ◌^◌, ◌<◌, ◌≤◌, Bool, true, false, not, ◌==◌, nat_lt, cond, List, [], ◌∷◌, ◌++◌, Option, Some, None, IfSome, IsSome, is_some, drop, ◌-◌, length, take, slice_get, slice_set, get_or, refl, sym, ap, subst, ◌∙◌, arith}
+use Rattle.std.proofs.Common.{◌≡◌, ℕ, suc, ◌+◌, ◌^◌, ◌<◌, ◌≤◌, Bool, true, false, not, ◌==◌, nat_lt, cond, List, [], ◌∷◌, ◌++◌, Option, Some, None, IfSome, IsSome, is_some, min, drop, ◌-◌, length, take, slice_get, slice_set, get_or, refl, sym, ap, subst, ◌∙◌, arith}
 use Rattle.std.proofs.lemmas.Bool.{lt-ltb}
 use Rattle.std.proofs.lemmas.Option.{slice_get-get_or}
 use Rattle.bytecode_format.specs.Actions.{first_occurrences, with_implicit_keep}
@@ -7,7 +7,7 @@ use Rattle.bytecode_format.specs.declared.action.Action.{Action}
 use Rattle.bytecode_format.specs.declared.action.Action.TheVariants as action
 use Rattle.bytecode_format.specs.declared.instruction.Instruction.{Instruction}
 use Rattle.bytecode_format.specs.declared.operation.Operation.{Operation}
-use Rattle.bytecode_format.specs.declared.operation.Operation.TheVariants.{Literal, Variable, Capture, Join, Set, Bool as BoolOp, Not, JumpIfTrue, JumpIfFalse, Header, Exists, String, Size, PartSize, PartBody, PartDigest, File, Store, Each, Next, Break}
+use Rattle.bytecode_format.specs.declared.operation.Operation.TheVariants.{Literal, Variable, Capture, Join, Set, Bool as BoolOp, Not, JumpIfTrue, JumpIfFalse, Header, Exists, String, Size, PartSize, PartBody, PartDigest, File, Store, Each, Next, Break, Take}
 use Rattle.bytecode_format.specs.Operations.{operation_of}
 use Rattle.bytecode_format.specs.Code.{Code}
 use Rattle.std.specs.Option.{option_and_then, option_map_or, unwrap_or}
@@ -16,11 +16,11 @@ use Rattle.bytecode_verifier.specs.Loops.{open_loops}
 use Rattle.bytecode_verifier.specs.declared.shape.Entry.TheVariants.{Truth}
 use Rattle.glob_match.specs.declared.match_type.Match.{Match}
 use Rattle.mime_decode.specs.Content.{digest_of}
-use Rattle.bytecode_verifier.specs.Rows.{row_of, is_well_formed, is_jump, needs_part, keys_in, params_in}
+use Rattle.bytecode_verifier.specs.Rows.{row_in_version, is_well_formed, is_jump, needs_part, keys_in, params_in}
 use Rattle.bytecode_verifier.specs.Rules.{row_in}
 use Rattle.bytecode_verifier.specs.Shape.{Entries, Texts, take_texts, with_entry, without_truth}
 use Rattle.bytecode_verifier.specs.Acceptance.{IsAccepted}
-use Rattle.bytecode_verifier.proofs.Consequences.{left_by, well_formed, break_known, part_number_known, number_known, string_known, variable_known, set_known, modifiers_known}
+use Rattle.bytecode_verifier.proofs.Consequences.{left_by, well_formed, break_known, part_number_known, number_known, string_known, variable_known, set_known, take_variable_known, modifiers_known}
 use Rattle.bytecode_format.specs.Spelling.{IsProgram}
 use Rattle.bytecode_verifier.proofs.Budgets.{budget_small}
 use Rattle.bytecode_verifier.proofs.Short.{shape_small}
@@ -37,8 +37,8 @@ use Rattle.sieve_vm.specs.State.{Value, truth, text, Frame, State, current_part,
 use Rattle.sieve_vm.specs.Stack.{OnTop, texts_on_top, Lists, lists_on_top, length_on_top}
 use Rattle.sieve_vm.specs.MatchNumbers.{match_numbered, scope_numbered}
 use Rattle.sieve_vm.specs.Visits.{Visits, part_in}
-use Rattle.sieve_vm.specs.Charge.{cost_of_names, cost_of_matching, cost_of_comparing, cost_with_part, octets_on_top, charge_of}
-use Rattle.sieve_vm.specs.Machine.{Effect, on, jumps, halts, fails, push, branch, with_truth, with_texts, with_lists, with_number, with_string, join, test_names, tested, test_values, test_sources, with_part, with_text, store, store_part, open_loop, next_part, next, close, is_sound_jump, compares, effect, turn, turn_of, turn_at, step}
+use Rattle.sieve_vm.specs.Charge.{cost_of_names, cost_of_matching, cost_of_comparing, cost_with_part, octets_on_top, octets_taken, charge_of}
+use Rattle.sieve_vm.specs.Machine.{Effect, on, jumps, halts, fails, push, branch, with_truth, with_texts, with_lists, with_number, with_string, join, test_names, tested, test_values, test_sources, with_part, set_content, with_text, store, store_part, open_loop, next_part, next, close, is_sound_jump, compares, effect, turn, turn_of, turn_at, step}
 use Rattle.sieve_vm.specs.Standing.{held_of, found_in, once, StandsFor, IsIn, IsRunning, GoesFrom, HasHad, StepsOn, IsOver}
 use Rattle.mail_matching.specs.FirstMatch.{first_match}
 use Rattle.std.specs.List.{concat}
@@ -48,7 +48,7 @@ use Rattle.bytecode_format.specs.Modifiers.{modified, modifiers_numbered}
 use Rattle.sieve_vm.specs.Ending.{IsOutcome}
 use Rattle.sieve_vm.proofs.Taking.{Describes, AreShortTexts, short_texts, names_there, parts_there, lists_there, folder_there}
 use Rattle.sieve_vm.proofs.Pushed.{texts_are, lists_are}
-use Rattle.sieve_vm.proofs.Reached.{IsReached, IsSound, Costs, Leads, leads, step_is_sound, TopTruth, top_truth, has_truth-some, without_truth-some, length-described, after_of, sound_jump, nested, HasPart, has_part}
+use Rattle.sieve_vm.proofs.Reached.{take_needs_part, IsReached, IsSound, Costs, Leads, leads, step_is_sound, TopTruth, top_truth, has_truth-some, without_truth-some, length-described, after_of, sound_jump, nested, HasPart, has_part}
 use Rattle.sieve_vm.proofs.Opened.{loop_of, AreOpen, open-length, open-current, is_among, some_left, close-is}
 use Rattle.sieve_vm.specs.Potential.{limit_of}
 use Rattle.sieve_vm.proofs.Bounds.{reached, spent, ends_within, Run-push}
@@ -90,7 +90,7 @@ module _ (code : Code) (mail : Mail) (is : IsAccepted code) (known : IsMail mail
       where
         go : (x : Option Operation) → operation_of i.op ≡ x → IsSome (operation_of i.op)
         go (Some operation) e = rw e refl
-        go None e = absurd (let both : false ≡ true = ap (λ x. is_well_formed (option_and_then (row_of code.version) x) i) (sym e) ∙ form in cc)
+        go None e = absurd (let both : false ≡ true = ap (λ x. is_well_formed (option_and_then (row_in_version code.version) x) i) (sym e) ∙ form in cc)
 
     module _ (o : Operation) (named : operation_of i.op ≡ Some o) where
       after : (next : Entries) × (left_by code (Some o) i there.entries ≡ Some next)
@@ -109,8 +109,8 @@ module _ (code : Code) (mail : Mail) (is : IsAccepted code) (known : IsMail mail
       fine : Leads code mail s (effect code mail o i s)
       fine = leads code mail is known s i here_is there o named
 
-      pub jumps_soundly : is_jump (row_of code.version o) ≡ true → is_sound_jump code s i ≡ true
-      jumps_soundly jump = sound_jump code mail is known s i here_is there (ap (λ x. is_jump (option_and_then (row_of code.version) x)) named ∙ jump)
+      pub jumps_soundly : is_jump (row_in_version code.version o) ≡ true → is_sound_jump code s i ≡ true
+      jumps_soundly jump = sound_jump code mail is known s i here_is there (ap (λ x. is_jump (option_and_then (row_in_version code.version) x)) named ∙ jump)
 
       branch_top : left_by code (Some o) i there.entries ≡ without_truth there.entries → (es : Entries) × TopTruth s.stack es
       branch_top takes =
@@ -192,7 +192,7 @@ module _ (code : Code) (mail : Mail) (is : IsAccepted code) (known : IsMail mail
         let stands : StandsFor mail (record s { stack = truth (not top.value) ∷ top.rest }) m' = rw (← took.0) (pushes.1 (record s { stack = top.rest }) took.1) in
         rw (top.is, pushes.0) (stands, refl)
 
-    pub had_branch : (o : Operation) (wanted : Bool) → operation_of i.op ≡ Some o → is_jump (row_of code.version o) ≡ true → left_by code (Some o) i there.entries ≡ without_truth there.entries → (done : Done) (m' : Machine)
+    pub had_branch : (o : Operation) (wanted : Bool) → operation_of i.op ≡ Some o → is_jump (row_in_version code.version o) ≡ true → left_by code (Some o) i there.entries ≡ without_truth there.entries → (done : Done) (m' : Machine)
         → ((t : State) (b : Bool) (rest : List Value) → StandsFor mail t m → t.stack ≡ truth b ∷ rest → HasHad mail (branch i.c wanted b (record t { stack = rest })) 1 done m')
         → HasHad mail (cond (is_sound_jump code s i) (with_truth (branch i.c wanted) s s.stack) fails) 1 done m'
     had_branch o wanted e jump takes done m' had =
@@ -353,7 +353,7 @@ module _ (code : Code) (mail : Mail) (is : IsAccepted code) (known : IsMail mail
     pub current_in_loops : IfSome (current_part m.loops.frames) (λ part. part < length m.loops.mail.parts)
     current_in_loops = rw at.stands.mail_is current_there
 
-    module _ (o : Operation) (e : operation_of i.op ≡ Some o) (needs : needs_part (row_of code.version o) ≡ true) where
+    module _ (o : Operation) (e : operation_of i.op ≡ Some o) (needs : needs_part (row_in_version code.version o) ≡ true) where
       part_here : HasPart mail s
       part_here = has_part code mail is known s i here_is there o e needs
 
@@ -454,6 +454,25 @@ module _ (code : Code) (mail : Mail) (is : IsAccepted code) (known : IsMail mail
         let now = stores s f.0 f.1.0 p.frame.part at.stands f.1.1 (current_is Store e refl) in
         let same : effect code mail Store i s ≡ on (record s { stack = f.1.0; actions = s.actions ++ action.Store f.0 p.frame.part ∷ [] }) = does_is Store e refl store_part ∙ ap (with_text (store p.frame.part) s) f.1.1 in
         let price : charge_of code mail Store i s ≡ 1 + length f.0 = ap (λ (v : List Value). 1 + length_on_top v) f.1.1 in
+        rw (same, price, now.0) (now.1, refl)
+
+    taken_within : operation_of i.op ≡ Some Take → i.c < length s.variables
+    taken_within e = omega (arith, take_variable_known code is s.place i here_is e, there.texts.number)
+
+    pub take_some : operation_of i.op ≡ Some Take → (w : Mail) × ((t : State) × (StandsFor w t m × (i.c < length t.variables)))
+    take_some e = (mail, (s, (at.stands, taken_within e)))
+
+    pub had_take : operation_of i.op ≡ Some Take → (done : Done) (m' : Machine)
+        → ((t : State) (part : Part) → StandsFor mail t m → part_in m.loops ≡ Some part
+        → (done ≡ charged_at (min i.b (length part.content))) × StandsFor mail (record t { variables = slice_set t.variables i.c (take i.b part.content) }) m')
+        → HasHad mail (effect code mail Take i s) (charge_of code mail Take i s) done m'
+    had_take e done m' takes =
+        let p = part_here Take e (take_needs_part code is s.place i here_is e) in
+        let now = takes s p.part at.stands (part_is Take e (take_needs_part code is s.place i here_is e)) in
+        let next : State = record s { variables = slice_set s.variables i.c (take i.b p.part.content) } in
+        let same : effect code mail Take i s ≡ on next = does_is Take e (take_needs_part code is s.place i here_is e) (set_content i) ∙ ap (λ (b : Bool). cond b (on next) fails) (lt-ltb _ _ (taken_within e)) in
+        let price : charge_of code mail Take i s ≡ 1 + min i.b (length p.part.content) =
+        ap (λ x. 1 + octets_taken i.b mail x) (current_is Take e (take_needs_part code is s.place i here_is e)) ∙ ap (λ (x : Option Part). 1 + option_map_or (λ (part : Part). min i.b (length part.content)) x 0) p.there in
         rw (same, price, now.0) (now.1, refl)
 
     -- ---- the operations of loops

@@ -10,6 +10,7 @@ use Rattle.std.specs.List.{HoldsAt}
 use Rattle.std.specs.Cow.{cow_slice_items}
 use Rattle.std.specs.Option.{option_and_then}
 use Rattle.mime_tree.specs.PartTree as tree
+use Rattle.octets.specs.Limits.{max_value}
 use Rattle.mime_decode.specs.Content.{digest_of}
 use Rattle.mime_decode.specs.Mail.{Mail, Part, IsMail, mail_of, part_of}
 use Rattle.mime_decode.specs.Scope.{numbers_from, visited}
@@ -111,46 +112,53 @@ fetched mail visits place (Ok content) same current within at = λ part e.
 
 -- ---- what is known
 
--- one length more
-pub length_kept : (mail : Mail) (lengths next : List (Option ℕ)) (digests : List (Option (List ℕ))) (place found : ℕ) → IsKnown mail lengths digests
-    → ((other : ℕ) → get_or next other None ≡ cond (nat_eq other place) (Some found) (get_or lengths other None)) → ((part : Part) → slice_get mail.parts place ≡ Some part → found ≡ length part.content) → IsKnown mail next digests
-length_kept mail lengths next digests place found known now right =
-    record {
-      length_is = λ other n part e at. go other n part e at (nat_eq other place) refl;
-      digest_is = known.digest_is;
-    }
-  where
-    go : (other n : ℕ) (part : Part) → get_or next other None ≡ Some n → slice_get mail.parts other ≡ Some part → (b : Bool) → nat_eq other place ≡ b → n ≡ length part.content
-    go other n part e at true same =
-        let here : other ≡ place = eqb-true other place same in
-        let is : Some found ≡ Some n = sym (now other ∙ ap (λ b. cond b (Some found) (get_or lengths other None)) same) ∙ e in
-        let equal : found ≡ n = cc in
-        sym equal ∙ right part (ap (slice_get mail.parts) (sym here) ∙ at)
-    go other n part e at false same =
-        known.length_is other n part (sym (now other ∙ ap (λ b. cond b (Some found) (get_or lengths other None)) same) ∙ e) at
+-- a place for one more, of which nothing is known
+pub one_unknown : {A : Type 0} (list : List (Option A)) (other : ℕ) → get_or (list ++ None ∷ []) other None ≡ get_or list other None
+one_unknown [] zero = refl
+one_unknown [] (suc other) = refl
+one_unknown (x ∷ list) zero = refl
+one_unknown (x ∷ list) (suc other) = one_unknown list other
 
-pub digest_kept : (mail : Mail) (lengths : List (Option ℕ)) (digests next : List (Option (List ℕ))) (place : ℕ) (found : List ℕ) → IsKnown mail lengths digests
-    → ((other : ℕ) → get_or next other None ≡ cond (nat_eq other place) (Some found) (get_or digests other None)) → ((part : Part) → slice_get mail.parts place ≡ Some part → found ≡ digest_of part.content) → IsKnown mail lengths next
-digest_kept mail lengths digests next place found known now right =
-    record {
-      length_is = known.length_is;
-      digest_is = λ other n part e at. go other n part e at (nat_eq other place) refl;
-    }
-  where
-    go : (other : ℕ) (n : List ℕ) (part : Part) → get_or next other None ≡ Some n → slice_get mail.parts other ≡ Some part → (b : Bool) → nat_eq other place ≡ b → n ≡ digest_of part.content
-    go other n part e at true same =
-        let here : other ≡ place = eqb-true other place same in
-        let is : Some found ≡ Some n = sym (now other ∙ ap (λ b. cond b (Some found) (get_or digests other None)) same) ∙ e in
-        let equal : found ≡ n = cc in
-        sym equal ∙ right part (ap (slice_get mail.parts) (sym here) ∙ at)
-    go other n part e at false same =
-        known.digest_is other n part (sym (now other ∙ ap (λ b. cond b (Some found) (get_or digests other None)) same) ∙ e) at
+module _ (mail : Mail) (lengths : List (Option ℕ)) (digests beginnings : List (Option (List ℕ))) (known : IsKnown mail lengths digests beginnings) where
+  -- one more of what is known of each part, if it is right
+  one_more : {A : Type 0} (of : Part → A) (list next : List (Option A)) (place : ℕ) (found : A) → ((other : ℕ) (n : A) (part : Part) → get_or list other None ≡ Some n → slice_get mail.parts other ≡ Some part → n ≡ of part)
+      → ((other : ℕ) → get_or next other None ≡ cond (nat_eq other place) (Some found) (get_or list other None)) → ((part : Part) → slice_get mail.parts place ≡ Some part → found ≡ of part)
+      → (other : ℕ) (n : A) (part : Part) → get_or next other None ≡ Some n → slice_get mail.parts other ≡ Some part → n ≡ of part
+  one_more of list next place found before now right other n part e at = go (nat_eq other place) refl
+    where
+      go : (b : Bool) → nat_eq other place ≡ b → n ≡ of part
+      go true same =
+          let here : other ≡ place = eqb-true other place same in
+          let is : Some found ≡ Some n = sym (now other ∙ ap (λ b. cond b (Some found) (get_or list other None)) same) ∙ e in
+          let equal : found ≡ n = cc in
+          sym equal ∙ right part (ap (slice_get mail.parts) (sym here) ∙ at)
+      go false same =
+          before other n part (sym (now other ∙ ap (λ b. cond b (Some found) (get_or list other None)) same) ∙ e) at
 
--- nothing more
-pub lengths_same : (mail : Mail) (lengths next : List (Option ℕ)) (digests : List (Option (List ℕ))) → IsKnown mail lengths digests → ((other : ℕ) → get_or next other None ≡ get_or lengths other None) → IsKnown mail next digests
-lengths_same mail lengths next digests known now =
-    record { length_is = λ other n part e at. known.length_is other n part (sym (now other) ∙ e) at; digest_is = known.digest_is }
+  pub length_kept : (next : List (Option ℕ)) (place found : ℕ) → ((other : ℕ) → get_or next other None ≡ cond (nat_eq other place) (Some found) (get_or lengths other None))
+      → ((part : Part) → slice_get mail.parts place ≡ Some part → found ≡ length part.content) → IsKnown mail next digests beginnings
+  length_kept next place found now right =
+      record { length_is = one_more (λ part. length part.content) lengths next place found known.length_is now right; digest_is = known.digest_is; beginning_is = known.beginning_is }
 
-pub digests_same : (mail : Mail) (lengths : List (Option ℕ)) (digests next : List (Option (List ℕ))) → IsKnown mail lengths digests → ((other : ℕ) → get_or next other None ≡ get_or digests other None) → IsKnown mail lengths next
-digests_same mail lengths digests next known now =
-    record { length_is = known.length_is; digest_is = λ other n part e at. known.digest_is other n part (sym (now other) ∙ e) at }
+  pub digest_kept : (next : List (Option (List ℕ))) (place : ℕ) (found : List ℕ) → ((other : ℕ) → get_or next other None ≡ cond (nat_eq other place) (Some found) (get_or digests other None))
+      → ((part : Part) → slice_get mail.parts place ≡ Some part → found ≡ digest_of part.content) → IsKnown mail lengths next beginnings
+  digest_kept next place found now right =
+      record { length_is = known.length_is; digest_is = one_more (λ part. digest_of part.content) digests next place found known.digest_is now right; beginning_is = known.beginning_is }
+
+  pub beginning_kept : (next : List (Option (List ℕ))) (place : ℕ) (found : List ℕ) → ((other : ℕ) → get_or next other None ≡ cond (nat_eq other place) (Some found) (get_or beginnings other None))
+      → ((part : Part) → slice_get mail.parts place ≡ Some part → found ≡ take max_value part.content) → IsKnown mail lengths digests next
+  beginning_kept next place found now right =
+      record { length_is = known.length_is; digest_is = known.digest_is; beginning_is = one_more (λ part. take max_value part.content) beginnings next place found known.beginning_is now right }
+
+  -- nothing more
+  pub lengths_same : (next : List (Option ℕ)) → ((other : ℕ) → get_or next other None ≡ get_or lengths other None) → IsKnown mail next digests beginnings
+  lengths_same next now =
+      record { length_is = λ other n part e at. known.length_is other n part (sym (now other) ∙ e) at; digest_is = known.digest_is; beginning_is = known.beginning_is }
+
+  pub digests_same : (next : List (Option (List ℕ))) → ((other : ℕ) → get_or next other None ≡ get_or digests other None) → IsKnown mail lengths next beginnings
+  digests_same next now =
+      record { length_is = known.length_is; digest_is = λ other n part e at. known.digest_is other n part (sym (now other) ∙ e) at; beginning_is = known.beginning_is }
+
+  pub beginnings_same : (next : List (Option (List ℕ))) → ((other : ℕ) → get_or next other None ≡ get_or beginnings other None) → IsKnown mail lengths digests next
+  beginnings_same next now =
+      record { length_is = known.length_is; digest_is = known.digest_is; beginning_is = λ other n part e at. known.beginning_is other n part (sym (now other) ∙ e) at }

@@ -1,9 +1,9 @@
 -- What a step costs.
-use Rattle.std.specs.Prelude.{ℕ, ◌+◌, List, Option, Some, None, length, slice_get, sum_by}
+use Rattle.std.specs.Prelude.{ℕ, ◌+◌, List, Option, Some, None, length, min, slice_get, sum_by}
 use Rattle.std.specs.Option.{option_map_or}
 use Rattle.bytecode_format.specs.declared.instruction.Instruction.{Instruction}
 use Rattle.bytecode_format.specs.declared.operation.Operation.{Operation}
-use Rattle.bytecode_format.specs.declared.operation.Operation.TheVariants.{Halt, Literal, Variable, Capture, Join, Set, Bool as BoolOp, Not, Jump, JumpIfTrue, JumpIfFalse, Header, Exists, String, Size, PartSize, PartBody, PartDigest, Keep, Discard, File, Store, Each, Next, Break}
+use Rattle.bytecode_format.specs.declared.operation.Operation.TheVariants.{Halt, Literal, Variable, Capture, Join, Set, Bool as BoolOp, Not, Jump, JumpIfTrue, JumpIfFalse, Header, Exists, String, Size, PartSize, PartBody, PartDigest, Keep, Discard, File, Store, Each, Next, Break, Take}
 use Rattle.bytecode_format.specs.Code.{Code}
 use Rattle.bytecode_verifier.specs.Rows.{keys_in, params_in, scope_in, selector_in}
 use Rattle.mime_decode.specs.Mail.{Mail, Part}
@@ -36,6 +36,11 @@ cost_with_part cost mail (Some current) keys = option_map_or (λ part. cost part
 abbrev pub octets_on_top : OnTop → ℕ
 octets_on_top top = sum_by length top.texts
 
+-- how many octets a variable gets of the current part's content, of which it takes so many at most; without one none
+abbrev pub octets_taken : ℕ → Mail → Option ℕ → ℕ
+octets_taken most mail None = 0
+octets_taken most mail (Some current) = option_map_or (λ (part : Part). min most (length part.content)) (slice_get mail.parts current) 0
+
 -- the charge of an instruction, from the state that it meets
 abbrev pub charge_of : Code → Mail → Operation → Instruction → State → ℕ
 charge_of code mail Halt i state = 1
@@ -63,3 +68,4 @@ charge_of code mail Store i state = 1 + length_on_top state.stack
 charge_of code mail Each i state = 1
 charge_of code mail Next i state = 1
 charge_of code mail Break i state = 1
+charge_of code mail Take i state = 1 + octets_taken i.b mail (current_part state.frames)

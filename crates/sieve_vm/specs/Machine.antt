@@ -6,7 +6,7 @@ use Rattle.octets.specs.Limits.{max_loops, max_stack, max_string, max_value}
 use Rattle.bytecode_format.specs.declared.action.Action.TheVariants as action
 use Rattle.bytecode_format.specs.declared.instruction.Instruction.{Instruction}
 use Rattle.bytecode_format.specs.declared.operation.Operation.{Operation}
-use Rattle.bytecode_format.specs.declared.operation.Operation.TheVariants.{Halt, Literal, Variable, Capture, Join, Set, Bool as BoolOp, Not, Jump, JumpIfTrue, JumpIfFalse, Header, Exists, String, Size, PartSize, PartBody, PartDigest, Keep, Discard, File, Store, Each, Next, Break}
+use Rattle.bytecode_format.specs.declared.operation.Operation.TheVariants.{Halt, Literal, Variable, Capture, Join, Set, Bool as BoolOp, Not, Jump, JumpIfTrue, JumpIfFalse, Header, Exists, String, Size, PartSize, PartBody, PartDigest, Keep, Discard, File, Store, Each, Next, Break, Take}
 use Rattle.bytecode_format.specs.Operations.{operation_of}
 use Rattle.bytecode_format.specs.Code.{Code}
 use Rattle.bytecode_format.specs.declared.modifiers.Modifiers.{Modifiers}
@@ -134,6 +134,11 @@ test_body number part keys state = tested state (body_match (match_numbered numb
 abbrev pub test_digest : Part → List (List ℕ) → State → Effect
 test_digest part keys state = tested state (digest_match part keys state.captures)
 
+-- the variable's value is the first octets of the current part's content, so many, or all where there are fewer
+abbrev pub set_content : Instruction → ℕ → Part → State → Effect
+set_content i number part state =
+    if nat_lt i.c (length state.variables) then on (record state { variables = slice_set state.variables i.c (take i.b part.content) }) else fails
+
 -- the instructions at two places are an Each and a Next that name each other
 abbrev pub are_partners : Code → ℕ → ℕ → Bool
 are_partners code each next =
@@ -194,6 +199,7 @@ effect code mail Store i state = with_part store_part mail state state.frames
 effect code mail Each i state = each code mail i.c state
 effect code mail Next i state = next code i.c state state.frames
 effect code mail Break i state = close i.a state state.frames
+effect code mail Take i state = with_part (set_content i) mail state state.frames
 
 -- the turn of an instruction at a place, from its charge and its effect
 abbrev pub turn : ℕ → Effect → Turn

@@ -1,12 +1,12 @@
 -- How the machine's fields stand for a state of a run.
-use Rattle.std.specs.Prelude.{◌≡◌, ◌<◌, ◌+◌, ℕ, true, Option, None, List, [], map, reverse, slice_index_or}
-use Rattle.std.specs.Cow.{cow_slice_items}
+use Rattle.std.specs.Prelude.{◌≡◌, ◌<◌, ◌+◌, ℕ, true, Option, List, [], map, reverse}
 use Rattle.bytecode_format.specs.Actions.{first_occurrences}
 use Rattle.bytecode_format.specs.Code.{Code}
-use Rattle.mail_matching.specs.FirstMatch.{captures_of}
+use Rattle.mail_matching.specs.FirstMatch.{no_captures}
 use Rattle.mime_decode.specs.Mail.{Mail}
 use Rattle.sieve_vm.specs.declared.entry.Entry.{Entry}
-use Rattle.sieve_vm.specs.declared.entry.Entry.TheVariants.{Truth, Text, Variable, Capture}
+use Rattle.sieve_vm.specs.declared.entry.Entry.TheVariants.{Truth, Text}
+use Rattle.sieve_vm.specs.SharedTexts.{items_of}
 use Rattle.sieve_vm.specs.declared.machine.Done.{Done}
 use Rattle.sieve_vm.specs.declared.machine.Flow.{Flow}
 use Rattle.sieve_vm.specs.declared.machine.Flow.TheVariants.{On, To, Ends}
@@ -21,19 +21,15 @@ use Rattle.sieve_vm.specs.State.{Value, truth, text, State, current_part, start}
 use Rattle.sieve_vm.specs.Machine.{Effect, on, jumps, halts}
 use Rattle.sieve_vm.specs.Runs.{Run, RunEnds}
 
--- an entry of the stack as the value that it is, among these variables and captures
-abbrev pub value_of : List (List ℕ) → List (List ℕ) → Entry → Value
-value_of variables captures (Truth b) = truth b
-value_of variables captures (Text octets) = text (cow_slice_items octets)
-value_of variables captures (Variable number) = text (slice_index_or variables number [])
-value_of variables captures (Capture number) = text (slice_index_or captures number [])
+-- an entry of the stack as the value that it is
+abbrev pub value_of : Entry → Value
+value_of (Truth b) = truth b
+value_of (Text octets) = text (items_of octets)
 
 -- the octets of an entry that is a text
-abbrev pub octets_of : List (List ℕ) → List (List ℕ) → Entry → List ℕ
-octets_of variables captures (Truth b) = []
-octets_of variables captures (Text octets) = cow_slice_items octets
-octets_of variables captures (Variable number) = slice_index_or variables number []
-octets_of variables captures (Capture number) = slice_index_or captures number []
+abbrev pub octets_of : Entry → List ℕ
+octets_of (Truth b) = []
+octets_of (Text octets) = items_of octets
 
 -- what the stack, the variables and the captures hold
 pub record Held : Type 0 where
@@ -41,20 +37,17 @@ pub record Held : Type 0 where
   pub variables : List (List ℕ)
   pub captures : List (List ℕ)
 
-abbrev pub variables_of : Workspace → List (List ℕ)
-variables_of work = map cow_slice_items work.variables.items
-
 abbrev pub held_of : Workspace → Held
 held_of work =
     record {
-      stack = map (value_of (variables_of work) (captures_of work.captures)) (reverse work.entries.items);
-      variables = variables_of work;
-      captures = captures_of work.captures;
+      stack = map value_of (reverse work.entries.items);
+      variables = map items_of work.variables.items;
+      captures = work.captures;
     }
 
 -- a workspace with which nothing was done
 abbrev pub IsNew : Workspace → Type 0
-IsNew work = (work.entries.items ≡ []) × (work.variables.items ≡ []) × (work.captures ≡ None)
+IsNew work = (work.entries.items ≡ []) × (work.variables.items ≡ []) × (work.captures ≡ no_captures)
 
 -- what a state holds there
 abbrev pub held_by : State → Held
@@ -62,7 +55,7 @@ held_by state = record { stack = state.stack; variables = state.variables; captu
 
 -- the octets of the entries that are lent for a test
 abbrev pub texts_of : Pushed → List (List ℕ)
-texts_of pushed = map (octets_of (variables_of pushed.work.now) (captures_of pushed.work.now.captures)) pushed.entries.now
+texts_of pushed = map octets_of pushed.entries.now
 
 -- what is charged one
 abbrev pub once : Flow → Done

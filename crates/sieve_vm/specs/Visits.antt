@@ -1,7 +1,8 @@
 -- What the open loops of the code stand for.
-use Rattle.std.specs.Prelude.{◌≡◌, ℕ, suc, ◌-◌, Bool, true, false, List, [], ◌∷◌, Option, Some, None, IfSome, length, map, reverse, slice_get, slice_index_or}
+use Rattle.std.specs.Prelude.{◌≡◌, ℕ, suc, ◌-◌, Bool, true, false, List, [], ◌∷◌, Option, Some, None, IfSome, length, map, reverse, take, slice_get, slice_index_or}
 use Rattle.std.specs.Cow.{cow_slice_items}
 use Rattle.std.specs.Option.{option_and_then}
+use Rattle.octets.specs.Limits.{max_value}
 use Rattle.mime_decode.specs.Content.{digest_of}
 use Rattle.mime_decode.specs.Mail.{Mail, Part}
 use Rattle.mime_decode.specs.Scope.{numbers_from}
@@ -25,10 +26,11 @@ frames_of frames = map frame_of (reverse frames)
 abbrev pub HasContent : Mail → code.Frame → Type 0
 HasContent mail frame = IfSome frame.content (λ content. (part : Part) → slice_get mail.parts frame.part ≡ Some part → cow_slice_items content ≡ part.content)
 
--- what is known of parts is so: the lengths of their contents, and the digests
-pub record IsKnown (mail : Mail) (lengths : List (Option ℕ)) (digests : List (Option (List ℕ))) : Type 0 where
+-- what is known of parts is so: the lengths of their contents, the digests, and the first octets, as many as a variable's value has at most
+pub record IsKnown (mail : Mail) (lengths : List (Option ℕ)) (digests beginnings : List (Option (List ℕ))) : Type 0 where
   pub length_is : (place found : ℕ) (part : Part) → slice_index_or lengths place None ≡ Some found → slice_get mail.parts place ≡ Some part → found ≡ length part.content
   pub digest_is : (place : ℕ) (found : List ℕ) (part : Part) → slice_index_or digests place None ≡ Some found → slice_get mail.parts place ≡ Some part → found ≡ digest_of part.content
+  pub beginning_is : (place : ℕ) (found : List ℕ) (part : Part) → slice_index_or beginnings place None ≡ Some found → slice_get mail.parts place ≡ Some part → found ≡ take max_value part.content
 
 -- the current part
 abbrev pub part_in : Visits → Option Part

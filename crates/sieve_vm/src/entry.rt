@@ -1,15 +1,11 @@
 // The entries of the stack.
-use std::borrow::CowSlice;
+use crate::shared_text::SharedText;
 
-/// An entry of the stack. A text that a variable or a capture holds is named, and not copied.
+/// An entry of the stack. A text isn't copied: entries share it with the variable or the capture that it came from.
 #[derive(Drop)]
 pub enum Entry<'p> {
     /// A truth value.
     Truth(bool),
-    /// A text, which the program lends or the entry owns.
-    Text(CowSlice<'p, u8>),
-    /// The value of the variable of this number.
-    Variable(usize),
-    /// The capture of this number.
-    Capture(usize),
+    /// A text.
+    Text(SharedText<'p>),
 }

@@ -1,13 +1,11 @@
 // Texts that are cut and joined.
 ghost use Rattle.std.specs.Prelude.{◌≡◌, ◌≤◌, ◌++◌, IfOk, OnOk, length, take, sum_by};
-ghost use Rattle.std.specs.Cow.{cow_slice_items};
 ghost use Rattle.std.specs.List.{concat};
 ghost use Rattle.octets.specs.Limits.{max_string, max_value};
 ghost use Rattle.mail_matching.specs.Texts.{AreTexts};
 
 use mail_matching::Texts;
 use std::alloc::{AllocError, Global};
-use std::borrow::CowSlice;
 
 /// The most octets of a text that others are joined to.
 const MAX_STRING: usize = 16_384;
@@ -23,17 +21,12 @@ pub fn first(octets: &[u8]) -> &[u8]
     &octets[..MAX_VALUE.min(octets.len())]
 }
 
-/// The first octets of a text, still lent where they are.
-pub fn first_octets<'p>(octets: CowSlice<'p, u8>) -> CowSlice<'p, u8>
-    ensures { cow_slice_items result ≡ take max_value (cow_slice_items octets.entry) }
+/// So many of the first octets, or all where there are fewer.
+#[tactic(auto, using(std::proofs::lemmas::List::take_min))]
+pub fn as_many(octets: &[u8], most: usize) -> &[u8]
+    ensures { result.now ≡ take most octets.now }
 {
-    match octets {
-        CowSlice::Borrowed(octets) => CowSlice::Borrowed(first(octets)),
-        CowSlice::Owned(mut octets) => {
-            octets.truncate(MAX_VALUE);
-            CowSlice::Owned(octets)
-        }
-    }
+    &octets[..most.min(octets.len())]
 }
 
 /// How many octets texts have.

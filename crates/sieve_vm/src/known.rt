@@ -1,6 +1,7 @@
 // What is known of parts, once it was found.
-ghost use Rattle.std.specs.Prelude.{◌≡◌, ◌<◌, ◌==◌, ℕ, Some, None, OnErr, OnOk, slice_index_or, if◌then◌else◌};
+ghost use Rattle.std.specs.Prelude.{◌≡◌, ◌<◌, ◌≤◌, ◌==◌, ℕ, Some, None, IfSome, OnErr, OnOk, length, slice_index_or, if◌then◌else◌};
 
+use octets::Octets;
 use std::alloc::AllocError;
 
 /// What is known of a part. The list is empty as long as nothing is known of any.
@@ -14,8 +15,21 @@ pub fn known<T: Copy>(list: &[Option<T>], part: usize) -> Option<T>
     }
 }
 
+/// The octets that are known of a part.
+pub fn octets_known(list: &[Option<Octets>], part: usize) -> Option<&[u8]>
+    ensures some { IfSome result (λ octets. slice_index_or list.now part None ≡ Some octets.now) }
+{
+    match list.get(part) {
+        Some(found) => match found {
+            Some(octets) => Some(octets.as_slice()),
+            None => None,
+        },
+        None => None,
+    }
+}
+
 /// Keeps what was found of one of so many parts.
-pub fn keep<T: Copy + Drop>(
+pub fn keep<T: Drop>(
     list: &mut Vec<Option<T>>,
     parts: usize,
     part: usize,
@@ -25,9 +39,18 @@ pub fn keep<T: Copy + Drop>(
     ensures kept { OnOk result ((other : ℕ) → slice_index_or list.new.items other None ≡ (if other == part then Some found else slice_index_or list.old.items other None)) }
     ensures refused { OnErr result ((other : ℕ) → slice_index_or list.new.items other None ≡ slice_index_or list.old.items other None) }
 {
-    if list.len() < parts {
-        list.resize(parts, None)?;
-    }
+    widen(list, parts)?;
     list[part] = Some(found);
+    Ok(())
+}
+
+// Makes room for what is known of so many parts.
+fn widen<T: Drop>(list: &mut Vec<Option<T>>, parts: usize) -> Result<(), AllocError>
+    ensures same { (other : ℕ) → slice_index_or list.new.items other None ≡ slice_index_or list.old.items other None }
+    ensures room { OnOk result (parts ≤ length list.new.items) }
+{
+    'room: while list.len() < parts {
+        list.push(None)?;
+    }
     Ok(())
 }

@@ -7,6 +7,8 @@ ghost use Rattle.sieve_vm.specs.State.{State, goes, ends, traps, start};
 ghost use Rattle.sieve_vm.specs.Machine.{step};
 ghost use Rattle.sieve_vm.specs.Runs.{Run, RunEnds};
 ghost use Rattle.sieve_vm.specs.Potential.{potential, limit_of};
+ghost use Rattle.sieve_vm.specs.Chained.{AreChained};
+ghost use Rattle.sieve_vm.specs.Plain.{IsChain, IsPlain};
 ghost use Rattle.bytecode_format.specs.declared.action.Action.{Action};
 ghost use Rattle.sieve_vm.specs.Ending.{IsOutcome};
 ghost use Rattle.sieve_vm.specs.Stores.{NamesPart};
@@ -31,6 +33,12 @@ pub fn runs_stay_within_the_budget()
     ensures ends { (code : Code) (mail : Mail) → IsAccepted code → IsMail mail → (n : ℕ) (state end : State) → Run code mail n (start code) state → step code mail state ≡ ends end → suc n ≤ limit_of code mail }
 {}
 
+/// Turns are chains of parts: the current part of each open loop is below that of the loop around it, what a
+/// loop has left comes after its current part, and what is below that part is among it.
+pub fn turns_are_chains()
+    ensures { (code : Code) (mail : Mail) → IsAccepted code → IsMail mail → (n : ℕ) (state : State) → Run code mail n (start code) state → AreChained mail state.frames }
+{}
+
 /// The run of an accepted program reaches its end, within the budget.
 pub fn runs_reach_their_end()
     ensures { (code : Code) (mail : Mail) → IsAccepted code → IsMail mail → (end : State) × RunEnds code mail end × (end.charge ≤ limit_of code mail) }
@@ -49,4 +57,17 @@ pub fn runs_store_parts_of_the_message()
 /// And so does each final action.
 pub fn outcomes_store_parts_of_the_message()
     ensures { (code : Code) (mail : Mail) (actions : List Action) (charged : ℕ) → IsAccepted code → IsMail mail → IsOutcome code mail actions charged → All (NamesPart mail) actions }
+{}
+
+/// What is accepted in one version runs the same in version 2: each step is the same, from every state, and so is the end.
+pub fn programs_run_the_same_in_version_two()
+    ensures step { (code : Code) (mail : Mail) → IsAccepted code → (state : State) → step (record code { version = 2 }) mail state ≡ step code mail state }
+    ensures ends { (code : Code) (mail : Mail) → IsAccepted code → (end : State) → RunEnds code mail end → RunEnds (record code { version = 2 }) mail end }
+    ensures no_other { (code : Code) (mail : Mail) → IsAccepted code → (end : State) → RunEnds (record code { version = 2 }) mail end → RunEnds code mail end }
+{}
+
+/// A program of version 2 of which each operation runs once in each turn, and has texts of the program alone, charges exactly its
+/// budget on a message whose parts are a chain.
+pub fn plain_programs_charge_their_budget_on_chains()
+    ensures { (code : Code) (mail : Mail) → IsAccepted code → IsMail mail → code.version ≡ 2 → IsPlain code → IsChain mail → (end : State) → RunEnds code mail end → end.charge ≡ limit_of code mail }
 {}

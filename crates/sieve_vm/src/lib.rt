@@ -2,12 +2,15 @@
 //!
 //! What a step does is defined in `specs/Machine`, what it costs in `specs/Charge`. The [`laws`] say
 //! that a run of an accepted program never traps, stays within the program's budget and reaches its
-//! end, and that it stores parts of the message alone; [`run`] is that run. What of a part's content it
-//! needs it decodes once for each stay of a loop on the part, and nothing of parts that no instruction asks for.
+//! end, and that it stores parts of the message alone; that the parts of open loops are a chain; that a program of
+//! version 1 runs the same in version 2; and which programs charge their budget exactly, on which messages. [`run`] is
+//! that run. What of a part's content it needs it decodes once for each stay of a loop on the part, and nothing of parts
+//! that no instruction asks for.
 #![tactic(auto)]
 
 mod entry;
 mod frame;
+mod held_captures;
 mod joining;
 mod known;
 pub mod laws;
@@ -15,7 +18,7 @@ mod loops;
 mod machine;
 mod numbers;
 mod outcome;
-mod owning;
+mod shared_text;
 mod testing;
 mod workspace;
 

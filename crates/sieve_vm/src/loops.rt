@@ -1,7 +1,7 @@
 // The open loops, and what is known of the parts that they visit.
-ghost use Rattle.std.specs.Prelude.{◌≡◌, ◌<◌, ◌≤◌, ◌+◌, ◌-◌, ℕ, suc, List, [], ◌∷◌, Some, IfOk, OnOk, IfSome, IsSome, length, drop};
+ghost use Rattle.std.specs.Prelude.{◌≡◌, ◌<◌, ◌≤◌, ◌+◌, ◌-◌, ℕ, suc, List, [], ◌∷◌, Some, IfOk, OnOk, IfSome, IsSome, length, drop, take};
 ghost use Rattle.std.specs.Cow.{cow_slice_items};
-ghost use Rattle.octets.specs.Limits.{max_loops, max_parts};
+ghost use Rattle.octets.specs.Limits.{max_loops, max_parts, max_value};
 ghost use Rattle.mime_decode.specs.Content.{digest_of};
 ghost use Rattle.mime_decode.specs.Mail.{Part};
 ghost use Rattle.mime_decode.specs.Scope.{numbers_from, visited};
@@ -10,9 +10,12 @@ ghost use Rattle.sieve_vm.specs.State.{current_part};
 ghost use Rattle.sieve_vm.specs.Visits.{Continues, Opens, part_in};
 
 use crate::frame::Frame;
-use crate::known::{keep, known};
+use crate::joining::{as_many, first};
+use crate::known::{keep, known, octets_known};
+use crate::shared_text::copied;
 use arrayvec::ArrayVec;
 use mime_decode::{Message, digest_of};
+use octets::Octets;
 use std::alloc::{AllocError, Global};
 use std::borrow::CowSlice;
 use std::marker::Model;
@@ -22,8 +25,8 @@ const MAX_LOOPS: usize = 3;
 
 /// The open loops of a run on a message. A contract sees both.
 ///
-/// A part's content is decoded where it is asked for, and kept as long as a loop stays on the part. How long it is, and its digest, are
-/// kept for the whole run.
+/// A part's content is decoded where it is asked for, and kept as long as a loop stays on the part. How long it is, its digest, and
+/// the first octets of one that had to be decoded are kept for the whole run.
 #[derive(Drop)]
 pub struct Loops<'s, 'm> {
     message: &'s Message<'m>,
@@ -31,6 +34,8 @@ pub struct Loops<'s, 'm> {
     frames: ArrayVec<Frame<'m>, MAX_LOOPS>,
     lengths: Vec<Option<usize>>,
     digests: Vec<Option<[u8; 64]>>,
+    // The first octets, as many as a variable's value has at most.
+    beginnings: Vec<Option<Octets>>,
 }
 
 impl<'s, 'm> Model for Loops<'s, 'm> {
@@ -41,7 +46,7 @@ impl<'s, 'm> Model for Loops<'s, 'm> {
 
     ghost view = { λ l. record { mail = l.message.now; frames = frames_of l.frames.items } };
 
-    ghost invariant = { λ l. All (HasContent l.message.now) l.frames.items × IsKnown l.message.now l.lengths.items l.digests.items };
+    ghost invariant = { λ l. All (HasContent l.message.now) l.frames.items × IsKnown l.message.now l.lengths.items l.digests.items l.beginnings.items };
 }
 
 impl<'s, 'm> Loops<'s, 'm> {
@@ -54,6 +59,7 @@ impl<'s, 'm> Loops<'s, 'm> {
             frames: ArrayVec::new(),
             lengths: Vec::new(alloc),
             digests: Vec::new(alloc),
+            beginnings: Vec::new(alloc),
         }
     }
 
@@ -191,6 +197,29 @@ impl<'s, 'm> Loops<'s, 'm> {
         Ok(found)
     }
 
+    /// A copy of the first octets of the current part's content: so many, or all where there are fewer.
+    ///
+    /// A content that has to be decoded is so once in a run. An error comes only where memory was refused.
+    pub fn beginning(&mut self, alloc: Global, most: usize) -> Result<Vec<u8>, AllocError>
+        requires part { IsSome (part_in self.old) }
+        requires few { most ≤ max_value }
+        ensures octets { IfOk result (λ octets. (part : Part) → part_in self.old ≡ Some part → octets.items ≡ take most part.content) }
+        ensures same { OnOk result (self.new ≡ self.old) }
+    {
+        let part = self.part();
+        if let Some(found) = octets_known(&self.beginnings, part) {
+            return Vec::from_slice(alloc, as_many(found, most));
+        }
+        let content = self.take_content(alloc)?;
+        let octets = Vec::from_slice(alloc, as_many(content.as_slice(), most))?;
+        let decoded = decoded_beginning(alloc, &content)?;
+        self.keep_content(content);
+        if let Some(found) = decoded {
+            keep(&mut self.beginnings, self.message.parts(), part, found)?;
+        }
+        Ok(octets)
+    }
+
     // The number of the current part.
     fn part(&self) -> usize
         requires { IsSome (part_in self.now) }
@@ -198,5 +227,18 @@ impl<'s, 'm> Loops<'s, 'm> {
         ensures within { result < length self.now.mail.parts }
     {
         self.current().unwrap()
+    }
+}
+
+// The first octets of a content that had to be decoded.
+fn decoded_beginning(
+    alloc: Global,
+    content: &CowSlice<'_, u8>,
+) -> Result<Option<Octets>, AllocError>
+    ensures { IfOk result (λ found. IfSome found (λ octets. octets ≡ take max_value (cow_slice_items content.now))) }
+{
+    match content {
+        CowSlice::Borrowed(_) => Ok(None),
+        CowSlice::Owned(octets) => Ok(Some(copied(alloc, first(octets.as_slice()))?)),
     }
 }

@@ -4,12 +4,12 @@ ghost use Rattle.sieve_vm.specs.Standing.{once};
 
 use crate::entry::Entry;
 use crate::loops::Loops;
+use crate::shared_text::SharedText;
 use crate::testing::compares;
 use crate::workspace::Workspace;
 use bytecode_format::{Action, ActionList, Instruction, Modifiers, Operation, Program};
 use mime_decode::Message;
 use std::alloc::{AllocError, Global};
-use std::borrow::CowSlice;
 
 /// What a run carries from one instruction to the next. Texts are lent by the program and the message.
 #[derive(Drop)]
@@ -48,7 +48,7 @@ pub enum Turn {
 }
 
 impl<'p, 's, 'm> Machine<'p, 's, 'm> {
-    ghost use Rattle.std.specs.Prelude.{◌≡◌, ◌<◌, ◌-◌, ℕ, suc, List, [], ◌∷◌, ◌++◌, Bool, false, Some, None, IfOk, OnOk, IfSome, IsSome, length, drop, take, slice_get, slice_index_or, slice_set};
+    ghost use Rattle.std.specs.Prelude.{◌≡◌, ◌<◌, ◌≤◌, ◌-◌, ℕ, suc, List, [], ◌∷◌, ◌++◌, Bool, false, Some, None, IfOk, OnOk, IfSome, IsSome, length, min, drop, take, slice_get, slice_index_or, slice_set};
     ghost use Rattle.std.specs.List.{concat};
     ghost use Rattle.octets.specs.Limits.{max_instructions, max_loops, max_string, max_value};
     ghost use Rattle.bytecode_format.specs.declared.modifiers.Modifiers.{Modifiers};
@@ -56,7 +56,8 @@ impl<'p, 's, 'm> Machine<'p, 's, 'm> {
     ghost use Rattle.bytecode_format.specs.Spelling.{IsProgram};
     ghost use Rattle.bytecode_format.specs.Operations.{operation_of};
     ghost use Rattle.bytecode_verifier.specs.Acceptance.{IsAccepted};
-    ghost use Rattle.mime_decode.specs.Mail.{Mail, IsMail};
+    ghost use Rattle.mime_decode.specs.Mail.{Mail, Part, IsMail};
+    ghost use Rattle.sieve_vm.specs.Visits.{part_in};
     ghost use Rattle.mime_decode.specs.Scope.{visited};
     ghost use Rattle.mail_matching.specs.Outcomes.{after};
     ghost use Rattle.mail_matching.specs.Texts.{AreTexts};
@@ -133,7 +134,7 @@ impl<'p, 's, 'm> Machine<'p, 's, 'm> {
                 self.push_text(program.strings()[instruction.c as usize].as_slice())
             }
             Operation::Variable => self.push_variable(instruction.c as usize),
-            Operation::Capture => self.push_capture(instruction.a as usize),
+            Operation::Capture => self.push_capture(alloc, instruction.a),
             Operation::Join => self.join(alloc, instruction.b as usize),
             Operation::Set => self.set(alloc, instruction),
             Operation::Bool => self.push(instruction.a == 1),
@@ -164,6 +165,7 @@ impl<'p, 's, 'm> Machine<'p, 's, 'm> {
             Operation::Each => Ok(self.each(instruction.c)),
             Operation::Next => Ok(self.next()),
             Operation::Break => Ok(self.close(instruction.a as usize)),
+            Operation::Take => self.set_content(alloc, instruction),
         }
     }
 
@@ -181,7 +183,7 @@ impl<'p, 's, 'm> Machine<'p, 's, 'm> {
     fn push_text(&mut self, octets: &'p [u8]) -> Result<Done, AllocError>
         ensures { IfOk result (λ done. (done ≡ once Flow.On) × ((mail : Mail) (s : State) → StandsFor mail s self.old → StandsFor mail (record s { stack = text octets.now ∷ s.stack }) self.new)) }
     {
-        self.work.push(Entry::Text(CowSlice::Borrowed(octets)))?;
+        self.work.push(Entry::Text(SharedText::Lent(octets)))?;
         Ok(once(Flow::On))
     }
 
@@ -190,16 +192,16 @@ impl<'p, 's, 'm> Machine<'p, 's, 'm> {
     fn push_variable(&mut self, number: usize) -> Result<Done, AllocError>
         ensures { IfOk result (λ done. (done ≡ once Flow.On) × ((mail : Mail) (s : State) → StandsFor mail s self.old → StandsFor mail (record s { stack = text (slice_index_or s.variables number []) ∷ s.stack }) self.new)) }
     {
-        self.work.push(Entry::Variable(number))?;
+        self.work.push_variable(number)?;
         Ok(once(Flow::On))
     }
 
     // Puts a capture on top of the stack.
     #[inline(always)]
-    fn push_capture(&mut self, number: usize) -> Result<Done, AllocError>
+    fn push_capture(&mut self, alloc: Global, number: u8) -> Result<Done, AllocError>
         ensures { IfOk result (λ done. (done ≡ once Flow.On) × ((mail : Mail) (s : State) → StandsFor mail s self.old → StandsFor mail (record s { stack = text (slice_index_or s.captures number []) ∷ s.stack }) self.new)) }
     {
-        self.work.push(Entry::Capture(number))?;
+        self.work.push_capture(alloc, number)?;
         Ok(once(Flow::On))
     }
 
@@ -341,6 +343,24 @@ impl<'p, 's, 'm> Machine<'p, 's, 'm> {
         Ok(Done {
             flow: Flow::On,
             cost: taken as u128,
+        })
+    }
+
+    // Gives the first octets of the current part's content to a variable.
+    fn set_content(&mut self, alloc: Global, instruction: &Instruction) -> Result<Done, AllocError>
+        requires part { IsSome (part_in self.old.loops) }
+        requires few { instruction.now.b ≤ max_value }
+        requires variable { (mail : Mail) × ((s : State) × (StandsFor mail s self.old × (instruction.now.c < length s.variables))) }
+        ensures { IfOk result (λ done. (mail : Mail) (s : State) (part : Part) → StandsFor mail s self.old → part_in self.old.loops ≡ Some part
+            → (done ≡ record { flow = Flow.On; cost = min instruction.now.b (length part.content) }) × StandsFor mail (record s { variables = slice_set s.variables instruction.now.c (take instruction.now.b part.content) }) self.new) }
+    {
+        let octets = self.loops.beginning(alloc, instruction.b as usize)?;
+        let cost = octets.len() as u128;
+        let value = SharedText::new(alloc, octets)?;
+        self.work.assign(instruction.c as usize, value);
+        Ok(Done {
+            flow: Flow::On,
+            cost,
         })
     }
 }

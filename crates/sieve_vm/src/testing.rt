@@ -85,7 +85,7 @@ impl<'p, 's, 'm> Machine<'p, 's, 'm> {
             &lists.keys,
         )?;
         self.work.drop_lists(counts);
-        self.settle(alloc, answer)
+        self.settle(answer)
     }
 
     /// Takes sources and the keys above them, and pushes whether a source matches a key.
@@ -107,7 +107,7 @@ impl<'p, 's, 'm> Machine<'p, 's, 'm> {
             match_numbered(instruction.a),
         )?;
         self.work.drop_lists(counts);
-        self.settle(alloc, answer)
+        self.settle(answer)
     }
 
     /// Pushes whether the current part's content is over or under the number.
@@ -146,7 +146,7 @@ impl<'p, 's, 'm> Machine<'p, 's, 'm> {
         let answer = body(alloc, &content, &keys, match_numbered(instruction.a))?;
         self.loops.keep_content(content);
         self.work.drop_texts(number);
-        self.settle(alloc, answer)
+        self.settle(answer)
     }
 
     /// Takes so many keys, and pushes whether the digest of the current part's content equals one.
@@ -164,18 +164,18 @@ impl<'p, 's, 'm> Machine<'p, 's, 'm> {
         let keys = self.work.texts(number);
         let answer = digest(&found, &keys);
         self.work.drop_texts(number);
-        self.settle(alloc, answer)
+        self.settle(answer)
     }
 
     /// Keeps the captures that a test has set, and pushes whether it has matched.
-    pub fn settle(&mut self, alloc: Global, answer: Answer<'m>) -> Result<Done, AllocError>
+    pub fn settle(&mut self, answer: Answer<'m>) -> Result<Done, AllocError>
         ensures { IfOk result (λ done. (done ≡ record { flow = Flow.On; cost = answer.entry.cost })
             × ((mail : Mail) (s : State) → StandsFor mail s self.old → StandsFor mail (record s {
               stack = truth (is_some (after answer.entry.outcome s.captures)) ∷ s.stack;
               captures = unwrap_or (after answer.entry.outcome s.captures) s.captures;
             }) self.new)) }
     {
-        let matched = self.work.settle(alloc, answer.outcome)?;
+        let matched = self.work.settle(answer.outcome);
         self.push(matched)?;
         Ok(Done {
             flow: Flow::On,

@@ -1,42 +1,41 @@
 // What a run works on: the stack, the variables and the captures.
 ghost use Rattle.std.specs.Prelude.{◌≡◌, ◌<◌, ◌≤◌, ℕ, List, [], ◌∷◌, ◌++◌, Bool, Some, IfOk, OnOk, length, map, replicate, take, slice_index_or, slice_set, is_some, sum_by, slice_range};
-ghost use Rattle.std.specs.Cow.{cow_slice_items};
 ghost use Rattle.std.specs.List.{concat};
 ghost use Rattle.std.specs.Option.{unwrap_or};
 ghost use Rattle.octets.specs.Limits.{max_string, max_value};
 ghost use Rattle.bytecode_format.specs.Modifiers.{modified};
-ghost use Rattle.mail_matching.specs.FirstMatch.{captures_of, no_captures};
+ghost use Rattle.mail_matching.specs.FirstMatch.{no_captures};
 ghost use Rattle.mail_matching.specs.Outcomes.{after};
 ghost use Rattle.mail_matching.specs.Texts.{AreTexts};
 ghost use Rattle.sieve_vm.specs.State.{Value, truth, text};
 ghost use Rattle.sieve_vm.specs.Stack.{OnTop, Lists, texts_on_top, lists_on_top};
-ghost use Rattle.sieve_vm.specs.Standing.{IsNew, held_of, value_of, octets_of, texts_of, variables_of};
+ghost use Rattle.sieve_vm.specs.SharedTexts.{items_of};
+ghost use Rattle.sieve_vm.specs.Standing.{IsNew, held_of, value_of, octets_of, texts_of};
 
 use crate::entry::Entry;
-use crate::joining::{MAX_VALUE, first, first_octets, joined, total_len};
-use crate::owning::{capture_of, own_captures, own_variable, owned};
+use crate::held_captures::HeldCaptures;
+use crate::joining::{MAX_VALUE, joined, total_len};
+use crate::shared_text::{SharedText, copied};
 use bytecode_format::Modifiers;
-use mail_matching::{Captured, Outcome, Texts};
+use mail_matching::{Outcome, Texts};
 use octets::Octets;
 use std::alloc::{AllocError, Global};
-use std::borrow::CowSlice;
 
-/// The stack, and what its entries may name. What a variable or a capture holds is copied only before it
-/// changes while an entry still names it.
+/// The stack, the variables and the captures. What a variable or a capture holds isn't copied where it is pushed:
+/// the entry shares it, and so keeps it where the variable or the captures change.
 #[derive(Drop)]
 pub struct Workspace<'p, 'm> {
     // The top entry is the last one.
     pub entries: Vec<Entry<'p>>,
-    pub variables: Vec<CowSlice<'p, u8>>,
+    pub variables: Vec<SharedText<'p>>,
     // Those of the last match that has set them.
-    pub captures: Option<Captured<'m>>,
+    pub captures: HeldCaptures<'p, 'm>,
 }
 
 /// Texts on the stack, in the order in which they were pushed.
 #[derive(Clone, Copy)]
-pub struct Pushed<'s, 'p, 'm> {
+pub struct Pushed<'s, 'p> {
     pub entries: &'s [Entry<'p>],
-    pub work: &'s Workspace<'p, 'm>,
 }
 
 /// How many texts the lists of a test have.
@@ -49,13 +48,13 @@ pub struct Counts {
 
 /// The lists of a test: names or sources, parameters above them, and keys above these.
 #[derive(Clone, Copy)]
-pub struct PushedLists<'s, 'p, 'm> {
-    pub names: Pushed<'s, 'p, 'm>,
-    pub params: Pushed<'s, 'p, 'm>,
-    pub keys: Pushed<'s, 'p, 'm>,
+pub struct PushedLists<'s, 'p> {
+    pub names: Pushed<'s, 'p>,
+    pub params: Pushed<'s, 'p>,
+    pub keys: Pushed<'s, 'p>,
 }
 
-impl<'s, 'p, 'm> Texts for Pushed<'s, 'p, 'm> {
+impl<'s, 'p> Texts for Pushed<'s, 'p> {
     ghost texts = { λ t. texts_of t };
 
     fn count(&self) -> usize {
@@ -63,12 +62,10 @@ impl<'s, 'p, 'm> Texts for Pushed<'s, 'p, 'm> {
     }
 
     fn text(&self, place: usize) -> &[u8] {
-        let Pushed { entries, work } = *self;
+        let Pushed { entries } = *self;
         match &entries[place] {
             Entry::Truth(_) => &[],
-            Entry::Text(octets) => octets.as_slice(),
-            Entry::Variable(number) => work.variable(*number),
-            Entry::Capture(number) => work.capture(*number),
+            Entry::Text(text) => text.as_slice(),
         }
     }
 }
@@ -81,7 +78,7 @@ impl<'p, 'm> Workspace<'p, 'm> {
         Workspace {
             entries: Vec::new(alloc),
             variables: Vec::new(alloc),
-            captures: None,
+            captures: HeldCaptures::new(alloc),
         }
     }
 
@@ -92,7 +89,7 @@ impl<'p, 'm> Workspace<'p, 'm> {
     {
         self.variables.reserve(usize::from(variables))?;
         'variables: for _ in 0..variables {
-            self.variables.push(CowSlice::Borrowed(&[]))?;
+            self.variables.push(SharedText::Lent(&[]))?;
         }
         Ok(())
     }
@@ -100,9 +97,25 @@ impl<'p, 'm> Workspace<'p, 'm> {
     /// Puts an entry on top of the stack.
     #[inline(always)]
     pub fn push(&mut self, entry: Entry<'p>) -> Result<(), AllocError>
-        ensures { OnOk result (held_of self.new ≡ record (held_of self.old) { stack = value_of (variables_of self.old) (captures_of self.old.captures) entry.entry ∷ (held_of self.old).stack }) }
+        ensures { OnOk result (held_of self.new ≡ record (held_of self.old) { stack = value_of entry.entry ∷ (held_of self.old).stack }) }
     {
         Ok(self.entries.push(entry)?)
+    }
+
+    /// Puts the value of a variable on top of the stack.
+    pub fn push_variable(&mut self, number: usize) -> Result<(), AllocError>
+        ensures { OnOk result (held_of self.new ≡ record (held_of self.old) { stack = text (slice_index_or (held_of self.old).variables number []) ∷ (held_of self.old).stack }) }
+    {
+        let value = self.variable(number)?;
+        self.push(Entry::Text(value))
+    }
+
+    /// Puts a capture on top of the stack.
+    pub fn push_capture(&mut self, alloc: Global, number: u8) -> Result<(), AllocError>
+        ensures { OnOk result (held_of self.new ≡ record (held_of self.old) { stack = text (slice_index_or (held_of self.old).captures number []) ∷ (held_of self.old).stack }) }
+    {
+        let text = self.captures.share(alloc, number)?;
+        self.push(Entry::Text(text))
     }
 
     /// Takes the truth value on top of the stack.
@@ -124,31 +137,8 @@ impl<'p, 'm> Workspace<'p, 'm> {
             → (octets ≡ t) × (held_of self.new ≡ record (held_of self.old) { stack = rest })) }
     {
         match self.entries.pop() {
-            Some(entry) => self.octets_in(alloc, entry),
+            Some(entry) => octets_in(alloc, entry),
             None => unreachable!(),
-        }
-    }
-
-    // The octets of an entry, moved where it owns them.
-    fn octets_in(&self, alloc: Global, entry: Entry<'p>) -> Result<Octets, AllocError>
-        ensures { IfOk result (λ octets. octets ≡ octets_of (variables_of self.now) (captures_of self.now.captures) entry.entry) }
-    {
-        match entry {
-            Entry::Text(octets) => owned(alloc, octets),
-            named => Ok(Octets::from_vec(Vec::from_slice(alloc, self.octets_of(&named))?)),
-        }
-    }
-
-    /// The octets of an entry that is a text.
-    #[inline(always)]
-    pub fn octets_of<'s>(&'s self, entry: &'s Entry<'p>) -> &'s [u8]
-        ensures { result.now ≡ octets_of (variables_of self.now) (captures_of self.now.captures) entry.now }
-    {
-        match entry {
-            Entry::Truth(_) => &[],
-            Entry::Text(octets) => octets.as_slice(),
-            Entry::Variable(number) => self.variable(*number),
-            Entry::Capture(number) => self.capture(*number),
         }
     }
 
@@ -168,45 +158,18 @@ impl<'p, 'm> Workspace<'p, 'm> {
         let Some(entry) = self.entries.pop() else {
             unreachable!()
         };
-        let len = self.octets_of(&entry).len();
-        let value = self.value(alloc, entry, modifiers)?;
-        own_variable(
-            alloc,
-            &mut self.entries,
-            variable,
-            self.variables[variable].as_slice(),
-        )?;
-        self.variables[variable] = value;
+        let len = octets_of(&entry).len();
+        let value = value_for(alloc, entry, modifiers)?;
+        self.assign(variable, value);
         Ok(len)
     }
 
-    // The first octets of a text, modified. Without modifiers they are moved or lent, where the entry has them.
-    fn value(
-        &self,
-        alloc: Global,
-        entry: Entry<'p>,
-        modifiers: Modifiers,
-    ) -> Result<CowSlice<'p, u8>, AllocError>
-        ensures { IfOk result (λ value. cow_slice_items value ≡ take max_value (modified modifiers (octets_of (variables_of self.now) (captures_of self.now.captures) entry.entry))) }
+    /// Gives a text to a variable.
+    pub fn assign(&mut self, variable: usize, value: SharedText<'p>)
+        requires { variable < length (held_of self.old).variables }
+        ensures { held_of self.new ≡ record (held_of self.old) { variables = slice_set (held_of self.old).variables variable (items_of value.entry) } }
     {
-        if modifiers.is_none() {
-            return self.cut(alloc, entry);
-        }
-        let value = modifiers.apply(alloc, self.octets_of(&entry), MAX_VALUE)?;
-        Ok(CowSlice::Owned(value.into_vec()))
-    }
-
-    // The first octets of a text.
-    fn cut(&self, alloc: Global, entry: Entry<'p>) -> Result<CowSlice<'p, u8>, AllocError>
-        ensures { IfOk result (λ value. cow_slice_items value ≡ take max_value (octets_of (variables_of self.now) (captures_of self.now.captures) entry.entry)) }
-    {
-        match entry {
-            Entry::Text(octets) => Ok(first_octets(octets)),
-            named => {
-                let copy = Vec::from_slice(alloc, first(self.octets_of(&named)))?;
-                Ok(CowSlice::Owned(copy))
-            }
-        }
+        self.variables[variable] = value;
     }
 
     /// Joins so many texts on top of the stack to one, of which the first octets stay. Answers how many
@@ -220,24 +183,23 @@ impl<'p, 'm> Workspace<'p, 'm> {
         let len = total_len(&texts);
         let joined = joined(alloc, &texts)?;
         self.drop_texts(number);
-        self.push(Entry::Text(CowSlice::Owned(joined)))?;
+        self.push(Entry::Text(SharedText::new(alloc, joined)?))?;
         Ok(len)
     }
 
     /// So many texts on top of the stack.
-    pub fn texts<'s>(&'s self, number: usize) -> Pushed<'s, 'p, 'm>
+    pub fn texts<'s>(&'s self, number: usize) -> Pushed<'s, 'p>
         requires { (top : OnTop) × (texts_on_top number (held_of self.now).stack ≡ Some top) }
         ensures { (top : OnTop) → texts_on_top number (held_of self.now).stack ≡ Some top → texts_of result ≡ top.texts }
     {
         let below = self.entries.len() - number;
         Pushed {
             entries: &self.entries[below..],
-            work: self,
         }
     }
 
     /// So many names or sources on the stack, so many parameters above them, and so many keys above these.
-    pub fn lists<'s>(&'s self, counts: Counts) -> PushedLists<'s, 'p, 'm>
+    pub fn lists<'s>(&'s self, counts: Counts) -> PushedLists<'s, 'p>
         requires { (top : Lists) × (lists_on_top counts.names counts.params counts.keys (held_of self.now).stack ≡ Some top) }
         ensures names { (top : Lists) → lists_on_top counts.names counts.params counts.keys (held_of self.now).stack ≡ Some top → texts_of result.names ≡ top.names }
         ensures params { (top : Lists) → lists_on_top counts.names counts.params counts.keys (held_of self.now).stack ≡ Some top → texts_of result.params ≡ top.params }
@@ -254,14 +216,13 @@ impl<'p, 'm> Workspace<'p, 'm> {
     }
 
     // The entries between two places.
-    fn between<'s>(&'s self, from: usize, to: usize) -> Pushed<'s, 'p, 'm>
+    fn between<'s>(&'s self, from: usize, to: usize) -> Pushed<'s, 'p>
         requires order { from ≤ to }
         requires within { to ≤ length self.now.entries.items }
-        ensures { texts_of result ≡ map (octets_of (variables_of self.now) (captures_of self.now.captures)) (slice_range self.now.entries.items from to) }
+        ensures { texts_of result ≡ map octets_of (slice_range self.now.entries.items from to) }
     {
         Pushed {
             entries: &self.entries[from..to],
-            work: self,
         }
     }
 
@@ -286,35 +247,74 @@ impl<'p, 'm> Workspace<'p, 'm> {
     }
 
     /// Keeps the captures that a test has set, and says whether it has matched.
-    pub fn settle(&mut self, alloc: Global, outcome: Outcome<'m>) -> Result<bool, AllocError>
-        ensures { IfOk result (λ matched. (matched ≡ is_some (after outcome.entry (held_of self.old).captures))
-            × (held_of self.new ≡ record (held_of self.old) { captures = unwrap_or (after outcome.entry (held_of self.old).captures) (held_of self.old).captures })) }
+    pub fn settle(&mut self, outcome: Outcome<'m>) -> bool
+        ensures matched { result ≡ is_some (after outcome.entry (held_of self.old).captures) }
+        ensures kept { held_of self.new ≡ record (held_of self.old) { captures = unwrap_or (after outcome.entry (held_of self.old).captures) (held_of self.old).captures } }
     {
         match outcome {
-            Outcome::Fails => Ok(false),
-            Outcome::Holds => Ok(true),
+            Outcome::Fails => false,
+            Outcome::Holds => true,
             Outcome::Captures(captured) => {
-                own_captures(alloc, &mut self.entries, &self.captures)?;
-                self.captures = Some(captured);
-                Ok(true)
+                self.captures.set(captured);
+                true
             }
         }
     }
 
     // The value of a variable.
-    fn variable(&self, number: usize) -> &[u8]
-        ensures { result.now ≡ slice_index_or (variables_of self.now) number [] }
+    fn variable(&self, number: usize) -> Result<SharedText<'p>, AllocError>
+        ensures { IfOk result (λ value. items_of value ≡ slice_index_or (held_of self.now).variables number []) }
     {
         match self.variables.get(number) {
-            Some(value) => value.as_slice(),
-            None => &[],
+            Some(value) => value.share(),
+            None => Ok(SharedText::Lent(&[])),
         }
     }
+}
 
-    // A capture.
-    fn capture(&self, number: usize) -> &[u8]
-        ensures { result.now ≡ slice_index_or (captures_of self.now.captures) number [] }
-    {
-        capture_of(&self.captures, number)
+/// The octets of an entry that is a text.
+#[inline(always)]
+pub fn octets_of<'s>(entry: &'s Entry<'_>) -> &'s [u8]
+    ensures { result.now ≡ octets_of entry.now }
+{
+    match entry {
+        Entry::Truth(_) => &[],
+        Entry::Text(text) => text.as_slice(),
+    }
+}
+
+// The octets of an entry, moved where it alone holds them.
+fn octets_in(alloc: Global, entry: Entry<'_>) -> Result<Octets, AllocError>
+    ensures { IfOk result (λ octets. octets ≡ octets_of entry.entry) }
+{
+    match entry {
+        Entry::Text(text) => text.into_octets(alloc),
+        Entry::Truth(_) => copied(alloc, &[]),
+    }
+}
+
+// The first octets of a text, modified: what a variable is set to. Without modifiers they aren't copied, where the
+// entry has no more.
+fn value_for<'p>(
+    alloc: Global,
+    entry: Entry<'p>,
+    modifiers: Modifiers,
+) -> Result<SharedText<'p>, AllocError>
+    ensures { IfOk result (λ value. items_of value ≡ take max_value (modified modifiers (octets_of entry.entry))) }
+{
+    if modifiers.is_none() {
+        return cut(alloc, entry);
+    }
+    let value = modifiers.apply(alloc, octets_of(&entry), MAX_VALUE)?;
+    SharedText::new(alloc, value.into_vec())
+}
+
+// The first octets of a text.
+fn cut<'p>(alloc: Global, entry: Entry<'p>) -> Result<SharedText<'p>, AllocError>
+    ensures { IfOk result (λ value. items_of value ≡ take max_value (octets_of entry.entry)) }
+{
+    match entry {
+        Entry::Text(text) => text.cut(alloc),
+        Entry::Truth(_) => Ok(SharedText::Lent(&[])),
     }
 }

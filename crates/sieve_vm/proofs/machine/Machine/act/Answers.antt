@@ -1,10 +1,11 @@
 use Rattle.std.proofs.Common.{◌≡◌, ◌<◌, ◌∙◌, [], true, false, Some, length, ap, refl, get_or}
 use Rattle.std.proofs.lemmas.List.{get_or_read}
-use Rattle.bytecode_verifier.proofs.Consequences.{string_known}
+use Rattle.bytecode_verifier.proofs.Consequences.{string_known, take_known}
 use Rattle.std.proofs.lemmas.Result.{IfOk-weaker}
-use Rattle.bytecode_format.specs.declared.operation.Operation.TheVariants.{JumpIfTrue, JumpIfFalse, PartSize, PartBody, PartDigest, Store}
+use Rattle.bytecode_format.specs.declared.operation.Operation.TheVariants.{JumpIfTrue, JumpIfFalse, PartSize, PartBody, PartDigest, Store, Take}
 use Rattle.sieve_vm.specs.Machine.{compares}
-use Rattle.sieve_vm.proofs.Steps.{not_some, if_true_some, if_false_some, folder_some, names_some, lists_some, parts_some, sources_some, modifiers_some, value_some, had_variable, had_capture, had_join, had_set, had_string, had_bool, had_not, had_size, had_literal, had_branch, had_file, had_exists, had_header, had_part_size, had_part_body, had_part_digest, had_store, had_each, had_next, had_break, current_there, current_in_loops, part_some, part_small, keys_some, current_some, store_some, room_there, next_some, break_some, break_there}
+use Rattle.sieve_vm.proofs.Reached.{take_needs_part}
+use Rattle.sieve_vm.proofs.Steps.{not_some, if_true_some, if_false_some, folder_some, names_some, lists_some, parts_some, sources_some, modifiers_some, value_some, had_variable, had_capture, had_join, had_set, had_string, had_bool, had_not, had_size, had_literal, had_branch, had_file, had_exists, had_header, had_part_size, had_part_body, had_part_digest, had_store, had_take, had_each, had_next, had_break, current_there, current_in_loops, part_some, part_small, keys_some, current_some, store_some, take_some, room_there, next_some, break_some, break_there}
 use Rattle.sieve_vm.proofs.machine.Machine.act.Goals as goal
 
 pub take-value-requires : goal.take-value-requires
@@ -174,3 +175,16 @@ close-requires-clause-some c = break_some c.args.program.now c.args.message.now 
 
 pub close-requires-clause-there : goal.close-requires-clause-there
 close-requires-clause-there c = break_there c.args.program.now c.args.message.now c.requires.accepted c.requires.mail c.args.self.now c.requires.running.0 c.requires.running.1 c.args.instruction.now c.requires.here c.requires.program (c.requires.named ∙ ap (λ o. Some o) c.in-Break.is)
+
+pub set_content-requires-clause-part : goal.set_content-requires-clause-part
+set_content-requires-clause-part c = part_some c.args.program.now c.args.message.now c.requires.accepted c.requires.mail c.args.self.now c.requires.running.0 c.requires.running.1 c.args.instruction.now c.requires.here Take (c.requires.named ∙ ap (λ o. Some o) c.in-Take.is) (take_needs_part c.args.program.now c.requires.accepted c.args.self.now.place c.args.instruction.now c.requires.here (c.requires.named ∙ ap (λ o. Some o) c.in-Take.is))
+
+pub set_content-requires-clause-few : goal.set_content-requires-clause-few
+set_content-requires-clause-few c = (take_known c.args.program.now c.requires.accepted c.args.self.now.place c.args.instruction.now c.requires.here (c.requires.named ∙ ap (λ o. Some o) c.in-Take.is)).1
+
+pub set_content-requires-clause-variable : goal.set_content-requires-clause-variable
+set_content-requires-clause-variable c = take_some c.args.program.now c.args.message.now c.requires.accepted c.requires.mail c.args.self.now c.requires.running.0 c.requires.running.1 c.args.instruction.now c.requires.here (c.requires.named ∙ ap (λ o. Some o) c.in-Take.is)
+
+pub returns-in-Take : goal.returns-in-Take
+returns-in-Take c =
+    rw c.in-Take.is (IfOk-weaker c.set_content.result _ _ (λ done h s at. had_take c.args.program.now c.args.message.now c.requires.accepted c.requires.mail c.args.self.now s at c.args.instruction.now c.requires.here (c.requires.named ∙ ap (λ o. Some o) c.in-Take.is) done c.set_content.new.self (h c.args.message.now)) c.set_content.ensures)

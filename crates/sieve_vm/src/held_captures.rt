@@ -1,0 +1,92 @@
+// The captures that a run has.
+ghost use Rattle.std.specs.Prelude.{◌≡◌, [], IfOk, IfSome, slice_index_or};
+ghost use Rattle.mail_matching.specs.FirstMatch.{no_captures};
+ghost use Rattle.sieve_vm.specs.SharedTexts.{items_of};
+
+use crate::known::keep;
+use crate::shared_text::SharedText;
+use mail_matching::Captured;
+use std::alloc::{AllocError, Global};
+use std::marker::Model;
+
+/// The captures of the last match that has set them. A contract sees ten texts.
+///
+/// The value that was matched is kept once, however often captures of it are pushed: what is pushed is a text of the
+/// capture's own, which is made where it is pushed first.
+#[derive(Drop)]
+pub struct HeldCaptures<'p, 'm> {
+    captured: Option<Captured<'m>>,
+    // By the number of the capture.
+    made: Vec<Option<SharedText<'p>>>,
+}
+
+impl<'p, 'm> Model for HeldCaptures<'p, 'm> {
+    ghost use Rattle.std.specs.Prelude.{ℕ, List};
+    ghost use Rattle.mail_matching.specs.FirstMatch.{captures_of};
+    ghost use Rattle.sieve_vm.specs.SharedTexts.{AreMade};
+
+    ghost Value = { List (List ℕ) };
+
+    ghost view = { λ c. captures_of c.captured };
+
+    ghost invariant = { λ c. AreMade c.made.items (captures_of c.captured) };
+}
+
+impl<'p, 'm> HeldCaptures<'p, 'm> {
+    /// Ten empty captures. Takes no memory.
+    pub fn new(alloc: Global) -> HeldCaptures<'p, 'm>
+        ensures { result ≡ no_captures }
+    {
+        HeldCaptures {
+            captured: None,
+            made: Vec::new(alloc),
+        }
+    }
+
+    /// Keeps those of a match, in the place of the ones before.
+    pub fn set(&mut self, captured: Captured<'m>)
+        ensures { self.new ≡ captured.entry }
+    {
+        self.made.clear();
+        self.captured = Some(captured);
+    }
+
+    /// The text of a capture, for one more to hold.
+    ///
+    /// An error comes only where memory was refused.
+    pub fn share(&mut self, alloc: Global, number: u8) -> Result<SharedText<'p>, AllocError>
+        ensures same { self.new ≡ self.old }
+        ensures text { IfOk result (λ text. items_of text ≡ slice_index_or self.old number []) }
+    {
+        let place = usize::from(number);
+        if let Some(text) = self.text_made(place)? {
+            return Ok(text);
+        }
+        let text = SharedText::new(alloc, Vec::from_slice(alloc, self.octets(place))?)?;
+        keep(&mut self.made, place + 1, place, text.share()?)?;
+        Ok(text)
+    }
+
+    // The text of a capture, if it was made.
+    fn text_made(&self, place: usize) -> Result<Option<SharedText<'p>>, AllocError>
+        ensures { IfOk result (λ found. IfSome found (λ text. items_of text ≡ slice_index_or self.now place [])) }
+    {
+        match self.made.get(place) {
+            Some(found) => match found {
+                Some(text) => Ok(Some(text.share()?)),
+                None => Ok(None),
+            },
+            None => Ok(None),
+        }
+    }
+
+    // The octets of a capture.
+    fn octets(&self, place: usize) -> &[u8]
+        ensures { result.now ≡ slice_index_or self.now place [] }
+    {
+        match &self.captured {
+            Some(captured) => captured.text(place),
+            None => &[],
+        }
+    }
+}

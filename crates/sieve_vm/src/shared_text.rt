@@ -1,0 +1,99 @@
+// Texts that several may hold.
+ghost use Rattle.std.specs.Prelude.{◌≡◌, IfOk, take, true};
+ghost use Rattle.octets.specs.Limits.{max_value};
+ghost use Rattle.sieve_vm.specs.SharedTexts.{items_of};
+
+use crate::joining::{MAX_VALUE, first};
+use octets::Octets;
+use std::alloc::{AllocError, Global};
+use std::rc::Rc;
+
+/// A text that entries of the stack and variables may hold at once, without a copy for each.
+#[derive(Drop)]
+pub enum SharedText<'p> {
+    /// Octets that the program lends.
+    Lent(&'p [u8]),
+    /// Octets that stay as long as one holds them.
+    Shared(Rc<Vec<u8>>),
+}
+
+impl<'p> SharedText<'p> {
+    /// The text of these octets.
+    pub fn new(alloc: Global, octets: Vec<u8>) -> Result<SharedText<'p>, AllocError>
+        ensures { IfOk result (λ text. items_of text ≡ octets.items) }
+    {
+        Ok(SharedText::Shared(Rc::new(alloc, octets)?))
+    }
+
+    /// The octets of the text.
+    #[inline(always)]
+    pub fn as_slice(&self) -> &[u8]
+        ensures { result.now ≡ items_of self.now }
+    {
+        match self {
+            SharedText::Lent(octets) => octets,
+            SharedText::Shared(octets) => octets.as_ref().as_slice(),
+        }
+    }
+
+    /// The same text, for one more to hold.
+    pub fn share(&self) -> Result<SharedText<'p>, AllocError>
+        ensures { IfOk result (λ text. items_of text ≡ items_of self.now) }
+    {
+        match self {
+            SharedText::Lent(octets) => Ok(SharedText::Lent(octets)),
+            SharedText::Shared(octets) => Ok(SharedText::Shared(octets.clone()?)),
+        }
+    }
+
+    /// The first octets of the text; the same text where it has no more.
+    pub fn cut(self, alloc: Global) -> Result<SharedText<'p>, AllocError>
+        ensures { IfOk result (λ text. items_of text ≡ take max_value (items_of self.entry)) }
+    {
+        match self {
+            SharedText::Lent(octets) => Ok(SharedText::Lent(first(octets))),
+            SharedText::Shared(octets) => cut_shared(alloc, octets),
+        }
+    }
+
+    /// The octets of the text, copied where others hold them too.
+    pub fn into_octets(self, alloc: Global) -> Result<Octets, AllocError>
+        ensures { IfOk result (λ octets. octets ≡ items_of self.entry) }
+    {
+        match self {
+            SharedText::Lent(octets) => copied(alloc, octets),
+            SharedText::Shared(octets) => match Rc::try_unwrap(octets) {
+                Ok(octets) => Ok(Octets::from_vec(octets)),
+                Err(shared) => copied(alloc, shared.as_ref().as_slice()),
+            },
+        }
+    }
+}
+
+// The first octets of a text that others may hold too.
+fn cut_shared<'p>(alloc: Global, octets: Rc<Vec<u8>>) -> Result<SharedText<'p>, AllocError>
+    ensures { IfOk result (λ text. items_of text ≡ take max_value octets.value.items) }
+{
+    if is_short(octets.as_ref()) {
+        return Ok(SharedText::Shared(octets));
+    }
+    SharedText::new(
+        alloc,
+        Vec::from_slice(alloc, first(octets.as_ref().as_slice()))?,
+    )
+}
+
+// Whether all of the octets are the first ones.
+#[tactic(auto, using(std::proofs::lemmas::List::take_all))]
+fn is_short(octets: &Vec<u8>) -> bool
+    ensures { result ≡ true → octets.now.items ≡ take max_value octets.now.items }
+{
+    octets.len() <= MAX_VALUE
+}
+
+/// A copy of octets.
+pub fn copied(alloc: Global, octets: &[u8]) -> Result<Octets, AllocError>
+    ensures { IfOk result (λ copy. copy ≡ octets.now) }
+{
+    Ok(Octets::from_vec(Vec::from_slice(alloc, octets)?))
+}
