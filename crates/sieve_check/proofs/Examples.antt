@@ -4,12 +4,12 @@ use Rattle.std.specs.Prelude.{codes}
 use Rattle.sieve_parser.specs.Tree.{ArgumentTree, text, text_list, amount, label, InvocationTree, invocation, no_test, one_test, test_list, last, next, CommandsTree, simple, block, no_command, command}
 use Rattle.sieve_check.specs.declared.error.CheckError.TheVariants.{UnknownCommand, MissingCapability, UnknownCapability, BadArguments, Limit}
 use Rattle.sieve_check.specs.declared.error.Fault.TheVariants as fault
-use Rattle.sieve_check.specs.declared.names.Capability.TheVariants.{Mime, FileInto}
+use Rattle.sieve_check.specs.declared.names.Capability.TheVariants.{Mime, FileInto, Depot}
 use Rattle.sieve_check.specs.declared.names.TestName.TheVariants.{Header, Exists, Size}
 use Rattle.sieve_check.specs.declared.typed.Order.TheVariants.{Over}
 use Rattle.sieve_check.specs.Rules.{Visit, first_fault, fault_of, after_invocation}
 use Rattle.sieve_check.specs.Signatures.{Read, no_tag, reading, test_signature}
-use Rattle.sieve_check.specs.Surroundings.{at_start, lacks}
+use Rattle.sieve_check.specs.Surroundings.{Context, at_start, first_lacking, lacks}
 
 abbrev keep_at : ℕ → CommandsTree → CommandsTree
 keep_at n others = command (simple (invocation n (codes "keep") [] no_test)) others
@@ -77,11 +77,24 @@ faultless :
 faultless = refl
 
 -- what was required is there afterwards, and nothing else
-required : lacks (after_invocation at_start (invocation 0 (codes "require") (text_list (codes "fileinto") (codes "mime" ∷ []) ∷ []) no_test)) (Some Mime) ≡ Rattle.std.proofs.Common.false
+required : lacks (after_invocation at_start (invocation 0 (codes "require") (text_list (codes "fileinto") (codes "mime" ∷ []) ∷ []) no_test)) (Mime ∷ []) ≡ Rattle.std.proofs.Common.false
 required = refl
 
-not_all_required : lacks (after_invocation at_start (invocation 0 (codes "require") (text (codes "mime") ∷ []) no_test)) (Some FileInto) ≡ true
+not_all_required : lacks (after_invocation at_start (invocation 0 (codes "require") (text (codes "mime") ∷ []) no_test)) (FileInto ∷ []) ≡ true
 not_all_required = refl
+
+-- of several the first that isn't there is named, whatever was required before or behind it
+abbrev mime_alone : Context
+mime_alone = after_invocation at_start (invocation 0 (codes "require") (text (codes "mime") ∷ []) no_test)
+
+first_of_two : first_lacking (FileInto ∷ Depot ∷ []) mime_alone.required ≡ Some FileInto
+first_of_two = refl
+
+second_of_two : first_lacking (Mime ∷ Depot ∷ []) mime_alone.required ≡ Some Depot
+second_of_two = refl
+
+none_of_none : lacks mime_alone [] ≡ Rattle.std.proofs.Common.false
+none_of_none = refl
 
 -- size :over 10, with one tag, with none, with two, and with the tag behind the number
 over_read : reading (test_signature Size) (label (codes "over") ∷ amount 10 ∷ []) ≡ Some (let r : Read = record { tags = record no_tag { order = Some Over }; params = []; name = None; positional = amount 10 ∷ [] } in r)

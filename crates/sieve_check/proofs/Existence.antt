@@ -1,37 +1,41 @@
 -- A script of which nothing is wrong has a typed form, which is within the limits.
-use Rattle.std.proofs.Common.{◌≡◌, ℕ, suc, ◌<◌, ◌≤◌, Bool, true, false, ◌&&◌, ◌||◌, not, List, [], ◌∷◌, ◌++◌, length, drop, bytes_eq, Option, Some, None, option_map, refl, sym, ap, subst, ◌∙◌, arith, if◌then◌else◌, inl, inr}
+use Rattle.std.proofs.Common.{◌≡◌, ℕ, zero, suc, ◌<◌, ◌≤◌, Bool, true, false, ◌&&◌, ◌||◌, not, List, [], ◌∷◌, ◌++◌, length, drop, bytes_eq, Option, Some, None, option_map, refl, sym, ap, subst, ◌∙◌, arith, if◌then◌else◌, inl, inr}
 use Rattle.std.specs.List.{list_any}
+use Rattle.std.specs.Prelude.{is_some, min, unwrap_or}
+use Rattle.std.proofs.Math.Nat.{min-le_right}
 use Rattle.std.proofs.lemmas.Bool.{cases_Bool, ltb-true}
 use Rattle.std.proofs.lemmas.Grind.{flat_map-append}
 use Rattle.std.proofs.lemmas.List.{append-nil, append_assoc}
 use Rattle.std.proofs.lemmas.Option.{same_Some}
 use Rattle.octets.specs.Ascii.{lowercase_of}
-use Rattle.octets.specs.Limits.{max_loops, max_variables}
+use Rattle.octets.specs.Limits.{max_loops, max_value, max_variables}
 use Rattle.octets.specs.Once.{each_once}
 use Rattle.sieve_references.specs.References.{names_in}
 use Rattle.sieve_parser.specs.Scripts.{IsTree}
-use Rattle.sieve_parser.specs.Tree.{ArgumentTree, InvocationTree, invocation, TestsTree, CommandTree, simple, block, CommandsTree, no_command as no_tree, command as tree}
+use Rattle.sieve_parser.specs.Tree.{ArgumentTree, text, text_list, amount, label, InvocationTree, invocation, TestsTree, CommandTree, simple, block, CommandsTree, no_command as no_tree, command as tree}
 use Rattle.sieve_check.specs.declared.error.Fault.TheVariants.{MissingCapability, UnknownCapability, BadArguments, Limit}
+use Rattle.sieve_check.specs.declared.names.Capability.TheVariants as capability
 use Rattle.sieve_check.specs.declared.names.CommandName.{CommandName}
-use Rattle.sieve_check.specs.declared.names.CommandName.TheVariants.{Require, If, Elsif, Else, Stop, Keep, Discard, FileInto, Set, ForEveryPart, Break, Store}
+use Rattle.sieve_check.specs.declared.names.CommandName.TheVariants.{Require, If, Elsif, Else, Stop, Keep, Discard, FileInto, Set, ForEveryPart, Break, Store, Take}
 use Rattle.sieve_check.specs.declared.signature.Positional.TheVariants as positional
 use Rattle.sieve_check.specs.declared.signature.Tests.{Tests}
 use Rattle.sieve_check.specs.declared.signature.Ending.{Ending}
 use Rattle.sieve_check.specs.declared.signature.Ending.TheVariants.{Semicolon, Block}
 use Rattle.sieve_check.specs.Bounded.{IsBoundedString, IsBoundedCommand, AreBoundedCommands, AreBoundedBranches, IsCommandIn, AreCommandsIn, AreBranchesIn, IsBounded}
-use Rattle.sieve_check.specs.FormOf.{InnerForms, none, one, bracketed, template_of, setting_in, inner_forms_of, PartForm, action, filing_in, simple_of, block_of, simple_part, block_part, Forms, closed, closed_by, after_none, put, part_of, forms_of, IsFormOf}
+use Rattle.sieve_check.specs.FormOf.{InnerForms, none, one, bracketed, template_of, setting_in, most_of, taking_in, inner_forms_of, PartForm, action, filing_in, simple_of, block_of, simple_part, block_part, Forms, closed, closed_by, after_none, put, part_of, forms_of, IsFormOf}
 use Rattle.sieve_check.specs.Names.{command_named}
-use Rattle.sieve_check.specs.Rules.{Visit, fault_of, known_command_fault, command_needs, leaves_loop, may_stand, opened_by, loops_by, has_unknown_capability, has_long_string, has_wrong_mention, has_large_mention, mentions_of, strings_read, lists_read, where_required, command_mentions, names_by, names_mentioned, same_tests, same_ending, is_well_formed, kind_of, strings_of, tests_visits, head_visits, command_visits, commands_visits, after_invocation, invocation_of, loops_opened}
+use Rattle.sieve_check.specs.Rules.{Visit, fault_of, known_command_fault, command_needs, leaves_loop, may_stand, opened_by, loops_by, has_unknown_capability, has_long_string, has_wrong_mention, has_large_mention, expanding, mentions_of, strings_read, lists_read, where_required, command_mentions, names_by, names_mentioned, same_tests, same_ending, is_well_formed, kind_of, strings_of, tests_visits, head_visits, command_visits, commands_visits, after_invocation, invocation_of, loops_opened}
 use Rattle.sieve_check.specs.Signatures.{◌>>=◌, Read, is_positional, reading, command_signature, ending_of}
 use Rattle.sieve_check.specs.Surroundings.{Context, lacks, at_start, in_block, inside, is_meant, loops_left, opens_many, following}
-use Rattle.sieve_check.specs.Typed.{Template, CommandForm, keep, discard, file_into, set, store, for_every_part, leave, stop, choice, CommandForms, no_command, command, no_branch, otherwise, branch}
+use Rattle.sieve_check.specs.Typed.{Template, CommandForm, keep, discard, file_into, set, take_first, store, for_every_part, leave, stop, choice, CommandForms, no_command, command, no_branch, otherwise, branch}
 use Rattle.sieve_check.specs.Variables.{string_variables, test_variables, command_variables, commands_variables, branches_variables}
 use Rattle.sieve_check.proofs.Extent.{form_fits}
 use Rattle.sieve_check.proofs.Faultless.{AreFaultless, faultless_both, names_brought, none_refused, few_in_script}
 use Rattle.sieve_check.proofs.Lists.{expands, is_large, read_short, texted, both_texted}
 use Rattle.sieve_check.proofs.OpenLoops.{room_inside}
+use Rattle.sieve_check.proofs.TagSteps.{number_read}
 use Rattle.sieve_check.proofs.Options.{all_taken, map_some, if_none, not_false, not_both, both_true, either_false, some_of}
-use Rattle.sieve_check.proofs.Templates.{names_at, mentioned_at, expanding, expanding_names, nothing_mentioned, template_names, template_bounded}
+use Rattle.sieve_check.proofs.Templates.{names_at, mentioned_at, expanding_names, nothing_mentioned, template_names, template_bounded}
 use Rattle.sieve_check.proofs.TestExistence.{known, WellFormed, IsInnerIn, well_formed, complete_parts, none_large, inner_kind, IsBoundedInner, inner_variables, unnamed, Inner, inner_exists}
 
 -- ---- what follows from there being no fault
@@ -62,6 +66,7 @@ unselecting Set = refl
 unselecting ForEveryPart = refl
 unselecting Break = refl
 unselecting Store = refl
+unselecting Take = refl
 
 command_well_formed : (s : Context) (name : CommandName) (args : List ArgumentTree) (tests : Tests) (ending : Ending) → known_command_fault s name args tests ending ≡ None → CommandWellFormed s name args tests ending
 command_well_formed s name args tests ending h =
@@ -153,6 +158,11 @@ module _ (s : Context) (make : Template → CommandForm) (limits : (folder : Tem
       (plain t ∙ template_names b folder.0 ∙ sym (append-nil (names_at b folder.0)) ∙ sym (expanding_names b (folder.0 ∷ [])) ∙ ap (λ xs. mentioned_at b (expanding (strings_of xs))) (sym folder.1))
       alone bounded
 
+-- what is needed first is there
+there : {A : Type 0} (b : Bool) (x : A) (others : Option A) → is_some (if b then others else Some x) ≡ false → b ≡ true
+there true x others h = refl
+there false x others h = absurd (cc)
+
 -- what a `set` brings, where variables were required
 set_names : (b : Bool) (name x : List ℕ) → b ≡ true → names_at b x ++ lowercase_of name ∷ [] ≡ mentioned_at b (record { expanded = x ∷ []; set = name ∷ [] })
 set_names true name x h = ap (λ names. names ++ lowercase_of name ∷ []) (sym (append-nil (names_in x)))
@@ -167,7 +177,40 @@ assigned s read rest has positional short few alone bounded =
     let name = both.0 in
     let x = both.1 in
     action_goes s (own_names s Set read) (set modifiers (lowercase_of name) (template_of s x)) rest (simple_of s Set read none) (ap (λ xs. option_map action (setting_in s modifiers xs)) both.2) (template_bounded b x both.3) tt
-    (ap (λ names. names ++ lowercase_of name ∷ []) (template_names b x) ∙ set_names b name x (not_false b has) ∙ ap (λ xs. mentioned_at b (mentions_of Set (strings_of xs))) (sym both.2))
+    (ap (λ names. names ++ lowercase_of name ∷ []) (template_names b x) ∙ set_names b name x (there b capability.Variables None has) ∙ ap (λ xs. mentioned_at b (mentions_of Set (strings_of xs))) (sym both.2))
+    alone bounded
+
+-- what a `take` brings, where variables were required
+taken_name : (b : Bool) (name : List ℕ) → b ≡ true → lowercase_of name ∷ [] ≡ mentioned_at b (record { expanded = []; set = name ∷ [] })
+taken_name true name h = refl
+taken_name false name h = absurd (cc)
+
+one_text : (xs : List ArgumentTree) → is_positional positional.Text xs ≡ true → (x : List ℕ) × (xs ≡ text x ∷ [])
+one_text (text x ∷ []) h = (x, refl)
+one_text [] h = absurd (cc)
+one_text (text_list x xs ∷ ys) h = absurd (cc)
+one_text (amount n ∷ ys) h = absurd (cc)
+one_text (label name ∷ ys) h = absurd (cc)
+one_text (text x ∷ y ∷ ys) h = absurd (cc)
+
+-- some octets are taken, and no more than a value may have
+most_some : (first : Option ℕ) → ((n : ℕ) → first ≡ Some n → 0 < n) → (0 < min (unwrap_or first max_value) max_value) × (min (unwrap_or first max_value) max_value ≤ max_value)
+most_some None some = (omega arith, omega arith)
+most_some (Some n) some = (least n max_value (some n refl) (omega arith), min-le_right n max_value) where
+  least : (a b : ℕ) → 0 < a → 0 < b → 0 < min a b
+  least zero b h k = absurd (omega (arith, h))
+  least (suc a) zero h k = absurd (omega (arith, k))
+  least (suc a) (suc b) h k = omega arith
+
+taken : (s : Context) (args : List ArgumentTree) (read : Read) (rest : Forms) → reading (command_signature Take) args ≡ Some read → lacks s (command_needs Take) ≡ false → may_stand s Take args ≡ true → is_positional positional.Text read.positional ≡ true
+    → rest.branches ≡ no_branch → AreWithin (length s.loops) rest → Goes s ((own_names s Take read ++ []) ++ forms_variables rest) (simple_of s Take read none >>= λ part. put part rest)
+taken s args read rest is has stands positional alone bounded =
+    let b = expands s in
+    let name = one_text read.positional positional in
+    let most = most_of read.tags in
+    action_goes s (own_names s Take read) (take_first most (lowercase_of name.0)) rest (simple_of s Take read none) (ap (λ xs. option_map action (taking_in read.tags xs)) name.1)
+    (most_some read.tags.first (number_read (command_signature Take) args read is)) (ltb-true 0 (length s.loops) stands)
+    (taken_name b name.0 (there b capability.Variables _ has) ∙ ap (λ xs. mentioned_at b (mentions_of Take (strings_of xs))) (sym name.1))
     alone bounded
 
 -- those that are left are open
@@ -208,6 +251,7 @@ simple_goes s FileInto args read none rest is stands has positional ends same sh
 simple_goes s Store args read none rest is stands has positional ends same short few begins bounded = filed s store (λ folder fits. fits) (λ folder. ltb-true 0 (length s.loops) stands) (λ folder. refl) read rest positional short few (begins refl) bounded
 simple_goes s Break args read none rest is stands has positional ends same short few begins bounded = left s args read rest is stands positional (begins refl) bounded
 simple_goes s Set args read none rest is stands has positional ends same short few begins bounded = assigned s read rest has positional short few (begins refl) bounded
+simple_goes s Take args read none rest is stands has positional ends same short few begins bounded = taken s args read rest is has stands positional (begins refl) bounded
 simple_goes s Require args read (one f) rest is stands has positional ends same short few begins bounded = absurd (cc)
 simple_goes s Require args read (bracketed f fs) rest is stands has positional ends same short few begins bounded = absurd (cc)
 simple_goes s If args read none rest is stands has positional ends same short few begins bounded = absurd (cc)
@@ -236,6 +280,8 @@ simple_goes s Break args read (one f) rest is stands has positional ends same sh
 simple_goes s Break args read (bracketed f fs) rest is stands has positional ends same short few begins bounded = absurd (cc)
 simple_goes s Store args read (one f) rest is stands has positional ends same short few begins bounded = absurd (cc)
 simple_goes s Store args read (bracketed f fs) rest is stands has positional ends same short few begins bounded = absurd (cc)
+simple_goes s Take args read (one f) rest is stands has positional ends same short few begins bounded = absurd (cc)
+simple_goes s Take args read (bracketed f fs) rest is stands has positional ends same short few begins bounded = absurd (cc)
 
 -- variables of a branch before others
 branch_behind : (names tests within : List (List ℕ)) (rest : Forms) → [] ≡ names → tests ++ within ++ branches_variables rest.branches ++ commands_variables rest.commands ≡ ((names ++ tests) ++ within) ++ forms_variables rest
@@ -309,6 +355,9 @@ block_goes s Break args read (bracketed f fs) body rest positional stands room e
 block_goes s Store args read none body rest positional stands room ends same begins tests tests_in within within_in bounded = absurd (cc)
 block_goes s Store args read (one f) body rest positional stands room ends same begins tests tests_in within within_in bounded = absurd (cc)
 block_goes s Store args read (bracketed f fs) body rest positional stands room ends same begins tests tests_in within within_in bounded = absurd (cc)
+block_goes s Take args read none body rest positional stands room ends same begins tests tests_in within within_in bounded = absurd (cc)
+block_goes s Take args read (one f) body rest positional stands room ends same begins tests tests_in within within_in bounded = absurd (cc)
+block_goes s Take args read (bracketed f fs) body rest positional stands room ends same begins tests tests_in within within_in bounded = absurd (cc)
 
 -- ---- any command
 
@@ -362,6 +411,7 @@ loops_after s (Some Set) strings = refl
 loops_after s (Some ForEveryPart) strings = refl
 loops_after s (Some Break) strings = refl
 loops_after s (Some Store) strings = refl
+loops_after s (Some Take) strings = refl
 
 same_loops : (s : Context) (i : InvocationTree) → (after_invocation s i).loops ≡ s.loops
 same_loops s (invocation token word args tests) = loops_after s (command_named word) (strings_of args)

@@ -13,7 +13,7 @@ use Rattle.sieve_parser.proofs.Extent.{octets_of, octets-append, octets_fit}
 use Rattle.bytecode_format.specs.declared.modifiers.Modifiers.{Modifiers}
 use Rattle.sieve_check.specs.declared.names.Capability.TheVariants.{Variables}
 use Rattle.sieve_check.specs.declared.names.CommandName.{CommandName}
-use Rattle.sieve_check.specs.declared.names.CommandName.TheVariants.{Require, If, Elsif, Else, Stop, Keep, Discard, FileInto, Set, ForEveryPart, Break, Store}
+use Rattle.sieve_check.specs.declared.names.CommandName.TheVariants.{Require, If, Elsif, Else, Stop, Keep, Discard, FileInto, Set, ForEveryPart, Break, Store, Take}
 use Rattle.sieve_check.specs.declared.names.TestName.{TestName}
 use Rattle.sieve_check.specs.declared.names.TestName.TheVariants.{Constant, Not, AllOf, AnyOf, Header, Exists, Size, String, PartSize, PartBody, PartDigest}
 use Rattle.sieve_check.specs.declared.typed.Order.{Order}
@@ -21,13 +21,14 @@ use Rattle.sieve_check.specs.declared.names.Piece.{Piece}
 use Rattle.sieve_check.specs.declared.names.Piece.TheVariants.{Main, Sub, ContentType, Params}
 use Rattle.sieve_check.specs.declared.names.Tag.{Tag}
 use Rattle.sieve_check.specs.declared.signature.Signature.{Signature}
+use Rattle.sieve_check.specs.declared.signature.Tags.{Tags}
 use Rattle.sieve_check.specs.Names.{command_named, test_named}
 use Rattle.sieve_check.specs.Signatures.{Read, Given, with_tag, with_argument, reading, command_signature, test_signature}
 use Rattle.sieve_check.specs.Rules.{after_invocation, invocation_of, loops_opened}
 use Rattle.sieve_check.specs.Surroundings.{Context, at_start, has_capability, inside, loops_left}
-use Rattle.sieve_check.specs.Typed.{Template, params_of, TestForm, constant, negation, all_of, any_of, header, exists, size, string, part_size, part_body, part_digest, TestForms, no_test as no_other, test, CommandForm, keep, discard, file_into, set, store, for_every_part, leave, stop, CommandForms, no_command, command, BranchForms, no_branch, otherwise, branch}
+use Rattle.sieve_check.specs.Typed.{Template, params_of, TestForm, constant, negation, all_of, any_of, header, exists, size, string, part_size, part_body, part_digest, TestForms, no_test as no_other, test, CommandForm, keep, discard, file_into, set, take_first, store, for_every_part, leave, stop, CommandForms, no_command, command, BranchForms, no_branch, otherwise, branch}
 use Rattle.sieve_check.specs.Extent.{strings_extent, test_extent, tests_extent, command_extent, commands_extent, branches_extent}
-use Rattle.sieve_check.specs.FormOf.{InnerForms, none, one, bracketed, number_in, template_of, text_in, setting_in, list_in, of_list, of_lists, match_of, scope_of, selected_by, params_in, header_of, test_of, test_form_of, inner_forms_of, more_forms_of, PartForm, nothing, action, first, next_branch, last, simple_of, block_of, simple_part, block_part, Forms, closed, closed_by, after_none, put, part_of, forms_of, IsFormOf}
+use Rattle.sieve_check.specs.FormOf.{InnerForms, none, one, bracketed, number_in, template_of, text_in, setting_in, most_of, taking_in, list_in, of_list, of_lists, match_of, scope_of, selected_by, params_in, header_of, test_of, test_form_of, inner_forms_of, more_forms_of, PartForm, nothing, action, first, next_branch, last, simple_of, block_of, simple_part, block_part, Forms, closed, closed_by, after_none, put, part_of, forms_of, IsFormOf}
 use Rattle.sieve_check.proofs.Options.{step_some, map_some}
 use Rattle.sieve_check.proofs.TagSteps.{argument_taken, IsKept, kept_by_reading}
 use Rattle.sieve_check.proofs.Templates.{written, template_fits, templates_fit}
@@ -101,6 +102,12 @@ setting_fits s m (text t ∷ text_list y ys ∷ xs) c h = absurd (cc)
 setting_fits s m (text t ∷ amount n ∷ xs) c h = absurd (cc)
 setting_fits s m (text t ∷ label name ∷ xs) c h = absurd (cc)
 setting_fits s m (text t ∷ text y ∷ z ∷ xs) c h = absurd (cc)
+
+taking_fits : (tags : Tags) (xs : List ArgumentTree) (c : CommandForm) → taking_in tags xs ≡ Some c → command_extent c ≤ 2 + arguments_extent xs
+taking_fits tags xs c h =
+    let name = map_some (text_in xs) (λ name. take_first (most_of tags) (lowercase_of name)) c h in
+    subst (λ c. command_extent c ≤ 2 + arguments_extent xs) (same_Some (take_first (most_of tags) (lowercase_of name.0)) c name.2)
+    (omega (arith, length-map name.0 to_ascii_lowercase, text_fits xs name.0 name.1))
 
 list_fits : (s : Context) (a : ArgumentTree) (l : List Template) → list_in s a ≡ Some l → strings_extent l ≤ argument_extent a
 list_fits s (text x) l h = subst (λ l. strings_extent l ≤ 2 + length x) (same_Some (template_of s x ∷ []) l h) (omega (arith, templates_fit (has_capability Variables s.required) (x ∷ [])))
@@ -293,6 +300,10 @@ simple_fits s Set args read none p r h =
     let c = map_some (setting_in s read.tags.modifiers read.positional) action p h in
     subst (λ x. part_extent x ≤ 2 + arguments_extent args) (same_Some (action c.0) p c.2)
     (omega (arith, setting_fits s read.tags.modifiers read.positional c.0 c.1, read_fits (command_signature Set) args read r))
+simple_fits s Take args read none p r h =
+    let c = map_some (taking_in read.tags read.positional) action p h in
+    subst (λ x. part_extent x ≤ 2 + arguments_extent args) (same_Some (action c.0) p c.2)
+    (omega (arith, taking_fits read.tags read.positional c.0 c.1, read_fits (command_signature Take) args read r))
 simple_fits s Require args read (one f) p r h = absurd (cc)
 simple_fits s Require args read (bracketed f fs) p r h = absurd (cc)
 simple_fits s If args read none p r h = absurd (cc)
@@ -321,6 +332,8 @@ simple_fits s Break args read (one f) p r h = absurd (cc)
 simple_fits s Break args read (bracketed f fs) p r h = absurd (cc)
 simple_fits s Store args read (one f) p r h = absurd (cc)
 simple_fits s Store args read (bracketed f fs) p r h = absurd (cc)
+simple_fits s Take args read (one f) p r h = absurd (cc)
+simple_fits s Take args read (bracketed f fs) p r h = absurd (cc)
 
 block_fits : (name : CommandName) (inner : InnerForms) (body : CommandForms) (p : PartForm) → block_of name inner body ≡ Some p → part_extent p ≤ 3 + inner_extent inner + commands_extent body
 block_fits If (one f) body p h = subst (λ x. part_extent x ≤ 3 + test_extent f + commands_extent body) (same_Some (first f body) p h) (omega arith)
@@ -359,6 +372,9 @@ block_fits Break (bracketed f fs) body p h = absurd (cc)
 block_fits Store none body p h = absurd (cc)
 block_fits Store (one f) body p h = absurd (cc)
 block_fits Store (bracketed f fs) body p h = absurd (cc)
+block_fits Take none body p h = absurd (cc)
+block_fits Take (one f) body p h = absurd (cc)
+block_fits Take (bracketed f fs) body p h = absurd (cc)
 
 abbrev forms_extent : Forms → ℕ
 forms_extent r = branches_extent r.branches + commands_extent r.commands

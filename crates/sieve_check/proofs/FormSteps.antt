@@ -9,7 +9,7 @@ use Rattle.sieve_parser.specs.declared.tree.Invocation.TheVariants.{WithTest, Wi
 use Rattle.sieve_parser.specs.declared.tree.Command.{Command as Tree}
 use Rattle.sieve_parser.proofs.TestSteps.{tree_test, tree_tests}
 use Rattle.sieve_check.specs.declared.names.CommandName.{CommandName}
-use Rattle.sieve_check.specs.declared.names.CommandName.TheVariants.{Require, If, Elsif, Else, Stop, Keep, Discard, FileInto, Set, ForEveryPart, Break, Store}
+use Rattle.sieve_check.specs.declared.names.CommandName.TheVariants.{Require, If, Elsif, Else, Stop, Keep, Discard, FileInto, Set, ForEveryPart, Break, Store, Take}
 use Rattle.sieve_check.specs.declared.sequence.Part.{Part}
 use Rattle.sieve_check.specs.declared.sequence.Sequence.{Sequence}
 use Rattle.sieve_check.specs.declared.typed.Test.{Test}
@@ -64,6 +64,7 @@ no_block Set f fs body = refl
 no_block ForEveryPart f fs body = refl
 no_block Break f fs body = refl
 no_block Store f fs body = refl
+no_block Take f fs body = refl
 
 no_head : (h : Head) (f : TestForm) (fs : TestForms) (body : CommandForms) → head_block h (bracketed f fs) body ≡ None
 no_head h f fs body = step_none (command_named h.name) _ (λ name. step_none (reading (command_signature name) (arguments_of h)) _ (λ read. no_block name f fs body))
@@ -89,6 +90,7 @@ no_simple_test s Set read f = refl
 no_simple_test s ForEveryPart read f = refl
 no_simple_test s Break read f = refl
 no_simple_test s Store read f = refl
+no_simple_test s Take read f = refl
 
 no_simple_tests : (s : Context) (name : CommandName) (read : Read) (f : TestForm) (fs : TestForms) → simple_of s name read (bracketed f fs) ≡ None
 no_simple_tests s Require read f fs = refl
@@ -103,6 +105,7 @@ no_simple_tests s Set read f fs = refl
 no_simple_tests s ForEveryPart read f fs = refl
 no_simple_tests s Break read f fs = refl
 no_simple_tests s Store read f fs = refl
+no_simple_tests s Take read f fs = refl
 
 no_simple_part : (s : Context) (h : Head) (inner : InnerForms) → ((name : CommandName) (read : Read) → simple_of s name read inner ≡ None) → head_simple s h inner ≡ None
 no_simple_part s h inner none = step_none (command_named h.name) _ (λ name. step_none (reading (command_signature name) (arguments_of h)) _ (none name))

@@ -1,11 +1,11 @@
 -- Scripts with loops over parts that were worked out by hand.
-use Rattle.std.proofs.Common.{◌≡◌, ℕ, List, [], ◌∷◌, Option, Some, None, refl}
+use Rattle.std.proofs.Common.{◌≡◌, ℕ, List, [], ◌∷◌, ◌++◌, Option, Some, None, refl}
 use Rattle.std.specs.Prelude.{codes}
 use Rattle.glob_match.specs.declared.comparator.Comparator.TheVariants.{Octet, Casemap}
 use Rattle.glob_match.specs.declared.match_type.MatchType.TheVariants.{Is, Contains}
 use Rattle.sieve_parser.specs.Tree.{ArgumentTree, text, text_list, amount, label, invocation, no_test, one_test, CommandsTree, simple, block, no_command, command}
 use Rattle.sieve_check.specs.declared.error.CheckError.TheVariants.{MissingCapability, BadArguments, Limit}
-use Rattle.sieve_check.specs.declared.names.CommandName.TheVariants.{Break, ForEveryPart}
+use Rattle.sieve_check.specs.declared.names.CommandName.TheVariants.{Break, ForEveryPart, Take}
 use Rattle.sieve_check.specs.declared.typed.Order.TheVariants.{Under}
 use Rattle.sieve_check.specs.declared.typed.Segment.TheVariants.{Text, Variable}
 use Rattle.sieve_check.specs.FormOf.{IsFormOf, form_of}
@@ -13,7 +13,7 @@ use Rattle.sieve_check.specs.Rules.{fault_of}
 use Rattle.sieve_check.specs.Signatures.{Read, no_tag, reading, command_signature}
 use Rattle.sieve_check.specs.Surroundings.{loops_left}
 use Rattle.sieve_check.specs.Typed as typed
-use Rattle.sieve_check.specs.Typed.{Template, TestForm, part_size, part_body, part_digest, CommandForm, CommandForms, keep, store, for_every_part, leave, choice, no_branch, branch}
+use Rattle.sieve_check.specs.Typed.{Template, TestForm, part_size, part_body, part_digest, CommandForm, CommandForms, keep, take_first, store, for_every_part, leave, choice, no_branch, branch}
 
 -- a string that is as it is written
 abbrev as_written : List ℕ → Template
@@ -241,3 +241,77 @@ digest_form = refl
 
 matched_digest : fault_of (tested (codes "partdigest") (label (codes "is") ∷ text (codes "b") ∷ [])) ≡ Some (BadArguments 10)
 matched_digest = refl
+
+-- ---- what is taken of a part
+
+-- take ARGUMENTS; and with the loop and all that it needs around it
+abbrev take_at : ℕ → List ArgumentTree → CommandsTree
+take_at n args = last_at n (codes "take") args
+
+abbrev taking : List ArgumentTree → CommandsTree
+taking args = with_expansion (loop_at 9 [] (take_at 11 args))
+
+-- :first with this number
+abbrev number_first : ℕ → List ArgumentTree
+number_first n = label (codes "first") ∷ amount n ∷ []
+
+abbrev named_v : List ArgumentTree
+named_v = text (codes "V") ∷ []
+
+-- Take :First 3 "V"; the name is in lower case in the form
+three_taken : form_of (taking (label (codes "First") ∷ amount 3 ∷ named_v)) ≡ Some (alone (for_every_part (alone (take_first 3 (codes "v")))))
+three_taken = refl
+
+three_accepted : fault_of (taking (label (codes "First") ∷ amount 3 ∷ named_v)) ≡ None
+three_accepted = refl
+
+-- as much as a value may have, where no number is given or a larger one
+most_taken : form_of (taking named_v) ≡ Some (alone (for_every_part (alone (take_first 4096 (codes "v")))))
+most_taken = refl
+
+no_more_taken : form_of (taking (number_first 4097 ++ named_v)) ≡ Some (alone (for_every_part (alone (take_first 4096 (codes "v")))))
+no_more_taken = refl
+
+none_taken : fault_of (taking (number_first 0 ++ named_v)) ≡ Some (BadArguments 11)
+none_taken = refl
+
+one_number_read : reading (command_signature Take) (number_first 3 ++ named_v) ≡ Some (let r : Read = record { tags = record no_tag { first = Some 3 }; params = []; name = None; positional = named_v } in r)
+one_number_read = refl
+
+number_twice : fault_of (taking (number_first 3 ++ number_first 3 ++ named_v)) ≡ Some (BadArguments 11)
+number_twice = refl
+
+numberless : fault_of (taking (label (codes "first") ∷ named_v)) ≡ Some (BadArguments 11)
+numberless = refl
+
+number_behind : fault_of (taking (named_v ++ number_first 3)) ≡ Some (BadArguments 11)
+number_behind = refl
+
+number_of_store : fault_of (with_expansion (loop_at 9 [] (last_at 11 (codes "store") (number_first 3 ++ named_v)))) ≡ Some (BadArguments 11)
+number_of_store = refl
+
+nameless : fault_of (taking (number_first 3)) ≡ Some (BadArguments 11)
+nameless = refl
+
+-- outside of a loop, and without a capability
+lone_take : fault_of (with_expansion (take_at 9 named_v)) ≡ Some (BadArguments 9)
+lone_take = refl
+
+take_without_variables : fault_of (with_parts (loop_at 7 [] (take_at 9 named_v))) ≡ Some (MissingCapability 9)
+take_without_variables = refl
+
+take_without_depot : fault_of (simple_at 0 (codes "require") (text_list (codes "foreverypart") (codes "variables" ∷ []) ∷ []) (loop_at 7 [] (take_at 9 named_v))) ≡ Some (MissingCapability 9)
+take_without_depot = refl
+
+-- a name is taken as it is written: what would be a reference is no name, and is checked as that of a set
+reference_for_name : fault_of (taking (text (codes "${v}") ∷ [])) ≡ Some (BadArguments 11)
+reference_for_name = refl
+
+long_name_taken : fault_of (taking (text (codes "aaaaaaaaaaaaaaaaaaaaaaaaaaaaaaaaa") ∷ [])) ≡ Some (Limit 11)
+long_name_taken = refl
+
+longest_name_taken : fault_of (taking (text (codes "aaaaaaaaaaaaaaaaaaaaaaaaaaaaaaaa") ∷ [])) ≡ None
+longest_name_taken = refl
+
+long_and_no_name : fault_of (taking (text (codes "${aaaaaaaaaaaaaaaaaaaaaaaaaaaaaaaaa}") ∷ [])) ≡ Some (BadArguments 11)
+long_and_no_name = refl

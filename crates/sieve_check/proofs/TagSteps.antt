@@ -1,12 +1,13 @@
 -- What holds while tags are read.
-use Rattle.std.proofs.Common.{◌≡◌, ◌∙◌, ◌⊎◌, ℕ, true, false, not, List, [], ◌∷◌, ◌++◌, take, drop, Option, Some, None, refl, sym, ap, subst, inl, inr}
+use Rattle.std.proofs.Common.{◌≡◌, ◌∙◌, ◌⊎◌, ℕ, zero, suc, ◌<◌, ◌==◌, Bool, true, false, not, if◌then◌else◌, List, [], ◌∷◌, ◌++◌, take, drop, Option, Some, None, refl, sym, ap, subst, arith, inl, inr}
 use Rattle.std.specs.Prelude.{is_some}
+use Rattle.std.proofs.lemmas.Bool.{eq-eqb}
 use Rattle.std.proofs.lemmas.Option.{same_Some}
 use Rattle.sieve_parser.specs.Tree.{ArgumentTree, text, text_list, amount, label}
 use Rattle.sieve_check.specs.declared.names.Piece.{Piece}
 use Rattle.sieve_check.specs.declared.names.Piece.TheVariants.{Main, Sub, ContentType, Params}
 use Rattle.sieve_check.specs.declared.names.Tag.{Tag}
-use Rattle.sieve_check.specs.declared.names.Tag.TheVariants.{Order, Kind, Comparator, Letters, First, QuoteWildcard, Length, Mime, AnyChild, Select, Name}
+use Rattle.sieve_check.specs.declared.names.Tag.TheVariants.{Order, Kind, Comparator, Letters, FirstLetter, QuoteWildcard, Length, Mime, AnyChild, Select, Name, First}
 use Rattle.sieve_check.specs.declared.signature.Signature.{Signature}
 use Rattle.sieve_check.specs.declared.signature.Tags.{Tags}
 use Rattle.sieve_check.specs.Names.{comparator_named, tag_named}
@@ -28,9 +29,22 @@ added signature tag given more h =
 abbrev pub with_params : ArgumentTree → Given → Given
 with_params a given = record given { params = a ∷ [] }
 
--- of a comparator or a name, and of `:param`
+abbrev with_number : ℕ → Given → Given
+with_number n given = record given { tags = record given.tags { first = Some n } }
+
+not_zero : (n : ℕ) → (n == 0) ≡ false → 0 < n
+not_zero zero h = let same : (zero == 0) ≡ true = eq-eqb zero 0 refl in absurd (cc)
+not_zero (suc n) h = omega arith
+
+number_taken : (n : ℕ) (given more : Given) → with_argument First (amount n) given ≡ Some more → (0 < n) × (more ≡ with_number n given)
+number_taken n given more h = step (n == 0) refl h where
+  step : (b : Bool) → (n == 0) ≡ b → (if b then None else Some (with_number n given)) ≡ Some more → (0 < n) × (more ≡ with_number n given)
+  step true is h = absurd (cc)
+  step false is h = (not_zero n is, sym (same_Some (with_number n given) more h))
+
+-- of a comparator, a name or a number, and of `:param`
 pub argument_taken : (tag : Tag) (a : ArgumentTree) (given more : Given) → with_argument tag a given ≡ Some more
-    → (((tag ≡ Comparator) ⊎ (tag ≡ Name)) × (more.params ≡ given.params) × (more.tags.piece ≡ given.tags.piece)) ⊎ ((tag ≡ Select Params) × (is_list a ≡ true) × (with_params a given ≡ more))
+    → (((tag ≡ Comparator) ⊎ ((tag ≡ Name) ⊎ (tag ≡ First))) × (more.params ≡ given.params) × (more.tags.piece ≡ given.tags.piece)) ⊎ ((tag ≡ Select Params) × (is_list a ≡ true) × (with_params a given ≡ more))
 argument_taken Comparator (text s) given more h =
     let c = map_some (comparator_named s) _ more h in
     let same = sym (same_Some _ more c.2) in
@@ -41,14 +55,17 @@ argument_taken (Select Params) a given more h =
 argument_taken Name (text s) given more h =
     let named : Given = record given { name = Some s } in
     let same = sym (same_Some named more h) in
-    inl (inr refl, ap (λ (g : Given). g.params) same, ap (λ (g : Given). g.tags.piece) same)
+    inl (inr (inl refl), ap (λ (g : Given). g.params) same, ap (λ (g : Given). g.tags.piece) same)
+argument_taken First (amount n) given more h =
+    let c = number_taken n given more h in
+    inl (inr (inr refl), ap (λ (g : Given). g.params) c.1, ap (λ (g : Given). g.tags.piece) c.1)
 argument_taken Comparator (text_list s ss) given more h = absurd (cc)
 argument_taken Comparator (amount n) given more h = absurd (cc)
 argument_taken Comparator (label name) given more h = absurd (cc)
 argument_taken (Order order) a given more h = absurd (cc)
 argument_taken (Kind kind) a given more h = absurd (cc)
 argument_taken (Letters case) a given more h = absurd (cc)
-argument_taken (First case) a given more h = absurd (cc)
+argument_taken (FirstLetter case) a given more h = absurd (cc)
 argument_taken QuoteWildcard a given more h = absurd (cc)
 argument_taken Length a given more h = absurd (cc)
 argument_taken Mime a given more h = absurd (cc)
@@ -59,6 +76,65 @@ argument_taken (Select ContentType) a given more h = absurd (cc)
 argument_taken Name (text_list s ss) given more h = absurd (cc)
 argument_taken Name (amount n) given more h = absurd (cc)
 argument_taken Name (label name) given more h = absurd (cc)
+argument_taken First (text s) given more h = absurd (cc)
+argument_taken First (text_list s ss) given more h = absurd (cc)
+argument_taken First (label name) given more h = absurd (cc)
+
+-- the number of `:first`, where it was given, isn't zero
+abbrev pub IsCounted : Given → Type 0
+IsCounted given = (n : ℕ) → given.tags.first ≡ Some n → 0 < n
+
+same_number : (given more : Given) → more.tags.first ≡ given.tags.first → IsCounted given → IsCounted more
+same_number given more same counted n h = counted n (sym same ∙ h)
+
+argument_counted : (tag : Tag) (a : ArgumentTree) (given more : Given) → with_argument tag a given ≡ Some more → IsCounted given → IsCounted more
+argument_counted Comparator (text s) given more h counted =
+    let c = map_some (comparator_named s) _ more h in
+    same_number given more (ap (λ (g : Given). g.tags.first) (sym (same_Some _ more c.2))) counted
+argument_counted (Select Params) a given more h counted =
+    let c = if_some (is_list a) (with_params a given) more h in
+    same_number given more (ap (λ (g : Given). g.tags.first) (sym (same_Some (with_params a given) more c.1))) counted
+argument_counted Name (text s) given more h counted =
+    let named : Given = record given { name = Some s } in
+    same_number given more (ap (λ (g : Given). g.tags.first) (sym (same_Some named more h))) counted
+argument_counted First (amount n) given more h counted =
+    let c = number_taken n given more h in
+    λ m is. let same : n ≡ m = same_Some n m (sym (ap (λ (g : Given). g.tags.first) c.1) ∙ is) in omega (arith, c.0, same)
+argument_counted Comparator (text_list s ss) given more h counted = absurd (cc)
+argument_counted Comparator (amount n) given more h counted = absurd (cc)
+argument_counted Comparator (label name) given more h counted = absurd (cc)
+argument_counted (Order order) a given more h counted = absurd (cc)
+argument_counted (Kind kind) a given more h counted = absurd (cc)
+argument_counted (Letters case) a given more h counted = absurd (cc)
+argument_counted (FirstLetter case) a given more h counted = absurd (cc)
+argument_counted QuoteWildcard a given more h counted = absurd (cc)
+argument_counted Length a given more h counted = absurd (cc)
+argument_counted Mime a given more h counted = absurd (cc)
+argument_counted AnyChild a given more h counted = absurd (cc)
+argument_counted (Select Main) a given more h counted = absurd (cc)
+argument_counted (Select Sub) a given more h counted = absurd (cc)
+argument_counted (Select ContentType) a given more h counted = absurd (cc)
+argument_counted Name (text_list s ss) given more h counted = absurd (cc)
+argument_counted Name (amount n) given more h counted = absurd (cc)
+argument_counted Name (label name) given more h counted = absurd (cc)
+argument_counted First (text s) given more h counted = absurd (cc)
+argument_counted First (text_list s ss) given more h counted = absurd (cc)
+argument_counted First (label name) given more h counted = absurd (cc)
+
+-- a tag by itself gives no number
+tag_counted : (tag : Tag) (given : Given) → IsCounted given → IsCounted (with_more tag given)
+tag_counted (Order order) given counted = counted
+tag_counted (Kind kind) given counted = counted
+tag_counted Comparator given counted = counted
+tag_counted (Letters case) given counted = counted
+tag_counted (FirstLetter case) given counted = counted
+tag_counted QuoteWildcard given counted = counted
+tag_counted Length given counted = counted
+tag_counted Mime given counted = counted
+tag_counted AnyChild given counted = counted
+tag_counted (Select piece) given counted = counted
+tag_counted Name given counted = counted
+tag_counted First given counted = counted
 
 -- ---- what each step keeps
 
@@ -121,7 +197,8 @@ tag_selecting signature (Order order) name given args h is = record { params = i
 tag_selecting signature (Kind kind) name given args h is = record { params = is.params; unselected = is.unselected }
 tag_selecting signature Comparator name given args h is = record { params = is.params; unselected = is.unselected }
 tag_selecting signature (Letters case) name given args h is = record { params = is.params; unselected = is.unselected }
-tag_selecting signature (First case) name given args h is = record { params = is.params; unselected = is.unselected }
+tag_selecting signature First name given args h is = record { params = is.params; unselected = is.unselected }
+tag_selecting signature (FirstLetter case) name given args h is = record { params = is.params; unselected = is.unselected }
 tag_selecting signature QuoteWildcard name given args h is = record { params = is.params; unselected = is.unselected }
 tag_selecting signature Length name given args h is = record { params = is.params; unselected = is.unselected }
 tag_selecting signature Mime name given args h is = record { params = is.params; unselected = is.unselected }
@@ -140,11 +217,14 @@ tag_selecting signature (Select Params) name given args h is =
     let taken = both_true signature.selecting _ h in
     record { params = refl; unselected = λ plain. absurd (not_both signature.selecting taken.0 plain) }
 
-plain_awaits : (tag : Tag) (given : Given) → (tag ≡ Comparator) ⊎ (tag ≡ Name) → Awaits (Some tag) given → HasArgument given.tags.piece given.params
+plain_awaits : (tag : Tag) (given : Given) → (tag ≡ Comparator) ⊎ ((tag ≡ Name) ⊎ (tag ≡ First)) → Awaits (Some tag) given → HasArgument given.tags.piece given.params
 plain_awaits tag given is awaits =
     elim is [
       | inl comparator ↦ subst (λ t. Awaits (Some t) given) comparator awaits
-      | inr named ↦ subst (λ t. Awaits (Some t) given) named awaits
+      | inr other ↦ elim other [
+        | inl named ↦ subst (λ t. Awaits (Some t) given) named awaits
+        | inr first ↦ subst (λ t. Awaits (Some t) given) first awaits
+      ]
     ]
 
 argument_selecting : (signature : Signature) (tag : Tag) (a : ArgumentTree) (given more : Given) (args : List ArgumentTree) → with_argument tag a given ≡ Some more → IsSelecting signature (Some tag) given (a ∷ args) → IsSelecting signature None more args
@@ -167,6 +247,16 @@ argument_selecting signature tag a given more args h is =
 pub selecting_read : (signature : Signature) (args : List ArgumentTree) (read : Read) → reading signature args ≡ Some read → IsSelecting signature None (given_in read) read.positional
 selecting_read signature args read h =
     kept_by_reading signature (IsSelecting signature) (record { tag = tag_selecting signature; argument = argument_selecting signature }) args read h (record { params = refl; unselected = λ plain. refl })
+
+-- the number of `:first`, as it was read, isn't zero
+pub number_read : (signature : Signature) (args : List ArgumentTree) (read : Read) → reading signature args ≡ Some read → IsCounted (given_in read)
+number_read signature args read h =
+    let P = λ (last : Option Tag) (given : Given) (args : List ArgumentTree). IsCounted given in
+    let kept : IsKept signature P = record {
+      tag = λ tag name given args takes counted. tag_counted tag given counted;
+      argument = λ tag a given more args taken counted. argument_counted tag a given more taken counted;
+    } in
+    kept_by_reading signature P kept args read h (λ n none. absurd (cc))
 
 -- where nothing is selected, the lists are those behind the tags
 none_between : (xs : List ArgumentTree) → take 1 xs ++ [] ++ drop 1 xs ≡ xs

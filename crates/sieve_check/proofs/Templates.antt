@@ -16,7 +16,7 @@ use Rattle.sieve_check.specs.declared.typed.Segment.TheVariants.{Text, Variable,
 use Rattle.sieve_check.specs.Bounded.{IsBoundedSegment, IsBoundedString}
 use Rattle.sieve_check.specs.Extent.{segment_extent, string_extent, strings_extent}
 use Rattle.sieve_check.specs.FormOf.{meant}
-use Rattle.sieve_check.specs.Rules.{Mentions, no_mention, names_mentioned}
+use Rattle.sieve_check.specs.Rules.{Mentions, no_mention, expanding, names_mentioned}
 use Rattle.sieve_check.specs.Typed.{Template}
 use Rattle.sieve_check.specs.Variables.{segment_variables, string_variables, strings_variables}
 
@@ -128,9 +128,6 @@ templates_names b (x ∷ xs) = ap (λ names. names ++ strings_variables (map (te
 
 abbrev pub mentioned_at : Bool → Mentions → List (List ℕ)
 mentioned_at b mentions = names_mentioned (if b then mentions else no_mention)
-
-abbrev pub expanding : List (List ℕ) → Mentions
-expanding xs = record { expanded = xs; set = [] }
 
 none_named : (xs : List (List ℕ)) → [] ≡ flat_map (names_at false) xs
 none_named [] = refl

@@ -20,7 +20,7 @@ use Rattle.sieve_check.specs.declared.signature.Tests.TheVariants.{Nothing, One,
 use Rattle.sieve_check.specs.Bounded.{IsBoundedTest, AreBoundedTests, IsTestIn, AreTestsIn}
 use Rattle.sieve_check.specs.FormOf.{InnerForms, none, one, bracketed, number_in, match_of, scope_of, size_of, test_of, test_form_of, inner_forms_of, more_forms_of}
 use Rattle.sieve_check.specs.Names.{test_named}
-use Rattle.sieve_check.specs.Rules.{Visit, where_required, names_by, fault_by_name, known_test_fault, test_needs, test_may_stand, has_long_string, has_many_strings, Mentions, no_mention, strings_read, lists_read, test_mentions, has_wrong_mention, has_large_mention, names_mentioned, same_tests, is_well_formed, kind_of, strings_of, test_visits, tests_visits, more_visits}
+use Rattle.sieve_check.specs.Rules.{Visit, where_required, names_by, fault_by_name, known_test_fault, test_needs, test_may_stand, has_long_string, has_many_strings, Mentions, no_mention, expanding, strings_read, lists_read, test_mentions, has_wrong_mention, has_large_mention, names_mentioned, same_tests, is_well_formed, kind_of, strings_of, test_visits, tests_visits, more_visits}
 use Rattle.sieve_check.specs.Signatures.{◌>>=◌, Read, nothing_given, tags_read, asks_for_mime, is_positional, is_complete, reading, test_signature}
 use Rattle.sieve_check.specs.Surroundings.{Context, lacks}
 use Rattle.sieve_check.specs.Typed.{TestForm, constant, negation, all_of, any_of, header, exists, size, string, part_size, part_body, part_digest, TestForms, no_test as no_other, test}
@@ -29,7 +29,7 @@ use Rattle.sieve_check.proofs.Faultless.{AreFaultless, faultless_both, names_bro
 use Rattle.sieve_check.proofs.Lists.{expands, is_large, read_short, all_sound, one_listed, two_listed, three_listed}
 use Rattle.sieve_check.proofs.Options.{step_some, all_taken, if_some, if_none, not_false, both_true, either_false, some_of}
 use Rattle.sieve_check.proofs.TagSteps.{HasArgument, selecting_read, only_behind}
-use Rattle.sieve_check.proofs.Templates.{IsSound, names_at, mentioned_at, expanding, expanding_names}
+use Rattle.sieve_check.proofs.Templates.{IsSound, names_at, mentioned_at, expanding_names}
 
 -- ---- what follows from there being no fault
 

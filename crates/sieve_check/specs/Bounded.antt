@@ -1,11 +1,11 @@
 -- What a script's limits say of its typed form.
 use Rattle.std.specs.Prelude.{ℕ, suc, ◌+◌, ◌<◌, ◌≤◌, List, length, All, bytes_eq}
-use Rattle.octets.specs.Limits.{max_loops, max_script, max_segments, max_string, max_test_strings, max_variables}
+use Rattle.octets.specs.Limits.{max_loops, max_script, max_segments, max_string, max_test_strings, max_value, max_variables}
 use Rattle.octets.specs.Once.{each_once}
 use Rattle.sieve_references.specs.References.{last_capture}
 use Rattle.sieve_check.specs.declared.typed.Segment.{Segment}
 use Rattle.sieve_check.specs.declared.typed.Segment.TheVariants.{Text, Variable, Capture}
-use Rattle.sieve_check.specs.Typed.{Template, Selected, whole, main, sub, content_type, params, params_of, TestForm, constant, negation, all_of, any_of, header, exists, size, string, part_size, part_body, part_digest, TestForms, no_test, test, CommandForm, keep, discard, file_into, set, store, for_every_part, leave, stop, choice, CommandForms, no_command, command, BranchForms, no_branch, otherwise, branch}
+use Rattle.sieve_check.specs.Typed.{Template, Selected, whole, main, sub, content_type, params, params_of, TestForm, constant, negation, all_of, any_of, header, exists, size, string, part_size, part_body, part_digest, TestForms, no_test, test, CommandForm, keep, discard, file_into, set, take_first, store, for_every_part, leave, stop, choice, CommandForms, no_command, command, BranchForms, no_branch, otherwise, branch}
 use Rattle.sieve_check.specs.Extent.{commands_extent, string_extent}
 use Rattle.sieve_check.specs.Variables.{commands_variables}
 
@@ -74,6 +74,7 @@ abbrev mutual
   IsBoundedCommand discard = Unit {0}
   IsBoundedCommand (file_into folder) = IsBoundedString folder
   IsBoundedCommand (set modifiers name value) = IsBoundedString value
+  IsBoundedCommand (take_first most name) = (0 < most) × (most ≤ max_value)
   IsBoundedCommand (store folder) = IsBoundedString folder
   IsBoundedCommand (for_every_part cs) = AreBoundedCommands cs
   IsBoundedCommand (leave loops) = Unit {0}
@@ -111,12 +112,13 @@ abbrev mutual
   AreTestsIn loops (test t ts) = IsTestIn loops t × AreTestsIn loops ts
 
 abbrev mutual
-  -- a part is stored in a loop, no more loops are left than there are, and no more are open than may be
+  -- of a part is taken and a part is stored in a loop, no more loops are left than there are, and no more are open than may be
   pub IsCommandIn : ℕ → CommandForm → Type 0
   IsCommandIn loops keep = Unit {0}
   IsCommandIn loops discard = Unit {0}
   IsCommandIn loops (file_into folder) = Unit {0}
   IsCommandIn loops (set modifiers name value) = Unit {0}
+  IsCommandIn loops (take_first most name) = 0 < loops
   IsCommandIn loops (store folder) = 0 < loops
   IsCommandIn loops (for_every_part cs) = (loops < max_loops) × AreCommandsIn (suc loops) cs
   IsCommandIn loops (leave left) = (0 < left) × (left ≤ loops)

@@ -1,13 +1,14 @@
 -- The typed form of a script.
-use Rattle.std.specs.Prelude.{◌≡◌, ℕ, List, [], ◌∷◌, flat_map, map, Option, Some, None, option_map, unwrap_or, if◌then◌else◌}
+use Rattle.std.specs.Prelude.{◌≡◌, ℕ, List, [], ◌∷◌, flat_map, map, Option, Some, None, option_map, unwrap_or, if◌then◌else◌, min}
 use Rattle.octets.specs.Ascii.{lowercase_of}
+use Rattle.octets.specs.Limits.{max_value}
 use Rattle.sieve_references.specs.References as references
 use Rattle.sieve_parser.specs.Tree.{ArgumentTree, text, text_list, amount, label, InvocationTree, invocation, TestsTree, no_test, one_test, test_list, MoreTests, last as no_more, next, CommandTree, simple, block, CommandsTree, no_command as no_tree, command as tree}
 use Rattle.glob_match.specs.declared.comparator.Comparator.TheVariants.{Casemap}
 use Rattle.glob_match.specs.declared.match_type.Match.{Match}
 use Rattle.glob_match.specs.declared.match_type.MatchType.TheVariants.{Is}
 use Rattle.sieve_check.specs.declared.names.CommandName.{CommandName}
-use Rattle.sieve_check.specs.declared.names.CommandName.TheVariants.{Require, If, Elsif, Else, Stop, Keep, Discard, FileInto, Set, ForEveryPart, Break, Store}
+use Rattle.sieve_check.specs.declared.names.CommandName.TheVariants.{Require, If, Elsif, Else, Stop, Keep, Discard, FileInto, Set, ForEveryPart, Break, Store, Take}
 use Rattle.sieve_check.specs.declared.names.TestName.{TestName}
 use Rattle.sieve_check.specs.declared.names.TestName.TheVariants.{Constant, Not, AllOf, AnyOf, Header, Exists, Size, String, PartSize, PartBody, PartDigest}
 use Rattle.sieve_check.specs.declared.names.Capability.TheVariants.{Variables}
@@ -24,7 +25,7 @@ use Rattle.sieve_check.specs.Names.{command_named, test_named}
 use Rattle.sieve_check.specs.Signatures.{◌>>=◌, Read, reading, command_signature, test_signature}
 use Rattle.sieve_check.specs.Rules.{after_invocation, invocation_of, loops_opened}
 use Rattle.sieve_check.specs.Surroundings.{Context, at_start, has_capability, inside, loops_left}
-use Rattle.sieve_check.specs.Typed.{Template, Selected, whole, main, sub, content_type, params, TestForm, constant, negation, all_of, any_of, header, exists, size, string, part_size, part_body, part_digest, TestForms, no_test as no_other, test, CommandForm, keep, discard, file_into, set, store, for_every_part, leave, stop, choice, CommandForms, no_command, command, BranchForms, no_branch, otherwise, branch}
+use Rattle.sieve_check.specs.Typed.{Template, Selected, whole, main, sub, content_type, params, TestForm, constant, negation, all_of, any_of, header, exists, size, string, part_size, part_body, part_digest, TestForms, no_test as no_other, test, CommandForm, keep, discard, file_into, set, take_first, store, for_every_part, leave, stop, choice, CommandForms, no_command, command, BranchForms, no_branch, otherwise, branch}
 
 -- the forms of the tests behind arguments: none, one, or a first and others in brackets
 pub data InnerForms : Type 0 where
@@ -56,6 +57,14 @@ text_in _ = None
 abbrev pub setting_in : Context → Modifiers → List ArgumentTree → Option CommandForm
 setting_in s modifiers (text name ∷ text value ∷ []) = Some (set modifiers (lowercase_of name) (template_of s value))
 setting_in s modifiers _ = None
+
+-- at most how many octets are taken: the number of `:first`, and no more than a value may have, as where it isn't given
+abbrev pub most_of : Tags → ℕ
+most_of tags = min (unwrap_or tags.first max_value) max_value
+
+-- the name of a variable, which is taken as it is written
+abbrev pub taking_in : Tags → List ArgumentTree → Option CommandForm
+taking_in tags args = option_map (λ name. take_first (most_of tags) (lowercase_of name)) (text_in args)
 
 -- the strings of a list, which may be one string without brackets
 abbrev pub list_in : Context → ArgumentTree → Option (List Template)
@@ -152,6 +161,7 @@ simple_of s Keep read none = Some (action keep)
 simple_of s Discard read none = Some (action discard)
 simple_of s FileInto read none = filing_in s file_into read.positional
 simple_of s Store read none = filing_in s store read.positional
+simple_of s Take read none = option_map action (taking_in read.tags read.positional)
 simple_of s Break read none = option_map (λ loops. action (leave loops)) (loops_left read.name s.loops)
 simple_of s Set read none = option_map action (setting_in s read.tags.modifiers read.positional)
 simple_of s _ _ _ = None

@@ -7,11 +7,11 @@ use Rattle.glob_match.specs.declared.match_type.MatchType.TheVariants.{Is, Conta
 use Rattle.bytecode_format.specs.declared.modifiers.Case.TheVariants.{Lower, Upper}
 use Rattle.sieve_check.specs.declared.typed.Order.TheVariants.{Over, Under}
 use Rattle.sieve_check.specs.declared.names.CommandName.{CommandName}
-use Rattle.sieve_check.specs.declared.names.CommandName.TheVariants.{Require, If, Elsif, Else, Stop, Keep, Discard, FileInto, Set, ForEveryPart, Break, Store}
+use Rattle.sieve_check.specs.declared.names.CommandName.TheVariants.{Require, If, Elsif, Else, Stop, Keep, Discard, FileInto, Set, ForEveryPart, Break, Store, Take}
 use Rattle.sieve_check.specs.declared.names.TestName.{TestName}
 use Rattle.sieve_check.specs.declared.names.TestName.TheVariants.{Constant, Not, AllOf, AnyOf, Header, Exists, Size, String, PartSize, PartBody, PartDigest}
 use Rattle.sieve_check.specs.declared.names.Tag.{Tag}
-use Rattle.sieve_check.specs.declared.names.Tag.TheVariants.{Order, Kind, Comparator, Letters, First, QuoteWildcard, Length, Mime as MimeTag, AnyChild, Select, Name}
+use Rattle.sieve_check.specs.declared.names.Tag.TheVariants.{Order, Kind, Comparator, Letters, FirstLetter, QuoteWildcard, Length, Mime as MimeTag, AnyChild, Select, Name, First}
 use Rattle.sieve_check.specs.declared.names.Piece.TheVariants.{Main, Sub, ContentType, Params}
 use Rattle.sieve_check.specs.declared.names.Capability.{Capability}
 use Rattle.sieve_check.specs.declared.names.Capability.TheVariants.{FileInto as FileIntoCapability, Variables, Mime, ForEveryPart as ForEveryPartCapability, Depot, OctetComparator, CasemapComparator}
@@ -35,6 +35,7 @@ command_named name =
     if is_word name (codes "foreverypart") then Some ForEveryPart else
     if is_word name (codes "break") then Some Break else
     if is_word name (codes "store") then Some Store else
+    if is_word name (codes "take") then Some Take else
     None
 
 -- the test of that name, if it is known
@@ -65,8 +66,8 @@ tag_named name =
     if is_word name (codes "comparator") then Some Comparator else
     if is_word name (codes "lower") then Some (Letters Lower) else
     if is_word name (codes "upper") then Some (Letters Upper) else
-    if is_word name (codes "lowerfirst") then Some (First Lower) else
-    if is_word name (codes "upperfirst") then Some (First Upper) else
+    if is_word name (codes "lowerfirst") then Some (FirstLetter Lower) else
+    if is_word name (codes "upperfirst") then Some (FirstLetter Upper) else
     if is_word name (codes "quotewildcard") then Some QuoteWildcard else
     if is_word name (codes "length") then Some Length else
     if is_word name (codes "mime") then Some MimeTag else
@@ -76,6 +77,7 @@ tag_named name =
     if is_word name (codes "contenttype") then Some (Select ContentType) else
     if is_word name (codes "param") then Some (Select Params) else
     if is_word name (codes "name") then Some Name else
+    if is_word name (codes "first") then Some First else
     None
 
 -- the capability of that name, if it is known; capabilities are taken as they are written

@@ -1,7 +1,7 @@
 -- What the readers of arguments answer.
 use Rattle.std.specs.Prelude.{◌≡◌, ℕ, ◌≤◌, true, List, [], ◌∷◌, ◌++◌, map, length, Option, Some, None, option_map, MatchOption}
 use Rattle.std.specs.Borrow.{Bor}
-use Rattle.sieve_parser.specs.Tree.{ArgumentTree, text, label}
+use Rattle.sieve_parser.specs.Tree.{ArgumentTree, text, amount, label}
 use Rattle.sieve_parser.specs.View.{argument_tree}
 use Rattle.sieve_parser.specs.declared.tree.Argument.{Argument}
 use Rattle.sieve_check.specs.declared.signature.Reading.{Reading}
@@ -17,6 +17,10 @@ FirstTag args answer = MatchOption answer ((name : List ℕ) (rest : List Argume
 -- the first argument and the arguments after it, if that is one string
 abbrev pub FirstText : List ArgumentTree → Option (Bor (List ℕ) × Bor (List Argument)) → Type 0
 FirstText args answer = MatchOption answer ((s : List ℕ) (rest : List ArgumentTree) → args ≡ text s ∷ rest → ⊥) (λ found. args ≡ text found.0.now ∷ map argument_tree found.1.now)
+
+-- the first argument and the arguments after it, if that is a number
+abbrev pub FirstNumber : List ArgumentTree → Option (ℕ × Bor (List Argument)) → Type 0
+FirstNumber args answer = MatchOption answer ((n : ℕ) (rest : List ArgumentTree) → args ≡ amount n ∷ rest → ⊥) (λ found. args ≡ amount found.0 ∷ map argument_tree found.1.now)
 
 -- the first argument alone and the arguments after it, if that is a list
 abbrev pub FirstList : List ArgumentTree → Option (Bor (List Argument) × Bor (List Argument)) → Type 0

@@ -16,7 +16,7 @@ use Rattle.sieve_check.specs.declared.error.Fault.TheVariants.{UnknownCommand, M
 use Rattle.sieve_check.specs.declared.names.Capability.{Capability}
 use Rattle.sieve_check.specs.declared.names.Capability.TheVariants as capability
 use Rattle.sieve_check.specs.declared.names.CommandName.{CommandName}
-use Rattle.sieve_check.specs.declared.names.CommandName.TheVariants.{Require, If, Elsif, Else, Stop, Keep, Discard, FileInto, Set, ForEveryPart, Break, Store}
+use Rattle.sieve_check.specs.declared.names.CommandName.TheVariants.{Require, If, Elsif, Else, Stop, Keep, Discard, FileInto, Set, ForEveryPart, Break, Store, Take}
 use Rattle.sieve_check.specs.declared.names.TestName.{TestName}
 use Rattle.sieve_check.specs.declared.names.TestName.TheVariants.{Constant, Not, AllOf, AnyOf, Header, Exists, Size, String, PartSize, PartBody, PartDigest}
 use Rattle.sieve_check.specs.declared.string_faults.StringFault.{StringFault}
@@ -45,20 +45,21 @@ strings_of args = flat_map strings_in args
 abbrev pub arguments_of : Head → List ArgumentTree
 arguments_of head = map argument_tree head.arguments.items
 
--- the capability that a command or test needs, if it needs one
-abbrev pub command_needs : CommandName → Option Capability
-command_needs Require = None
-command_needs If = None
-command_needs Elsif = None
-command_needs Else = None
-command_needs Stop = None
-command_needs Keep = None
-command_needs Discard = None
-command_needs FileInto = Some capability.FileInto
-command_needs Set = Some capability.Variables
-command_needs ForEveryPart = Some capability.ForEveryPart
-command_needs Break = Some capability.ForEveryPart
-command_needs Store = Some capability.Depot
+-- the capabilities that a command or test needs
+abbrev pub command_needs : CommandName → List Capability
+command_needs Require = []
+command_needs If = []
+command_needs Elsif = []
+command_needs Else = []
+command_needs Stop = []
+command_needs Keep = []
+command_needs Discard = []
+command_needs FileInto = capability.FileInto ∷ []
+command_needs Set = capability.Variables ∷ []
+command_needs ForEveryPart = capability.ForEveryPart ∷ []
+command_needs Break = capability.ForEveryPart ∷ []
+command_needs Store = capability.Depot ∷ []
+command_needs Take = capability.Variables ∷ capability.Depot ∷ []
 
 abbrev pub is_mime : Option Tag → Bool
 is_mime (Some Mime) = true
@@ -70,21 +71,21 @@ is_mime_tag (label name) = is_mime (tag_named name)
 is_mime_tag _ = false
 
 -- `:mime` stands somewhere among the arguments
-abbrev pub mime_where_given : List ArgumentTree → Option Capability
-mime_where_given args = if list_any is_mime_tag args then Some capability.Mime else None
+abbrev pub mime_where_given : List ArgumentTree → List Capability
+mime_where_given args = if list_any is_mime_tag args then capability.Mime ∷ [] else []
 
-abbrev pub test_needs : TestName → List ArgumentTree → Option Capability
-test_needs (Constant b) args = None
-test_needs Not args = None
-test_needs AllOf args = None
-test_needs AnyOf args = None
+abbrev pub test_needs : TestName → List ArgumentTree → List Capability
+test_needs (Constant b) args = []
+test_needs Not args = []
+test_needs AllOf args = []
+test_needs AnyOf args = []
 test_needs Header args = mime_where_given args
 test_needs Exists args = mime_where_given args
-test_needs Size args = None
-test_needs String args = Some capability.Variables
-test_needs PartSize args = Some capability.Depot
-test_needs PartBody args = Some capability.Depot
-test_needs PartDigest args = Some capability.Depot
+test_needs Size args = []
+test_needs String args = capability.Variables ∷ []
+test_needs PartSize args = capability.Depot ∷ []
+test_needs PartBody args = capability.Depot ∷ []
+test_needs PartDigest args = capability.Depot ∷ []
 
 -- arguments that were read name a loop that can be left, or none where there is one
 abbrev pub leaves_loop : Context → Option Read → Bool
@@ -92,7 +93,7 @@ leaves_loop s None = false
 leaves_loop s (Some read) = is_some (loops_left read.name s.loops)
 
 -- where each command may stand: a require at the top level after nothing else, an elsif and an else directly after an if or elsif,
--- a break where it has a loop to leave, a store in a loop
+-- a break where it has a loop to leave, a store and a take in a loop
 abbrev pub may_stand : Context → CommandName → List ArgumentTree → Bool
 may_stand s Require args = s.takes_require
 may_stand s If args = true
@@ -106,6 +107,7 @@ may_stand s Set args = true
 may_stand s ForEveryPart args = true
 may_stand s Break args = leaves_loop s (reading (command_signature Break) args)
 may_stand s Store args = in_loop s
+may_stand s Take args = in_loop s
 
 -- where each test may stand: those of the current part in a loop
 abbrev pub test_may_stand : Context → TestName → Bool
@@ -129,7 +131,18 @@ name_read (Some read) = read.name
 -- the loop that a command opens around its block, with its name, if it has one
 abbrev pub opened_by : CommandName → List ArgumentTree → List (Option (List ℕ))
 opened_by ForEveryPart args = name_read (reading (command_signature ForEveryPart) args) ∷ []
-opened_by _ args = []
+opened_by Require args = []
+opened_by If args = []
+opened_by Elsif args = []
+opened_by Else args = []
+opened_by Stop args = []
+opened_by Keep args = []
+opened_by Discard args = []
+opened_by FileInto args = []
+opened_by Set args = []
+opened_by Break args = []
+opened_by Store args = []
+opened_by Take args = []
 
 -- a reference into a namespace, or to a capture that there can't be
 abbrev pub is_wrong : Segment → Bool
@@ -198,11 +211,24 @@ pub record Mentions : Type 0 where
 abbrev pub no_mention : Mentions
 no_mention = record { expanded = []; set = [] }
 
--- those of a command, of the strings of its lists: a `set` sets its first string, which is taken as it is written
+abbrev pub expanding : List (List ℕ) → Mentions
+expanding strings = record { expanded = strings; set = [] }
+
+-- those of a command, of the strings of its lists: a `set` and a `take` set their first string, which is taken as it is written
 abbrev pub mentions_of : CommandName → List (List ℕ) → Mentions
 mentions_of Require strings = no_mention
 mentions_of Set strings = record { expanded = drop 1 strings; set = take 1 strings }
-mentions_of _ strings = record { expanded = strings; set = [] }
+mentions_of Take strings = record { expanded = []; set = take 1 strings }
+mentions_of If strings = expanding strings
+mentions_of Elsif strings = expanding strings
+mentions_of Else strings = expanding strings
+mentions_of Stop strings = expanding strings
+mentions_of Keep strings = expanding strings
+mentions_of Discard strings = expanding strings
+mentions_of FileInto strings = expanding strings
+mentions_of ForEveryPart strings = expanding strings
+mentions_of Break strings = expanding strings
+mentions_of Store strings = expanding strings
 
 -- variables are there only where they were required
 abbrev pub where_required : Context → Mentions → Mentions
@@ -212,7 +238,7 @@ abbrev pub command_mentions : Context → CommandName → List ArgumentTree → 
 command_mentions s name args = where_required s (mentions_of name (strings_read (reading (command_signature name) args)))
 
 abbrev pub test_mentions : Context → TestName → List ArgumentTree → Mentions
-test_mentions s name args = where_required s (record { expanded = strings_read (reading (test_signature name) args); set = [] })
+test_mentions s name args = where_required s (expanding (strings_read (reading (test_signature name) args)))
 
 -- a string with a wrong reference is expanded, or what is set is no name
 abbrev pub has_wrong_mention : Mentions → Bool

@@ -1,14 +1,14 @@
 -- What commands and tests take, and how their arguments are read (RFC 5228, section 2.6; RFC 5229, section 4; RFC 5703, sections 3
 -- and 4).
-use Rattle.std.specs.Prelude.{ℕ, Bool, true, false, not, ◌&&◌, ◌||◌, if◌then◌else◌, List, [], ◌∷◌, Option, Some, None, is_some, option_map}
+use Rattle.std.specs.Prelude.{ℕ, Bool, true, false, not, ◌&&◌, ◌||◌, ◌==◌, if◌then◌else◌, List, [], ◌∷◌, Option, Some, None, is_some, option_map}
 use Rattle.sieve_parser.specs.Tree.{ArgumentTree, text, text_list, amount, label}
 use Rattle.bytecode_format.specs.Modifiers.{no_modifiers}
 use Rattle.sieve_check.specs.declared.names.CommandName.{CommandName}
-use Rattle.sieve_check.specs.declared.names.CommandName.TheVariants.{Require, If, Elsif, Else, Stop, Keep, Discard, FileInto, Set, ForEveryPart, Break, Store}
+use Rattle.sieve_check.specs.declared.names.CommandName.TheVariants.{Require, If, Elsif, Else, Stop, Keep, Discard, FileInto, Set, ForEveryPart, Break, Store, Take}
 use Rattle.sieve_check.specs.declared.names.TestName.{TestName}
 use Rattle.sieve_check.specs.declared.names.TestName.TheVariants.{Constant, Not, AllOf, AnyOf, Header, Exists, Size, String, PartSize, PartBody, PartDigest}
 use Rattle.sieve_check.specs.declared.names.Tag.{Tag}
-use Rattle.sieve_check.specs.declared.names.Tag.TheVariants.{Order, Kind, Comparator, Letters, First, QuoteWildcard, Length, Mime, AnyChild, Select, Name}
+use Rattle.sieve_check.specs.declared.names.Tag.TheVariants.{Order, Kind, Comparator, Letters, FirstLetter, QuoteWildcard, Length, Mime, AnyChild, Select, Name, First}
 use Rattle.sieve_check.specs.declared.names.Piece.TheVariants.{Main, Sub, ContentType, Params}
 use Rattle.sieve_check.specs.declared.signature.Positional.{Positional}
 use Rattle.sieve_check.specs.declared.signature.Positional.TheVariants as positional
@@ -27,7 +27,7 @@ None >>= f = None
 
 -- no argument, and these tests
 abbrev pub bare : Tests → Signature
-bare after = record { order = false; matching = false; modifying = false; scoped = false; selecting = false; naming = false; positional = positional.Nothing; tests = after }
+bare after = record { order = false; matching = false; modifying = false; scoped = false; selecting = false; naming = false; limiting = false; positional = positional.Nothing; tests = after }
 
 -- what each command takes, and how it ends
 abbrev pub command_signature : CommandName → Signature
@@ -43,6 +43,7 @@ command_signature Set = record (bare tests.Nothing) { modifying = true; position
 command_signature ForEveryPart = record (bare tests.Nothing) { naming = true }
 command_signature Break = record (bare tests.Nothing) { naming = true }
 command_signature Store = record (bare tests.Nothing) { positional = positional.Text }
+command_signature Take = record (bare tests.Nothing) { limiting = true; positional = positional.Text }
 
 abbrev pub ending_of : CommandName → Ending
 ending_of Require = Semicolon
@@ -57,6 +58,7 @@ ending_of Set = Semicolon
 ending_of ForEveryPart = Block
 ending_of Break = Semicolon
 ending_of Store = Semicolon
+ending_of Take = Semicolon
 
 -- what each test takes
 abbrev pub test_signature : TestName → Signature
@@ -81,7 +83,7 @@ pub record Read : Type 0 where
   pub positional : List ArgumentTree
 
 abbrev pub no_tag : Tags
-no_tag = record { order = None; kind = None; comparator = None; modifiers = no_modifiers; mime = false; any_child = false; piece = None; named = false }
+no_tag = record { order = None; kind = None; comparator = None; modifiers = no_modifiers; mime = false; any_child = false; piece = None; named = false; first = None }
 
 -- what was read of the tags
 pub record Given : Type 0 where
@@ -98,13 +100,14 @@ takes_tag signature (Order order) tags = signature.order && not (is_some tags.or
 takes_tag signature (Kind kind) tags = signature.matching && not (is_some tags.kind)
 takes_tag signature Comparator tags = signature.matching && not (is_some tags.comparator)
 takes_tag signature (Letters case) tags = signature.modifying && not (is_some tags.modifiers.letters)
-takes_tag signature (First case) tags = signature.modifying && not (is_some tags.modifiers.first)
+takes_tag signature (FirstLetter case) tags = signature.modifying && not (is_some tags.modifiers.first)
 takes_tag signature QuoteWildcard tags = signature.modifying && not tags.modifiers.quote_wildcard
 takes_tag signature Length tags = signature.modifying && not tags.modifiers.length
 takes_tag signature Mime tags = signature.scoped && not tags.mime
 takes_tag signature AnyChild tags = signature.scoped && not tags.any_child
 takes_tag signature (Select piece) tags = signature.selecting && not (is_some tags.piece)
 takes_tag signature Name tags = signature.naming && not tags.named
+takes_tag signature First tags = signature.limiting && not (is_some tags.first)
 
 -- with one more tag; what one with an argument says comes with that
 abbrev pub with_tag : Tag → Tags → Tags
@@ -112,13 +115,14 @@ with_tag (Order order) tags = record tags { order = Some order }
 with_tag (Kind kind) tags = record tags { kind = Some kind }
 with_tag Comparator tags = tags
 with_tag (Letters case) tags = record tags { modifiers = record tags.modifiers { letters = Some case } }
-with_tag (First case) tags = record tags { modifiers = record tags.modifiers { first = Some case } }
+with_tag (FirstLetter case) tags = record tags { modifiers = record tags.modifiers { first = Some case } }
 with_tag QuoteWildcard tags = record tags { modifiers = record tags.modifiers { quote_wildcard = true } }
 with_tag Length tags = record tags { modifiers = record tags.modifiers { length = true } }
 with_tag Mime tags = record tags { mime = true }
 with_tag AnyChild tags = record tags { any_child = true }
 with_tag (Select piece) tags = record tags { piece = Some piece }
 with_tag Name tags = record tags { named = true }
+with_tag First tags = tags
 
 abbrev pub tags_with : Signature → Tag → Tags → Option Tags
 tags_with signature tag tags = if takes_tag signature tag tags then Some (with_tag tag tags) else None
@@ -132,7 +136,7 @@ awaited (Order order) = None
 awaited (Kind kind) = None
 awaited Comparator = Some Comparator
 awaited (Letters case) = None
-awaited (First case) = None
+awaited (FirstLetter case) = None
 awaited QuoteWildcard = None
 awaited Length = None
 awaited Mime = None
@@ -142,6 +146,7 @@ awaited (Select Sub) = None
 awaited (Select ContentType) = None
 awaited (Select Params) = Some (Select Params)
 awaited Name = Some Name
+awaited First = Some First
 
 -- one string, or one list of strings in square brackets
 abbrev pub is_list : ArgumentTree → Bool
@@ -150,11 +155,13 @@ is_list (text_list s ss) = true
 is_list (amount n) = false
 is_list (label name) = false
 
--- a tag's argument: of a comparator one string, its name; of `:param` a list; of `:name` one string, which is taken as it is written
+-- a tag's argument: of a comparator one string, its name; of `:param` a list; of `:name` one string, which is taken as it is written;
+-- of `:first` a number, which isn't zero
 abbrev pub with_argument : Tag → ArgumentTree → Given → Option Given
 with_argument Comparator (text s) given = option_map (λ comparator. record given { tags = record given.tags { comparator = Some comparator } }) (comparator_named s)
 with_argument (Select Params) a given = if is_list a then Some (record given { params = a ∷ [] }) else None
 with_argument Name (text s) given = Some (record given { name = Some s })
+with_argument First (amount n) given = if n == 0 then None else Some (record given { tags = record given.tags { first = Some n } })
 with_argument _ _ given = None
 
 -- after these tags, of which the last may await its argument: those that are still to come, and the arguments behind them

@@ -1,10 +1,10 @@
 -- What surrounds a command or test.
-use Rattle.std.specs.Prelude.{ℕ, suc, Bool, true, false, not, nat_lt, bytes_eq, if◌then◌else◌, List, [], ◌∷◌, ◌++◌, length, Option, Some, None, option_map}
+use Rattle.std.specs.Prelude.{ℕ, suc, Bool, true, false, not, nat_lt, bytes_eq, if◌then◌else◌, List, [], ◌∷◌, ◌++◌, length, Option, Some, None, is_some, option_map}
 use Rattle.octets.specs.Limits.{max_loops}
 use Rattle.sieve_check.specs.declared.names.Capability.{Capability}
 use Rattle.sieve_check.specs.declared.names.Capability.TheVariants.{FileInto, Variables, Mime, ForEveryPart, Depot, OctetComparator, CasemapComparator}
 use Rattle.sieve_check.specs.declared.names.CommandName.{CommandName}
-use Rattle.sieve_check.specs.declared.names.CommandName.TheVariants.{Require, If, Elsif}
+use Rattle.sieve_check.specs.declared.names.CommandName.TheVariants.{Require, If, Elsif, Else, Stop, Keep, Discard, FileInto as FileIntoCommand, Set, ForEveryPart as ForEveryPartCommand, Break, Store, Take}
 use Rattle.sieve_check.specs.declared.surroundings.Capabilities.{Capabilities}
 use Rattle.sieve_check.specs.Names.{capability_named}
 
@@ -28,10 +28,14 @@ has_capability Depot all = all.depot
 has_capability OctetComparator all = true
 has_capability CasemapComparator all = true
 
--- the capability is needed and isn't there
-abbrev pub lacks : Context → Option Capability → Bool
-lacks s None = false
-lacks s (Some capability) = not (has_capability capability s.required)
+-- the first of the capabilities that isn't there, if one isn't
+abbrev pub first_lacking : List Capability → Capabilities → Option Capability
+first_lacking [] all = None
+first_lacking (capability ∷ others) all = if has_capability capability all then first_lacking others all else Some capability
+
+-- one of the capabilities that are needed isn't there
+abbrev pub lacks : Context → List Capability → Bool
+lacks s needed = is_some (first_lacking needed s.required)
 
 -- one more capability
 abbrev pub with_capability : Capability → Capabilities → Capabilities
@@ -93,9 +97,23 @@ abbrev pub loops_left : Option (List ℕ) → List (Option (List ℕ)) → Optio
 loops_left name [] = None
 loops_left name (loop ∷ loops) = if is_meant name loop then Some 1 else option_map suc (loops_left name loops)
 
+-- where neither a require nor an elsif or else may stand
+abbrev pub elsewhere : Context → Context
+elsewhere s = record s { takes_require = false; after_if = false }
+
 -- after a command that is known by that name, and has these strings
 abbrev pub following : Context → Option CommandName → List (List ℕ) → Context
 following s (Some Require) strings = record s { required = requiring strings s.required; after_if = false }
 following s (Some If) strings = record s { takes_require = false; after_if = true }
 following s (Some Elsif) strings = record s { takes_require = false; after_if = true }
-following s _ strings = record s { takes_require = false; after_if = false }
+following s (Some Else) strings = elsewhere s
+following s (Some Stop) strings = elsewhere s
+following s (Some Keep) strings = elsewhere s
+following s (Some Discard) strings = elsewhere s
+following s (Some FileIntoCommand) strings = elsewhere s
+following s (Some Set) strings = elsewhere s
+following s (Some ForEveryPartCommand) strings = elsewhere s
+following s (Some Break) strings = elsewhere s
+following s (Some Store) strings = elsewhere s
+following s (Some Take) strings = elsewhere s
+following s None strings = elsewhere s

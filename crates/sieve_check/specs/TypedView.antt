@@ -4,13 +4,13 @@ use Rattle.std.specs.Global.{Vec}
 use Rattle.sieve_check.specs.declared.typed.Segment.{Segment}
 use Rattle.sieve_check.specs.declared.typed.Selection.{Selection}
 use Rattle.sieve_check.specs.declared.typed.Selection.TheVariants.{Value, Main, Sub, ContentType, Params}
-use Rattle.sieve_check.specs.Typed.{Template, Selected, whole, main, sub, content_type, params, TestForm, constant, negation, all_of, any_of, header, exists, size, string, part_size, part_body, part_digest, TestForms, no_test, test, CommandForm, keep, discard, file_into, set, store, for_every_part, leave, stop, choice, CommandForms, no_command, command, BranchForms, no_branch, otherwise, branch}
+use Rattle.sieve_check.specs.Typed.{Template, Selected, whole, main, sub, content_type, params, TestForm, constant, negation, all_of, any_of, header, exists, size, string, part_size, part_body, part_digest, TestForms, no_test, test, CommandForm, keep, discard, file_into, set, take_first, store, for_every_part, leave, stop, choice, CommandForms, no_command, command, BranchForms, no_branch, otherwise, branch}
 use Rattle.sieve_check.specs.declared.typed.Test.{Test}
 use Rattle.sieve_check.specs.declared.typed.Test.TheOpen.{Test-F, Constant, Not, AllOf, AnyOf, Header, Exists, Size, String, PartSize, PartBody, PartDigest}
 use Rattle.sieve_check.specs.declared.typed.Test.TheFolds.{fold-Test}
 use Rattle.sieve_check.specs.declared.typed.Command.{Command}
 use Rattle.sieve_check.specs.declared.typed.Branch.{Branch}
-use Rattle.sieve_check.specs.declared.typed.Command.TheOpen.{Command-F, Keep, Discard, FileInto, Set, Store, ForEveryPart, Break, Stop, If, Branch-F}
+use Rattle.sieve_check.specs.declared.typed.Command.TheOpen.{Command-F, Keep, Discard, FileInto, Set, Take, Store, ForEveryPart, Break, Stop, If, Branch-F}
 use Rattle.sieve_check.specs.declared.typed.Command.TheFolds.{fold-Command, fold-Branch}
 
 -- tests in order
@@ -72,6 +72,7 @@ command_step Keep = keep
 command_step Discard = discard
 command_step (FileInto folder) = file_into folder.items
 command_step (Set modifiers name value) = set modifiers name value.items
+command_step (Take most name) = take_first most name
 command_step (Store folder) = store folder.items
 command_step (ForEveryPart block) = for_every_part (commands_of block.items)
 command_step (Break loops) = leave loops

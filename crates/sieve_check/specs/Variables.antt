@@ -2,7 +2,7 @@
 use Rattle.std.specs.Prelude.{ℕ, List, [], ◌∷◌, ◌++◌, flat_map}
 use Rattle.sieve_check.specs.declared.typed.Segment.{Segment}
 use Rattle.sieve_check.specs.declared.typed.Segment.TheVariants.{Text, Variable, Capture}
-use Rattle.sieve_check.specs.Typed.{Template, params_of, TestForm, constant, negation, all_of, any_of, header, exists, size, string, part_size, part_body, part_digest, TestForms, no_test, test, CommandForm, keep, discard, file_into, set, store, for_every_part, leave, stop, choice, CommandForms, no_command, command, BranchForms, no_branch, otherwise, branch}
+use Rattle.sieve_check.specs.Typed.{Template, params_of, TestForm, constant, negation, all_of, any_of, header, exists, size, string, part_size, part_body, part_digest, TestForms, no_test, test, CommandForm, keep, discard, file_into, set, take_first, store, for_every_part, leave, stop, choice, CommandForms, no_command, command, BranchForms, no_branch, otherwise, branch}
 
 abbrev pub segment_variables : Segment → List (List ℕ)
 segment_variables (Text octets) = []
@@ -41,6 +41,7 @@ abbrev mutual
   command_variables discard = []
   command_variables (file_into folder) = string_variables folder
   command_variables (set modifiers name value) = string_variables value ++ name ∷ []
+  command_variables (take_first most name) = name ∷ []
   command_variables (store folder) = string_variables folder
   command_variables (for_every_part cs) = commands_variables cs
   command_variables (leave loops) = []

@@ -1,7 +1,7 @@
 // The typed form of scripts. Nothing is answered where something isn't written as it has to be.
 ghost use Rattle.std.specs.Prelude.{◌≡◌, IfOk, map, option_map, Some, None};
 ghost use Rattle.sieve_parser.specs.View.{argument_tree, command_tree, commands_tree, invocation_tree};
-ghost use Rattle.sieve_check.specs.FormOf.{none, one, action, block_part, filing_in, form_of, part_of, setting_in, simple_part};
+ghost use Rattle.sieve_check.specs.FormOf.{none, one, action, block_part, filing_in, form_of, most_of, part_of, setting_in, simple_part, taking_in};
 ghost use Rattle.sieve_check.specs.Forming.{commands_formed, head_block, head_simple, opened_by};
 ghost use Rattle.sieve_check.specs.Reading.{name_in};
 ghost use Rattle.sieve_check.specs.Refusing.{context_of};
@@ -12,7 +12,7 @@ ghost use Rattle.sieve_check.specs.TypedView.{commands_form, test_form};
 
 use crate::names::{CommandName, command_named};
 use crate::sequence::{Part, Sequence};
-use crate::signature::command_signature;
+use crate::signature::{Tags, command_signature};
 use crate::strings::template;
 use crate::surroundings::Surroundings;
 use crate::test_forms::test;
@@ -21,6 +21,9 @@ use bytecode_format::Modifiers;
 use octets::to_lowercase;
 use sieve_parser::{Argument, Command as Tree, Head, Invocation};
 use std::alloc::{AllocError, Global};
+
+/// The most octets of a variable's value.
+const MAX_VALUE: u64 = 4_096;
 
 // The command that files the message into the folder which the arguments are.
 fn file_into(
@@ -87,6 +90,28 @@ fn setting(
     }
 }
 
+// At most how many octets are taken.
+fn most_of(tags: Tags) -> u16
+    ensures { result ≡ most_of tags }
+{
+    tags.first.unwrap_or(MAX_VALUE).min(MAX_VALUE) as u16
+}
+
+// The command that gives the first octets of the current part's content to the variable of the name, which the arguments are. The
+// name isn't expanded.
+fn taking(alloc: Global, tags: Tags, arguments: &[Argument]) -> Result<Option<Part>, AllocError>
+    ensures { IfOk result (λ part. option_map part_form part ≡ option_map action (taking_in tags (map argument_tree arguments.now))) }
+{
+    match arguments {
+        [Argument::Text(name)] => {
+            let most = most_of(tags);
+            let name = to_lowercase(alloc, name.as_slice())?;
+            Ok(Some(Part::Action(Command::Take { most, name })))
+        }
+        _ => Ok(None),
+    }
+}
+
 // A command that ends in a semicolon, and after whose arguments no test stands.
 fn plain_part(
     alloc: Global,
@@ -114,6 +139,7 @@ fn plain_part(
             reading.positional,
         ),
         CommandName::Store => store(alloc, surroundings, reading.positional),
+        CommandName::Take => taking(alloc, reading.tags, reading.positional),
         CommandName::Break => Ok(leaving(surroundings, reading.name)),
         CommandName::If | CommandName::Elsif | CommandName::Else | CommandName::ForEveryPart => {
             Ok(None)
@@ -148,7 +174,8 @@ fn opened(head: &Head) -> Option<Opening>
         | CommandName::Set
         | CommandName::ForEveryPart
         | CommandName::Break
-        | CommandName::Store => None,
+        | CommandName::Store
+        | CommandName::Take => None,
     }
 }
 
@@ -181,7 +208,8 @@ fn untested_part(head: &Head, block: Vec<Command>) -> Option<Part>
         | CommandName::FileInto
         | CommandName::Set
         | CommandName::Break
-        | CommandName::Store => None,
+        | CommandName::Store
+        | CommandName::Take => None,
     }
 }
 

@@ -44,7 +44,7 @@ pub use references::{MAX_NAME, MAX_SEGMENTS, is_long_name};
 pub use rules::{command_needs, test_needs};
 pub use signature::{
     Ending, Positional, Reading, Signature, Tags, Tests, command_signature, ending_of, first_list,
-    first_tag, first_text, test_signature,
+    first_number, first_tag, first_text, test_signature,
 };
 pub use string_faults::{MAX_STRING, MAX_TEST_STRINGS, StringFault, has_many_strings};
 pub use surroundings::{Surroundings, head_in};

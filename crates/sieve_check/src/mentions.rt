@@ -1,7 +1,7 @@
 // Which strings of a command or test variables have to do with.
 ghost use Rattle.std.specs.Prelude.{◌≡◌, map, true};
 ghost use Rattle.sieve_parser.specs.View.{argument_tree};
-ghost use Rattle.sieve_check.specs.declared.signature.Positional.TheVariants.{TwoTexts};
+ghost use Rattle.sieve_check.specs.declared.signature.Positional.TheVariants.{Text, TwoTexts};
 ghost use Rattle.sieve_check.specs.Reading.{read_of};
 ghost use Rattle.sieve_check.specs.Refusing.{Adds, context_of, listed, mentions_in};
 ghost use Rattle.sieve_check.specs.Rules.{arguments_of, command_mentions, has_large_mention, has_wrong_mention, lists_read, mentions_of, names_mentioned, no_mention, strings_of, test_mentions};
@@ -56,6 +56,20 @@ impl<'t> Mentions<'t> {
         }
     }
 
+    // Those of a `take`, by its arguments: the name, which is taken as it is written.
+    fn of_take(reading: Reading<'t>) -> Mentions<'t>
+        requires { is_positional Text (map argument_tree reading.positional.now) ≡ true }
+        ensures { mentions_in result ≡ mentions_of CommandName.Take (strings_of (lists_read (read_of reading.entry))) }
+    {
+        match first_text(reading.positional) {
+            Some((name, _)) => Mentions {
+                expanded: Lists::none(),
+                set: Some(name),
+            },
+            None => unreachable!(),
+        }
+    }
+
     /// Those of a command that is known by that name: none where variables weren't required, or where its arguments aren't
     /// what it takes.
     pub fn of_command(
@@ -74,6 +88,7 @@ impl<'t> Mentions<'t> {
         match name {
             CommandName::Require => Mentions::none(),
             CommandName::Set => Mentions::of_set(reading),
+            CommandName::Take => Mentions::of_take(reading),
             CommandName::If
             | CommandName::Elsif
             | CommandName::Else

@@ -34,6 +34,8 @@ pub enum CommandName {
     Break,
     /// `store`, of our own.
     Store,
+    /// `take`, of our own.
+    Take,
 }
 
 /// The tests that are known.
@@ -75,7 +77,7 @@ pub enum Tag {
     /// `:lower` and `:upper` (RFC 5229, section 4.1.1).
     Letters(Case),
     /// `:lowerfirst` and `:upperfirst` (RFC 5229, section 4.1.2).
-    First(Case),
+    FirstLetter(Case),
     /// `:quotewildcard` (RFC 5229, section 4.1.3).
     QuoteWildcard,
     /// `:length` (RFC 5229, section 4.1.4).
@@ -88,6 +90,8 @@ pub enum Tag {
     Select(Piece),
     /// `:name`, which takes the name of a loop (RFC 5703, section 3).
     Name,
+    /// `:first`, which takes a number of octets, of our own.
+    First,
 }
 
 /// What a test may take of a field in place of its value.
@@ -157,6 +161,8 @@ pub fn command_named(name: &[u8]) -> Option<CommandName>
         Some(CommandName::Break)
     } else if is_word(name, b"store") {
         Some(CommandName::Store)
+    } else if is_word(name, b"take") {
+        Some(CommandName::Take)
     } else {
         None
     }
@@ -216,9 +222,9 @@ pub fn tag_named(name: &[u8]) -> Option<Tag>
     } else if is_word(name, b"upper") {
         Some(Tag::Letters(Case::Upper))
     } else if is_word(name, b"lowerfirst") {
-        Some(Tag::First(Case::Lower))
+        Some(Tag::FirstLetter(Case::Lower))
     } else if is_word(name, b"upperfirst") {
-        Some(Tag::First(Case::Upper))
+        Some(Tag::FirstLetter(Case::Upper))
     } else if is_word(name, b"quotewildcard") {
         Some(Tag::QuoteWildcard)
     } else if is_word(name, b"length") {
@@ -237,6 +243,8 @@ pub fn tag_named(name: &[u8]) -> Option<Tag>
         Some(Tag::Select(Piece::Params))
     } else if is_word(name, b"name") {
         Some(Tag::Name)
+    } else if is_word(name, b"first") {
+        Some(Tag::First)
     } else {
         None
     }

@@ -15,9 +15,9 @@ use crate::surroundings::Surroundings;
 use crate::variable_names::VariableNames;
 use sieve_parser::{Argument, Command, Head, Invocation};
 
-/// The capability that a command needs, if it needs one.
-pub fn command_needs(name: CommandName) -> Option<Capability>
-    ensures { result ≡ command_needs name }
+/// The capabilities that a command needs.
+pub fn command_needs(name: CommandName) -> &'static [Capability]
+    ensures { result.now ≡ command_needs name }
 {
     match name {
         CommandName::Require
@@ -26,11 +26,12 @@ pub fn command_needs(name: CommandName) -> Option<Capability>
         | CommandName::Else
         | CommandName::Stop
         | CommandName::Keep
-        | CommandName::Discard => None,
-        CommandName::FileInto => Some(Capability::FileInto),
-        CommandName::Set => Some(Capability::Variables),
-        CommandName::ForEveryPart | CommandName::Break => Some(Capability::ForEveryPart),
-        CommandName::Store => Some(Capability::Depot),
+        | CommandName::Discard => &[],
+        CommandName::FileInto => &[Capability::FileInto],
+        CommandName::Set => &[Capability::Variables],
+        CommandName::ForEveryPart | CommandName::Break => &[Capability::ForEveryPart],
+        CommandName::Store => &[Capability::Depot],
+        CommandName::Take => &[Capability::Variables, Capability::Depot],
     }
 }
 
@@ -45,30 +46,30 @@ fn is_mime_tag(argument: &Argument) -> bool
 }
 
 // The capability of `:mime`, where that stands somewhere among the arguments.
-fn mime_where_given(arguments: &[Argument]) -> Option<Capability>
-    ensures { result ≡ mime_where_given (map argument_tree arguments.now) }
+fn mime_where_given(arguments: &[Argument]) -> &'static [Capability]
+    ensures { result.now ≡ mime_where_given (map argument_tree arguments.now) }
 {
     for argument in arguments {
         if is_mime_tag(argument) {
-            return Some(Capability::Mime);
+            return &[Capability::Mime];
         }
     }
-    None
+    &[]
 }
 
-/// The capability that a test with these arguments needs, if it needs one.
-pub fn test_needs(name: TestName, head: &Head) -> Option<Capability>
-    ensures { result ≡ test_needs name (arguments_of head.now) }
+/// The capabilities that a test with these arguments needs.
+pub fn test_needs(name: TestName, head: &Head) -> &'static [Capability]
+    ensures { result.now ≡ test_needs name (arguments_of head.now) }
 {
     match name {
         TestName::Constant(_)
         | TestName::Not
         | TestName::AllOf
         | TestName::AnyOf
-        | TestName::Size => None,
+        | TestName::Size => &[],
         TestName::Header | TestName::Exists => mime_where_given(&head.arguments),
-        TestName::String => Some(Capability::Variables),
-        TestName::PartSize | TestName::PartBody | TestName::PartDigest => Some(Capability::Depot),
+        TestName::String => &[Capability::Variables],
+        TestName::PartSize | TestName::PartBody | TestName::PartDigest => &[Capability::Depot],
     }
 }
 
@@ -97,7 +98,7 @@ fn may_stand(surroundings: Surroundings<'_>, name: CommandName, head: &Head) -> 
         CommandName::Require => surroundings.takes_require,
         CommandName::Elsif | CommandName::Else => surroundings.after_if,
         CommandName::Break => leaves_loop(surroundings, head),
-        CommandName::Store => surroundings.loops.are_some(),
+        CommandName::Store | CommandName::Take => surroundings.loops.are_some(),
         CommandName::If
         | CommandName::Stop
         | CommandName::Keep

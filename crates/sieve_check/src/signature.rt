@@ -3,7 +3,7 @@
 ghost use Rattle.std.specs.Prelude.{◌≡◌, map, Some};
 ghost use Rattle.sieve_parser.specs.View.{argument_tree};
 ghost use Rattle.sieve_check.specs.Signatures.{awaited, bare, command_signature, ending_of, is_list, test_signature};
-ghost use Rattle.sieve_check.specs.Reading.{FirstList, FirstTag, FirstText, Settles};
+ghost use Rattle.sieve_check.specs.Reading.{FirstList, FirstNumber, FirstTag, FirstText, Settles};
 
 use crate::names::{CommandName, Piece, Tag, TestName, comparator_named, tag_named};
 use crate::typed::Order;
@@ -60,6 +60,8 @@ pub struct Signature {
     pub selecting: bool,
     /// Takes `:name`, at most once.
     pub naming: bool,
+    /// Takes `:first`, at most once.
+    pub limiting: bool,
     pub positional: Positional,
     pub tests: Tests,
 }
@@ -75,6 +77,8 @@ pub struct Tags {
     pub any_child: bool,
     pub piece: Option<Piece>,
     pub named: bool,
+    /// The number of `:first`, if it stands there, which isn't zero.
+    pub first: Option<u64>,
 }
 
 impl Tags {
@@ -94,6 +98,7 @@ impl Tags {
             any_child: false,
             piece: None,
             named: false,
+            first: None,
         }
     }
 
@@ -173,6 +178,7 @@ fn bare(tests: Tests) -> Signature
         scoped: false,
         selecting: false,
         naming: false,
+        limiting: false,
         positional: Positional::Nothing,
         tests,
     }
@@ -200,6 +206,11 @@ pub fn command_signature(name: CommandName) -> Signature
             naming: true,
             ..bare(Tests::Nothing)
         },
+        CommandName::Take => Signature {
+            limiting: true,
+            positional: Positional::Text,
+            ..bare(Tests::Nothing)
+        },
         CommandName::If | CommandName::Elsif => bare(Tests::One),
         CommandName::Else | CommandName::Stop | CommandName::Keep | CommandName::Discard => {
             bare(Tests::Nothing)
@@ -222,7 +233,8 @@ pub fn ending_of(name: CommandName) -> Ending
         | CommandName::FileInto
         | CommandName::Set
         | CommandName::Break
-        | CommandName::Store => Ending::Semicolon,
+        | CommandName::Store
+        | CommandName::Take => Ending::Semicolon,
     }
 }
 
@@ -295,6 +307,16 @@ fn is_list(argument: &Argument) -> bool
     matches!(argument, Argument::Text(_) | Argument::TextList(_, _))
 }
 
+/// The first argument and the arguments after it, where it is a number.
+pub fn first_number(arguments: &[Argument]) -> Option<(u64, &[Argument])>
+    ensures { FirstNumber (map argument_tree arguments.now) result }
+{
+    match arguments {
+        [Argument::Number(number), rest @ ..] => Some((*number, rest)),
+        _ => None,
+    }
+}
+
 /// The first argument alone and the arguments after it, where it is a list: a string, or strings in square brackets.
 pub fn first_list(arguments: &[Argument]) -> Option<(&[Argument], &[Argument])>
     ensures { FirstList (map argument_tree arguments.now) result }
@@ -347,6 +369,25 @@ fn with_name(reading: Reading<'_>) -> Option<Reading<'_>>
     })
 }
 
+// What was read so far, with the number of `:first`, which comes next and isn't zero.
+fn with_first(reading: Reading<'_>) -> Option<Reading<'_>>
+    ensures { Settles reading.entry (Some Tag.First) result }
+{
+    let (number, rest) = first_number(reading.positional)?;
+    if number == 0 {
+        return None;
+    }
+    let tags = Tags {
+        first: Some(number),
+        ..reading.tags
+    };
+    Some(Reading {
+        tags,
+        positional: rest,
+        ..reading
+    })
+}
+
 // What was read so far, with the argument that the last tag takes.
 fn settle(tag: Tag, reading: Reading<'_>) -> Option<Reading<'_>>
     ensures { Settles reading.entry (awaited tag) result }
@@ -355,7 +396,7 @@ fn settle(tag: Tag, reading: Reading<'_>) -> Option<Reading<'_>>
         Tag::Order(_)
         | Tag::Kind(_)
         | Tag::Letters(_)
-        | Tag::First(_)
+        | Tag::FirstLetter(_)
         | Tag::QuoteWildcard
         | Tag::Length
         | Tag::Mime
@@ -366,6 +407,7 @@ fn settle(tag: Tag, reading: Reading<'_>) -> Option<Reading<'_>>
             Piece::Params => with_params(reading),
         },
         Tag::Name => with_name(reading),
+        Tag::First => with_first(reading),
     }
 }
 
@@ -384,13 +426,14 @@ impl Signature {
             Tag::Kind(_) => self.matching && tags.kind.is_none(),
             Tag::Comparator => self.matching && tags.comparator.is_none(),
             Tag::Letters(_) => self.modifying && tags.modifiers.letters.is_none(),
-            Tag::First(_) => self.modifying && tags.modifiers.first.is_none(),
+            Tag::FirstLetter(_) => self.modifying && tags.modifiers.first.is_none(),
             Tag::QuoteWildcard => self.modifying && !tags.modifiers.quote_wildcard,
             Tag::Length => self.modifying && !tags.modifiers.length,
             Tag::Mime => self.scoped && !tags.mime,
             Tag::AnyChild => self.scoped && !tags.any_child,
             Tag::Select(_) => self.selecting && tags.piece.is_none(),
             Tag::Name => self.naming && !tags.named,
+            Tag::First => self.limiting && tags.first.is_none(),
         }
     }
 
@@ -405,9 +448,9 @@ impl Signature {
         match tag {
             Tag::Order(order) => tags.order = Some(order),
             Tag::Kind(kind) => tags.kind = Some(kind),
-            Tag::Comparator => {}
+            Tag::Comparator | Tag::First => {}
             Tag::Letters(case) => tags.modifiers.letters = Some(case),
-            Tag::First(case) => tags.modifiers.first = Some(case),
+            Tag::FirstLetter(case) => tags.modifiers.first = Some(case),
             Tag::QuoteWildcard => tags.modifiers.quote_wildcard = true,
             Tag::Length => tags.modifiers.length = true,
             Tag::Mime => tags.mime = true,

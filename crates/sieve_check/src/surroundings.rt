@@ -26,7 +26,7 @@ impl Capabilities {
     ghost use Rattle.std.specs.Prelude.{◌≡◌, map};
     ghost use Rattle.sieve_parser.specs.View.{argument_tree};
     ghost use Rattle.sieve_check.specs.Rules.{strings_in, strings_of};
-    ghost use Rattle.sieve_check.specs.Surroundings.{has_capability, requiring, with_capability, with_required};
+    ghost use Rattle.sieve_check.specs.Surroundings.{first_lacking, has_capability, requiring, with_capability, with_required};
 
     /// Whether the capability is there.
     pub fn has(self, capability: Capability) -> bool
@@ -40,6 +40,18 @@ impl Capabilities {
             Capability::Depot => self.depot,
             Capability::OctetComparator | Capability::CasemapComparator => true,
         }
+    }
+
+    /// The first of the capabilities that isn't there, if one isn't.
+    pub fn first_lacking(self, needed: &[Capability]) -> Option<Capability>
+        ensures { result ≡ first_lacking needed.now self }
+    {
+        for capability in needed {
+            if !self.has(*capability) {
+                return Some(*capability);
+            }
+        }
+        None
     }
 
     // These and one more.
@@ -181,7 +193,8 @@ impl<'t> Surroundings<'t> {
             | CommandName::FileInto
             | CommandName::Set
             | CommandName::Break
-            | CommandName::Store => Some(self.loops),
+            | CommandName::Store
+            | CommandName::Take => Some(self.loops),
         }
     }
 
@@ -221,7 +234,8 @@ impl<'t> Surroundings<'t> {
             | CommandName::FileInto
             | CommandName::Set
             | CommandName::Break
-            | CommandName::Store => false,
+            | CommandName::Store
+            | CommandName::Take => false,
         }
     }
 
@@ -251,7 +265,8 @@ impl<'t> Surroundings<'t> {
             | CommandName::Set
             | CommandName::ForEveryPart
             | CommandName::Break
-            | CommandName::Store => after,
+            | CommandName::Store
+            | CommandName::Take => after,
         }
     }
 
@@ -265,13 +280,10 @@ impl<'t> Surroundings<'t> {
         }
     }
 
-    /// Whether a capability is needed and wasn't required.
-    pub fn lacks(self, needed: Option<Capability>) -> bool
-        ensures { result ≡ lacks (context_of self.entry) needed }
+    /// Whether one of the capabilities that are needed wasn't required.
+    pub fn lacks(self, needed: &[Capability]) -> bool
+        ensures { result ≡ lacks (context_of self.entry) needed.now }
     {
-        match needed {
-            Some(capability) => !self.required.has(capability),
-            None => false,
-        }
+        self.required.first_lacking(needed).is_some()
     }
 }

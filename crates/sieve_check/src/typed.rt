@@ -130,6 +130,12 @@ pub enum Command {
         name: Octets,
         value: Vec<Segment>,
     },
+    /// `take`: the first octets of the current part's content, at most so many, become the value of the variable of the
+    /// name, which is in lower case. Ours.
+    Take {
+        most: u16,
+        name: Octets,
+    },
     /// `store`: the current part, with the folder. Ours.
     Store(Vec<Segment>),
     /// `foreverypart`, with its block (RFC 5703, section 3).

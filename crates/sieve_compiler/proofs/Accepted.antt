@@ -7,7 +7,7 @@ use Rattle.std.proofs.lemmas.Option.{slice_get_within, slice_get-get_or}
 use Rattle.octets.specs.Limits.{max_loops}
 use Rattle.bytecode_format.specs.declared.instruction.Instruction.{Instruction}
 use Rattle.bytecode_format.specs.declared.operation.Operation.{Operation}
-use Rattle.bytecode_format.specs.declared.operation.Operation.TheVariants.{Halt, Literal, Variable, Capture, Join, Set, Bool as BoolOp, Not, Jump, JumpIfTrue, JumpIfFalse, Header, Exists, String, Size, PartSize, PartBody, PartDigest, Keep, Discard, File, Store, Each, Next, Break}
+use Rattle.bytecode_format.specs.declared.operation.Operation.TheVariants.{Halt, Literal, Variable, Capture, Join, Set, Bool as BoolOp, Not, Jump, JumpIfTrue, JumpIfFalse, Header, Exists, String, Size, PartSize, PartBody, PartDigest, Keep, Discard, File, Store, Each, Next, Break, Take}
 use Rattle.bytecode_format.specs.Operations.{operation_of}
 use Rattle.bytecode_format.specs.Code.{Code}
 use Rattle.bytecode_verifier.specs.Acceptance.{IsAccepted}
@@ -18,14 +18,14 @@ use Rattle.bytecode_verifier.proofs.Open.{inside, nexts, open_inside, open_loops
 use Rattle.bytecode_verifier.specs.Places.{holds_at}
 use Rattle.bytecode_verifier.specs.Rules.{misses_index, misses_loop, is_halt, breaks_form, breaks_end, breaks_stack}
 use Rattle.std.specs.Option.{option_and_then, option_map_or}
-use Rattle.bytecode_verifier.specs.Rows.{row_of, row_named, is_jump, needs_part}
+use Rattle.bytecode_verifier.specs.Rows.{row_in_version, row_named, is_jump, needs_part}
 use Rattle.bytecode_verifier.specs.Shape.{Entries, is_empty, is_target, shape_at}
 use Rattle.bytecode_verifier.proofs.Ends.{past_stack}
 use Rattle.sieve_check.specs.Bounded.{IsBounded}
 use Rattle.sieve_check.specs.Typed.{CommandForms}
 use Rattle.sieve_compiler.specs.Tables.{Tables, tables_of}
 use Rattle.sieve_compiler.specs.Lengths.{commands_length}
-use Rattle.sieve_compiler.specs.Coding.{plain, commands_code, code_of}
+use Rattle.sieve_compiler.specs.Coding.{plain, commands_code, code_of, written_version}
 use Rattle.sieve_compiler.proofs.Standing.{Stands, stands_right, stands_first}
 use Rattle.sieve_compiler.proofs.CodeLengths.{commands_code_length}
 use Rattle.sieve_compiler.proofs.Known.{tables_have}
@@ -41,7 +41,7 @@ sound_at all tables last place (j ∷ piece) (suc k) i h e =
     let here : suc place + k ≡ place + suc k = omega arith in
     subst (λ p. IsSound all tables last p i) here (sound_at all tables last (suc place) piece k i h.1 e)
 
-index_kept : (code : Code) (tables : Tables) (o : Option Operation) (i : Instruction) → (code.numbers ≡ tables.numbers) × (code.strings ≡ tables.strings) × (code.variables ≡ length tables.variables) → IsKnown tables o i → misses_index code (option_and_then (row_of code.version) o) i ≡ false
+index_kept : (code : Code) (tables : Tables) (o : Option Operation) (i : Instruction) → (code.numbers ≡ tables.numbers) × (code.strings ≡ tables.strings) × (code.variables ≡ length tables.variables) → IsKnown tables o i → misses_index code (option_and_then (row_in_version written_version) o) i ≡ false
 index_kept code tables None i same h = refl
 index_kept code tables (Some Halt) i same h = refl
 index_kept code tables (Some Literal) i same h = let lt = slice_get_within tables.strings i.c h.0 h.1 in rw same.1 (lt-leb (length tables.strings) i.c lt)
@@ -68,6 +68,7 @@ index_kept code tables (Some Store) i same h = refl
 index_kept code tables (Some Each) i same h = refl
 index_kept code tables (Some Next) i same h = refl
 index_kept code tables (Some Break) i same h = refl
+index_kept code tables (Some Take) i same h = let lt = slice_get_within tables.variables i.c h.0 h.1 in rw same.2 (lt-leb (length tables.variables) i.c lt)
 
 none_passes : (o : Option Instruction) (test : Instruction → Bool) → ((i : Instruction) → o ≡ Some i → test i ≡ false) → option_map_or test o false ≡ false
 none_passes None test h = refl
@@ -96,22 +97,23 @@ some_open : (code : Code) (place : ℕ) → 0 < length (inside code.instructions
 some_open code place h = ne_eqb (length (open_loops code place)) 0 (λ e. omega (arith, h, depth code place, e))
 
 -- an operation on the current part stands in a loop
-part_kept : (code : Code) (place : ℕ) (o : Option Operation) (i : Instruction) → KeepsLoops code.instructions place o i → (needs_part (option_and_then (row_of 1) o) && (length (open_loops code place) == 0)) ≡ false
+part_kept : (code : Code) (place : ℕ) (o : Option Operation) (i : Instruction) → KeepsLoops code.instructions place o i → (needs_part (option_and_then (row_in_version written_version) o) && (length (open_loops code place) == 0)) ≡ false
 part_kept code place (Some PartSize) i h = some_open code place h
 part_kept code place (Some PartBody) i h = some_open code place h
 part_kept code place (Some PartDigest) i h = some_open code place h
 part_kept code place (Some Store) i h = some_open code place h
+part_kept code place (Some Take) i h = some_open code place h
 part_kept code place _ i h = refl
 
 goes_on : (before after : Option Entries) (entries : Entries) → after ≡ Some entries → (is_some before && is_none after) ≡ false
 goes_on before after entries e = rw e (and-false (is_some before))
 
 -- no jump leads to where entries stand
-no_target : (all : List Instruction) (tables : Tables) (last from : ℕ) (piece : List Instruction) (place : ℕ) → AreSound all tables last from piece → is_empty (standing tables all place) ≡ false → is_target 1 piece place ≡ false
+no_target : (all : List Instruction) (tables : Tables) (last from : ℕ) (piece : List Instruction) (place : ℕ) → AreSound all tables last from piece → is_empty (standing tables all place) ≡ false → is_target written_version piece place ≡ false
 no_target all tables last from [] place h some = refl
 no_target all tables last from (i ∷ piece) place h some =
     let rest = no_target all tables last (suc from) piece place h.1 some in
-    elim (cases_Bool (is_jump (row_named 1 i.op))) [
+    elim (cases_Bool (is_jump (row_named written_version i.op))) [
       | inl jump ↦
           let elsewhere : (i.c ≡ place → ⊥) = (λ (same : i.c ≡ place). let both : true ≡ false = ap is_empty (sym (h.0.jump jump).between) ∙ ap (λ p. is_empty (standing tables all p)) same ∙ some in absurd (cc)) in
           rw (jump, ne_eqb i.c place elsewhere) rest
@@ -166,9 +168,9 @@ module _ (script : CommandForms) (bounded : IsBounded script) where
       let i = get_or all place (plain Halt) in
       let s = sound place i here in
       let entries = standing tables all place in
-      let free : (is_target 1 all place && not (is_empty entries)) ≡ false =
+      let free : (is_target written_version all place && not (is_empty entries)) ≡ false =
       elim (cases_Bool (is_empty entries)) [
-        | inl none ↦ rw none (and-false (is_target 1 all place))
+        | inl none ↦ rw none (and-false (is_target written_version all place))
         | inr some ↦ rw (no_target all tables last 0 all place all_sound some) refl
       ] in
       rw (before, here, free) (s.stack code refl)
@@ -186,9 +188,9 @@ module _ (script : CommandForms) (bounded : IsBounded script) where
         | inr other ↦ rw (ne_eqb place (length all - 1) other) refl
       ]
 
-  aimed : (place : ℕ) (i : Instruction) → slice_get all place ≡ Some i → (is_jump (row_named 1 i.op) && (nat_le i.c place || nat_le (length all) i.c || not (same_loops code place i.c))) ≡ false
+  aimed : (place : ℕ) (i : Instruction) → slice_get all place ≡ Some i → (is_jump (row_named written_version i.op) && (nat_le i.c place || nat_le (length all) i.c || not (same_loops code place i.c))) ≡ false
   aimed place i e =
-      elim (cases_Bool (is_jump (row_named 1 i.op))) [
+      elim (cases_Bool (is_jump (row_named written_version i.op))) [
         | inl jump ↦
             let a = (sound place i e).jump jump in
             let inner : i.c < length all = omega (arith, a.within, code_length) in
@@ -197,7 +199,7 @@ module _ (script : CommandForms) (bounded : IsBounded script) where
       ]
 
   -- a jump is one that the machine makes
-  pub jump_kept : (place : ℕ) (i : Instruction) → slice_get all place ≡ Some i → is_jump (row_named 1 i.op) ≡ true → (nat_lt place i.c && same_loops code place i.c) ≡ true
+  pub jump_kept : (place : ℕ) (i : Instruction) → slice_get all place ≡ Some i → is_jump (row_named written_version i.op) ≡ true → (nat_lt place i.c && same_loops code place i.c) ≡ true
   jump_kept place i e jump =
       let a = (sound place i e).jump jump in
       rw (lt-ltb place i.c a.forward, same_open code place i.c a.same) refl

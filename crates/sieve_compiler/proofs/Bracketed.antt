@@ -14,7 +14,7 @@ use Rattle.sieve_check.specs.declared.typed.Order.{Order}
 use Rattle.sieve_check.specs.declared.typed.Order.TheVariants.{Over, Under}
 use Rattle.sieve_check.specs.declared.typed.Segment.{Segment}
 use Rattle.sieve_check.specs.declared.typed.Segment.TheVariants.{Text, Variable, Capture}
-use Rattle.sieve_check.specs.Typed.{Template, params_of, TestForm, constant, negation, all_of, any_of, size, header, exists, string, part_size, part_body, part_digest, TestForms, no_test, test, CommandForm, keep, discard, file_into, set, store, for_every_part, leave, stop, choice, CommandForms, no_command, command, BranchForms, no_branch, otherwise, branch}
+use Rattle.sieve_check.specs.Typed.{Template, params_of, TestForm, constant, negation, all_of, any_of, size, header, exists, string, part_size, part_body, part_digest, TestForms, no_test, test, CommandForm, keep, discard, file_into, set, take_first, store, for_every_part, leave, stop, choice, CommandForms, no_command, command, BranchForms, no_branch, otherwise, branch}
 use Rattle.sieve_compiler.specs.Tables.{Tables}
 use Rattle.sieve_compiler.specs.Lengths.{test_length, leave_length, command_length, commands_length, branches_length}
 use Rattle.sieve_compiler.specs.Coding.{instruction, jump_if, push_bool, push_size, push_part_size, push_segment, string_code, strings_code, test_code, tests_code, leave_code, command_code, commands_code, branches_code}
@@ -170,6 +170,7 @@ module _ (tables : Tables) where
     command_balanced discard place = flat_balanced (command_code tables place discard) (refl, tt)
     command_balanced (file_into folder) place = flat_balanced (command_code tables place (file_into folder)) (flat_both _ _ (string_flat tables folder) (refl, tt))
     command_balanced (set modifiers name value) place = flat_balanced (command_code tables place (set modifiers name value)) (flat_both _ _ (string_flat tables value) (refl, tt))
+    command_balanced (take_first most name) place = flat_balanced (command_code tables place (take_first most name)) (refl, tt)
     command_balanced (store folder) place = flat_balanced (command_code tables place (store folder)) (flat_both _ _ (string_flat tables folder) (refl, tt))
     command_balanced (for_every_part cs) place = loop_balanced place (place + 1 + commands_length cs) (commands_code tables (place + 1) cs) (commands_balanced cs (place + 1))
     command_balanced (leave loops) place = flat_balanced (command_code tables place (leave loops)) (refl, tt)
@@ -260,6 +261,7 @@ module _ (all : List Instruction) (tables : Tables) where
     command_inside discard place h = flat_command discard place h (refl, tt)
     command_inside (file_into folder) place h = flat_command (file_into folder) place h (flat_both _ _ (string_flat tables folder) (refl, tt))
     command_inside (set modifiers name value) place h = flat_command (set modifiers name value) place h (flat_both _ _ (string_flat tables value) (refl, tt))
+    command_inside (take_first most name) place h = flat_command (take_first most name) place h (refl, tt)
     command_inside (store folder) place h = flat_command (store folder) place h (flat_both _ _ (string_flat tables folder) (refl, tt))
     command_inside (for_every_part cs) place h =
         let next : ℕ = place + 1 + commands_length cs in

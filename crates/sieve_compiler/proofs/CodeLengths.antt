@@ -3,7 +3,7 @@ use Rattle.std.proofs.Common.{◌≡◌, ℕ, ◌+◌, Bool, false, List, [], �
 use Rattle.std.proofs.lemmas.List.{length-append, length-map}
 use Rattle.std.proofs.lemmas.List.Sums.{sum_by-cons}
 use Rattle.bytecode_format.specs.declared.operation.Operation.TheVariants.{Next}
-use Rattle.sieve_check.specs.Typed.{Template, params_of, TestForm, constant, negation, all_of, any_of, size, header, exists, string, part_size, part_body, part_digest, TestForms, no_test, test, CommandForm, keep, discard, file_into, set, store, for_every_part, leave, stop, choice, CommandForms, no_command, command, BranchForms, no_branch, otherwise, branch}
+use Rattle.sieve_check.specs.Typed.{Template, params_of, TestForm, constant, negation, all_of, any_of, size, header, exists, string, part_size, part_body, part_digest, TestForms, no_test, test, CommandForm, keep, discard, file_into, set, take_first, store, for_every_part, leave, stop, choice, CommandForms, no_command, command, BranchForms, no_branch, otherwise, branch}
 use Rattle.sieve_compiler.specs.Tables.{Tables}
 use Rattle.sieve_compiler.specs.Lengths.{string_length, strings_length, test_length, tests_length, leave_length, command_length, commands_length, branches_length}
 use Rattle.sieve_compiler.specs.Coding.{instruction, join_texts, push_segment, string_code, strings_code, test_code, tests_code, leave_code, command_code, commands_code, branches_code}
@@ -55,6 +55,7 @@ module _ (tables : Tables) where
     command_code_length discard place = refl
     command_code_length (file_into folder) place = length_two (string_code tables folder) _ _ 1 (string_code_length folder) refl
     command_code_length (set modifiers name value) place = length_two (string_code tables value) _ _ 1 (string_code_length value) refl
+    command_code_length (take_first most name) place = refl
     command_code_length (store folder) place = length_two (string_code tables folder) _ _ 1 (string_code_length folder) refl
     command_code_length (for_every_part cs) place =
         let block = length_two (commands_code tables (place + 1) cs) (instruction Next 0 place ∷ []) (commands_length cs) 1 (commands_code_length cs (place + 1)) refl in

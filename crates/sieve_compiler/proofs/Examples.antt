@@ -10,7 +10,7 @@ use Rattle.sieve_check.specs.Typed.{Template, keep, store, for_every_part, leave
 use Rattle.sieve_compiler.specs.Coding.{instruction, plain, code_of}
 
 abbrev program : List (List ℕ) → List Instruction → Code
-program strings instructions = record { version = 1; variables = 0; numbers = []; strings = strings; instructions = instructions }
+program strings instructions = record { version = 2; variables = 0; numbers = []; strings = strings; instructions = instructions }
 
 abbrev folder : List ℕ → Template
 folder name = Text name ∷ []

@@ -20,17 +20,17 @@ use Rattle.sieve_check.specs.declared.typed.Segment.{Segment}
 use Rattle.sieve_check.specs.declared.typed.Segment.TheVariants.{Text, Variable, Capture}
 use Rattle.sieve_compiler.proofs.Selecting as selecting
 use Rattle.sieve_check.specs.declared.typed.Scope.{Scope}
-use Rattle.sieve_check.specs.Typed.{Template, Selected, params_of, TestForm, constant, negation, all_of, any_of, size, header, exists, string, part_size, part_body, part_digest, TestForms, no_test, test, CommandForm, keep, discard, file_into, set, store, for_every_part, leave, stop, choice, CommandForms, no_command, command, BranchForms, no_branch, otherwise, branch}
+use Rattle.sieve_check.specs.Typed.{Template, Selected, params_of, TestForm, constant, negation, all_of, any_of, size, header, exists, string, part_size, part_body, part_digest, TestForms, no_test, test, CommandForm, keep, discard, file_into, set, take_first, store, for_every_part, leave, stop, choice, CommandForms, no_command, command, BranchForms, no_branch, otherwise, branch}
 use Rattle.glob_match.specs.declared.match_type.Match.{Match}
 use Rattle.octets.specs.Once.{each_once}
-use Rattle.octets.specs.Limits.{max_segments, max_string, max_variables}
+use Rattle.octets.specs.Limits.{max_segments, max_string, max_value, max_variables}
 use Rattle.sieve_check.specs.Bounded.{IsBoundedSegment, IsBoundedString, IsBoundedHeader, IsBoundedTest, AreBoundedTests, IsBoundedCommand, AreBoundedCommands, AreBoundedBranches, IsBounded}
 use Rattle.sieve_compiler.specs.Strings.{segment_strings, string_strings, strings_of, test_strings, tests_strings, command_strings, commands_strings, branches_strings}
 use Rattle.sieve_check.specs.Extent.{segment_extent, string_extent, strings_extent, test_extent, tests_extent, command_extent, commands_extent, branches_extent}
 use Rattle.sieve_compiler.specs.Tables.{Tables, tables_of, place_of_number, place_of_string, place_of_variable}
 use Rattle.sieve_compiler.specs.Lengths.{string_length, strings_length, test_length, tests_length, leave_length, command_length, commands_length, branches_length}
 use Rattle.sieve_compiler.specs.Numbers.{test_numbers, tests_numbers, command_numbers, commands_numbers, branches_numbers}
-use Rattle.sieve_compiler.specs.Coding.{instruction, plain, jump_if, push_bool, push_part_size, push_size, push_text, push_segment, join_texts, string_code, strings_code, set_variable, match_fields, match_body, match_digest, match_texts, find_fields, asked_of, aim_of, test_code, tests_code, leave_code, command_code, commands_code, branches_code, code_of}
+use Rattle.sieve_compiler.specs.Coding.{instruction, plain, jump_if, push_bool, push_part_size, push_size, push_text, push_segment, join_texts, string_code, strings_code, set_variable, match_fields, match_body, match_digest, match_texts, find_fields, asked_of, aim_of, test_code, tests_code, leave_code, command_code, commands_code, branches_code, code_of, take_octets}
 use Rattle.octets.proofs.Once.{place_within, each_once_within, each_once_all}
 use Rattle.sieve_compiler.specs.Leaving.{LeavesFew, LeaveFew, BranchesLeaveFew}
 use Rattle.sieve_compiler.proofs.CodeLengths.{commands_code_length}
@@ -83,6 +83,7 @@ mutual
   command_within discard b = omega arith
   command_within (file_into folder) b = omega (arith, string_within folder b)
   command_within (set modifiers name value) b = omega (arith, string_within value b)
+  command_within (take_first most name) b = omega arith
   command_within (store folder) b = omega (arith, string_within folder b)
   command_within (for_every_part cs) b = omega (arith, commands_within cs b)
   command_within (leave loops) b = omega arith
@@ -125,6 +126,7 @@ mutual
   command_uses discard = omega arith
   command_uses (file_into folder) = omega arith
   command_uses (set modifiers name value) = omega arith
+  command_uses (take_first most name) = omega arith
   command_uses (store folder) = omega arith
   command_uses (for_every_part cs) = omega (arith, commands_use cs)
   command_uses (leave loops) = omega arith
@@ -219,6 +221,7 @@ mutual
   command_spells discard = omega arith
   command_spells (file_into folder) = omega (arith, string_spells folder)
   command_spells (set modifiers name value) = omega (arith, string_spells value)
+  command_spells (take_first most name) = omega arith
   command_spells (store folder) = omega (arith, string_spells folder)
   command_spells (for_every_part cs) = omega (arith, commands_spell cs)
   command_spells (leave loops) = omega arith
@@ -278,6 +281,7 @@ mutual
   command_pushes discard = omega arith
   command_pushes (file_into folder) = omega (arith, string_pushes folder)
   command_pushes (set modifiers name value) = omega (arith, string_pushes value)
+  command_pushes (take_first most name) = omega arith
   command_pushes (store folder) = omega (arith, string_pushes folder)
   command_pushes (for_every_part cs) = omega (arith, commands_push cs)
   command_pushes (leave loops) = omega arith
@@ -339,6 +343,7 @@ mutual
   command_short discard b = All-nil IsShort
   command_short (file_into folder) b = string_short folder b
   command_short (set modifiers name value) b = string_short value b
+  command_short (take_first most name) b = All-nil IsShort
   command_short (store folder) b = string_short folder b
   command_short (for_every_part cs) b = commands_short cs b
   command_short (leave loops) b = All-nil IsShort
@@ -431,6 +436,9 @@ fits_strings tables (s ∷ ss) few b = All-append Fits (string_code tables s) (s
 fits_set : (tables : Tables) (modifiers : Modifiers) (name : List ℕ) → AreFew tables → Fits (set_variable tables modifiers name)
 fits_set tables modifiers name few = fits_instruction Set (modifiers_number modifiers) (place_of_variable tables name) (omega arith) (omega (arith, number_small modifiers)) (omega (arith, place_within bytes_eq tables.variables name, few.2))
 
+fits_take : (tables : Tables) (most : ℕ) (name : List ℕ) → AreFew tables → most ≤ max_value → Fits (take_octets most (place_of_variable tables name))
+fits_take tables most name few small = record { op = omega arith; a = omega arith; b = omega (arith, small); c = omega (arith, place_within bytes_eq tables.variables name, few.2) }
+
 fits_fields : (how : Match) (scope : Scope) (selected : Selected) (names keys : List Template) → IsBoundedHeader selected names keys → Fits (match_fields how scope selected (length names) (length keys))
 fits_fields how scope selected names keys b = record {
   op = omega arith;
@@ -498,6 +506,7 @@ mutual
   fits_command tables place discard few b l room = fits_plain Discard (omega arith)
   fits_command tables place (file_into folder) few b l room = All-append Fits (string_code tables folder) (plain File ∷ []) (fits_string tables folder few b) (fits_plain File (omega arith))
   fits_command tables place (set modifiers name value) few b l room = All-append Fits (string_code tables value) (set_variable tables modifiers name ∷ []) (fits_string tables value few b) (one (set_variable tables modifiers name) (fits_set tables modifiers name few))
+  fits_command tables place (take_first most name) few b l room = one (take_octets most (place_of_variable tables name)) (fits_take tables most name few b.1)
   fits_command tables place (store folder) few b l room = All-append Fits (string_code tables folder) (plain Store ∷ []) (fits_string tables folder few b) (fits_plain Store (omega arith))
   fits_command tables place (for_every_part cs) few b l room =
       let next : ℕ = place + 1 + commands_length cs in

@@ -1,7 +1,7 @@
 -- Commands that stand in no more loops than may be open leave no more.
 use Rattle.std.proofs.Common.{ℕ, suc, ◌≤◌, arith}
 use Rattle.octets.specs.Limits.{max_loops}
-use Rattle.sieve_check.specs.Typed.{CommandForm, keep, discard, file_into, set, store, for_every_part, leave, stop, choice, CommandForms, no_command, command, BranchForms, no_branch, otherwise, branch}
+use Rattle.sieve_check.specs.Typed.{CommandForm, keep, discard, file_into, set, take_first, store, for_every_part, leave, stop, choice, CommandForms, no_command, command, BranchForms, no_branch, otherwise, branch}
 use Rattle.sieve_check.specs.Bounded.{IsCommandIn, AreCommandsIn, AreBranchesIn}
 use Rattle.sieve_compiler.specs.Leaving.{LeavesFew, LeaveFew, BranchesLeaveFew}
 
@@ -11,6 +11,7 @@ mutual
   leaves_few loops discard le h = tt
   leaves_few loops (file_into folder) le h = tt
   leaves_few loops (set modifiers name value) le h = tt
+  leaves_few loops (take_first most name) le h = tt
   leaves_few loops (store folder) le h = tt
   leaves_few loops (for_every_part cs) le h = leave_few (suc loops) cs (omega (arith, h.0)) h.1
   leaves_few loops (leave left) le h = omega (arith, le, h.1)

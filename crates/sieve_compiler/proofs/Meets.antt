@@ -8,7 +8,7 @@ use Rattle.std.proofs.lemmas.List.Sums.{sum_by-cons}
 use Rattle.std.proofs.lemmas.Option.{slice_get-map, slice_get_within}
 use Rattle.bytecode_format.specs.declared.instruction.Instruction.{Instruction}
 use Rattle.bytecode_format.specs.declared.modifiers.Modifiers.{Modifiers}
-use Rattle.bytecode_format.specs.declared.operation.Operation.TheVariants.{Halt, Variable as VariableOp, Capture as CaptureOp, Join, String, Jump, Header, Exists, PartBody, PartDigest, Keep, Discard, File, Store, Each, Next, Break}
+use Rattle.bytecode_format.specs.declared.operation.Operation.TheVariants.{Halt, Variable as VariableOp, Capture as CaptureOp, Join, String, Jump, Header, Exists, PartBody, PartDigest, Keep, Discard, File, Store, Each, Next, Break, Take}
 use Rattle.bytecode_format.specs.declared.action.Action.{Action}
 use Rattle.bytecode_format.specs.declared.action.Action.TheVariants as action
 use Rattle.bytecode_format.specs.Actions.{final_actions}
@@ -37,11 +37,11 @@ use Rattle.sieve_check.specs.declared.typed.Segment.{Segment}
 use Rattle.sieve_check.specs.declared.typed.Segment.TheVariants.{Text, Variable, Capture}
 use Rattle.sieve_check.specs.declared.typed.Scope.{Scope}
 use Rattle.sieve_check.specs.declared.typed.Scope.TheVariants.{Message, Part, PartAndBelow}
-use Rattle.sieve_check.specs.Typed.{Template, Selected, whole, main, sub, content_type, params, params_of, TestForm, constant, negation, all_of, any_of, size, header, exists, string, part_size, part_body, part_digest, TestForms, no_test, test, CommandForm, keep, discard, file_into, set, store, for_every_part, leave, stop, choice, CommandForms, no_command, command, BranchForms, no_branch, otherwise, branch}
+use Rattle.sieve_check.specs.Typed.{Template, Selected, whole, main, sub, content_type, params, params_of, TestForm, constant, negation, all_of, any_of, size, header, exists, string, part_size, part_body, part_digest, TestForms, no_test, test, CommandForm, keep, discard, file_into, set, take_first, store, for_every_part, leave, stop, choice, CommandForms, no_command, command, BranchForms, no_branch, otherwise, branch}
 use Rattle.sieve_check.specs.Variables.{string_variables, commands_variables}
-use Rattle.sieve_meaning.specs.Meaning.{scope_of, selector_of, Effects, no_effects, value_of, expanded, all_expanded, with_value, Verdict, verdict, matched, Ending, normal, stopped, broken, effects_of, followed_by, left, after_turn, turns, is_size, current, of_part, stored, test_does, all_do, any_do, command_does, commands_do, choice_does, meaning}
+use Rattle.sieve_meaning.specs.Meaning.{scope_of, selector_of, Effects, no_effects, value_of, expanded, all_expanded, with_taken, with_value, Verdict, verdict, matched, Ending, normal, stopped, broken, effects_of, followed_by, left, after_turn, turns, is_size, current, of_part, stored, test_does, all_do, any_do, command_does, commands_do, choice_does, meaning}
 use Rattle.sieve_vm.specs.State.{Value, truth, text, Frame, State, current_part, Turn, goes, ends, start}
-use Rattle.sieve_vm.specs.Machine.{Effect, is_sound_jump, with_number, with_texts, with_part, test_body, test_digest, store_part, tested, are_partners, open_loop, turn, step, turn_at}
+use Rattle.sieve_vm.specs.Machine.{Effect, is_sound_jump, with_number, with_texts, with_part, test_body, test_digest, store_part, set_content, tested, are_partners, open_loop, turn, step, turn_at}
 use Rattle.sieve_vm.specs.MatchNumbers.{match_numbered, scope_numbered, selector_numbered}
 use Rattle.sieve_vm.specs.Stack.{OnTop, with_last, texts_on_top, lists_on_top}
 use Rattle.sieve_vm.specs.Charge.{charge_of}
@@ -52,7 +52,7 @@ use Rattle.sieve_compiler.specs.Growing.{Uses, uses_with, joined, segment_uses, 
 use Rattle.sieve_compiler.specs.Tables.{Tables, tables_of, place_of_number, place_of_string, place_of_variable}
 use Rattle.sieve_compiler.specs.Lengths.{string_length, strings_length, test_length, tests_length, leave_length, command_length, commands_length, branches_length}
 use Rattle.sieve_compiler.specs.Strings.{segment_strings, string_strings}
-use Rattle.sieve_compiler.specs.Coding.{plain, instruction, jump_if, push_bool, push_size, push_part_size, push_text, push_segment, join_texts, string_code, strings_code, set_variable, kind_number, comparator_number, match_number, scope_number, selector_number, match_fields, match_body, match_digest, match_texts, find_fields, asked_of, aim_of, test_code, tests_code, leave_code, command_code, commands_code, branches_code, code_of}
+use Rattle.sieve_compiler.specs.Coding.{plain, instruction, jump_if, push_bool, push_size, push_part_size, push_text, push_segment, join_texts, string_code, strings_code, set_variable, kind_number, comparator_number, match_number, scope_number, selector_number, match_fields, match_body, match_digest, match_texts, find_fields, asked_of, aim_of, test_code, tests_code, leave_code, command_code, commands_code, branches_code, code_of, take_octets, written_version}
 use Rattle.sieve_compiler.proofs.Standing.{Stands, stands_first, stands_next, stands_left, stands_right}
 use Rattle.sieve_compiler.proofs.CodeLengths.{length_two, string_code_length, strings_code_length, test_code_length, command_code_length}
 use Rattle.sieve_compiler.proofs.BranchParts.{branch_parts_of}
@@ -190,7 +190,7 @@ left_more : (n m : ℕ) (e : Effects) → n ≡ suc (suc m) → left n e ≡ bro
 left_more n m e is = let before : suc (suc m) - 1 ≡ suc m = omega arith in rw is (rw (lt-ltb 1 (suc (suc m)) (omega arith), before) refl)
 
 -- where each of the program's jumps is one that the machine makes
-module _ (script : CommandForms) (mail : Mail) (jumps_kept : (p : ℕ) (i : Instruction) → slice_get (code_of script).instructions p ≡ Some i → is_jump (row_named 1 i.op) ≡ true → (nat_lt p i.c && same_loops (code_of script) p i.c) ≡ true) where
+module _ (script : CommandForms) (mail : Mail) (jumps_kept : (p : ℕ) (i : Instruction) → slice_get (code_of script).instructions p ≡ Some i → is_jump (row_named written_version i.op) ≡ true → (nat_lt p i.c && same_loops (code_of script) p i.c) ≡ true) where
   abbrev code : Code
   code = code_of script
 
@@ -228,7 +228,7 @@ module _ (script : CommandForms) (mail : Mail) (jumps_kept : (p : ℕ) (i : Inst
   step_at : (s : State) (i : Instruction) (turn : Turn) → slice_get all s.place ≡ Some i → turn_at code mail s (Some i) ≡ turn → step code mail s ≡ turn
   step_at s i turn here h = ap (turn_at code mail s) here ∙ h
 
-  sound_jump : (s : State) (i : Instruction) → slice_get all s.place ≡ Some i → is_jump (row_named 1 i.op) ≡ true → is_sound_jump code s i ≡ true
+  sound_jump : (s : State) (i : Instruction) → slice_get all s.place ≡ Some i → is_jump (row_named written_version i.op) ≡ true → is_sound_jump code s i ≡ true
   sound_jump s i here jump = jumps_kept s.place i here jump
 
   -- where these loops are open, and the current part, if there is one, is one of the message
@@ -710,6 +710,36 @@ module _ (script : CommandForms) (mail : Mail) (jumps_kept : (p : ℕ) (i : Inst
         step_at (with_stack (text octets ∷ []) p e c) (set_variable tables modifiers name) _ here
         (rw (number_again modifiers, lt-ltb place (length (map e.variables tables.variables)) room, variable_set (commands_variables script) e.variables name (take max_value (modified modifiers octets)) listed_here) refl)
 
+    -- what is taken of the current part
+    with_taken_is : (most : ℕ) (name : List ℕ) (e : Effects) (on : OnPart mail part) → with_value name (take most on.found.content) e.variables ≡ with_taken most name (current mail part) e.variables
+    with_taken_is most name e on = sym (rw (on.is, on.here) refl)
+
+    abbrev take_charge : ℕ → List ℕ → ℕ → Effects → ℕ → ℕ
+    take_charge most name p e c = charge_of code mail Take (take_octets most (place_of_variable tables name)) (at p e c)
+
+    take_goes : (p c most : ℕ) (name : List ℕ) (e : Effects) (on : OnPart mail part) → (0 < most) × (most ≤ max_value) → Has tables (uses_with [] [] (name ∷ [])) → slice_get all p ≡ Some (take_octets most (place_of_variable tables name))
+        → Goes (at p e c) (at (suc p) (record e { variables = with_value name (take most on.found.content) e.variables }) (c + take_charge most name p e c))
+    take_goes p c most name e on limits known here =
+        let place = place_of_variable tables name in
+        let i = take_octets most place in
+        let inside : place < length tables.variables = slice_get_within tables.variables place name (found_variable tables name [] [] known) in
+        let room : place < length (map e.variables tables.variables) = omega (arith, inside, length-map tables.variables e.variables) in
+        let set = variable_set (commands_variables script) e.variables name (take most on.found.content) (known.variables name (name_itself name)) in
+        step_at (at p e c) i _ here
+        (rw (le-leb 1 most (omega (arith, limits.0)), le-leb most max_value limits.1)
+        (ap (turn (take_charge most name p e c)) (with_part_is (set_content i) mail (at p e c) frames on) ∙ rw (lt-ltb place (length (map e.variables tables.variables)) room, set) refl))
+
+    take_run : (p most : ℕ) (name : List ℕ) (e : Effects) → 0 < length frames → (0 < most) × (most ≤ max_value) → Has tables (uses_with [] [] (name ∷ [])) → slice_get all p ≡ Some (take_octets most (place_of_variable tables name))
+        → Comes p e (p + 1) (record e { variables = with_taken most name (current mail part) e.variables })
+    take_run p most name e deep limits known here c =
+        let on = held deep in
+        let d : ℕ = c + take_charge most name p e c in
+        let f : Effects = record e { variables = with_taken most name (current mail part) e.variables } in
+        let goes_here = take_goes p c most name e on limits known here in
+        let steps : Goes (at p e c) (at (suc p) f d) =
+        subst (λ (variables : List ℕ → List ℕ). Goes (at p e c) (at (suc p) (record e { variables = variables }) d)) (with_taken_is most name e on) goes_here in
+        (d, next_place p d (at p e c) [] f steps)
+
     -- what a value and the variable that is set use
     set_uses : (value : Template) (name : List ℕ) → Has tables (uses_with [] (string_strings value) (string_variables value ++ name ∷ [])) → Has tables (joined (string_uses value) (uses_with [] [] (name ∷ [])))
     set_uses value name known = subst (λ ss. Has tables (uses_with [] ss (string_variables value ++ name ∷ []))) (sym (append-nil (string_strings value))) known
@@ -848,6 +878,7 @@ module _ (script : CommandForms) (mail : Mail) (jumps_kept : (p : ℕ) (i : Inst
           let own = has_right tables (string_uses value) (uses_with [] [] (name ∷ [])) uses in
           taken_run fs held value p (set_variable tables modifiers name) (λ c. 1 + length (expanded e value)) e f short b h (has_left tables (string_uses value) (uses_with [] [] (name ∷ [])) uses)
           (λ c here. set_step fs held (p + string_length value) c modifiers name (expanded e value) e own here)
+      command_run (take_first most name) fs held p e h has b few in_loops short = take_run fs held p most name e in_loops b has (stands_first all p _ [] h)
       command_run (store folder) fs held p e h has b few in_loops short =
           let f : Effects = record e { actions = e.actions ++ stored (current_part fs) (expanded e folder) } in
           taken_run fs held folder p (plain Store) (λ c. 1 + length (expanded e folder)) e f short b h has (λ c here. store_step fs held (p + string_length folder) c (expanded e folder) e in_loops here)
@@ -864,7 +895,7 @@ module _ (script : CommandForms) (mail : Mail) (jumps_kept : (p : ℕ) (i : Inst
           (loop_run p next each_here next_here fs does
           (λ part rest f is ok. subst (λ q. Arrives (commands_do mail (Some part) cs f) (frame_at p next each_here next_here fs part rest ∷ fs) (frame_at p next each_here next_here fs part rest ∷ fs) q next f) first
           (commands_run cs (frame_at p next each_here next_here fs part rest ∷ fs) (held_part (frame_at p next each_here next_here fs part rest) fs is) block f stands has b (omega (arith, in_loops.0)) in_loops.1 ok))
-          (λ part f ok. commands_short mail (Some part) cs f ok)
+          (λ part f ok. commands_short mail (Some part) cs f b ok)
           (visited (current_part fs) mail) e refl (are_visited mail known (current_part fs)).each in_loops.0 short)
       command_run (leave n) fs held p e h has b few in_loops short =
           let some : n ≡ suc (n - 1) = omega (arith, in_loops.0) in
@@ -880,7 +911,7 @@ module _ (script : CommandForms) (mail : Mail) (jumps_kept : (p : ℕ) (i : Inst
           let same : p + command_length c + commands_length cs ≡ p + (command_length c + commands_length cs) = omega arith in
           let first = command_run c fs held p e (stands_left all p _ _ h) (has_left tables (command_uses c) (commands_uses cs) has) b.0 few in_loops.0 short in
           let there = stands_right all p (command_length c) _ _ (command_code_length tables c p) h in
-          arrives_then (command_does mail (current_part fs) c e) (λ f. commands_do mail (current_part fs) cs f) fs p (p + command_length c) _ e first (command_short mail (current_part fs) c e short)
+          arrives_then (command_does mail (current_part fs) c e) (λ f. commands_do mail (current_part fs) cs f) fs p (p + command_length c) _ e first (command_short mail (current_part fs) c e b.0 short)
           (λ f after. subst (λ q. Arrives (commands_do mail (current_part fs) cs f) fs fs (p + command_length c) q f) same
           (commands_run cs fs held (p + command_length c) f there (has_right tables (command_uses c) (commands_uses cs) has) b.1 few in_loops.1 after))
 

@@ -2,7 +2,7 @@
 use Rattle.std.proofs.Common.{◌≡◌, ℕ, zero, suc, ◌+◌, ◌<◌, ◌≤◌, Bool, true, false, List, [], ◌∷◌, ◌++◌, Option, Some, None, unwrap_or, option_map, map, flat_map, slice_get, length, min, sum, All, refl, sym, ap, subst, ◌∙◌, arith}
 use Rattle.bytecode_format.specs.declared.instruction.Instruction.{Instruction}
 use Rattle.bytecode_format.specs.declared.operation.Operation.{Operation}
-use Rattle.bytecode_format.specs.declared.operation.Operation.TheVariants.{Halt, Literal, Variable as VariableOp, Capture as CaptureOp, Join, Set, String, Bool as BoolOp, Jump, Header, Exists, Size, PartSize, PartBody, PartDigest, Keep, Discard, File, Store, Each, Next, Break}
+use Rattle.bytecode_format.specs.declared.operation.Operation.TheVariants.{Halt, Literal, Variable as VariableOp, Capture as CaptureOp, Join, Set, String, Bool as BoolOp, Jump, Header, Exists, Size, PartSize, PartBody, PartDigest, Keep, Discard, File, Store, Each, Next, Break, Take}
 use Rattle.bytecode_format.specs.Operations.{operation_of}
 use Rattle.std.specs.Option.{option_and_then, option_map_or}
 use Rattle.std.proofs.lemmas.Bool.{lt-ltb, le-leb, eq-eqb, ne_eqb}
@@ -27,12 +27,12 @@ use Rattle.sieve_check.specs.declared.typed.Segment.{Segment}
 use Rattle.sieve_check.specs.declared.typed.Segment.TheVariants.{Text as Stretch, Variable, Capture}
 use Rattle.sieve_check.specs.Variables.{segment_variables, string_variables}
 use Rattle.sieve_check.specs.declared.typed.Scope.{Scope}
-use Rattle.sieve_check.specs.Typed.{Template, Selected, params_of, TestForm, constant, negation, all_of, any_of, size, header, exists, string, part_size, part_body, part_digest, TestForms, no_test, test, CommandForm, keep, discard, file_into, set, store, for_every_part, leave, stop, choice, CommandForms, no_command, command, BranchForms, no_branch, otherwise, branch}
-use Rattle.sieve_compiler.specs.Tables.{Tables, place_of_number, place_of_string}
+use Rattle.sieve_check.specs.Typed.{Template, Selected, params_of, TestForm, constant, negation, all_of, any_of, size, header, exists, string, part_size, part_body, part_digest, TestForms, no_test, test, CommandForm, keep, discard, file_into, set, take_first, store, for_every_part, leave, stop, choice, CommandForms, no_command, command, BranchForms, no_branch, otherwise, branch}
+use Rattle.sieve_compiler.specs.Tables.{Tables, place_of_number, place_of_string, place_of_variable}
 use Rattle.sieve_compiler.specs.Lengths.{string_length, strings_length, test_length, tests_length, leave_length, command_length, commands_length, branches_length}
 use Rattle.sieve_compiler.specs.Strings.{segment_strings, string_strings}
 use Rattle.sieve_compiler.specs.Growing.{Uses, uses_with, joined, segment_uses, string_uses, strings_uses, test_uses, tests_uses, command_uses, commands_uses, branches_uses}
-use Rattle.sieve_compiler.specs.Coding.{plain, instruction, jump_if, push_bool, push_part_size, push_size, push_text, push_segment, join_texts, string_code, strings_code, set_variable, match_fields, match_body, match_digest, match_texts, find_fields, aim_of, test_code, tests_code, leave_code, command_code, commands_code, branches_code}
+use Rattle.sieve_compiler.specs.Coding.{plain, instruction, jump_if, push_bool, push_part_size, push_size, push_text, push_segment, join_texts, string_code, strings_code, set_variable, match_fields, match_body, match_digest, match_texts, find_fields, aim_of, test_code, tests_code, leave_code, command_code, commands_code, branches_code, take_octets, written_version}
 use Rattle.sieve_compiler.proofs.BranchParts.{branch_parts_of}
 use Rattle.sieve_compiler.proofs.Bracketed.{is_bracket, after_flat, flat_inside, string_flat, strings_flat, commands_balanced, loop_next, next_stands, block_stands, block_ends, block_inside, test_inside, leave_inside, command_inside, commands_inside, branches_inside}
 use Rattle.sieve_compiler.proofs.Standing.{Stands, stands_first, stands_next, stands_left, stands_right}
@@ -84,6 +84,7 @@ abbrev pub IsKnown : Tables → Option Operation → Instruction → Type 0
 IsKnown tables (Some Literal) i = (s : List ℕ) × (slice_get tables.strings i.c ≡ Some s)
 IsKnown tables (Some VariableOp) i = (s : List ℕ) × (slice_get tables.variables i.c ≡ Some s)
 IsKnown tables (Some Set) i = (s : List ℕ) × (slice_get tables.variables i.c ≡ Some s)
+IsKnown tables (Some Take) i = (s : List ℕ) × (slice_get tables.variables i.c ≡ Some s)
 IsKnown tables (Some Size) i = (n : ℕ) × (slice_get tables.numbers i.c ≡ Some n)
 IsKnown tables (Some PartSize) i = (n : ℕ) × (slice_get tables.numbers i.c ≡ Some n)
 IsKnown tables _ i = Unit {0}
@@ -97,6 +98,7 @@ KeepsLoops all place (Some PartSize) i = 0 < length (inside all place)
 KeepsLoops all place (Some PartBody) i = 0 < length (inside all place)
 KeepsLoops all place (Some PartDigest) i = 0 < length (inside all place)
 KeepsLoops all place (Some Store) i = 0 < length (inside all place)
+KeepsLoops all place (Some Take) i = 0 < length (inside all place)
 KeepsLoops all place _ i = Unit {0}
 
 -- the operation takes these entries, and leaves those
@@ -105,10 +107,10 @@ TurnsInto tables o i before after = (code : Code) → code.strings ≡ tables.st
 
 -- the instruction keeps the rules at the place
 pub record IsSound (all : List Instruction) (tables : Tables) (last place : ℕ) (i : Instruction) : Type 0 where
-  pub form : is_well_formed (row_named 1 i.op) i ≡ true
+  pub form : is_well_formed (row_named written_version i.op) i ≡ true
   pub loops : KeepsLoops all place (operation_of i.op) i
   pub index : IsKnown tables (operation_of i.op) i
-  pub jump : is_jump (row_named 1 i.op) ≡ true → IsAimed all tables last place i.c
+  pub jump : is_jump (row_named written_version i.op) ≡ true → IsAimed all tables last place i.c
   pub stack : TurnsInto tables (operation_of i.op) i (standing tables all place) (leaves tables (operation_of i.op) i (standing tables all place))
 
 -- the entries of texts that were pushed, the last one first, by their bounds
@@ -686,6 +688,7 @@ module _ (all : List Instruction) (tables : Tables) (last : ℕ) where
     command_ends (file_into folder) place h start =
         after_string place folder (plain File) h refl
     command_ends (set modifiers name value) place h start = after_string place value (set_variable tables modifiers name) h refl
+    command_ends (take_first most name) place h start = after_plain place _ (stands_first all place _ [] h) refl
     command_ends (store folder) place h start = after_string place folder (plain Store) h refl
     command_ends (for_every_part cs) place h start =
         let next : ℕ = place + 1 + commands_length cs in
@@ -725,6 +728,16 @@ module _ (all : List Instruction) (tables : Tables) (last : ℕ) where
   -- an instruction on the current part, where a loop is open
   store_sound : (place bound : ℕ) → standing tables all place ≡ Text bound ∷ [] → 0 < length (inside all place) → IsSound all tables last place (plain Store)
   store_sound place bound start deep = record { form = refl; loops = deep; index = tt; jump = λ e. absurd (cc); stack = λ code same. rw start refl }
+
+  take_sound : (place most : ℕ) (name : List ℕ) → Has tables (uses_with [] [] (name ∷ [])) → 0 < most → most ≤ max_value → standing tables all place ≡ [] → 0 < length (inside all place)
+      → IsSound all tables last place (take_octets most (place_of_variable tables name))
+  take_sound place most name known some few start deep = record {
+    form = rw (le-leb 1 most (omega (arith, some)), le-leb most max_value few) refl;
+    loops = deep;
+    index = (name, found_variable tables name [] [] known);
+    jump = λ e. absurd (cc);
+    stack = λ code same. rw start refl;
+  }
 
   each_sound : (place next : ℕ) → standing tables all place ≡ [] → next_at all place ≡ next → 0 < next → length (inside all place) < max_loops → IsSound all tables last place (instruction Each 0 next)
   each_sound place next start is some room = record {
@@ -798,6 +811,7 @@ module _ (all : List Instruction) (tables : Tables) (last : ℕ) where
         let of_value = has_left tables (string_uses value) (uses_with [] [] (name ∷ [])) both in
         let of_name = has_right tables (string_uses value) (uses_with [] [] (name ∷ [])) both in
         taking_sound place value (set_variable tables modifiers name) h of_value b start (λ after. set_sound (place + string_length value) (bound_of value) modifiers name of_name after)
+    command_sound (take_first most name) place loops h known b start within few in_loops deep = (take_sound place most name known b.0 b.1 start (omega (arith, in_loops, deep)), tt)
     command_sound (store folder) place loops h known b start within few in_loops deep =
         let same = flat_inside all (string_code tables folder) place (string_length folder) (string_code_length tables folder) (stands_left all place (string_code tables folder) (plain Store ∷ []) h) (string_flat tables folder) in
         taking_sound place folder (plain Store) h known b start (λ after. store_sound (place + string_length folder) (bound_of folder) after (omega (arith, in_loops, deep, ap length same)))

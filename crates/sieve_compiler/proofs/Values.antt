@@ -23,8 +23,9 @@ use Rattle.mail_matching.specs.PartTests.{exactly, body_match, digest_match}
 use Rattle.mime_decode.specs.Content.{digest_of}
 use Rattle.mime_decode.specs.Mail.{Mail, Part as MailPart}
 use Rattle.mime_decode.specs.Scope.{selected_values, visited}
-use Rattle.sieve_check.specs.Typed.{TestForm, constant, negation, all_of, any_of, size, header, exists, string, part_size, part_body, part_digest, TestForms, no_test, test, CommandForm, keep, discard, file_into, set, store, for_every_part, leave, stop, choice, CommandForms, no_command, command, BranchForms, no_branch, otherwise, branch}
-use Rattle.sieve_meaning.specs.Meaning.{scope_of, selector_of, Effects, no_effects, all_expanded, expanded, with_value, Verdict, verdict, matched, and_then, or_else, Ending, normal, stopped, broken, effects_of, followed_by, left, after_turn, turns, is_size, current, of_part, test_does, all_do, any_do, command_does, commands_do, choice_does}
+use Rattle.sieve_check.specs.Bounded.{IsBoundedCommand, AreBoundedCommands, AreBoundedBranches}
+use Rattle.sieve_check.specs.Typed.{TestForm, constant, negation, all_of, any_of, size, header, exists, string, part_size, part_body, part_digest, TestForms, no_test, test, CommandForm, keep, discard, file_into, set, take_first, store, for_every_part, leave, stop, choice, CommandForms, no_command, command, BranchForms, no_branch, otherwise, branch}
+use Rattle.sieve_meaning.specs.Meaning.{scope_of, selector_of, Effects, no_effects, all_expanded, expanded, with_taken, with_value, Verdict, verdict, matched, and_then, or_else, Ending, normal, stopped, broken, effects_of, followed_by, left, after_turn, turns, is_size, current, of_part, test_does, all_do, any_do, command_does, commands_do, choice_does}
 
 -- ---- short values
 
@@ -103,6 +104,14 @@ or_short : (b : Bool) (e : Effects) (next : Effects → Verdict) → AreShort e 
 or_short true e next short h = short
 or_short false e next short h = h e short
 
+taken_short : (most : ℕ) (name : List ℕ) (found : Option MailPart) (f : List ℕ → List ℕ) → most ≤ max_value → ((other : List ℕ) → IsShort (f other)) → (other : List ℕ) → IsShort (with_taken most name found f other)
+taken_short most name None f few short other = short other
+taken_short most name (Some p) f few short other = step (bytes_eq name other)
+  where
+    step : (b : Bool) → IsShort (if b then take most p.content else f other)
+    step true = omega (arith, few, length-take most p.content)
+    step false = short other
+
 set_short : (name text : List ℕ) (f : List ℕ → List ℕ) → ((other : List ℕ) → IsShort (f other)) → (other : List ℕ) → IsShort (with_value name (take max_value text) f other)
 set_short name text f short other = step (bytes_eq name other)
   where
@@ -170,28 +179,29 @@ module _ (mail : Mail) where
 
   mutual
     -- after a command
-    pub command_short : (part : Option ℕ) (c : CommandForm) (e : Effects) → AreShort e → AreShort (effects_of (command_does mail part c e))
-    command_short part keep e short = still e _ refl refl short
-    command_short part discard e short = still e _ refl refl short
-    command_short part (file_into folder) e short = still e _ refl refl short
-    command_short part (set modifiers name value) e short = record { variables = set_short name (modified modifiers (expanded e value)) e.variables short.variables; captures = short.captures }
-    command_short part (store folder) e short = still e _ refl refl short
-    command_short part (for_every_part cs) e short = turns_short (λ number f. commands_do mail (Some number) cs f) (visited part mail) e (λ number f h. commands_short (Some number) cs f h) short
-    command_short part (leave loops) e short = short
-    command_short part stop e short = short
-    command_short part (choice bs) e short = choice_short part bs e short
+    pub command_short : (part : Option ℕ) (c : CommandForm) (e : Effects) → IsBoundedCommand c → AreShort e → AreShort (effects_of (command_does mail part c e))
+    command_short part keep e b short = still e _ refl refl short
+    command_short part discard e b short = still e _ refl refl short
+    command_short part (file_into folder) e b short = still e _ refl refl short
+    command_short part (set modifiers name value) e b short = record { variables = set_short name (modified modifiers (expanded e value)) e.variables short.variables; captures = short.captures }
+    command_short part (take_first most name) e b short = record { variables = taken_short most name (current mail part) e.variables b.1 short.variables; captures = short.captures }
+    command_short part (store folder) e b short = still e _ refl refl short
+    command_short part (for_every_part cs) e b short = turns_short (λ number f. commands_do mail (Some number) cs f) (visited part mail) e (λ number f h. commands_short (Some number) cs f b h) short
+    command_short part (leave loops) e b short = short
+    command_short part stop e b short = short
+    command_short part (choice bs) e b short = choice_short part bs e b short
 
-    pub commands_short : (part : Option ℕ) (cs : CommandForms) (e : Effects) → AreShort e → AreShort (effects_of (commands_do mail part cs e))
-    commands_short part no_command e short = short
-    commands_short part (command c cs) e short = followed_short (command_does mail part c e) (λ f. commands_do mail part cs f) (command_short part c e short) (λ f h. commands_short part cs f h)
+    pub commands_short : (part : Option ℕ) (cs : CommandForms) (e : Effects) → AreBoundedCommands cs → AreShort e → AreShort (effects_of (commands_do mail part cs e))
+    commands_short part no_command e b short = short
+    commands_short part (command c cs) e b short = followed_short (command_does mail part c e) (λ f. commands_do mail part cs f) (command_short part c e b.0 short) (λ f h. commands_short part cs f b.1 h)
 
-    choice_short : (part : Option ℕ) (bs : BranchForms) (e : Effects) → AreShort e → AreShort (effects_of (choice_does mail part bs e))
-    choice_short part no_branch e short = short
-    choice_short part (otherwise cs) e short = commands_short part cs e short
-    choice_short part (branch t cs bs) e short =
+    choice_short : (part : Option ℕ) (bs : BranchForms) (e : Effects) → AreBoundedBranches bs → AreShort e → AreShort (effects_of (choice_does mail part bs e))
+    choice_short part no_branch e b short = short
+    choice_short part (otherwise cs) e b short = commands_short part cs e b short
+    choice_short part (branch t cs bs) e b short =
         let v = test_does mail part t e in
         let h = test_short part t e short in
-        decided_short v.value (commands_do mail part cs v.effects) (choice_does mail part bs v.effects) (commands_short part cs v.effects h) (choice_short part bs v.effects h)
+        decided_short v.value (commands_do mail part cs v.effects) (choice_does mail part bs v.effects) (commands_short part cs v.effects b.1 h) (choice_short part bs v.effects b.2 h)
 
 -- ---- the values of a table's variables
 

@@ -2,7 +2,7 @@
 use Rattle.std.specs.Prelude.{ℕ, ◌+◌, ◌*◌, Bool, true, false, not, List, [], ◌∷◌, ◌++◌, flat_map, length, map}
 use Rattle.bytecode_format.specs.declared.instruction.Instruction.{Instruction}
 use Rattle.bytecode_format.specs.declared.operation.Operation.{Operation}
-use Rattle.bytecode_format.specs.declared.operation.Operation.TheVariants.{Halt, Literal, Variable as VariableOp, Capture as CaptureOp, Join, Set, String, Bool as BoolOp, Jump, JumpIfTrue, JumpIfFalse, Header, Exists, Size, PartSize, PartBody, PartDigest, Keep, Discard, File, Store, Each, Next, Break}
+use Rattle.bytecode_format.specs.declared.operation.Operation.TheVariants.{Halt, Literal, Variable as VariableOp, Capture as CaptureOp, Join, Set, String, Bool as BoolOp, Jump, JumpIfTrue, JumpIfFalse, Header, Exists, Size, PartSize, PartBody, PartDigest, Keep, Discard, File, Store, Each, Next, Break, Take}
 use Rattle.bytecode_format.specs.declared.modifiers.Modifiers.{Modifiers}
 use Rattle.bytecode_format.specs.Modifiers.{modifiers_number}
 use Rattle.bytecode_format.specs.Operations.{octet_of}
@@ -18,7 +18,7 @@ use Rattle.sieve_check.specs.declared.typed.Segment.{Segment}
 use Rattle.sieve_check.specs.declared.typed.Segment.TheVariants.{Text, Variable, Capture}
 use Rattle.sieve_check.specs.declared.typed.Scope.{Scope}
 use Rattle.sieve_check.specs.declared.typed.Scope.TheVariants.{Message, Part, PartAndBelow}
-use Rattle.sieve_check.specs.Typed.{Template, Selected, whole, main, sub, content_type, params, params_of, TestForm, constant, negation, all_of, any_of, size, header, exists, string, part_size, part_body, part_digest, TestForms, no_test, test, CommandForm, keep, discard, file_into, set, store, for_every_part, leave, stop, choice, CommandForms, no_command, command, BranchForms, no_branch, otherwise, branch}
+use Rattle.sieve_check.specs.Typed.{Template, Selected, whole, main, sub, content_type, params, params_of, TestForm, constant, negation, all_of, any_of, size, header, exists, string, part_size, part_body, part_digest, TestForms, no_test, test, CommandForm, keep, discard, file_into, set, take_first, store, for_every_part, leave, stop, choice, CommandForms, no_command, command, BranchForms, no_branch, otherwise, branch}
 use Rattle.sieve_compiler.specs.Lengths.{test_length, tests_length, commands_length, command_length, leave_length, branches_length}
 use Rattle.sieve_compiler.specs.Tables.{Tables, tables_of, place_of_number, place_of_string, place_of_variable}
 
@@ -77,6 +77,10 @@ strings_code tables strings = flat_map (string_code tables) strings
 -- the text on the stack, modified, as the value of a variable
 abbrev pub set_variable : Tables → Modifiers → List ℕ → Instruction
 set_variable tables modifiers name = instruction Set (modifiers_number modifiers) (place_of_variable tables name)
+
+-- at most so many octets of the current part's content, the first ones, as the value of the variable at a place
+abbrev pub take_octets : ℕ → ℕ → Instruction
+take_octets most place = record { op = octet_of Take; a = 0; b = most; c = place }
 
 -- the number of a match: what it asks in bits 0 and 1, and the comparator in bit 2
 abbrev pub kind_number : MatchType → ℕ
@@ -184,6 +188,7 @@ abbrev mutual
   command_code tables place discard = plain Discard ∷ []
   command_code tables place (file_into folder) = string_code tables folder ++ plain File ∷ []
   command_code tables place (set modifiers name value) = string_code tables value ++ set_variable tables modifiers name ∷ []
+  command_code tables place (take_first most name) = take_octets most (place_of_variable tables name) ∷ []
   command_code tables place (store folder) = string_code tables folder ++ plain Store ∷ []
   -- the loop's brackets name each other's places
   command_code tables place (for_every_part cs) =
@@ -207,8 +212,12 @@ abbrev mutual
       let next = block + commands_length cs + leave_length bs in
       test_code tables place t false next ++ commands_code tables block cs ++ leave_code bs end ++ branches_code tables next bs end
 
+-- the version of the format that programs are written in
+abbrev pub written_version : ℕ
+written_version = 2
+
 -- the program of a script
 abbrev pub code_of : CommandForms → Code
 code_of script =
     let tables = tables_of script in
-    record { version = 1; variables = length tables.variables; numbers = tables.numbers; strings = tables.strings; instructions = commands_code tables 0 script ++ plain Halt ∷ [] }
+    record { version = written_version; variables = length tables.variables; numbers = tables.numbers; strings = tables.strings; instructions = commands_code tables 0 script ++ plain Halt ∷ [] }

@@ -1,7 +1,7 @@
 -- Commands that leave no more loops at once than may be open.
 use Rattle.std.specs.Prelude.{◌≤◌}
 use Rattle.octets.specs.Limits.{max_loops}
-use Rattle.sieve_check.specs.Typed.{CommandForm, keep, discard, file_into, set, store, for_every_part, leave, stop, choice, CommandForms, no_command, command, BranchForms, no_branch, otherwise, branch}
+use Rattle.sieve_check.specs.Typed.{CommandForm, keep, discard, file_into, set, take_first, store, for_every_part, leave, stop, choice, CommandForms, no_command, command, BranchForms, no_branch, otherwise, branch}
 
 abbrev mutual
   pub LeavesFew : CommandForm → Type 0
@@ -9,6 +9,7 @@ abbrev mutual
   LeavesFew discard = Unit {0}
   LeavesFew (file_into folder) = Unit {0}
   LeavesFew (set modifiers name value) = Unit {0}
+  LeavesFew (take_first most name) = Unit {0}
   LeavesFew (store folder) = Unit {0}
   LeavesFew (for_every_part cs) = LeaveFew cs
   LeavesFew (leave loops) = loops ≤ max_loops

@@ -1,6 +1,6 @@
 -- How many instructions the code of each piece has.
 use Rattle.std.specs.Prelude.{ℕ, ◌+◌, List, [], ◌∷◌, length, sum_by}
-use Rattle.sieve_check.specs.Typed.{Template, params_of, TestForm, constant, negation, all_of, any_of, size, header, exists, string, part_size, part_body, part_digest, TestForms, no_test, test, CommandForm, keep, discard, file_into, set, store, for_every_part, leave, stop, choice, CommandForms, no_command, command, BranchForms, no_branch, otherwise, branch}
+use Rattle.sieve_check.specs.Typed.{Template, params_of, TestForm, constant, negation, all_of, any_of, size, header, exists, string, part_size, part_body, part_digest, TestForms, no_test, test, CommandForm, keep, discard, file_into, set, take_first, store, for_every_part, leave, stop, choice, CommandForms, no_command, command, BranchForms, no_branch, otherwise, branch}
 
 -- a string is one instruction where it is one text or one reference; else its segments, and then they are joined
 abbrev pub string_length : Template → ℕ
@@ -42,6 +42,7 @@ abbrev mutual
   command_length discard = 1
   command_length (file_into folder) = string_length folder + 1
   command_length (set modifiers name value) = string_length value + 1
+  command_length (take_first most name) = 1
   command_length (store folder) = string_length folder + 1
   -- its block, between two instructions
   command_length (for_every_part cs) = commands_length cs + 2

@@ -1,6 +1,6 @@
 -- The numbers of a script, as they stand in it.
 use Rattle.std.specs.Prelude.{ℕ, List, [], ◌∷◌, ◌++◌}
-use Rattle.sieve_check.specs.Typed.{TestForm, constant, negation, all_of, any_of, size, header, exists, string, part_size, part_body, part_digest, TestForms, no_test, test, CommandForm, keep, discard, file_into, set, store, for_every_part, leave, stop, choice, CommandForms, no_command, command, BranchForms, no_branch, otherwise, branch}
+use Rattle.sieve_check.specs.Typed.{TestForm, constant, negation, all_of, any_of, size, header, exists, string, part_size, part_body, part_digest, TestForms, no_test, test, CommandForm, keep, discard, file_into, set, take_first, store, for_every_part, leave, stop, choice, CommandForms, no_command, command, BranchForms, no_branch, otherwise, branch}
 
 abbrev mutual
   -- the numbers of a test as they stand in it
@@ -28,6 +28,7 @@ abbrev mutual
   command_numbers discard = []
   command_numbers (file_into folder) = []
   command_numbers (set modifiers name value) = []
+  command_numbers (take_first most name) = []
   command_numbers (store folder) = []
   command_numbers (for_every_part cs) = commands_numbers cs
   command_numbers (leave loops) = []

@@ -2,7 +2,7 @@
 use Rattle.std.specs.Prelude.{ℕ, List, [], ◌∷◌, ◌++◌, flat_map}
 use Rattle.sieve_check.specs.declared.typed.Segment.{Segment}
 use Rattle.sieve_check.specs.declared.typed.Segment.TheVariants.{Text, Variable, Capture}
-use Rattle.sieve_check.specs.Typed.{Template, params_of, TestForm, constant, negation, all_of, any_of, size, header, exists, string, part_size, part_body, part_digest, TestForms, no_test, test, CommandForm, keep, discard, file_into, set, store, for_every_part, leave, stop, choice, CommandForms, no_command, command, BranchForms, no_branch, otherwise, branch}
+use Rattle.sieve_check.specs.Typed.{Template, params_of, TestForm, constant, negation, all_of, any_of, size, header, exists, string, part_size, part_body, part_digest, TestForms, no_test, test, CommandForm, keep, discard, file_into, set, take_first, store, for_every_part, leave, stop, choice, CommandForms, no_command, command, BranchForms, no_branch, otherwise, branch}
 
 abbrev pub segment_strings : Segment → List (List ℕ)
 segment_strings (Text octets) = octets ∷ []
@@ -43,6 +43,7 @@ abbrev mutual
   command_strings discard = []
   command_strings (file_into folder) = string_strings folder
   command_strings (set modifiers name value) = string_strings value
+  command_strings (take_first most name) = []
   command_strings (store folder) = string_strings folder
   command_strings (for_every_part cs) = commands_strings cs
   command_strings (leave loops) = []

@@ -4,7 +4,7 @@ ghost use Rattle.std.specs.Prelude.{◌≡◌, ◌<◌, ◌^◌, length};
 use crate::exits::{Exit, ListExit};
 use crate::instructions::{
     find_fields, instruction, join_texts, jump_if, match_body, match_digest, match_fields,
-    match_texts, push_bool, push_part_size, push_size,
+    match_texts, push_bool, push_part_size, push_size, take_octets,
 };
 use crate::lengths::{command_length, commands_length, is_left, test_length, tests_length};
 use crate::tables::Tables;
@@ -296,6 +296,10 @@ impl<'t, 's> Coder<'t, 's> {
                 self.put_string(value)?;
                 let place = self.tables.place_of_variable(name.as_slice()) as u32;
                 self.put(instruction(Operation::Set, modifiers.number(), place))?;
+            }
+            Command::Take { most, name } => {
+                let place = self.tables.place_of_variable(name.as_slice()) as u32;
+                self.put(take_octets(*most, place))?;
             }
             Command::Store(folder) => {
                 self.put_string(folder)?;

@@ -16,6 +16,9 @@ use bytecode_format::{Instruction, Operation, Program};
 use sieve_check::{Checked, Command};
 use std::alloc::{AllocError, Global};
 
+/// The version of the format that programs are written in.
+const WRITTEN_VERSION: u8 = 2;
+
 /// The program of a checked script: exactly its code, which is accepted, and whose run on every message ends with
 /// the final actions of the script's meaning.
 ///
@@ -39,7 +42,7 @@ fn compile_commands(alloc: Global, commands: &[Command]) -> Result<Program, Allo
     let instructions = code_with(alloc, &tables, commands)?;
     let strings = tables.strings(alloc)?;
     let numbers = tables.into_numbers();
-    Ok(Program::build(1, variables, numbers, strings, instructions).unwrap())
+    Ok(Program::build(WRITTEN_VERSION, variables, numbers, strings, instructions).unwrap())
 }
 
 // The instructions of a script's commands, with its tables.

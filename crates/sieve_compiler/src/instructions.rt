@@ -3,7 +3,7 @@ ghost use Rattle.std.specs.Prelude.{◌≡◌, ◌≤◌, length};
 ghost use Rattle.octets.specs.Limits.{max_test_strings};
 ghost use Rattle.sieve_check.specs.Typed.{params_of};
 ghost use Rattle.sieve_check.specs.TypedView.{selected_form};
-ghost use Rattle.sieve_compiler.specs.Coding.{comparator_number, find_fields, instruction, jump_if, kind_number, match_body, match_digest, match_fields, join_texts, match_texts, match_number, push_bool, push_part_size, push_size, scope_number, selector_number};
+ghost use Rattle.sieve_compiler.specs.Coding.{comparator_number, find_fields, instruction, jump_if, kind_number, match_body, match_digest, match_fields, join_texts, match_texts, match_number, push_bool, push_part_size, push_size, scope_number, selector_number, take_octets};
 
 use crate::exits::Exit;
 use bytecode_format::{Instruction, Operation};
@@ -105,6 +105,18 @@ pub fn match_digest(keys: u32) -> Instruction
     ensures { result ≡ match_digest keys }
 {
     instruction(Operation::PartDigest, 0, keys)
+}
+
+/// Takes at most so many octets of the current part's content, the first ones, into the variable at a place.
+pub fn take_octets(most: u16, place: u32) -> Instruction
+    ensures { result ≡ take_octets most place }
+{
+    Instruction {
+        op: Operation::Take.octet(),
+        a: 0,
+        b: most,
+        c: place,
+    }
 }
 
 /// Makes one text of so many.

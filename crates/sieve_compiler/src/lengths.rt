@@ -83,7 +83,11 @@ pub fn command_length(command: &Command) -> u32
     ensures { result ≡ command_length (command_form command.now) }
 {
     match command {
-        Command::Keep | Command::Discard | Command::Break(_) | Command::Stop => 1,
+        Command::Keep
+        | Command::Discard
+        | Command::Take { .. }
+        | Command::Break(_)
+        | Command::Stop => 1,
         Command::FileInto(folder) | Command::Store(folder) => string_length(folder) + 1,
         Command::Set { value, .. } => string_length(value) + 1,
         Command::ForEveryPart(block) => commands_length(block) + 2,

@@ -121,6 +121,7 @@ impl<'a> Tables<'a> {
         match command {
             Command::Keep | Command::Discard | Command::Break(_) | Command::Stop => {}
             Command::FileInto(folder) | Command::Store(folder) => self.add_string(folder)?,
+            Command::Take { name, .. } => self.add_variable(name.as_slice())?,
             Command::ForEveryPart(block) => self.add_commands(block)?,
             Command::Set { name, value, .. } => {
                 self.add_string(value)?;

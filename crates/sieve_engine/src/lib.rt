@@ -9,6 +9,9 @@
 //! *Accepts* is `IsAccepted` of bytecode_verifier; *runs*, *traps* and *charges* are `step`, `Run` and `charge` of
 //! sieve_vm; the *budget* is `budget_of`, and a report's limit its value at the message; a *read message* is `mail_of`
 //! any octets up to the limits; *compiled* is `code_of` of sieve_compiler, and the *meaning* `meaning` of sieve_meaning.
+//!
+//! In version 2 the budget counts chains of parts, and can't be lowered for programs that only store and file: on a
+//! message of parts in each other they charge all of it (`plain_programs_charge_their_budget_on_chains` of sieve_vm).
 #![tactic(auto)]
 
 mod evaluation;

@@ -119,7 +119,15 @@ fine_tag : (given : Tag) → Fine (tag_words given)
 fine_tag tag.Comparator = refl
 fine_tag (tag.Select piece) = refl
 fine_tag tag.Name = refl
-fine_tag _ = refl
+fine_tag tag.First = refl
+fine_tag (tag.Order order) = refl
+fine_tag (tag.Kind kind) = refl
+fine_tag (tag.Letters case) = refl
+fine_tag (tag.FirstLetter case) = refl
+fine_tag tag.QuoteWildcard = refl
+fine_tag tag.Length = refl
+fine_tag tag.Mime = refl
+fine_tag tag.AnyChild = refl
 
 fine_words : (kind : ReasonKind) (name : List ℕ) → Fine (reason_words kind name)
 fine_words reasons.UnknownCommand name = fine_command_words name

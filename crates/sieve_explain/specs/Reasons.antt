@@ -61,7 +61,15 @@ abbrev pub tag_words : Tag → List ℕ
 tag_words tag.Comparator = codes "the name of a comparator, \"i;octet\" or \"i;ascii-casemap\""
 tag_words (tag.Select piece) = codes "the names of parameters, a string or list of strings"
 tag_words tag.Name = codes "the name of a loop, a string"
-tag_words _ = codes "its argument"
+tag_words tag.First = codes "a number of octets, 1 or more"
+tag_words (tag.Order order) = codes "its argument"
+tag_words (tag.Kind kind) = codes "its argument"
+tag_words (tag.Letters case) = codes "its argument"
+tag_words (tag.FirstLetter case) = codes "its argument"
+tag_words tag.QuoteWildcard = codes "its argument"
+tag_words tag.Length = codes "its argument"
+tag_words tag.Mime = codes "its argument"
+tag_words tag.AnyChild = codes "its argument"
 
 -- the words of a sentence, by its reason and the name of the command or test
 abbrev pub reason_words : ReasonKind → List ℕ → List ℕ

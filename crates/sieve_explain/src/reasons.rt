@@ -87,7 +87,15 @@ fn tag_words(tag: Tag) -> &'static str
         Tag::Comparator => "the name of a comparator, \"i;octet\" or \"i;ascii-casemap\"",
         Tag::Select(_) => "the names of parameters, a string or list of strings",
         Tag::Name => "the name of a loop, a string",
-        _ => "its argument",
+        Tag::First => "a number of octets, 1 or more",
+        Tag::Order(_)
+        | Tag::Kind(_)
+        | Tag::Letters(_)
+        | Tag::FirstLetter(_)
+        | Tag::QuoteWildcard
+        | Tag::Length
+        | Tag::Mime
+        | Tag::AnyChild => "its argument",
     }
 }
 

@@ -17,7 +17,7 @@ use Rattle.sieve_check.specs.declared.typed.Scope.{Scope}
 use Rattle.sieve_check.specs.declared.typed.Scope.TheVariants.{Message, Part, PartAndBelow}
 use Rattle.sieve_check.specs.declared.typed.Segment.{Segment}
 use Rattle.sieve_check.specs.declared.typed.Segment.TheVariants.{Text, Variable, Capture}
-use Rattle.sieve_check.specs.Typed.{Template, Selected, whole, main, sub, content_type, params, TestForm, constant, negation, all_of, any_of, header, exists, size, string, part_size, part_body, part_digest, TestForms, no_test, test, CommandForm, keep, discard, file_into, set, store, for_every_part, leave, stop, choice, CommandForms, no_command, command, BranchForms, no_branch, otherwise, branch}
+use Rattle.sieve_check.specs.Typed.{Template, Selected, whole, main, sub, content_type, params, TestForm, constant, negation, all_of, any_of, header, exists, size, string, part_size, part_body, part_digest, TestForms, no_test, test, CommandForm, keep, discard, file_into, set, take_first, store, for_every_part, leave, stop, choice, CommandForms, no_command, command, BranchForms, no_branch, otherwise, branch}
 
 -- what a script has done so far: the values of variables by their names in lower case, the captures of the last match that set
 -- them, the actions, and whether the implicit keep stands
@@ -136,6 +136,12 @@ abbrev pub of_part : (MailPart → Verdict) → Effects → Option MailPart → 
 of_part does effects None = verdict false effects
 of_part does effects (Some part) = does part
 
+-- the values of variables after the first octets of the current part's content were taken into one, at most so many; as they were,
+-- where there is no part, as in no checked script
+abbrev pub with_taken : ℕ → List ℕ → Option MailPart → (List ℕ → List ℕ) → List ℕ → List ℕ
+with_taken most name None variables = variables
+with_taken most name (Some part) variables = with_value name (take most part.content) variables
+
 -- the actions of storing the current part in a folder
 abbrev pub stored : Option ℕ → List ℕ → List Action
 stored None folder = []
@@ -178,6 +184,8 @@ abbrev mutual
   -- the value is expanded, modified and cut (RFC 5229, section 4)
   command_does mail part (set modifiers name value) effects =
       normal (record effects { variables = with_value name (take max_value (modified modifiers (expanded effects value))) effects.variables })
+  -- all of the content, where it has no more octets than that; ours
+  command_does mail part (take_first most name) effects = normal (record effects { variables = with_taken most name (current mail part) effects.variables })
   -- the implicit keep stands as it stood; ours
   command_does mail part (store folder) effects = normal (record effects { actions = effects.actions ++ stored part (expanded effects folder) })
   -- outside of loops each part of the message, in a loop each one below its current part, in preorder (RFC 5703, section 3)

@@ -50,7 +50,7 @@ impl<'s, 'm> Evaluator<'s, 'm> {
     ghost use Rattle.sieve_check.specs.TypedView.{command_form, commands_form};
     ghost use Rattle.octets.specs.Limits.{max_value};
     ghost use Rattle.bytecode_format.specs.Modifiers.{modified};
-    ghost use Rattle.sieve_meaning.specs.Meaning.{Effects, no_effects, command_does, commands_do, expanded, stored, turns, with_value};
+    ghost use Rattle.sieve_meaning.specs.Meaning.{Effects, no_effects, command_does, commands_do, current, expanded, stored, turns, with_taken, with_value};
     ghost use Rattle.sieve_meaning.specs.Evaluation.{StandsFor, StandsAt};
     ghost use Rattle.mime_decode.specs.Scope.{visited};
 
@@ -87,6 +87,26 @@ impl<'s, 'm> Evaluator<'s, 'm> {
     {
         let text = self.expanded(alloc, value)?;
         let value = modifiers.apply(alloc, text.as_slice(), MAX_VALUE)?;
+        self.variables.set(name, value)?;
+        Ok(())
+    }
+
+    // Gives a variable the first octets of the current part's content, at most so many; nothing, where there is no part.
+    fn take(
+        &mut self,
+        alloc: Global,
+        subject: Subject<'_, 'm>,
+        most: u16,
+        name: &'s [u8],
+    ) -> Result<(), AllocError>
+        ensures { (e : Effects) → StandsFor e self.old → OnOk result (StandsFor (record e { variables = with_taken most name.now (current subject.entry.message.now subject.entry.part) e.variables }) self.new) }
+    {
+        let Some(content) = subject.content(alloc)? else {
+            return Ok(());
+        };
+        let octets = content.as_slice();
+        let taken = &octets[..octets.len().min(usize::from(most))];
+        let value = Octets::from_vec(Vec::from_slice(alloc, taken)?);
         self.variables.set(name, value)?;
         Ok(())
     }
@@ -146,6 +166,7 @@ impl<'s, 'm> Evaluator<'s, 'm> {
                 name,
                 value,
             } => self.set(alloc, *modifiers, name.as_slice(), value)?,
+            Command::Take { most, name } => self.take(alloc, subject, *most, name.as_slice())?,
             Command::Store(folder) => {
                 let folder = self.expanded(alloc, folder)?;
                 self.store(subject.part, folder)?;

@@ -4,7 +4,7 @@ use Rattle.std.specs.Prelude.{codes}
 use Rattle.sieve_parser.specs.Tree.{ArgumentTree, text, text_list, amount, label, invocation, TestsTree, no_test, one_test, test_list, last, next, CommandsTree, simple, block, no_command, command}
 use Rattle.sieve_check.specs.declared.error.Fault.TheVariants as fault
 use Rattle.sieve_check.specs.declared.names.Capability.TheVariants as capability
-use Rattle.sieve_check.specs.declared.names.Tag.TheVariants.{Comparator, Select, Name}
+use Rattle.sieve_check.specs.declared.names.Tag.TheVariants.{Comparator, Select, Name, First}
 use Rattle.sieve_check.specs.declared.names.Piece.TheVariants.{Params}
 use Rattle.sieve_check.specs.declared.signature.Positional.TheVariants.{Text, TwoLists}
 use Rattle.sieve_check.specs.declared.signature.Tests.TheVariants as tests
@@ -43,6 +43,20 @@ no_reason = refl
 -- FileInto "x";
 lacking : reason_of (plainly (codes "FileInto") (text (codes "x") ∷ []) no_test) fault.MissingCapability 4 ≡ because (MissingCapability capability.FileInto) (codes "FileInto") []
 lacking = refl
+
+-- take "v"; where nothing was required, and after require "variables"; the first capability that lacks is named
+lacking_both : reason_of (plainly (codes "take") (text (codes "v") ∷ []) no_test) fault.MissingCapability 4 ≡ because (MissingCapability capability.Variables) (codes "take") []
+lacking_both = refl
+
+lacking_second : reason_of (requiring (codes "variables") (plainly (codes "take") (text (codes "v") ∷ []) no_test)) fault.MissingCapability 4 ≡ because (MissingCapability capability.Depot) (codes "take") []
+lacking_second = refl
+
+lacking_first : reason_of (requiring (codes "vnd.depot") (plainly (codes "take") (text (codes "v") ∷ []) no_test)) fault.MissingCapability 4 ≡ because (MissingCapability capability.Variables) (codes "take") []
+lacking_first = refl
+
+-- where none lacks there is no such reason
+lacking_none : reason_of (requiring (codes "fileinto") (plainly (codes "fileinto") (text (codes "x") ∷ []) no_test)) fault.MissingCapability 4 ≡ None
+lacking_none = refl
 
 -- require ["fileinto", "copy", "regex"];
 unknown_capability : reason_of (plainly (codes "require") (text_list (codes "fileinto") (codes "copy" ∷ codes "regex" ∷ []) ∷ []) no_test) fault.UnknownCapability 4
@@ -86,6 +100,15 @@ param = refl
 -- break :name;
 unnamed : reason_of (plainly (codes "break") (label (codes "name") ∷ []) no_test) fault.BadArguments 4 ≡ because (TagArgument Name) (codes "break") (codes "name")
 unnamed = refl
+
+-- require "variables"; take :first 0 "v"; without what else it needs
+no_number : reason_of (requiring (codes "variables") (plainly (codes "take") (label (codes "first") ∷ amount 0 ∷ text (codes "v") ∷ []) no_test)) fault.BadArguments 4
+    ≡ because (TagArgument First) (codes "take") (codes "first")
+no_number = refl
+
+-- and take "v"; outside of a loop
+lone_take : reason_of (requiring (codes "variables") (plainly (codes "take") (text (codes "v") ∷ []) no_test)) fault.BadArguments 4 ≡ because Misplaced (codes "take") []
+lone_take = refl
 
 -- size 100
 no_order : reason_of (testing (codes "size") (amount 100 ∷ []) no_test) fault.BadArguments 4 ≡ because MissingOrder (codes "size") []

@@ -1,4 +1,4 @@
--- The reason is that of the surroundings in which the checker has the command or test.
+-- The reason is that of the surroundings in which the checker has the command or test, and each refusal has one.
 use Rattle.std.proofs.Common.{◌≡◌, ◌∙◌, ℕ, ◌+◌, ◌==◌, Bool, true, false, ◌||◌, if◌then◌else◌, List, [], ◌∷◌, ◌++◌, Option, Some, None, map, option_map, refl, sym, ap, subst}
 use Rattle.std.specs.Prelude.{is_some}
 use Rattle.std.specs.Option.{option_and_then, option_or, unwrap_or}
@@ -8,7 +8,7 @@ use Rattle.sieve_parser.specs.Tree.{ArgumentTree, InvocationTree, invocation, Te
 use Rattle.sieve_check.specs.declared.error.Fault.{Fault}
 use Rattle.sieve_check.specs.declared.error.Fault.TheVariants.{UnknownCommand, MissingCapability, UnknownCapability, BadArguments, Limit}
 use Rattle.sieve_check.specs.declared.names.CommandName.{CommandName}
-use Rattle.sieve_check.specs.declared.names.CommandName.TheVariants.{Require, If, Elsif, Else, Stop, Keep, Discard, FileInto, Set, ForEveryPart, Break, Store}
+use Rattle.sieve_check.specs.declared.names.CommandName.TheVariants.{Require, If, Elsif, Else, Stop, Keep, Discard, FileInto, Set, ForEveryPart, Break, Store, Take}
 use Rattle.sieve_check.specs.declared.names.Capability.TheVariants.{Variables}
 use Rattle.sieve_check.specs.declared.signature.Ending.{Ending}
 use Rattle.sieve_check.specs.declared.signature.Ending.TheVariants.{Semicolon, Block}
@@ -19,11 +19,11 @@ use Rattle.sieve_check.specs.Names.{command_named}
 use Rattle.sieve_check.specs.Rules.{Mentions, after_invocation, command_mentions, command_needs, fault_by_name, first_fault, has_large_mention, has_long_string, has_unknown_capability, has_wrong_mention, invocation_of, kind_of, known_command_fault, loops_opened, names_with, no_mention, opened_by, refusal, same_ending, same_tests, strings_of, visit_fault}
 use Rattle.sieve_check.proofs.Options.{both_none}
 use Rattle.sieve_check.specs.Signatures.{command_signature, reading}
-use Rattle.sieve_check.specs.Surroundings.{Context, at_start, following, has_capability, in_block, lacks, opens_many}
+use Rattle.sieve_check.specs.Surroundings.{Context, at_start, first_lacking, following, has_capability, in_block, lacks, opens_many}
 use Rattle.sieve_reasons.specs.Causes.{Cause, plain}
 use Rattle.sieve_reasons.specs.Heads.{Found, at_token, behind_requires, heads_in, is_require, is_requiring, stated, tests_heads}
-use Rattle.sieve_reasons.specs.Laws.{IsOfItsSurroundings}
-use Rattle.sieve_reasons.specs.Reasons.{bad_command, cause_by, cause_of, ending_cause, large_command, large_mention_cause, long_string_cause, many_kind, mention_cause, place_cause, reason_at, shape_cause, with_name}
+use Rattle.sieve_reasons.specs.Laws.{EachRefusalHasReason, IsOfItsSurroundings}
+use Rattle.sieve_reasons.specs.Reasons.{Reason, bad_command, cause_by, cause_of, ending_cause, lacking, large_command, large_mention_cause, long_string_cause, many_kind, mention_cause, place_cause, reason_at, shape_cause, with_name}
 use Rattle.sieve_reasons.specs.Visited.{Visited, visited, command_visited, commands_visited, visit_of, visited_at}
 use Rattle.sieve_reasons.proofs.Left.{faults}
 use Rattle.sieve_reasons.proofs.Reasoned.{if_true, later, reasoned, same_refusal, skipped, some_then, token_of}
@@ -82,6 +82,7 @@ is_require_so (Some Set) h = absurd (cc)
 is_require_so (Some ForEveryPart) h = absurd (cc)
 is_require_so (Some Break) h = absurd (cc)
 is_require_so (Some Store) h = absurd (cc)
+is_require_so (Some Take) h = absurd (cc)
 
 -- after another command as much was required as before it, and no `require` may follow
 abbrev IsKept : Context → Context → Type 0
@@ -101,6 +102,7 @@ other_keeps s (Some Set) strings h = (refl, refl)
 other_keeps s (Some ForEveryPart) strings h = (refl, refl)
 other_keeps s (Some Break) strings h = (refl, refl)
 other_keeps s (Some Store) strings h = (refl, refl)
+other_keeps s (Some Take) strings h = (refl, refl)
 
 other_after : (s : Context) (i : InvocationTree) → is_requiring i ≡ false → IsKept s (after_invocation s i)
 other_after s (invocation token name args tests) h = other_keeps s (command_named name) (strings_of args) h
@@ -145,7 +147,9 @@ module _ (around : Context) where
 
   alike_require : (s : Context) (token : ℕ) (name : List ℕ) (args : List ArgumentTree) (tests : Tests) (ending : Ending) → command_named name ≡ Some Require → IsAlike s (stated (Some ending) token name args tests)
   alike_require s token name args tests ending is UnknownCommand = refl
-  alike_require s token name args tests ending is MissingCapability = refl
+  alike_require s token name args tests ending is MissingCapability =
+      let lacked = λ (s : Context) (o : Option CommandName). option_map lacking (option_and_then (λ name. first_lacking (command_needs name) s.required) o) in
+      ap (lacked around) is ∙ sym (ap (lacked s) is)
   alike_require s token name args tests ending is UnknownCapability = refl
   alike_require s token name args tests ending is BadArguments =
       let found = stated (Some ending) token name args tests in
@@ -237,8 +241,8 @@ module _ (around : Context) where
         ∙ sym (ap (λ (o : Option Visited). option_and_then (λ (v : Visited). reason_at v.around fault v.found) o) (if_true (f.token == token) v (visited_at token vs) (eq-eqb f.token token here)))
     same_step names v vs alike rise None own h behind =
         let f = v.found in
-        let found = reasoned token around fault (names_with names (visit_of v)) vs (f.token + 1) rise h in
-        let above = later token (f.token + 1) (founds vs) rise (some_then (reason_at around fault) (at_token token (founds vs)) found) in
+        let found = reasoned token fault (names_with names (visit_of v)) vs (f.token + 1) rise h in
+        let above = later token (f.token + 1) vs rise (some_then (λ (v : Visited). reason_at v.around fault v.found) (visited_at token vs) found) in
         let none = (both_none (visit_of v).fault _ own).0 in
         ap (λ (o : Option Found). option_and_then (reason_at around fault) o) (skipped token f.token f (at_token token (founds vs)) (f.token == token) refl above)
         ∙ behind (alike.1 none) h
@@ -257,4 +261,11 @@ of_its_surroundings script fault token tree h =
     let same = heads_of_commands at_start script in
     ap (λ (heads : List Found). option_and_then (reason_at around fault) (at_token token heads)) (sym same)
     ∙ same_reason around token fault [] all 0 (alike_from around at_start script refl) (subst (λ (heads : List Found). Rising 0 (tokens_of heads)) (sym same) (tokens_rise script tree))
+    (ap (first_fault []) (of_commands at_start script) ∙ h)
+
+pub each_reasoned : EachRefusalHasReason
+each_reasoned script fault token tree h =
+    let all = commands_visited at_start script in
+    ap (λ (o : Option Reason). is_some o) (of_its_surroundings script fault token tree h)
+    ∙ reasoned token fault [] all 0 (subst (λ (heads : List Found). Rising 0 (tokens_of heads)) (sym (heads_of_commands at_start script)) (tokens_rise script tree))
     (ap (first_fault []) (of_commands at_start script) ∙ h)

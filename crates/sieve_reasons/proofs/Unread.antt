@@ -134,6 +134,15 @@ end_either signature all read =
 
 -- ---- all of them
 
+-- where no tag is next, the arguments that are left stand behind the tags
+pub behind_tags : (signature : Signature) (all : List ArgumentTree) (given : Given) (args : List ArgumentTree) → ((name : List ℕ) (rest : List ArgumentTree) → args ≡ label name ∷ rest → ⊥)
+    → option_or (positional_cause signature.positional args) (missing_cause signature given.tags all) ≡ rest_cause signature all given None args
+behind_tags signature all given [] none = refl
+behind_tags signature all given (text s ∷ args) none = refl
+behind_tags signature all given (text_list s ss ∷ args) none = refl
+behind_tags signature all given (amount n ∷ args) none = refl
+behind_tags signature all given (label name ∷ args) none = absurd (none name args refl)
+
 abbrev tag_of : Option Awaiting → Option Tag
 tag_of = option_map (λ (a : Awaiting). a.tag)
 

@@ -5,7 +5,7 @@ use Rattle.sieve_parser.specs.Tree.{ArgumentTree, text, text_list, amount, label
 use Rattle.bytecode_format.specs.declared.modifiers.Case.{Case}
 use Rattle.bytecode_format.specs.declared.modifiers.Case.TheVariants.{Lower, Upper}
 use Rattle.sieve_check.specs.declared.names.Tag.{Tag}
-use Rattle.sieve_check.specs.declared.names.Tag.TheVariants.{Letters, First, AnyChild, Select}
+use Rattle.sieve_check.specs.declared.names.Tag.TheVariants.{Letters, FirstLetter, AnyChild, Select}
 use Rattle.sieve_check.specs.declared.signature.Positional.{Positional}
 use Rattle.sieve_check.specs.declared.signature.Positional.TheVariants.{Nothing, Number, Text, TwoTexts, OneList, TwoLists}
 use Rattle.sieve_check.specs.declared.signature.Signature.{Signature}
@@ -27,7 +27,7 @@ is_other_case (Some Upper) Upper = false
 -- a modifier after a different one of the same precedence
 abbrev pub is_second_modifier : Tag → Tags → Bool
 is_second_modifier (Letters case) tags = is_other_case tags.modifiers.letters case
-is_second_modifier (First case) tags = is_other_case tags.modifiers.first case
+is_second_modifier (FirstLetter case) tags = is_other_case tags.modifiers.first case
 is_second_modifier _ tags = false
 
 -- what is wrong with a tag that can't be added to those that were given

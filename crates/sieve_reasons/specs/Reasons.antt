@@ -7,7 +7,7 @@ use Rattle.sieve_check.specs.declared.error.Fault.{Fault}
 use Rattle.sieve_check.specs.declared.error.Fault.TheVariants as fault
 use Rattle.sieve_check.specs.declared.names.Capability.{Capability}
 use Rattle.sieve_check.specs.declared.names.CommandName.{CommandName}
-use Rattle.sieve_check.specs.declared.names.CommandName.TheVariants.{Break, ForEveryPart}
+use Rattle.sieve_check.specs.declared.names.CommandName.TheVariants.{Require, If, Elsif, Else, Stop, Keep, Discard, FileInto, Set, ForEveryPart, Break, Store, Take}
 use Rattle.sieve_check.specs.declared.names.TestName.{TestName}
 use Rattle.sieve_check.specs.declared.signature.Ending.{Ending}
 use Rattle.sieve_check.specs.declared.signature.Signature.{Signature}
@@ -16,7 +16,7 @@ use Rattle.sieve_check.specs.declared.string_faults.StringFault.TheVariants.{Unk
 use Rattle.sieve_check.specs.Names.{command_named, test_named}
 use Rattle.sieve_check.specs.Rules.{Mentions, command_mentions, command_needs, has_many_strings, is_long_name, name_read, same_ending, same_tests, string_has, strings_of, test_mentions, test_needs}
 use Rattle.sieve_check.specs.Signatures.{command_signature, ending_of, reading, test_signature}
-use Rattle.sieve_check.specs.Surroundings.{Context, at_start}
+use Rattle.sieve_check.specs.Surroundings.{Context, at_start, first_lacking}
 use Rattle.sieve_reasons.specs.declared.kind.ReasonKind.{ReasonKind}
 use Rattle.sieve_reasons.specs.declared.kind.ReasonKind.TheVariants.{UnknownCommand, UnknownTest, MissingCapability, UnknownCapability, WrongTests, WrongEnding, Namespace, CaptureIndex, VariableName, NoSuchLoop, Misplaced, LongString, ManyStrings, ManySegments, LongName, ManyLoops, ManyVariables}
 use Rattle.sieve_reasons.specs.Arguments.{arguments_cause}
@@ -60,7 +60,18 @@ mention_cause mentions =
 -- a wrong place: of a `break` with a name, that no loop around it has that name
 abbrev pub place_cause : CommandName → List ArgumentTree → Cause
 place_cause Break args = option_map_or (about NoSuchLoop) (name_read (reading (command_signature Break) args)) (plain Misplaced)
-place_cause _ args = plain Misplaced
+place_cause Require args = plain Misplaced
+place_cause If args = plain Misplaced
+place_cause Elsif args = plain Misplaced
+place_cause Else args = plain Misplaced
+place_cause Stop args = plain Misplaced
+place_cause Keep args = plain Misplaced
+place_cause Discard args = plain Misplaced
+place_cause FileInto args = plain Misplaced
+place_cause Set args = plain Misplaced
+place_cause ForEveryPart args = plain Misplaced
+place_cause Store args = plain Misplaced
+place_cause Take args = plain Misplaced
 
 -- what is wrong with a command or test apart from its place: the first that holds
 abbrev pub ill_formed_command : Context → CommandName → Found → Ending → Option Cause
@@ -118,7 +129,18 @@ oversized_test s name found =
 -- or else what the script has too many of with it: open loops where it is a loop, and variables where it is anything else
 abbrev pub many_kind : CommandName → ReasonKind
 many_kind ForEveryPart = ManyLoops
-many_kind _ = ManyVariables
+many_kind Require = ManyVariables
+many_kind If = ManyVariables
+many_kind Elsif = ManyVariables
+many_kind Else = ManyVariables
+many_kind Stop = ManyVariables
+many_kind Keep = ManyVariables
+many_kind Discard = ManyVariables
+many_kind FileInto = ManyVariables
+many_kind Set = ManyVariables
+many_kind Break = ManyVariables
+many_kind Store = ManyVariables
+many_kind Take = ManyVariables
 
 abbrev pub large_command : Context → CommandName → Found → Cause
 large_command s name found = unwrap_or (oversized_command s name found) (plain (many_kind name))
@@ -137,14 +159,14 @@ unknown_cause args = option_map (about UnknownCapability) (first_where (string_h
 
 abbrev pub command_cause : Context → Fault → Found → Ending → Option Cause
 command_cause s fault.UnknownCommand found ending = Some (plain UnknownCommand)
-command_cause s fault.MissingCapability found ending = option_map lacking (option_and_then command_needs (command_named found.name))
+command_cause s fault.MissingCapability found ending = option_map lacking (option_and_then (λ name. first_lacking (command_needs name) s.required) (command_named found.name))
 command_cause s fault.UnknownCapability found ending = unknown_cause found.arguments
 command_cause s fault.BadArguments found ending = option_map (λ name. bad_command s name found ending) (command_named found.name)
 command_cause s fault.Limit found ending = option_map (λ name. large_command s name found) (command_named found.name)
 
 abbrev pub test_cause : Context → Fault → Found → Option Cause
 test_cause s fault.UnknownCommand found = Some (plain UnknownTest)
-test_cause s fault.MissingCapability found = option_map lacking (option_and_then (λ name. test_needs name found.arguments) (test_named found.name))
+test_cause s fault.MissingCapability found = option_map lacking (option_and_then (λ name. first_lacking (test_needs name found.arguments) s.required) (test_named found.name))
 test_cause s fault.UnknownCapability found = unknown_cause found.arguments
 test_cause s fault.BadArguments found = option_map (λ name. bad_test s name found) (test_named found.name)
 test_cause s fault.Limit found = option_map (λ name. large_test s name found) (test_named found.name)

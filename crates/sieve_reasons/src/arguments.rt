@@ -8,8 +8,8 @@ ghost use Rattle.sieve_reasons.specs.View.{Settles, cause_view};
 
 use crate::kind::{Cause, ReasonKind};
 use sieve_check::{
-    Piece, Positional, Reading, Signature, Tag, Tags, comparator_named, first_list, first_tag,
-    first_text, tag_named,
+    Piece, Positional, Reading, Signature, Tag, Tags, comparator_named, first_list, first_number,
+    first_tag, first_text, tag_named,
 };
 use sieve_parser::Argument;
 
@@ -19,7 +19,7 @@ fn is_second_modifier(tag: Tag, tags: Tags) -> bool
 {
     match tag {
         Tag::Letters(case) => tags.modifiers.letters.is_some_and(|other| other != case),
-        Tag::First(case) => tags.modifiers.first.is_some_and(|other| other != case),
+        Tag::FirstLetter(case) => tags.modifiers.first.is_some_and(|other| other != case),
         Tag::Order(_)
         | Tag::Kind(_)
         | Tag::Comparator
@@ -28,7 +28,8 @@ fn is_second_modifier(tag: Tag, tags: Tags) -> bool
         | Tag::Mime
         | Tag::AnyChild
         | Tag::Select(_)
-        | Tag::Name => false,
+        | Tag::Name
+        | Tag::First => false,
     }
 }
 
@@ -86,6 +87,25 @@ fn with_name(reading: Reading<'_>) -> Option<Reading<'_>>
     })
 }
 
+// What was read so far, with the number of `:first`, which comes next and isn't zero.
+fn with_first(reading: Reading<'_>) -> Option<Reading<'_>>
+    ensures { Settles reading.entry Tag.First result }
+{
+    let (number, rest) = first_number(reading.positional)?;
+    if number == 0 {
+        return None;
+    }
+    let tags = Tags {
+        first: Some(number),
+        ..reading.tags
+    };
+    Some(Reading {
+        tags,
+        positional: rest,
+        ..reading
+    })
+}
+
 // What was read so far, with the argument that the tag takes.
 fn with_argument(tag: Tag, reading: Reading<'_>) -> Option<Reading<'_>>
     ensures { Settles reading.entry tag result }
@@ -94,7 +114,7 @@ fn with_argument(tag: Tag, reading: Reading<'_>) -> Option<Reading<'_>>
         Tag::Order(_)
         | Tag::Kind(_)
         | Tag::Letters(_)
-        | Tag::First(_)
+        | Tag::FirstLetter(_)
         | Tag::QuoteWildcard
         | Tag::Length
         | Tag::Mime
@@ -105,6 +125,7 @@ fn with_argument(tag: Tag, reading: Reading<'_>) -> Option<Reading<'_>>
             Piece::Params => with_params(reading),
         },
         Tag::Name => with_name(reading),
+        Tag::First => with_first(reading),
     }
 }
 

@@ -5,6 +5,7 @@ ghost use Rattle.sieve_parser.specs.View.{commands_tree};
 ghost use Rattle.sieve_check.specs.Names.{command_named, test_named};
 ghost use Rattle.sieve_check.specs.Refusing.{context_of};
 ghost use Rattle.sieve_check.specs.Rules.{arguments_of, command_needs, test_needs};
+ghost use Rattle.sieve_check.specs.Surroundings.{first_lacking};
 ghost use Rattle.sieve_reasons.specs.Reasons.{bad_command, bad_test, cause_of, command_cause, ending_cause, lacking, large_command, large_test, long_string_cause, ill_formed_command, ill_formed_test, many_kind, many_strings_cause, oversized_command, oversized_test, place_cause, reason_of, shape_cause, test_cause, unknown_cause};
 ghost use Rattle.sieve_reasons.specs.View.{cause_view, found_view, view_of};
 
@@ -75,7 +76,8 @@ fn place_cause(name: CommandName, head: &Head) -> Cause<'_>
         | CommandName::FileInto
         | CommandName::Set
         | CommandName::ForEveryPart
-        | CommandName::Store => Cause::plain(ReasonKind::Misplaced),
+        | CommandName::Store
+        | CommandName::Take => Cause::plain(ReasonKind::Misplaced),
     }
 }
 
@@ -171,7 +173,8 @@ fn many_kind(name: CommandName) -> ReasonKind
         | CommandName::FileInto
         | CommandName::Set
         | CommandName::Break
-        | CommandName::Store => ReasonKind::ManyVariables,
+        | CommandName::Store
+        | CommandName::Take => ReasonKind::ManyVariables,
     }
 }
 
@@ -238,21 +241,25 @@ fn unknown_cause(head: &Head) -> Option<Cause<'_>>
     Some(Cause::about(ReasonKind::UnknownCapability, string))
 }
 
-// The capability that a command lacks, if it needs one.
-fn command_lacking<'t>(found: Found<'t>) -> Option<Cause<'t>>
-    ensures { option_map cause_view result ≡ option_map lacking (option_and_then command_needs (command_named (found_view found.entry).name)) }
+// The first capability that a command lacks, if it lacks one.
+fn command_lacking<'t>(surroundings: Surroundings<'_>, found: Found<'t>) -> Option<Cause<'t>>
+    ensures { option_map cause_view result ≡ option_map lacking
+        (option_and_then (λ name. first_lacking (command_needs name) (context_of surroundings.entry).required) (command_named (found_view found.entry).name)) }
 {
     let name = command_named(found.head.name.as_slice())?;
-    let capability = command_needs(name)?;
+    let capability = surroundings.required.first_lacking(command_needs(name))?;
     Some(Cause::plain(ReasonKind::MissingCapability(capability)))
 }
 
-// The capability that a test lacks, if it needs one.
-fn test_lacking<'t>(found: Found<'t>) -> Option<Cause<'t>>
-    ensures { option_map cause_view result ≡ option_map lacking (option_and_then (λ name. test_needs name (found_view found.entry).arguments) (test_named (found_view found.entry).name)) }
+// The first capability that a test lacks, if it lacks one.
+fn test_lacking<'t>(surroundings: Surroundings<'_>, found: Found<'t>) -> Option<Cause<'t>>
+    ensures { option_map cause_view result ≡ option_map lacking (option_and_then
+        (λ name. first_lacking (test_needs name (found_view found.entry).arguments) (context_of surroundings.entry).required) (test_named (found_view found.entry).name)) }
 {
     let name = test_named(found.head.name.as_slice())?;
-    let capability = test_needs(name, found.head)?;
+    let capability = surroundings
+        .required
+        .first_lacking(test_needs(name, found.head))?;
     Some(Cause::plain(ReasonKind::MissingCapability(capability)))
 }
 
@@ -267,7 +274,7 @@ fn command_cause<'t>(
 {
     match fault {
         Fault::UnknownCommand => Some(Cause::plain(ReasonKind::UnknownCommand)),
-        Fault::MissingCapability => command_lacking(found),
+        Fault::MissingCapability => command_lacking(surroundings, found),
         Fault::UnknownCapability => unknown_cause(found.head),
         Fault::BadArguments => {
             let name = command_named(found.head.name.as_slice())?;
@@ -290,7 +297,7 @@ fn test_cause<'t>(
 {
     match fault {
         Fault::UnknownCommand => Some(Cause::plain(ReasonKind::UnknownTest)),
-        Fault::MissingCapability => test_lacking(found),
+        Fault::MissingCapability => test_lacking(surroundings, found),
         Fault::UnknownCapability => unknown_cause(found.head),
         Fault::BadArguments => {
             let name = test_named(found.head.name.as_slice())?;
@@ -315,7 +322,7 @@ fn cause_of<'t>(surroundings: Surroundings<'_>, fault: Fault, found: Found<'t>) 
 
 /// The reason for the refusal of a script by this fault at this token, which is the number of an identifier's token. There is one
 /// where the checker refuses the script so (`laws::each_refusal_has_a_reason`). None where no command or test has that token, or
-/// where the fault can't be that of the first one that has it: it needs no capability, names none that is unknown, or isn't known.
+/// where the fault can't be that of the first one that has it: it lacks no capability, names none that is unknown, or isn't known.
 pub fn reason<'t>(script: &'t Script, fault: Fault, token: usize) -> Option<Reason<'t>>
     ensures { option_map view_of result ≡ reason_of (commands_tree script.now) fault token }
 {

@@ -6,7 +6,7 @@ use Rattle.bytecode_format.specs.Spelling.{IsProgram}
 use Rattle.sieve_check.specs.Typed.{CommandForms}
 use Rattle.sieve_check.specs.TypedView.{commands_form}
 use Rattle.sieve_compiler.specs.Tables.{Tables, tables_of}
-use Rattle.sieve_compiler.specs.Coding.{code_of}
+use Rattle.sieve_compiler.specs.Coding.{code_of, written_version}
 use Rattle.sieve_compiler.proofs.Fits.{is_program}
 use Rattle.sieve_compiler.proofs.compiler.compile_commands.Goals as goal
 
@@ -22,6 +22,6 @@ unwrap-requires c =
     let strings : c.in_ok-strings.strings.items ≡ (tables_of cs).strings = c.in_ok-strings.ensures ∙ ap (λ (t : Tables). t.strings) c.in_ok-tables.ensures in
     let instructions : c.in_ok-instructions.instructions.items ≡ (code_of cs).instructions = c.in_ok-instructions.ensures.code in
     let variables : c.variable_count-variables.result ≡ length (tables_of cs).variables = c.variable_count-variables.ensures ∙ ap (λ (t : Tables). length t.variables) c.in_ok-tables.ensures in
-    let made : Code = record { version = 1; variables = c.variable_count-variables.result; numbers = c.into_numbers-numbers.result.items; strings = c.in_ok-strings.strings.items; instructions = c.in_ok-instructions.instructions.items } in
+    let made : Code = record { version = written_version; variables = c.variable_count-variables.result; numbers = c.into_numbers-numbers.result.items; strings = c.in_ok-strings.strings.items; instructions = c.in_ok-instructions.instructions.items } in
     let same : made ≡ code_of cs = rw (variables, numbers, strings, instructions) in
     is_built c.build.result made (code_of cs) (is_program cs c.requires (subst (λ (l : List ℕ). All (λ n. n < 2 ^ 64) l) numbers c.into_numbers-numbers.ensures.numbers)) same c.build.ensures.refused

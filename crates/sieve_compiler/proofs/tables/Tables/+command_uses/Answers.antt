@@ -15,5 +15,5 @@ add_commands-commands-preserved t c =
 
 pub add_command-returns-in_ok-add_variable-in-Set : goal.add_command-returns-in_ok-add_variable-in-Set
 add_command-returns-in_ok-add_variable-in-Set t c =
-    set_added c.args.self.now c.add_string.new.self c.add_variable.new.self c.args.command.now c.in-Set.modifiers c.in-Set.name c.in-Set.value
-    c.as_slice.result.now c.deref-in-Set.result.now c.in-Set.is c.as_slice.ensures c.deref-in-Set.ensures.value c.in_ok-add_string-in-Set.ensures c.in_ok-add_variable-in-Set.ensures
+    set_added c.args.self.now c.add_string.new.self c.add_variable-in-Set.new.self c.args.command.now c.in-Set.modifiers c.in-Set.name c.in-Set.value
+    c.as_slice-in-Set.result.now c.deref-in-Set.result.now c.in-Set.is c.as_slice-in-Set.ensures c.deref-in-Set.ensures.value c.in_ok-add_string-in-Set.ensures c.in_ok-add_variable-in-Set.ensures

@@ -1,12 +1,12 @@
 use Rattle.std.proofs.Common.{◌≡◌, [], ◌∷◌, ◌++◌, false, sym, ap, subst, ◌∙◌, drop, IfOk}
 use Rattle.bytecode_format.specs.declared.action.Action.TheVariants.{File}
 use Rattle.mime_decode.specs.Scope.{visited}
-use Rattle.sieve_check.specs.Typed.{file_into, set, store}
+use Rattle.sieve_check.specs.Typed.{file_into, set, store, take_first}
 use Rattle.sieve_check.specs.TypedView.{branch_forms, else_form, command_form, commands_form}
 use Rattle.sieve_meaning.specs.Meaning.{Ending, normal, command_does, choice_does, commands_do, expanded, stored, turns}
 use Rattle.sieve_meaning.specs.declared.evaluator.Flow.TheVariants.{GoesOn, Stopped}
 use Rattle.sieve_meaning.specs.Evaluation.{StandsAt}
-use Rattle.sieve_meaning.proofs.Shapes.{form_file_into, form_set, form_store}
+use Rattle.sieve_meaning.proofs.Shapes.{form_file_into, form_set, form_store, form_take}
 use Rattle.sieve_meaning.proofs.MeaningLemmas.{branch_bounded, branches_bounded, commands_bounded, commands_on, does_if, does_loop, none_left, passed, taken, turn_is, turn_left, turn_of, turn_on, turn_stopped}
 use Rattle.sieve_meaning.proofs.evaluator.Evaluator.+commands.Goals as goal
 
@@ -76,6 +76,14 @@ command-returns-in_ok-set-in-Set t c = λ e stands.
     let name = ap (λ n. command_does mail part (set m n c.in-Set.value.items) e) (sym c.as_slice.ensures) in
     let value = ap (λ s. command_does mail part (set m c.as_slice.result.now s) e) (sym c.deref-in-Set.ensures.value) in
     subst (λ x. StandsAt x GoesOn c.set.new.self) (sym (ap (λ f. command_does mail part f e) form ∙ name ∙ value)) (c.in_ok-set-in-Set.ensures e stands)
+
+pub command-returns-in_ok-take-in-Take : goal.command-returns-in_ok-take-in-Take
+command-returns-in_ok-take-in-Take t c = λ e stands.
+    let mail = c.args.subject.message.now in
+    let part = c.args.subject.part in
+    let form : command_form c.args.command.now ≡ take_first c.in-Take.most c.in-Take.name = ap command_form c.in-Take.is ∙ form_take c.in-Take.most c.in-Take.name in
+    let name = ap (λ n. command_does mail part (take_first c.in-Take.most n) e) (sym c.as_slice-in-Take.ensures) in
+    subst (λ x. StandsAt x GoesOn c.take.new.self) (sym (ap (λ f. command_does mail part f e) form ∙ name)) (c.in_ok-take-in-Take.ensures e stands)
 
 pub command-is_true-requires : goal.command-is_true-requires
 command-is_true-requires t c = branch_bounded c.deref-branch-items.result.now c.branches.branch-index c.branch-item.result (else_form c.in-If.otherwise) c.branches-test.true c.branch-item.is c.branches.invariant.0
