@@ -9,4 +9,6 @@ pub mod Keeping
 pub mod Delivering
 pub mod Folding
 pub mod NoCause
+pub mod Migrating
+pub mod SameRuns
 mod Examples

@@ -13,7 +13,7 @@ use Rattle.sieve_engine.specs.Execution.{IsChecked}
 use Rattle.part_store.specs.Entries.{Entries}
 use Rattle.part_store.specs.Filing.{HasRoom}
 use Rattle.depot_actions.specs.Causes.{IsFull, NamesNone}
-use Rattle.depot_actions.specs.DepotState.{Accepts, AreActions, Command, Deliver, Export, ListAll, ProgramOf, Remove, Reply, SetCode, SetScript}
+use Rattle.depot_actions.specs.DepotState.{Accepts, AreActions, Command, Deliver, Export, ListAll, Migrate, ProgramOf, Remove, Reply, SetCode, SetScript}
 
 one_end : (code : Code) (mail : Mail) (one other : State) → RunEnds code mail one → RunEnds code mail other → one ≡ other
 one_end code mail one other p q = one_end_from code mail p.steps q.steps (start code) p.last q.last one other p.run p.halts q.run q.halts
@@ -22,7 +22,7 @@ one_outcome : (code : Code) (mail : Mail) (one other : List Action) (m n : ℕ) 
 one_outcome code mail one other m n p q =
     p.actions_are ∙ ap (λ (s : State). final_actions s.actions s.implicit_keep) (one_end code mail p.end q.end p.over q.over) ∙ sym q.actions_are
 
-one_code : (program : List ℕ) (one other : Code) → IsChecked program one → IsChecked program other → one ≡ other
+pub one_code : (program : List ℕ) (one other : Code) → IsChecked program one → IsChecked program other → one ≡ other
 one_code program one other p q = one_program one other p.spells.within q.spells.within (sym p.spells.spelt ∙ q.spells.spelt)
 
 same_actions : (program : Option (List ℕ)) (mail : Mail) (one other : List Action) → AreActions program mail one → AreActions program mail other → one ≡ other
@@ -40,6 +40,7 @@ entry_there before after (ListAll user) reply accepts none = none
 entry_there before after (ProgramOf user) reply accepts none = none
 entry_there before after (Export user number encoding) reply accepts none = none accepts.step.0 accepts.step.1
 entry_there before after (Remove user number) reply accepts none = none accepts.step.0 accepts.step.1
+entry_there before after Migrate reply accepts none = none
 
 -- and the numbers suffice
 pub numbers_suffice : (before after : Entries) (command : Command) (reply : Reply) → Accepts before command reply after → IsFull before command → ⊥
@@ -52,3 +53,4 @@ numbers_suffice before after (ListAll user) reply accepts full = full
 numbers_suffice before after (ProgramOf user) reply accepts full = full
 numbers_suffice before after (Export user number encoding) reply accepts full = full
 numbers_suffice before after (Remove user number) reply accepts full = full
+numbers_suffice before after Migrate reply accepts full = full

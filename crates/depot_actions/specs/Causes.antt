@@ -1,5 +1,5 @@
 -- Why a depot refuses a command. The user's name comes first, then the script, program or message, then the store.
-use Rattle.std.specs.Prelude.{◌≡◌, ◌⊎◌, IsTrue, List, length}
+use Rattle.std.specs.Prelude.{◌≡◌, ◌⊎◌, List, length}
 use Rattle.sqlite.specs.State.{State}
 use Rattle.sqlite_trees.specs.Tree.{Trees}
 use Rattle.bytecode_format.specs.Code.{Code}
@@ -14,49 +14,76 @@ use Rattle.part_store.specs.declared.error.StoreError.{StoreError}
 use Rattle.part_store.specs.declared.error.StoreError.TheVariants as store
 use Rattle.refusals.specs.declared.refusal.Refusal.{Refusal}
 use Rattle.refusals.specs.declared.refusal.Refusal.TheVariants.{Memory, NoSuchEntry, NumberFull, Collision, Database, UserName, Write}
-use Rattle.depot_actions.specs.DepotState.{AreActions, Command, SetScript, SetCode, Deliver, ListAll, ProgramOf, Export, Remove, user_of}
+use Rattle.depot_actions.specs.DepotState.{AreActions, Command, SetScript, SetCode, Deliver, ListAll, ProgramOf, Export, Remove, Migrate, IsNamed}
 use Rattle.depot_actions.specs.Drafts.{drafts_of}
-use Rattle.depot_actions.specs.Users.{is_user_name}
-
-abbrev pub IsNamed : Command → Type 0
-IsNamed command = IsTrue (is_user_name (user_of command))
 
 -- the script has no fault, the program is accepted, or the message can be read
 abbrev pub IsSound : Command → Type 0
 IsSound (SetScript user script) = (code : Code) × IsCompiled script code
 IsSound (SetCode user program) = (code : Code) × IsChecked program code
 IsSound (Deliver user message) = IsReadable message
-IsSound _ = Unit {0}
+IsSound (ListAll user) = Unit {0}
+IsSound (ProgramOf user) = Unit {0}
+IsSound (Export user number encoding) = Unit {0}
+IsSound (Remove user number) = Unit {0}
+IsSound Migrate = Unit {0}
 
 -- the script, the program or the message is refused so
 abbrev pub IsUnsound : Command → Refusal → Type 0
 IsUnsound (SetScript user script) refusal = IsScriptRefusal script refusal
 IsUnsound (SetCode user program) refusal = IsProgramRefusal program refusal
 IsUnsound (Deliver user message) refusal = IsUnread message refusal
-IsUnsound _ refusal = ⊥
+IsUnsound (ListAll user) refusal = ⊥
+IsUnsound (ProgramOf user) refusal = ⊥
+IsUnsound (Export user number encoding) refusal = ⊥
+IsUnsound (Remove user number) refusal = ⊥
+IsUnsound Migrate refusal = ⊥
 
 -- the user has no entry of the number that the command names
 abbrev pub NamesNone : Entries → Command → Type 0
+NamesNone before (SetScript user script) = ⊥
+NamesNone before (SetCode user program) = ⊥
+NamesNone before (Deliver user message) = ⊥
+NamesNone before (ListAll user) = ⊥
+NamesNone before (ProgramOf user) = ⊥
 NamesNone before (Export user number encoding) = HasNone before user number
 NamesNone before (Remove user number) = HasNone before user number
-NamesNone before _ = ⊥
+NamesNone before Migrate = ⊥
 
 -- the numbers that the user has left don't suffice for the final actions
 abbrev pub IsFull : Entries → Command → Type 0
+IsFull before (SetScript user script) = ⊥
+IsFull before (SetCode user program) = ⊥
 IsFull before (Deliver user message) =
     (actions : List Action) × AreActions (before.programs user) (mail_of message) actions × (HasRoom before user (length actions) → ⊥)
-IsFull before _ = ⊥
+IsFull before (ListAll user) = ⊥
+IsFull before (ProgramOf user) = ⊥
+IsFull before (Export user number encoding) = ⊥
+IsFull before (Remove user number) = ⊥
+IsFull before Migrate = ⊥
 
 -- they suffice, but other octets have the digest of what one of the actions files
 abbrev pub IsColliding : Trees → Entries → Command → Type 0
+IsColliding trees before (SetScript user script) = ⊥
+IsColliding trees before (SetCode user program) = ⊥
 IsColliding trees before (Deliver user message) =
     (actions : List Action) × AreActions (before.programs user) (mail_of message) actions × HasRoom before user (length actions)
     × Collides trees (drafts_of (mail_of message) actions)
-IsColliding trees before _ = ⊥
+IsColliding trees before (ListAll user) = ⊥
+IsColliding trees before (ProgramOf user) = ⊥
+IsColliding trees before (Export user number encoding) = ⊥
+IsColliding trees before (Remove user number) = ⊥
+IsColliding trees before Migrate = ⊥
 
 abbrev pub IsExport : Command → Type 0
+IsExport (SetScript user script) = ⊥
+IsExport (SetCode user program) = ⊥
+IsExport (Deliver user message) = ⊥
+IsExport (ListAll user) = ⊥
+IsExport (ProgramOf user) = ⊥
 IsExport (Export user number encoding) = Unit {0}
-IsExport _ = ⊥
+IsExport (Remove user number) = ⊥
+IsExport Migrate = ⊥
 
 -- Why a store that is in this state refuses a command. Memory has no cause here, and that the database fails has none either.
 abbrev pub HasCause : Refusal → Command → State → Type 0
@@ -82,8 +109,9 @@ IsOwn (ListAll user) refusal = ⊥
 IsOwn (ProgramOf user) refusal = ⊥
 IsOwn (Export user number encoding) refusal = (refusal ≡ NoSuchEntry) ⊎ (refusal ≡ Write)
 IsOwn (Remove user number) refusal = refusal ≡ NoSuchEntry
+IsOwn Migrate refusal = ⊥
 
--- UserName where the user's name is none, before all else; else Memory, one of the command's own, or, after its script, program or
+-- UserName where a user's name is none, before all else; else Memory, one of the command's own, or, after its script, program or
 -- message, Database.
 abbrev pub MayRefuse : Command → Refusal → Type 0
 MayRefuse command refusal =

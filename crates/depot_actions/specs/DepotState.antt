@@ -1,6 +1,7 @@
 -- The commands of a depot: what each replies, and what it leaves. What a depot holds is the `Entries` of its store: the entries, and of each user
 -- the program, if he has one, and the last number that was given.
-use Rattle.std.specs.Prelude.{◌≡◌, ◌⊎◌, ℕ, ◌+◌, IsTrue, List, [], ◌∷◌, length, map, Option, None, Some}
+use Rattle.std.specs.Prelude.{◌≡◌, ◌⊎◌, ◌==◌, ℕ, ◌+◌, Bool, not, IfSome, IsTrue, List, [], ◌∷◌, filter, length, map, Option, None, Some}
+use Rattle.std.specs.List.{AllZip}
 use Rattle.sqlite.specs.State.{State}
 use Rattle.sqlite_trees.specs.Tree.{Trees}
 use Rattle.bytecode_format.specs.Code.{Code}
@@ -11,7 +12,7 @@ use Rattle.mime_decode.specs.Mail.{Mail, IsReadable, mail_of}
 use Rattle.sieve_vm.specs.Ending.{IsOutcome}
 use Rattle.sieve_engine.specs.Execution.{IsChecked}
 use Rattle.sieve_engine.specs.Evaluation.{IsCompiled}
-use Rattle.part_store.specs.Entries.{Draft, Entries, Entry, Listing, entries_of, listing_of, numbered, with_entries, with_program, without_entry}
+use Rattle.part_store.specs.Entries.{AreProgramsOf, Draft, Entries, Entry, Listing, UserProgram, entries_of, listing_of, numbered, with_entries, with_program, without_entry}
 use Rattle.part_store.specs.Filing.{HasRoom}
 use Rattle.part_store.specs.Standing.{DiskFailed, IsEntryAt, Stands, StandsFor}
 use Rattle.depot_actions.specs.Drafts.{drafts_of}
@@ -19,8 +20,9 @@ use Rattle.depot_actions.specs.Texts.{text_of}
 use Rattle.depot_actions.specs.Users.{is_user_name}
 use Rattle.depot_actions.specs.declared.encoding.Encoding.{Encoding}
 
--- what a depot is asked for, by a user: to store the code of a script, or a program; to file a message; for the list of his
--- entries; for his program; for the text of an entry's octets in an encoding; and to remove an entry
+-- What a depot is asked for, by a user: to store the code of a script, or a program; to file a message; for the list of his
+-- entries; for his program; for the text of an entry's octets in an encoding; and to remove an entry. And what it is asked for by
+-- whoever keeps it: to give all programs the latest version.
 pub data Command : Type 0 where
   SetScript : List ℕ → List ℕ → Command
   SetCode : List ℕ → List ℕ → Command
@@ -29,22 +31,31 @@ pub data Command : Type 0 where
   ProgramOf : List ℕ → Command
   Export : List ℕ → ℕ → Encoding → Command
   Remove : List ℕ → ℕ → Command
+  Migrate : Command
 
--- what it replies: that it is done; entries; a program, if there is one; or a text
+-- what it replies: that it is done; entries; a program, if there is one; a text; or how many programs have the latest version now
+-- that had another
 pub data Reply : Type 0 where
   Done : Reply
   Listed : List Listing → Reply
   Program : Option (List ℕ) → Reply
   Text : List ℕ → Reply
+  Migrated : ℕ → Reply
 
-abbrev pub user_of : Command → List ℕ
-user_of (SetScript user script) = user
-user_of (SetCode user program) = user
-user_of (Deliver user message) = user
-user_of (ListAll user) = user
-user_of (ProgramOf user) = user
-user_of (Export user number encoding) = user
-user_of (Remove user number) = user
+-- the user of a command, if it has one
+abbrev pub user_of : Command → Option (List ℕ)
+user_of (SetScript user script) = Some user
+user_of (SetCode user program) = Some user
+user_of (Deliver user message) = Some user
+user_of (ListAll user) = Some user
+user_of (ProgramOf user) = Some user
+user_of (Export user number encoding) = Some user
+user_of (Remove user number) = Some user
+user_of Migrate = None
+
+-- where a command has a user, he has the name of one
+abbrev pub IsNamed : Command → Type 0
+IsNamed command = IfSome (user_of command) (λ user. IsTrue (is_user_name user))
 
 -- the actions on a message are the final ones of the user's program, or Keep where he has none
 abbrev pub AreActions : Option (List ℕ) → Mail → List Action → Type 0
@@ -65,8 +76,32 @@ pub record Delivers (before : Entries) (user message : List ℕ) (reply : Reply)
   pub listed : reply ≡ Listed (map listing_of (numbered user (before.lasts user + 1) (drafts_of (mail_of message) actions)))
   pub filed : after ≡ filed user (drafts_of (mail_of message) actions) before
 
+-- the version that a migration gives
+abbrev pub latest_version : ℕ
+latest_version = 2
+
+-- a user's program, which is accepted, has the latest version now: its code is the same
+abbrev pub IsRenewed : Option (List ℕ) → Option (List ℕ) → Type 0
+IsRenewed None after = after ≡ None
+IsRenewed (Some program) after = (code : Code) × IsChecked program code × (after ≡ Some (spelling (record code { version = latest_version })))
+
+-- the code is of the latest version
+abbrev pub is_latest : Code → Bool
+is_latest code = code.version == latest_version
+
+-- Every program is accepted, and gets the latest version; the reply is how many had another. Entries and last numbers stay.
+pub record Migrates (before : Entries) (reply : Reply) (after : Entries) : Type 0 where
+  pub stored : List UserProgram
+  pub are : AreProgramsOf before stored
+  pub codes : List Code
+  pub checked : AllZip (λ pair code. IsChecked pair.1 code) stored codes
+  pub counted : reply ≡ Migrated (length (filter (λ code. not (is_latest code)) codes))
+  pub renewed : (user : List ℕ) → IsRenewed (before.programs user) (after.programs user)
+  pub entries : after.entries ≡ before.entries
+  pub lasts : after.lasts ≡ before.lasts
+
 -- What a command replies, and what it leaves: a script's code, or a program, is the user's program; a message is delivered; an entry is
--- gone, and the last number stays; and the others change nothing.
+-- gone, and the last number stays; all programs are migrated; and the others change nothing.
 abbrev pub Steps : Entries → Command → Reply → Entries → Type 0
 Steps before (SetScript user script) reply after = (code : Code) × IsCompiled script code × (reply ≡ Done) × (after ≡ with_program user (spelling code) before)
 Steps before (SetCode user program) reply after = (code : Code) × IsChecked program code × (reply ≡ Done) × (after ≡ with_program user program before)
@@ -76,10 +111,11 @@ Steps before (ProgramOf user) reply after = (reply ≡ Program (before.programs 
 Steps before (Export user number encoding) reply after =
     (entry : Entry) × IsEntryAt before user number entry × (reply ≡ Text (text_of encoding entry.octets)) × (after ≡ before)
 Steps before (Remove user number) reply after = (entry : Entry) × IsEntryAt before user number entry × (reply ≡ Done) × (after ≡ without_entry user number before)
+Steps before Migrate reply after = Migrates before reply after
 
 -- a depot that holds this accepts the command with this reply, and holds that afterwards
 pub record Accepts (before : Entries) (command : Command) (reply : Reply) (after : Entries) : Type 0 where
-  pub named : IsTrue (is_user_name (user_of command))
+  pub named : IsNamed command
   pub step : Steps before command reply after
 
 -- ---- on a store

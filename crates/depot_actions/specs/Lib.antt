@@ -7,3 +7,5 @@ pub mod Causes
 pub mod History
 -- how what actions ask for is filed; nothing public rests on this
 pub mod Filing
+-- how programs get the latest version; nothing public rests on this
+pub mod Renewing

@@ -1,10 +1,12 @@
-// Scripts and programs that are to be stored.
-ghost use Rattle.std.specs.Prelude.{◌≡◌, IfErr, IfOk, OnOk};
+// Scripts and programs that are to be stored, and programs that are.
+ghost use Rattle.std.specs.Prelude.{◌≡◌, ◌⊎◌, IfErr, IfOk, OnOk};
+ghost use Rattle.refusals.specs.declared.refusal.Refusal.TheVariants.{Memory, Database};
 ghost use Rattle.bytecode_format.specs.Code.{Code};
 ghost use Rattle.bytecode_format.specs.Spelling.{spelling};
 ghost use Rattle.sieve_engine.specs.Evaluation.{IsCompiled, IsScriptRefusal};
 ghost use Rattle.sieve_engine.specs.Execution.{IsChecked, IsProgramRefusal};
 
+use bytecode_verifier::Verified;
 use refusals::Refusal;
 use sieve_engine::{check_program, compile_script};
 use std::alloc::Global;
@@ -33,4 +35,20 @@ pub(crate) fn check_code(alloc: Global, program: &[u8]) -> Result<(), Refusal>
 {
     let _verified = check_program(alloc, program)?;
     Ok(())
+}
+
+/// A program that is stored.
+///
+/// # Errors
+///
+/// `Database` where it no longer reads and verifies. `Memory` where an allocation was refused.
+pub(crate) fn check_stored(alloc: Global, program: &[u8]) -> Result<Verified, Refusal>
+    ensures checked { IfOk result (λ verified. IsChecked program.now verified) }
+    ensures refused { IfErr result (λ e. (e ≡ Memory) ⊎ (e ≡ Database)) }
+{
+    match check_program(alloc, program) {
+        Ok(verified) => Ok(verified),
+        Err(Refusal::Memory) => Err(Refusal::Memory),
+        Err(_) => Err(Refusal::Database),
+    }
 }

@@ -11,6 +11,7 @@ ghost use Rattle.depot_actions.specs.DepotState.{AreActions};
 ghost use Rattle.depot_actions.specs.Drafts.{drafts_of};
 ghost use Rattle.depot_actions.specs.Filing.{Adds, IsUnfiled, MayFile, MayUnfile};
 
+use crate::checking::check_stored;
 use crate::entries::new_entries;
 use crate::kept_parts::kept_parts;
 use crate::refusing::refused;
@@ -19,7 +20,6 @@ use bytecode_format::Action;
 use mime_decode::Message;
 use part_store::{EntryRow, NewEntry, PartStore};
 use refusals::Refusal;
-use sieve_engine::check_program;
 use sieve_vm::run;
 use sqlite::Alter;
 use std::alloc::{AllocError, Global};
@@ -41,15 +41,10 @@ pub(crate) fn actions_of(
     let Some(program) = program else {
         return Ok(keep_alone(alloc)?);
     };
-    match check_program(alloc, &program) {
-        Ok(verified) => {
-            // What holds of every message is known where it is asked.
-            let _size = message.size();
-            Ok(run(alloc, &verified, message)?.actions)
-        }
-        Err(Refusal::Memory) => Err(Refusal::Memory),
-        Err(_) => Err(Refusal::Database),
-    }
+    let verified = check_stored(alloc, &program)?;
+    // What holds of every message is known where it is asked.
+    let _size = message.size();
+    Ok(run(alloc, &verified, message)?.actions)
 }
 
 // Keep and no other action.

@@ -8,7 +8,7 @@ ghost use Rattle.part_store.specs.Opening.{IsReady};
 ghost use Rattle.part_store.specs.Standing.{Spares, Stands, listed};
 ghost use Rattle.refusals.specs.declared.refusal.Refusal.TheVariants.{Memory, Database, Write};
 ghost use Rattle.depot_actions.specs.Causes.{HasCause, MayRefuse};
-ghost use Rattle.depot_actions.specs.DepotState.{Deliver, Does, Done, Export, ListAll, Listed, MayLeave, Program, ProgramOf, Remove, SetCode, SetScript, Text};
+ghost use Rattle.depot_actions.specs.DepotState.{Deliver, Does, Done, Export, ListAll, Listed, MayLeave, Migrate, Migrated, Program, ProgramOf, Remove, SetCode, SetScript, Text};
 ghost use Rattle.depot_actions.specs.Device.{HasBegun, HasBroken, HasTaken};
 
 use crate::checking::{check_code, code_octets};
@@ -16,6 +16,7 @@ use crate::delivery::{actions_of, file_all};
 use crate::encoding::Encoding;
 use crate::exporting::put_text;
 use crate::refusing::refused;
+use crate::renewing::renewed_programs;
 use crate::sink::Sink;
 use crate::user::is_user_name;
 use mime_decode::Message;
@@ -220,6 +221,29 @@ impl<S: Alter> Depot<S> {
             return Err(Refusal::UserName);
         }
         self.store.remove_entry(user, number).map_err(refused)
+    }
+
+    /// Gives each filter program that has another version the latest one, and answers how many there were. Its code stays the same; so
+    /// its final actions on every message stay the same ([`crate::laws::migrations_change_no_actions`]), and it may charge no more.
+    ///
+    /// # Errors
+    ///
+    /// `Database`, also where a stored program, whatever its version, no longer reads and verifies. `Memory` where an allocation was refused.
+    pub fn migrate(&mut self, alloc: Global) -> Result<usize, Refusal>
+        ensures done { HasCleanDisk (state S.Store self.new) → IfOk result (λ number.
+            Does Migrate (Migrated number) (state S.Store self.old) (state S.Store self.new)) }
+        ensures spared { HasCleanDisk (state S.Store self.new) → OnErr result (Spares (state S.Store self.old) (state S.Store self.new)) }
+        ensures which { IfErr result (MayRefuse Migrate) }
+        ensures refused { HasCleanDisk (state S.Store self.new) → IfErr result (λ e. HasCause e Migrate (state S.Store self.old)) }
+        ensures survives { Survives (state S.Store self.old) (state S.Store self.new) (MayLeave Migrate (state S.Store self.old)) }
+    {
+        let stored = self.store.programs().map_err(refused)?;
+        let renewed = renewed_programs(alloc, &stored)?;
+        if renewed.is_empty() {
+            return Ok(0);
+        }
+        self.store.replace_programs(&renewed).map_err(refused)?;
+        Ok(renewed.len())
     }
 }
 

@@ -1,13 +1,15 @@
 //! What holds of the definitions alone.
 ghost use Rattle.std.specs.Prelude.{◌≡◌, ◌++◌, ℕ, List, IsTrue};
+ghost use Rattle.bytecode_format.specs.declared.action.Action.{Action};
+ghost use Rattle.mime_decode.specs.Mail.{Mail};
 ghost use Rattle.octet_lanes.specs.Encoding.{IsOctets};
 ghost use Rattle.sqlite.specs.Held.{Held, state};
 ghost use Rattle.sqlite.specs.State.{HasCleanDisk};
 ghost use Rattle.sqlite_trees.specs.Tree.{Trees};
 ghost use Rattle.part_store.specs.Entries.{Entries};
 ghost use Rattle.part_store.specs.Standing.{Stands};
-ghost use Rattle.depot_actions.specs.Causes.{IsFull, IsNamed, NamesNone};
-ghost use Rattle.depot_actions.specs.DepotState.{Accepts, Command, Reply};
+ghost use Rattle.depot_actions.specs.Causes.{IsFull, NamesNone};
+ghost use Rattle.depot_actions.specs.DepotState.{Accepts, AreActions, Command, IsNamed, Migrate, Reply};
 ghost use Rattle.depot_actions.specs.History.{AreAnswered, AreSteps, Call};
 ghost use Rattle.depot_actions.specs.Texts.{IsPiece, Reads, text_of};
 ghost use Rattle.depot_actions.specs.declared.encoding.Encoding.{Encoding};
@@ -49,4 +51,11 @@ pub fn accepted_commands_have_no_cause()
     ensures user { (before after : Entries) (command : Command) (reply : Reply) → Accepts before command reply after → IsNamed command }
     ensures entry { (before after : Entries) (command : Command) (reply : Reply) → Accepts before command reply after → NamesNone before command → ⊥ }
     ensures numbers { (before after : Entries) (command : Command) (reply : Reply) → Accepts before command reply after → IsFull before command → ⊥ }
+{}
+
+/// A migration changes no delivery: on every message the final actions of each user's program are what they were. Nor does its budget grow
+/// (`budgets_do_not_grow_in_version_two` of bytecode_verifier).
+pub fn migrations_change_no_actions()
+    ensures { (before after : Entries) (reply : Reply) → Accepts before Migrate reply after → (user : List ℕ) (mail : Mail) (actions : List Action)
+        → AreActions (before.programs user) mail actions → AreActions (after.programs user) mail actions }
 {}

@@ -9,7 +9,7 @@ use Rattle.mime_params.specs.declared.media.MediaType.{MediaType}
 use Rattle.part_store.specs.Entries.{Listing}
 use Rattle.part_store.specs.declared.entry.Kind.{Kind}
 use Rattle.part_store.specs.declared.entry.Kind.TheVariants.{Message, Part as Piece}
-use Rattle.depot_actions.specs.DepotState.{Command, Reply, SetScript, SetCode, Deliver, ListAll, Export, Remove, Listed}
+use Rattle.depot_actions.specs.DepotState.{Command, Reply, SetScript, SetCode, Deliver, ListAll, Export, Remove, Migrate, Listed, Migrated}
 use Rattle.depot_actions.specs.DepotState.{Text as Written}
 use Rattle.depot_actions.specs.Drafts.{media_text}
 use Rattle.depot_cli.specs.declared.entries.Detail.{Detail}
@@ -117,6 +117,10 @@ stored_text = line (codes "stored")
 abbrev pub removed_text : ℕ → List ℕ
 removed_text number = line (codes "removed " ++ decimal number)
 
+-- how many filters were given the latest version
+abbrev pub migrated_text : ℕ → List ℕ
+migrated_text number = line (codes "migrated " ++ decimal number)
+
 -- what is printed of a reply; no depot gives other replies to these commands, nor are others asked for
 abbrev pub reply_text : Command → Reply → List ℕ
 reply_text (SetScript user script) reply = stored_text
@@ -125,4 +129,5 @@ reply_text (Deliver user message) (Listed entries) = entries_text Brief entries
 reply_text (ListAll user) (Listed entries) = entries_text Full entries
 reply_text (Export user number encoding) (Written text) = text
 reply_text (Remove user number) reply = removed_text number
+reply_text Migrate (Migrated number) = migrated_text number
 reply_text _ reply = []

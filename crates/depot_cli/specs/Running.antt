@@ -17,7 +17,7 @@ use Rattle.refusals.specs.declared.refusal.Refusal.TheVariants.{Memory, MessageT
 use Rattle.depot_cli.specs.declared.job.Job.{Job}
 use Rattle.depot_cli.specs.declared.job.Job.TheVariants as jobs
 use Rattle.depot_cli.specs.declared.line.CommandLine.{CommandLine}
-use Rattle.depot_cli.specs.declared.line.CommandLine.TheVariants.{NoWords, Check, Explain, Compile, Verify, Run, Eval, Parts, Encode, Decode, Script, Code as CodeOf, Deliver, List as ListAll, Export, Remove}
+use Rattle.depot_cli.specs.declared.line.CommandLine.TheVariants.{NoWords, Check, Explain, Compile, Verify, Run, Eval, Parts, Encode, Decode, Script, Code as CodeOf, Deliver, List as ListAll, Export, Remove, Migrate}
 use Rattle.depot_cli.specs.declared.errand.Errand.{Errand}
 use Rattle.depot_cli.specs.declared.errand.Order.{Order}
 use Rattle.depot_cli.specs.declared.errand.Order.TheVariants as orders
@@ -46,6 +46,7 @@ origins_of (Deliver depot user message) = file message.now ∷ []
 origins_of (ListAll depot user) = []
 origins_of (Export depot user number encoding) = []
 origins_of (Remove depot user number) = []
+origins_of (Migrate depot) = []
 
 -- the same of what the code says that it reads; nothing public rests on this
 abbrev pub origins_in : Inputs → List Origin
@@ -108,6 +109,7 @@ is_on_depot (Deliver depot user message) = true
 is_on_depot (ListAll depot user) = true
 is_on_depot (Export depot user number encoding) = true
 is_on_depot (Remove depot user number) = true
+is_on_depot (Migrate depot) = true
 is_on_depot _ = false
 
 -- the job of a command, with the octets that were read; a command on a depot has none
@@ -133,6 +135,7 @@ IsDepotOf (Deliver depot user message) name = name ≡ depot.now
 IsDepotOf (ListAll depot user) name = name ≡ depot.now
 IsDepotOf (Export depot user number encoding) name = name ≡ depot.now
 IsDepotOf (Remove depot user number) name = name ≡ depot.now
+IsDepotOf (Migrate depot) name = name ≡ depot.now
 IsDepotOf _ name = ⊥
 
 -- what a command asks of it; the octets that it reads come to that
@@ -143,6 +146,7 @@ IsOrderOf (Deliver depot user message) order = order ≡ orders.Deliver user
 IsOrderOf (ListAll depot user) order = order ≡ orders.List user
 IsOrderOf (Export depot user number encoding) order = order ≡ orders.Export user number encoding
 IsOrderOf (Remove depot user number) order = order ≡ orders.Remove user number
+IsOrderOf (Migrate depot) order = order ≡ orders.Migrate
 IsOrderOf _ order = ⊥
 
 -- ---- what comes of it

@@ -1,9 +1,10 @@
 -- What tasks ask of a depot, and what performing one does.
 use Rattle.std.specs.Prelude.{◌≡◌, ◌≢◌, ◌⊎◌, ℕ, List}
 use Rattle.sqlite.specs.State.{HasCleanDisk, State}
+use Rattle.sqlite_trees.specs.Tree.{Trees}
 use Rattle.part_store.specs.Standing.{Spares}
 use Rattle.depot_actions.specs.Causes.{HasCause, IsExport}
-use Rattle.depot_actions.specs.DepotState.{Command, Does, Reply, SetScript, SetCode, ListAll}
+use Rattle.depot_actions.specs.DepotState.{Command, Does, MayLeave, Reply, SetScript, SetCode, ListAll}
 use Rattle.depot_actions.specs.DepotState as depot
 use Rattle.depot_actions.specs.Device.{HasBegun, HasBroken, HasTaken, Output}
 use Rattle.refusals.specs.declared.refusal.Refusal.{Refusal}
@@ -13,7 +14,7 @@ use Rattle.depot_cli.specs.Printed.{reply_text}
 use Rattle.depot_cli.specs.declared.errand.Order.{Order}
 use Rattle.depot_cli.specs.declared.errand.Order.TheVariants as orders
 use Rattle.depot_cli.specs.declared.task.Task.{Task}
-use Rattle.depot_cli.specs.declared.task.Task.TheVariants.{Script, Code, Deliver, List as ListEntries, Export, Remove}
+use Rattle.depot_cli.specs.declared.task.Task.TheVariants.{Script, Code, Deliver, List as ListEntries, Export, Remove, Migrate}
 
 -- what a task asks of the depot
 abbrev pub command_of : Task → Command
@@ -23,6 +24,7 @@ command_of (Deliver user message) = depot.Deliver user.now message.now
 command_of (ListEntries user) = ListAll user.now
 command_of (Export user number encoding) = depot.Export user.now number encoding
 command_of (Remove user number) = depot.Remove user.now number
+command_of Migrate = depot.Migrate
 
 -- what an order asks of the depot, with the octets that come to it
 abbrev pub command_in : Order → List ℕ → Command
@@ -32,8 +34,21 @@ command_in (orders.Deliver user) octets = depot.Deliver user.now octets
 command_in (orders.List user) octets = ListAll user.now
 command_in (orders.Export user number encoding) octets = depot.Export user.now number encoding
 command_in (orders.Remove user number) octets = depot.Remove user.now number
+command_in orders.Migrate octets = depot.Migrate
 
 -- ---- what performing does
+
+-- What a crash may leave of a command that it couldn't leave before it: tables that stand for what the command leaves. A command that only
+-- looks adds nothing.
+abbrev pub MayAdd : Command → State → Trees → Type 0
+MayAdd (SetScript user script) old trees = MayLeave (SetScript user script) old trees
+MayAdd (SetCode user program) old trees = MayLeave (SetCode user program) old trees
+MayAdd (depot.Deliver user message) old trees = MayLeave (depot.Deliver user message) old trees
+MayAdd (ListAll user) old trees = ⊥
+MayAdd (depot.ProgramOf user) old trees = ⊥
+MayAdd (depot.Export user number encoding) old trees = ⊥
+MayAdd (depot.Remove user number) old trees = MayLeave (depot.Remove user number) old trees
+MayAdd depot.Migrate old trees = MayLeave depot.Migrate old trees
 
 -- what a task works with: the store of the depot, standard output and standard error
 pub record Desk : Type 1 where

@@ -2,7 +2,7 @@
 ghost use Rattle.std.specs.Prelude.{◌≡◌, IfOk, false};
 ghost use Rattle.clap.specs.Words.{app_of};
 ghost use Rattle.clap.specs.declared.builder.command.Command.TheViews.{out-Command as fields_of};
-ghost use Rattle.depot_cli.specs.Words.{check_app, checks_app, code_app, codecs_app, compile_app, decode_app, deliver_app, delivery_app, depot_app, encode_app, eval_app, explain_app, export_app, filing_app, filters_app, list_app, mail_app, parts_app, remove_app, run_app, script_app, scripts_app, user_app, verify_app};
+ghost use Rattle.depot_cli.specs.Words.{check_app, checks_app, code_app, codecs_app, compile_app, decode_app, deliver_app, delivery_app, depot_app, encode_app, entries_app, eval_app, explain_app, export_app, filing_app, filters_app, list_app, mail_app, migrate_app, parts_app, remove_app, run_app, script_app, scripts_app, user_app, verify_app};
 
 use crate::arguments::{
     depot_file, encoding_name, entry_number, message_file, out_file, program_file, script_file,
@@ -15,6 +15,14 @@ use std::alloc::{AllocError, Global};
 /// The program with its commands.
 pub fn depot_command<'a>(alloc: Global, names: &'a [&'a str]) -> Result<Command<'a>, AllocError>
     ensures app { IfOk result (λ c. app_of c ≡ depot_app names.entry) }
+    ensures local { IfOk result (λ c. (fields_of c).has_globals ≡ false) }
+{
+    entries_command(alloc, names)?.subcommand(migrate_command(alloc)?)
+}
+
+// The program with all commands of users.
+fn entries_command<'a>(alloc: Global, names: &'a [&'a str]) -> Result<Command<'a>, AllocError>
+    ensures app { IfOk result (λ c. app_of c ≡ entries_app names.entry) }
     ensures local { IfOk result (λ c. (fields_of c).has_globals ≡ false) }
 {
     delivery_command(alloc, names)?
@@ -286,4 +294,15 @@ fn remove_command<'a>(alloc: Global) -> Result<Command<'a>, AllocError>
     ensures local { IfOk result (λ c. (fields_of c).has_globals ≡ false) }
 {
     user_command(alloc, "remove", "Removes an entry", help::REMOVE)?.arg(entry_number(alloc))
+}
+
+// The command migrate.
+fn migrate_command<'a>(alloc: Global) -> Result<Command<'a>, AllocError>
+    ensures app { IfOk result (λ c. app_of c ≡ migrate_app) }
+    ensures local { IfOk result (λ c. (fields_of c).has_globals ≡ false) }
+{
+    Command::new(alloc, "migrate")
+        .about("Gives the filters of all users the latest version of the bytecode")
+        .after_help(help::MIGRATE)
+        .arg(depot_file(alloc))
 }

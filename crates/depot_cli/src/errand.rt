@@ -35,6 +35,8 @@ pub enum Order<'a> {
         user: &'a str,
         number: u32,
     },
+    /// To give all users' filters the latest version.
+    Migrate,
 }
 
 /// A command on a depot, whose file was read.
@@ -78,6 +80,7 @@ impl<'a> Errand<'a> {
                 encoding,
             },
             Order::Remove { user, number } => Task::Remove { user, number },
+            Order::Migrate => Task::Migrate,
         }
     }
 }

@@ -67,3 +67,5 @@ pub const EXPORT: &str = ending!(
 );
 
 pub const REMOVE: &str = ending!("depot remove mail.depot ann 2", "1, 40, 43 to 45");
+
+pub const MIGRATE: &str = ending!("depot migrate mail.depot", "1, 43, 45");

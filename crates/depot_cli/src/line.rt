@@ -89,6 +89,10 @@ pub enum CommandLine<'a> {
         user: &'a str,
         number: u32,
     },
+    /// All users' filters, given the latest version.
+    Migrate {
+        depot: &'a str,
+    },
 }
 
 /// The names of the encodings.
@@ -189,6 +193,7 @@ fn depot_line_in<'a>(name: &str, found: &ArgMatches<'a>) -> CommandLine<'a>
             user,
             number: number(argument(found, "NUMBER")),
         },
+        "migrate" => CommandLine::Migrate { depot },
         _ => CommandLine::NoWords,
     }
 }

@@ -152,6 +152,7 @@ fn order_of<'a>(line: CommandLine<'a>) -> Option<(&'a str, Order<'a>)>
             user,
             number,
         } => Some((depot, Order::Remove { user, number })),
+        CommandLine::Migrate { depot } => Some((depot, Order::Migrate)),
         _ => None,
     }
 }
@@ -180,9 +181,10 @@ fn inputs_of<'a>(line: CommandLine<'a>) -> Inputs<'a>
         CommandLine::Eval { script, message } => {
             Inputs::Two(Input::File(script), Input::File(message))
         }
-        CommandLine::List { .. } | CommandLine::Export { .. } | CommandLine::Remove { .. } => {
-            Inputs::None
-        }
+        CommandLine::List { .. }
+        | CommandLine::Export { .. }
+        | CommandLine::Remove { .. }
+        | CommandLine::Migrate { .. } => Inputs::None,
     }
 }
 

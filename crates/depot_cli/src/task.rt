@@ -1,11 +1,12 @@
 // Tasks on a depot, and their replies.
 ghost use Rattle.std.specs.Prelude.{◌≡◌, OnErr, OnOk};
 ghost use Rattle.sqlite.specs.Held.{state};
+ghost use Rattle.sqlite.specs.State.{Survives};
 ghost use Rattle.depot_actions.specs.Device.{HasBroken, HasTaken};
 ghost use Rattle.refusals.specs.declared.refusal.Refusal.TheVariants.{Write};
 ghost use Rattle.depot_cli.specs.Jobs.{HasTold};
-ghost use Rattle.depot_cli.specs.Printed.{removed_text};
-ghost use Rattle.depot_cli.specs.Tasks.{HasPerformed, command_of, desk};
+ghost use Rattle.depot_cli.specs.Printed.{migrated_text, removed_text};
+ghost use Rattle.depot_cli.specs.Tasks.{HasPerformed, MayAdd, command_of, desk};
 
 use crate::entries::{Detail, put_entries};
 use crate::job::{SUCCESS, tell};
@@ -49,6 +50,8 @@ pub enum Task<'a> {
         user: &'a str,
         number: u32,
     },
+    /// All users' filters, given the latest version.
+    Migrate,
 }
 
 /// Has the depot do a task: writes its reply to `out` and gives 0, or writes the line of its refusal to `err` and gives 1.
@@ -56,6 +59,8 @@ pub enum Task<'a> {
 /// Writing follows the command and takes no memory, but for the text that an export writes a piece at a time. Where `out` fails, or memory
 /// is refused for a piece, a prefix of the reply is written there, what the depot did stands, the line of `Write` or of `Memory` is
 /// written to `err`, and the status is 1. As long as the disk returns what was written, `Write` is told in no other case.
+///
+/// A crash, at any moment, leaves what it could have left before, or what the command makes of it, and never a part of that.
 pub fn perform<S: Alter, O: Sink, E: Sink>(
     alloc: Global,
     task: Task<'_>,
@@ -63,8 +68,9 @@ pub fn perform<S: Alter, O: Sink, E: Sink>(
     out: &mut O,
     err: &mut E,
 ) -> u8
-    ensures { HasPerformed (command_of task.entry) result
+    ensures performed { HasPerformed (command_of task.entry) result
         (desk (state S.Store depot.old) (O.output out.old) (E.output err.old)) (desk (state S.Store depot.new) (O.output out.new) (E.output err.new)) }
+    ensures survives { Survives (state S.Store depot.old) (state S.Store depot.new) (MayAdd (command_of task.entry) (state S.Store depot.old)) }
 {
     match task {
         Task::Script { user, script } => match depot.set_script(alloc, user, script) {
@@ -95,6 +101,10 @@ pub fn perform<S: Alter, O: Sink, E: Sink>(
             Ok(()) => finish(err, put_removed(out, number)),
             Err(refusal) => tell(err, &refusal),
         },
+        Task::Migrate => match depot.migrate(alloc) {
+            Ok(count) => finish(err, put_migrated(out, count)),
+            Err(refusal) => tell(err, &refusal),
+        },
     }
 }
 
@@ -119,6 +129,21 @@ fn put_removed<O: Sink>(out: &mut O, number: u32) -> Result<(), DeviceFailed>
         &[
             Piece::Text("removed "),
             Piece::Number(number as u128),
+            Piece::Text("\n"),
+        ],
+    )
+}
+
+// Writes how many filters were given the latest version.
+fn put_migrated<O: Sink>(out: &mut O, count: usize) -> Result<(), DeviceFailed>
+    ensures ok { OnOk result (HasTaken (migrated_text count) (O.output out.old) (O.output out.new)) }
+    ensures err { OnErr result (HasBroken (migrated_text count) (O.output out.old) (O.output out.new)) }
+{
+    put_pieces(
+        out,
+        &[
+            Piece::Text("migrated "),
+            Piece::Number(count as u128),
             Piece::Text("\n"),
         ],
     )

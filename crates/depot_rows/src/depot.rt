@@ -7,15 +7,15 @@ use std::alloc::Global;
 use std::test::Fail;
 
 // A message with an attachment of the name a.txt, whose content is `foobar`.
-const MESSAGE: &[u8] =
+pub const MESSAGE: &[u8] =
     b"Content-Type: multipart/mixed; boundary=b\n\n--b\nContent-Disposition: attachment; filename=\"a.txt\"\nContent-Transfer-Encoding: base64\n\nZm9vYmFy\n--b--\n";
 
 // Stores the attachments of that name.
-const SCRIPT: &[u8] =
+pub const SCRIPT: &[u8] =
     b"require [\"foreverypart\", \"mime\", \"vnd.depot\"]; foreverypart { if header :mime :param \"filename\" \"Content-Disposition\" \"a.txt\" { store \"att\"; } } discard;";
 
 // A program that keeps every message, and one that jumps to where it stands.
-const KEEP: &[u8] = b"SVBC\x01\0\0\0\0\0\0\0\0\0\x02\x13\0\0\0\0\0\0\0\x01\0\0\0\0\0\0\0";
+pub const KEEP: &[u8] = b"SVBC\x01\0\0\0\0\0\0\0\0\0\x02\x13\0\0\0\0\0\0\0\x01\0\0\0\0\0\0\0";
 
 const JUMP: &[u8] = b"SVBC\x01\0\0\0\0\0\0\0\0\0\x02\x09\0\0\0\0\0\0\0\x01\0\0\0\0\0\0\0";
 
@@ -32,10 +32,15 @@ fn exported(
     Ok(out.inner)
 }
 
+// Whether an entry is of a part.
+fn is_part(kind: Kind) -> bool {
+    matches!(kind, Kind::Part)
+}
+
 // Whether a row shows this.
 fn shows(row: &EntryRow, number: u32, kind: Kind, folder: &[u8], octets: u64) -> bool {
     row.number == number
-        && row.kind == kind
+        && is_part(row.kind) == is_part(kind)
         && row.folder.as_slice() == folder
         && row.octets == octets
 }

@@ -43,7 +43,7 @@ fn next(number: u32) -> u32 {
 // Whether a row shows this entry.
 fn shows(row: &EntryRow, held: &Held) -> bool {
     row.number == held.number
-        && row.kind == Kind::Message
+        && matches!(row.kind, Kind::Message)
         && row.folder.as_slice() == held.folder
         && row.octets == held.octets.len() as u64
 }

@@ -2,6 +2,8 @@
 #![tactic(auto)]
 
 #[cfg(test)]
+mod altered_programs;
+#[cfg(test)]
 mod answers;
 #[cfg(test)]
 mod depot;
@@ -10,7 +12,17 @@ mod devices;
 #[cfg(test)]
 mod exports;
 #[cfg(test)]
+mod failing_disks;
+#[cfg(test)]
+mod failing_sinks;
+#[cfg(test)]
+mod held;
+#[cfg(test)]
 mod history;
+#[cfg(test)]
+mod laid_tables;
+#[cfg(test)]
+mod migrating;
 #[cfg(test)]
 mod readings;
 #[cfg(test)]

@@ -216,6 +216,13 @@ fn commands_on_a_depot(rt: HostRuntime) -> io::Result<()> {
             "refused 40 NoSuchEntry\n",
             "[]",
         ),
+        (
+            ["depot", "migrate", "d"].as_slice(),
+            0,
+            "migrated 0\n",
+            "",
+            "[]",
+        ),
     ] {
         let came = come(&rt, words, 0);
         assert_eq!(rt; came.status, status, "{words:?}");

@@ -231,7 +231,7 @@ fn shows(row: &EntryRow, number: u32, folder: &[u8], octets: u64) -> bool {
     row.number == number
         && row.folder.as_slice() == folder
         && row.octets == octets
-        && row.kind == Kind::Part
+        && matches!(row.kind, Kind::Part)
         && row.media.as_slice() == b"text/plain".as_slice()
 }
 

@@ -16,7 +16,7 @@ use Rattle.sqlite_rules.proofs.TableLemmas.{int_is}
 use Rattle.part_store.specs.Changes.{users_tree, contents_tree, entries_tree, equals, columns, IsFound, Steps, Reads, IsAdded, new_row}
 use Rattle.part_store.specs.Entries.{Entry, Entries}
 use Rattle.part_store.specs.Filing.{IsStocked, IsNext, with_entry, entry_values, Stocks, IsOther, Files}
-use Rattle.part_store.specs.Standing.{Stands, IsUserRow, IsEntryRow, IsContentRow, HasContent, content_row, StandsFor}
+use Rattle.part_store.specs.Standing.{Stands, IsUserRow, IsEntryRow, IsContentRow, HasContent, content_row, StandsFor, HaveOneRow}
 use Rattle.part_store.proofs.Gaining.{added_rises, added_has, has_added, added_keeps}
 use Rattle.sqlite.specs.State.{State, KeepsCommit}
 use Rattle.part_store.specs.Tables.{store_schema}
@@ -177,6 +177,7 @@ module _ (db mid new : Trees) (e : Entries) (x : Entry) (digest : List ℕ) (sta
     contents_rise = subst IsTable (sym contents_same) stocked.rise;
     entries_rise = added_rises entries_tree _ mid new added mid_rises;
     users = subst (AllByRecursion (IsUserRow e)) (sym users_same) stands.users;
+    apart = subst HaveOneRow (sym users_same) stands.apart;
     strangers = subst (λ rows. (name : List ℕ) → ((r : Row) → Has rows r → equals 1 (Text name) r ≡ false) → (e.lasts name ≡ 0) × (e.programs name ≡ None)) (sym users_same) stands.strangers;
     contents = subst (AllByRecursion IsContentRow) (sym contents_same) stocked.contents;
     single = subst (λ rows. (d one other : List ℕ) → HasContent rows d one → HasContent rows d other → one ≡ other) (sym contents_same) stocked.single;

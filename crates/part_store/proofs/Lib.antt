@@ -4,9 +4,11 @@ mod Writes
 mod Runs
 mod UserRows
 mod ContentRows
+mod Ordered
 mod EntryRows
 mod Equals
 mod Gaining
+mod Apart
 mod Programs
 mod Numbers
 mod Creation
@@ -18,4 +20,6 @@ mod Entering
 mod Unmoved
 mod Removing
 mod Listed
+mod ProgramList
+mod Replacing
 mod Showing

@@ -76,15 +76,15 @@ rising_single (r ∷ rows) up a b (inr there) (inr other) same = rising_single r
 
 -- ---- by places
 
-all_of_places : {X : Type 0} (P : X → Type 0) (xs : List X) → ((k : ℕ) (d : X) → k < length xs → P (get_or xs k d)) → AllByRecursion P xs
+pub all_of_places : {X : Type 0} (P : X → Type 0) (xs : List X) → ((k : ℕ) (d : X) → k < length xs → P (get_or xs k d)) → AllByRecursion P xs
 all_of_places P [] all = tt
 all_of_places P (x ∷ xs) all = (all zero x (omega arith), all_of_places P xs (λ k d lt. all (suc k) d (omega (arith, lt))))
 
-steady_of_places : (rows : List Row) → ((i j : ℕ) (d : Row) → i ≤ j → j < length rows → number_in (get_or rows i d) ≤ number_in (get_or rows j d)) → NeverFalls rows
-steady_of_places [] all = tt
-steady_of_places (r ∷ rows) all = (
-  all_of_places (λ x. number_in r ≤ number_in x) rows (λ k d lt. all zero (suc k) d (omega arith) (omega (arith, lt))),
-  steady_of_places rows (λ i j d le lt. all (suc i) (suc j) d (omega (arith, le)) (omega (arith, lt))),
+pub ascending_of_places : {X : Type 0} (R : X → X → Type 0) (xs : List X) → ((i j : ℕ) (d : X) → i < j → j < length xs → R (get_or xs i d) (get_or xs j d)) → IsAscending R xs
+ascending_of_places R [] all = tt
+ascending_of_places R (x ∷ xs) all = (
+  all_of_places (R x) xs (λ k d lt. all zero (suc k) d (omega arith) (omega (arith, lt))),
+  ascending_of_places R xs (λ i j d le lt. all (suc i) (suc j) d (omega (arith, le)) (omega (arith, lt))),
 )
 
 has_itself : (rows : List Row) → AllByRecursion (Has rows) rows
@@ -111,7 +111,8 @@ module _ (rows listed : List Row) (up : Rises rows) (numbers : AllByRecursion Ha
   number_at k d lt = all_has HasNumber rows (get_or listed k d) numbers (each_in k d lt)
 
   never_falls : NeverFalls listed
-  never_falls = steady_of_places listed (λ i j d le lt.
+  never_falls = ascending_of_places _ listed (λ i j d less lt.
+      let le : i ≤ j = omega (arith, less) in
       let far = sorted_far (λ x y. is_lt (value_cmp (column x 0) (column y 0))) (ranks_by value_cmp_total (λ (r : Row). column r 0)) listed sorted i j d le lt in
       let low = number_at i d (omega (arith, le, lt)) in
       let high = number_at j d lt in

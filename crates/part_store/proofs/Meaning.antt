@@ -2,8 +2,8 @@
 use Rattle.std.proofs.Common.{◌≡◌, ℕ, pos, negsuc, List, [], ◌∷◌, codes, Ok, None, false, refl}
 use Rattle.sqlite_sql.specs.Term.{Term, lit, col, op1, op2}
 use Rattle.sqlite_sql.specs.Query.{Query, inner, end}
-use Rattle.sqlite_sql.specs.declared.ops.UnaryOp.TheVariants.{Length}
-use Rattle.sqlite_sql.specs.declared.ops.BinaryOp.TheVariants.{Compare}
+use Rattle.sqlite_sql.specs.declared.ops.UnaryOp.TheVariants.{Length, Not}
+use Rattle.sqlite_sql.specs.declared.ops.BinaryOp.TheVariants.{Compare, Is}
 use Rattle.sqlite_sql.specs.declared.ops.CompareOp.TheVariants.{Eq}
 use Rattle.sqlite_value.specs.declared.keys.Collation.TheVariants.{Binary}
 use Rattle.sqlite_value.specs.declared.keys.Key.{Key}
@@ -19,7 +19,7 @@ use Rattle.sqlite_tied.specs.Compute.{everything}
 use Rattle.sqlite.specs.Listing.{understood, reads_listing}
 use Rattle.sqlite.proofs.Callers.{IsPlain, command_of, statement_of}
 use Rattle.part_store.specs.Tables.{users, contents, entries, no_schema, with_users, with_contents, store_schema, users_text, contents_text, entries_text}
-use Rattle.part_store.specs.Statements.{find_user_text, drop_user_text, add_user_text, find_content_text, size_content_text, add_content_text, drop_content_text, list_entries_text, find_entry_text, name_content_text, add_entry_text, drop_entry_text}
+use Rattle.part_store.specs.Statements.{find_user_text, drop_user_text, add_user_text, list_programs_text, find_content_text, size_content_text, add_content_text, drop_content_text, list_entries_text, find_entry_text, name_content_text, add_entry_text, drop_entry_text}
 
 -- a column of the table equals a parameter
 abbrev pub is_given : ℕ → ℕ → Term
@@ -64,6 +64,13 @@ find_user_query = picked 0 (is_given 1 0 ∷ []) (col 1 2 ∷ col 1 3 ∷ []) []
 pub find_user_is : Means store_schema find_user_text (Select (alone find_user_query) (codes "last" ∷ codes "program" ∷ []))
 unfolding understood everything
 find_user_is = (refl, (refl, refl), refl)
+
+abbrev pub list_programs_query : Query
+list_programs_query = picked 0 (op1 Not (op2 (Is Binary) (col 1 3) (lit Null)) ∷ []) (col 1 1 ∷ col 1 3 ∷ []) ((col 1 1, ascending Binary) ∷ [])
+
+pub list_programs_is : Means store_schema list_programs_text (Select (alone list_programs_query) (codes "user" ∷ codes "program" ∷ []))
+unfolding understood everything
+list_programs_is = (refl, (refl, refl), refl)
 
 abbrev pub drop_user_query : Query
 drop_user_query = picked 0 (is_given 1 0 ∷ []) (col 1 0 ∷ []) []

@@ -15,6 +15,7 @@ use Rattle.part_store.specs.Changes.{users_tree, contents_tree, entries_tree, eq
 use Rattle.part_store.specs.Entries.{Entry, Entries, with_last}
 use Rattle.part_store.specs.Filing.{Claims}
 use Rattle.part_store.specs.Standing.{Stands, IsUserRow, IsContentRow, HasContent, StandsFor, IsEntryRow}
+use Rattle.part_store.proofs.Apart.{apart_put}
 use Rattle.part_store.proofs.Equals.{equal_texts}
 use Rattle.part_store.proofs.Gaining.{filter_rises, added_rises, added_has, has_added, added_keeps, keyed_all}
 use Rattle.part_store.proofs.Programs.{bytes_same, found_user, of_user, same_bytes, user_key}
@@ -85,6 +86,7 @@ module _ (db mid new : Trees) (e : Entries) (stands : StandsFor db e) (user : Li
     contents_rise = subst IsTable (sym contents_same) stands.contents_rise;
     entries_rise = subst IsTable (sym entries_same) stands.entries_rise;
     users = all_from (IsUserRow after) (new users_tree) each_user;
+    apart = apart_put db mid new user _ stands.apart rest added;
     strangers = strangers_too;
     contents = subst (AllByRecursion IsContentRow) (sym contents_same) stands.contents;
     single = subst (λ rows. (digest one other : List ℕ) → HasContent rows digest one → HasContent rows digest other → one ≡ other) (sym contents_same) stands.single;

@@ -2,7 +2,6 @@
 use Rattle.std.proofs.Common.{◌≡◌, ◌≢◌, inl, inr, ℕ, ◌<◌, ℤ, pos, true, false, not, List, [], ◌∷◌, length, filter, Option, Some, None, MatchOption, option_map, Result, Ok, Err, IfOk, refl, sym, ap, subst, subst₂, ◌∙◌, bytes_eq, arith}
 use Rattle.std.specs.List.{AllByRecursion, AllZip}
 use Rattle.std.proofs.lemmas.Bool.{cases_Bool, true≢false, not-true, false_from_ne_true}
-use Rattle.std.proofs.lemmas.Slice.Eq.{bytes_eq-Decides}
 use Rattle.sqlite_value.specs.declared.value.Value.TheVariants.{Null, Int, Text, Blob}
 use Rattle.sqlite_value.specs.Order.{Row, column}
 use Rattle.sqlite_trees.specs.Tree.{Trees, rowid, IsTable}
@@ -15,14 +14,10 @@ use Rattle.sqlite.specs.State.{State}
 use Rattle.part_store.specs.Changes.{users_tree, contents_tree, entries_tree, equals, columns, Steps, Reads, IsFound, IsAdded, IsTaken}
 use Rattle.part_store.specs.Entries.{Entries, with_program}
 use Rattle.part_store.specs.Standing.{last_in, Brings, Stands, IsUserRow, IsContentRow, HasContent, StandsFor, IsEntryRow}
+pub use Rattle.part_store.proofs.Apart.{bytes_same, same_bytes}
+use Rattle.part_store.proofs.Apart.{apart_put}
 use Rattle.part_store.proofs.Equals.{equal_texts}
 use Rattle.part_store.proofs.Gaining.{filter_rises, added_rises, added_has, has_added, added_keeps, keyed_all}
-
-pub same_bytes : (m n : List ℕ) → bytes_eq m n ≡ true → m ≡ n
-same_bytes m n h = (bytes_eq-Decides m n).0 h
-
-pub bytes_same : (m : List ℕ) → bytes_eq m m ≡ true
-bytes_same m = (bytes_eq-Decides m m).1 refl
 
 pub user_key : (e : Entries) (r : Row) → IsUserRow e r → is_int (rowid r) ≡ true
 user_key e r h = rw h.2
@@ -98,6 +93,7 @@ module _ (db mid new : Trees) (e : Entries) (stands : StandsFor db e) (user prog
     contents_rise = subst IsTable (sym contents_same) stands.contents_rise;
     entries_rise = subst IsTable (sym entries_same) stands.entries_rise;
     users = all_from (IsUserRow after) (new users_tree) each_user;
+    apart = apart_put db mid new user _ stands.apart rest added;
     strangers = strangers_too;
     contents = subst (AllByRecursion IsContentRow) (sym contents_same) stands.contents;
     single = subst (λ rows. (digest one other : List ℕ) → HasContent rows digest one → HasContent rows digest other → one ≡ other) (sym contents_same) stands.single;
@@ -122,7 +118,7 @@ no_program : (program : Option (List ℕ)) → or_null Blob program ≡ Null →
 no_program None h = refl
 no_program (Some octets) h = absurd (cc)
 
-this_program : (program : Option (List ℕ)) (octets : List ℕ) → or_null Blob program ≡ Blob octets → Some octets ≡ program
+pub this_program : (program : Option (List ℕ)) (octets : List ℕ) → or_null Blob program ≡ Blob octets → Some octets ≡ program
 this_program None octets h = absurd (cc)
 this_program (Some others) octets h = let e : octets ≡ others = cc in ap Some e
 

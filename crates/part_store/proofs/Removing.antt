@@ -13,7 +13,7 @@ use Rattle.sqlite.specs.State.{State, KeepsCommit}
 use Rattle.part_store.specs.Tables.{store_schema}
 use Rattle.part_store.specs.Changes.{users_tree, contents_tree, entries_tree, equals, is_entry, IsTaken, Steps}
 use Rattle.part_store.specs.Entries.{Entry, Entries, is_at, without_entry}
-use Rattle.part_store.specs.Standing.{IsUserRow, IsEntryRow, IsContentRow, HasContent, content_row, StandsFor, Stands, Brings, NamesDigest, Stays, IsTidied}
+use Rattle.part_store.specs.Standing.{IsUserRow, IsEntryRow, IsContentRow, HasContent, content_row, StandsFor, Stands, Brings, NamesDigest, Stays, IsTidied, HaveOneRow}
 use Rattle.part_store.proofs.Gaining.{filter_rises, keyed_all}
 use Rattle.part_store.proofs.Equals.{equal_blobs}
 use Rattle.part_store.proofs.Finding.{zip_found, row_test, content_test, same_blob}
@@ -76,6 +76,7 @@ module _ (db new : Trees) (e : Entries) (user : List ℕ) (number : ℕ) (stands
     contents_rise = subst IsTable (sym contents) (filter_rises _ keep (db contents_tree) stands.contents_rise);
     entries_rise = subst IsTable (sym entries) (filter_rises _ _ (db entries_tree) stands.entries_rise);
     users = subst (AllByRecursion (IsUserRow e)) (sym users) stands.users;
+    apart = subst HaveOneRow (sym users) stands.apart;
     strangers = subst (λ rows. (name : List ℕ) → ((r : Row) → Has rows r → equals 1 (Text name) r ≡ false) → (e.lasts name ≡ 0) × (e.programs name ≡ None)) (sym users) stands.strangers;
     contents = all_from IsContentRow (new contents_tree) (λ r h. all_has IsContentRow (db contents_tree) r stands.contents (has_filtered keep (db contents_tree) r (subst (λ rows. Has rows r) contents h)).0);
     single = λ d one other h k. stands.single d one other (was d one h) (was d other k);

@@ -82,7 +82,7 @@ rises_mine user (x ∷ es) up =
     ]
 
 -- the rows of the answer show the user's entries
-pub answer_shows : (old new : State) (user : List ℕ) (rows : List Row) → Steps (Reads (IsListed (equals 1 (Text user)) shown rows)) old new → (before : Entries) → Stands old.now before
+pub answer_shows : (old new : State) (user : List ℕ) (rows : List Row) → Steps (Reads (IsListed entries_tree (equals 1 (Text user)) shown rows)) old new → (before : Entries) → Stands old.now before
     → AllZip (Shows old.now.trees) rows (entries_of user before)
 answer_shows old new user rows reads before stands =
     let db = old.now.trees in
@@ -155,7 +155,7 @@ one_read rows place row out more one old mid new lt is all so_far survives stays
     })
 
 -- all rows were read
-pub all_read : (old mid new : State) (user : List ℕ) (rows : List Row) (place : ℕ) (out : List EntryRow) → Steps (Reads (IsListed (equals 1 (Text user)) shown rows)) old mid → length rows ≤ place → HasCleanDisk new → Reading rows place out mid new
+pub all_read : (old mid new : State) (user : List ℕ) (rows : List Row) (place : ℕ) (out : List EntryRow) → Steps (Reads (IsListed entries_tree (equals 1 (Text user)) shown rows)) old mid → length rows ≤ place → HasCleanDisk new → Reading rows place out mid new
     → (before : Entries) → Stands old.now before → map listed out ≡ map listing_of (entries_of user before)
 all_read old mid new user rows place out reads whole clean reading before stands =
     let step = reads stands.schema in

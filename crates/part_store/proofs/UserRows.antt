@@ -1,14 +1,25 @@
 -- What the statements on the table of users do.
-use Rattle.std.proofs.Common.{◌≡◌, ℕ, pos, List, [], ◌∷◌, codes, Option, Some, None, Ok, refl, slice_get, Bor}
-use Rattle.sqlite_value.specs.declared.value.Value.TheVariants.{Null, Int, Text, Blob}
-use Rattle.sqlite_value.specs.Order.{Row}
-use Rattle.sqlite_sql.specs.Term.{lit, col}
+use Rattle.std.proofs.Common.{◌≡◌, ◌&&◌, ℕ, pos, Bool, true, false, not, List, [], ◌∷◌, codes, Option, Some, None, Ok, refl, ap, is_eq, slice_get, Bor, ◌∙◌}
+use Rattle.std.proofs.lemmas.Cmp.{tied_itself}
+use Rattle.sqlite_value.specs.declared.value.Value.{Value}
+use Rattle.sqlite_value.specs.declared.value.Value.TheVariants.{Null, Int, Real, Text, Blob}
+use Rattle.sqlite_value.specs.Order.{Row, column, value_cmp}
+use Rattle.sqlite_value.proofs.OrderLemmas.{value_cmp_total}
+use Rattle.sqlite_value.specs.Keys.{ascending, collated}
+use Rattle.sqlite_value.specs.declared.keys.Collation.TheVariants.{Binary}
+use Rattle.sqlite_trees.specs.Tree.{Trees}
+use Rattle.sqlite_sql.specs.Ops.{binary, from_truth, is_null, is_true, unary}
+use Rattle.sqlite_sql.specs.Term.{lit, col, op1, op2}
+use Rattle.sqlite_sql.specs.declared.ops.UnaryOp.TheVariants.{Not}
+use Rattle.sqlite_sql.specs.declared.ops.BinaryOp.TheVariants.{Is}
 use Rattle.sqlite.specs.Values.{or_null, bound_value}
 use Rattle.sqlite.specs.State.{State, ExecutesInside, Shown}
 use Rattle.part_store.specs.Tables.{user_columns}
-use Rattle.part_store.specs.Statements.{find_user_text, drop_user_text, add_user_text}
-use Rattle.part_store.specs.Changes.{Steps, Reads, IsFound, IsAdded, IsTaken, users_tree, equals, columns}
-use Rattle.part_store.proofs.Meaning.{is_given, find_user_query, find_user_is, drop_user_is, add_user_is}
+use Rattle.part_store.specs.Statements.{find_user_text, drop_user_text, add_user_text, list_programs_text}
+use Rattle.part_store.specs.Changes.{Steps, Reads, IsFound, IsListed, IsAdded, IsTaken, users_tree, equals, columns, has_program}
+use Rattle.part_store.proofs.Meaning.{is_given, find_user_query, find_user_is, list_programs_query, list_programs_is, drop_user_is, add_user_is}
+use Rattle.part_store.proofs.Ordered.{ordered}
+use Rattle.part_store.proofs.Rows.{passes}
 use Rattle.part_store.proofs.Writes.{inserted, deleted, cast_null, cast_int}
 use Rattle.part_store.proofs.Runs.{ran_as, stepped, read, found, found_as, taken_as, and_true}
 
@@ -18,6 +29,30 @@ user_found old new user rows h =
     read find_user_text (Text user ∷ []) old new find_user_query _ find_user_is rows h _ (λ a.
     found_as users_tree _ (equals 1 (Text user)) _ (columns (2 ∷ 3 ∷ [])) old.now.trees (slice_get rows 0) (λ r. and_true _) (λ r. refl)
     (found 0 (is_given 1 0 ∷ []) (col 1 2 ∷ col 1 3 ∷ []) [] old.now.trees (Text user ∷ []) rows a))
+
+-- only null is as null
+as_null : (v : Value) → is_eq (collated Binary v Null) ≡ is_null v
+unfolding value_cmp
+as_null Null = ap is_eq (tied_itself value_cmp_total Null)
+as_null (Int n) = refl
+as_null (Real x) = refl
+as_null (Text t) = refl
+as_null (Blob b) = refl
+
+not_true : (b : Bool) → (is_true (unary Not (from_truth (Some b))) && true) ≡ not b
+unfolding unary
+not_true true = refl
+not_true false = refl
+
+-- a row passes where its program isn't null
+passes_not_null : (db : Trees) (r : Row) → passes 0 (op1 Not (op2 (Is Binary) (col 1 3) (lit Null)) ∷ []) (col 1 1 ∷ col 1 3 ∷ []) ((col 1 1, ascending Binary) ∷ []) db [] r ≡ has_program r
+unfolding unary binary
+passes_not_null db r = not_true (is_eq (collated Binary (column r 3) Null)) ∙ ap not (as_null (column r 3))
+
+pub programs_listed : (old new : State) (rows : List Row) → Shown list_programs_text [] old new rows → Steps (Reads (IsListed users_tree has_program (columns (1 ∷ 3 ∷ [])) rows)) old new
+programs_listed old new rows h =
+    read list_programs_text [] old new list_programs_query _ list_programs_is rows h _ (λ a.
+    ordered 0 1 (op1 Not (op2 (Is Binary) (col 1 3) (lit Null)) ∷ []) (col 1 3 ∷ []) old.now.trees [] has_program (columns (1 ∷ 3 ∷ [])) rows a (passes_not_null old.now.trees) (λ r. refl))
 
 pub user_taken : (old new : State) (user : List ℕ) (count : ℕ) → ExecutesInside 0 drop_user_text (Text user ∷ []) old new (Ok count) → Steps (IsTaken users_tree (equals 1 (Text user))) old new
 user_taken old new user count h = stepped drop_user_text (Text user ∷ []) old new count _ h (λ has.

@@ -2,7 +2,7 @@
 use Rattle.std.specs.Prelude.{◌≡◌, ◌≢◌, ℕ, pos, Bool, true, false, not, ◌&&◌, List, [], ◌∷◌, map, filter, Option, Some, None, IsTrue, IsPermutation, IsSorted}
 use Rattle.std.specs.Ordering.{on}
 use Rattle.sqlite_sql.specs.declared.ops.UnaryOp.TheVariants.{Length}
-use Rattle.sqlite_sql.specs.Ops.{unary}
+use Rattle.sqlite_sql.specs.Ops.{is_null, unary}
 use Rattle.std.specs.List.{AllByRecursion}
 use Rattle.sqlite_value.specs.declared.keys.Collation.TheVariants.{Binary}
 use Rattle.sqlite_value.specs.declared.value.Value.{Value}
@@ -33,6 +33,10 @@ columns places r = map (column r) places
 -- the column of the row equals the value
 abbrev pub equals : ℕ → Value → Row → Bool
 equals at value row = equal Binary (column row at) value
+
+-- a user's row has a program
+abbrev pub has_program : Row → Bool
+has_program r = not (is_null (column r 3))
 
 -- the row is the user's entry of that number
 abbrev pub is_entry : List ℕ → ℕ → Row → Bool
@@ -66,9 +70,9 @@ abbrev pub IsFound : ℕ → (Row → Bool) → (Row → Row) → Trees → Opti
 IsFound tree test shown db None = (r : Row) → Has (db tree) r → test r ≡ false
 IsFound tree test shown db (Some row) = (r : Row) × Has (db tree) r × (test r ≡ true) × (row ≡ shown r)
 
--- the rows of entries that pass the test, as they are shown, in the order of what they show first
-pub record IsListed (test : Row → Bool) (shown : Row → Row) (rows : List Row) (db : Trees) : Type 0 where
-  pub same : IsPermutation (map shown (filter test (db entries_tree))) rows
+-- the rows that pass the test, as they are shown, in the order of what they show first
+pub record IsListed (tree : ℕ) (test : Row → Bool) (shown : Row → Row) (rows : List Row) (db : Trees) : Type 0 where
+  pub same : IsPermutation (map shown (filter test (db tree))) rows
   pub sorted : IsSorted (on (λ r. column r 0) value_cmp) rows
 
 -- the statement ran in a transaction that goes on, and changed the tables so; nothing is committed

@@ -1,5 +1,11 @@
 -- What the store holds, and the steps of its calls.
-use Rattle.std.specs.Prelude.{ℕ, ◌+◌, ◌==◌, ◌&&◌, Bool, not, List, [], ◌∷◌, ◌++◌, filter, length, Option, Some, None, if◌then◌else◌, bytes_eq}
+use Rattle.std.specs.Prelude.{◌≡◌, ℕ, ◌+◌, ◌==◌, ◌&&◌, Bool, not, List, [], ◌∷◌, ◌++◌, filter, length, Option, Some, None, option_map, if◌then◌else◌, bytes_eq}
+use Rattle.std.specs.List.{AllByRecursion}
+use Rattle.std.specs.Ordering.{nat_cmp}
+use Rattle.std.specs.Cmp.Lexicographic.{slice_cmp}
+use Rattle.std.specs.declared.cmp.Ordering.TheVariants.{Less}
+use Rattle.sqlite_trees.specs.Tree.{IsAscending}
+use Rattle.sqlite_rules.specs.Lists.{Has}
 use Rattle.part_store.specs.declared.entry.Kind.{Kind}
 
 pub record Entry : Type 0 where
@@ -23,6 +29,29 @@ no_entries = record { entries = []; programs = λ _. None; lasts = λ _. 0 }
 -- the user has another program
 abbrev pub with_program : List ℕ → List ℕ → Entries → Entries
 with_program user program e = record e { programs = λ name. if bytes_eq name user then Some program else e.programs name }
+
+-- a user and a program
+abbrev pub UserProgram : Type 0
+UserProgram = List ℕ × List ℕ
+
+-- the program that a list names for the user, the last one where it names several, or else this one
+abbrev pub program_named : List UserProgram → List ℕ → List ℕ → List ℕ
+program_named [] user program = program
+program_named (pair ∷ pairs) user program = program_named pairs user (if bytes_eq user pair.0 then pair.1 else program)
+
+-- the users that have a program have the one that the list names for them; nobody else gets one
+abbrev pub with_programs : List UserProgram → Entries → Entries
+with_programs pairs e = record e { programs = λ user. option_map (program_named pairs user) (e.programs user) }
+
+-- the first name comes before the second, octet by octet
+abbrev pub IsBefore : UserProgram → UserProgram → Type 0
+IsBefore one other = slice_cmp nat_cmp one.0 other.0 ≡ Less
+
+-- the users that have a program, each once and in the order of their names, with their programs
+pub record AreProgramsOf (e : Entries) (pairs : List UserProgram) : Type 0 where
+  pub each : AllByRecursion (λ pair. e.programs pair.0 ≡ Some pair.1) pairs
+  pub all : (user program : List ℕ) → e.programs user ≡ Some program → Has pairs (user, program)
+  pub rising : IsAscending IsBefore pairs
 
 -- an entry that has no number yet
 pub record Draft : Type 0 where

@@ -1,5 +1,6 @@
 -- The state that the tables stand for.
-use Rattle.std.specs.Prelude.{◌≡◌, ◌⊎◌, ℕ, ◌<◌, ◌≤◌, ℤ, pos, true, false, List, [], ◌∷◌, Option, Some, None, IsTrue}
+use Rattle.std.specs.Prelude.{◌≡◌, ◌⊎◌, ℕ, ◌<◌, ◌≤◌, ℤ, pos, true, false, List, [], ◌∷◌, Option, Some, None, IsTrue, String, Vec, string_bytes}
+use Rattle.std.specs.declared.alloc.Global.{Global}
 use Rattle.std.specs.List.{AllByRecursion, AllZip}
 use Rattle.sqlite_disk.specs.Disk.{MoreFaults}
 use Rattle.sqlite_value.specs.declared.value.Value.TheVariants.{Int, Text, Blob}
@@ -14,7 +15,7 @@ use Rattle.part_store.specs.Tables.{store_schema}
 use Rattle.part_store.specs.Changes.{users_tree, contents_tree, entries_tree, equals, is_entry, IsTaken}
 use Rattle.part_store.specs.declared.entry.Kind.{Kind}
 use Rattle.part_store.specs.declared.entry.Kind.TheVariants.{Message, Part}
-use Rattle.part_store.specs.Entries.{Entry, Entries, Draft, Listing}
+use Rattle.part_store.specs.Entries.{Entry, Entries, Draft, Listing, UserProgram}
 use Rattle.part_store.specs.declared.entry.EntryRow.{EntryRow}
 use Rattle.part_store.specs.declared.listing.Parts.{Parts}
 use Rattle.part_store.specs.declared.entry.NewEntry.{NewEntry}
@@ -50,12 +51,19 @@ pub record IsNumbered (e : Entries) : Type 0 where
   pub given : AllByRecursion (λ x. (1 ≤ x.number) × (x.number ≤ e.lasts x.user)) e.entries
   pub rising : IsAscending (λ x y. x.user ≡ y.user → x.number < y.number) e.entries
 
+-- no user has two rows
+abbrev pub HaveOneRow : List Row → Type 0
+HaveOneRow rows =
+    (name : List ℕ) (one other : Row) → Has rows one → Has rows other → equals 1 (Text name) one ≡ true → equals 1 (Text name) other ≡ true
+    → one ≡ other
+
 pub record StandsFor (db : Trees) (e : Entries) : Type 0 where
   -- the rowids rise
   pub users_rise : IsTable (db users_tree)
   pub contents_rise : IsTable (db contents_tree)
   pub entries_rise : IsTable (db entries_tree)
   pub users : AllByRecursion (IsUserRow e) (db users_tree)
+  pub apart : HaveOneRow (db users_tree)
   -- who has no row has no number and no program
   pub strangers : (name : List ℕ) → ((r : Row) → Has (db users_tree) r → equals 1 (Text name) r ≡ false) → (e.lasts name ≡ 0) × (e.programs name ≡ None)
   pub contents : AllByRecursion IsContentRow (db contents_tree)
@@ -112,6 +120,14 @@ Stays old new = old.now.schema ≡ store_schema → (new.now.schema ≡ store_sc
 -- a row of the user's entry of that number names the digest
 abbrev pub NamesDigest : Trees → List ℕ → ℕ → List ℕ → Type 0
 NamesDigest db user number digest = (r : Row) × Has (db entries_tree) r × (is_entry user number r ≡ true) × (column r 7 ≡ Blob digest)
+
+-- a user and his program, as the definitions see them
+abbrev pub pair_of : String Global × Vec ℕ Global → UserProgram
+pair_of pair = (string_bytes pair.0, pair.1.items)
+
+-- the same as the row of an answer
+abbrev pub row_of : String Global × Vec ℕ Global → Row
+row_of pair = Text (string_bytes pair.0) ∷ Blob pair.1.items ∷ []
 
 -- an entry that is to be made, as the definitions see it
 abbrev pub draft_of : NewEntry → Draft

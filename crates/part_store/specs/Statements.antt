@@ -10,6 +10,9 @@ drop_user_text = codes "DELETE FROM users WHERE user = ?1"
 abbrev pub add_user_text : List ℕ
 add_user_text = codes "INSERT INTO users (user, last, program) VALUES (?1, ?2, ?3)"
 
+abbrev pub list_programs_text : List ℕ
+list_programs_text = codes "SELECT user, program FROM users WHERE program IS NOT NULL ORDER BY user"
+
 abbrev pub find_content_text : List ℕ
 find_content_text = codes "SELECT octets FROM contents WHERE digest = ?1"
 

@@ -15,6 +15,7 @@ mod error;
 mod filing;
 mod listing;
 mod store;
+mod stored_programs;
 mod tables;
 mod users;
 

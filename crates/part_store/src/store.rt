@@ -3,8 +3,8 @@ ghost use Rattle.std.specs.Prelude.{◌≡◌, ◌⊎◌, ◌↔◌, ◌+◌, �
 ghost use Rattle.sqlite.specs.Held.{state};
 ghost use Rattle.sqlite.specs.State.{HasCleanDisk, KeepsCommit, Survives};
 ghost use Rattle.part_store.specs.Tables.{no_schema, store_schema};
-ghost use Rattle.part_store.specs.Entries.{entries_of, listing_of, no_entries, with_entries, with_program, without_entry};
-ghost use Rattle.part_store.specs.Standing.{last_in, Brings, Makes, Spares, Stays, Stands, StandsFor, HasContent, IsEntryAt, HasNone, NamesDigest, IsTidied, draft_of, listed};
+ghost use Rattle.part_store.specs.Entries.{AreProgramsOf, entries_of, listing_of, no_entries, with_entries, with_program, with_programs, without_entry};
+ghost use Rattle.part_store.specs.Standing.{Brings, Makes, Spares, Stays, Stands, StandsFor, HasContent, IsEntryAt, HasNone, NamesDigest, IsTidied, draft_of, listed, pair_of};
 ghost use Rattle.part_store.specs.declared.error.StoreError.TheVariants.{Memory, NoSuchEntry, NumberFull, Collision, Database};
 ghost use Rattle.part_store.specs.Changes.{contents_tree};
 ghost use Rattle.part_store.specs.Filing.{Collides, HasRoom};
@@ -15,8 +15,9 @@ use crate::adding::{Adding, put_entries};
 use crate::entry::{EntryRow, NewEntry};
 use crate::error::StoreError;
 use crate::listing::list_all;
-use crate::{contents, entries, tables, users};
-use sqlite::{Alter, Connection, Error, File, FileStore, MemStore, Row, Transaction};
+use crate::stored_programs::{list_programs, put_program, read_program, replace_all};
+use crate::{contents, entries, tables};
+use sqlite::{Alter, Connection, Error, File, FileStore, MemStore, Transaction};
 use sqlite_schema::schema::Schema;
 use std::alloc::Global;
 use std::marker::Model;
@@ -42,15 +43,6 @@ impl<S: Alter> Model for PartStore<S> {
 impl<S: Alter + Drop> Drop for PartStore<S> {
     fn drop(self) {
         let PartStore { conn: _ } = self;
-    }
-}
-
-fn last_in(found: &Option<Row>) -> Result<u32, Error>
-    ensures { IfOk result (last_in found.now) }
-{
-    match found {
-        Some(row) => row.get(0),
-        None => Ok(0),
     }
 }
 
@@ -105,39 +97,6 @@ fn ready_tables<S: Alter>(conn: &mut Connection<S>) -> Result<(), StoreError>
     create_tables(&mut tx)?;
     tx.commit()?;
     Ok(())
-}
-
-fn put_program<S: Alter>(
-    tx: &mut Transaction<'_, S>,
-    user: &str,
-    program: &[u8],
-) -> Result<(), Error>
-    ensures same_reference { tx.new.conn.ghost_name ≡ tx.old.conn.ghost_name }
-    ensures step { HasCleanDisk (state S.Store tx.new.conn.now) → OnOk result (Brings (with_program user.now program.now) (state S.Store tx.old.conn.now) (state S.Store tx.new.conn.now)) }
-    ensures inside { HasCleanDisk (state S.Store tx.new.conn.now) → OnOk result (IsTrue (state S.Store tx.new.conn.now).in_transaction) }
-    ensures shut { HasCleanDisk (state S.Store tx.new.conn.now) → IsTrue (state S.Store tx.new.conn.now).is_open → IsTrue (state S.Store tx.old.conn.now).is_open }
-    ensures kept { HasCleanDisk (state S.Store tx.new.conn.now) → (state S.Store tx.old.conn.now).now.schema ≡ store_schema → KeepsCommit (state S.Store tx.old.conn.now) (state S.Store tx.new.conn.now) }
-    ensures survives { Survives (state S.Store tx.old.conn.now) (state S.Store tx.new.conn.now) (λ _. ⊥) }
-{
-    let found = users::find(tx, user)?;
-    let last = last_in(&found)?;
-    users::remove(tx, user)?;
-    users::add(tx, user, last, Some(program))?;
-    Ok(())
-}
-
-fn read_program<S: Alter>(tx: &mut Transaction<'_, S>, user: &str) -> Result<Option<Vec<u8>>, Error>
-    ensures same_reference { tx.new.conn.ghost_name ≡ tx.old.conn.ghost_name }
-    ensures told { HasCleanDisk (state S.Store tx.new.conn.now) → IfOk result (λ found. (before : _) → Stands (state S.Store tx.old.conn.now).now before → option_map (λ v. v.items) found ≡ before.programs user.now) }
-    ensures open { HasCleanDisk (state S.Store tx.new.conn.now) → OnOk result (IsTrue (state S.Store tx.old.conn.now).is_open) }
-    ensures shut { HasCleanDisk (state S.Store tx.new.conn.now) → IsTrue (state S.Store tx.new.conn.now).is_open → IsTrue (state S.Store tx.old.conn.now).is_open }
-    ensures kept { HasCleanDisk (state S.Store tx.new.conn.now) → (state S.Store tx.old.conn.now).now.schema ≡ store_schema → KeepsCommit (state S.Store tx.old.conn.now) (state S.Store tx.new.conn.now) }
-    ensures survives { Survives (state S.Store tx.old.conn.now) (state S.Store tx.new.conn.now) (λ _. ⊥) }
-{
-    match users::find(tx, user)? {
-        Some(row) => row.get(1),
-        None => Ok(None),
-    }
 }
 
 /// The digest of a user's entry, or none where he has no such entry.
@@ -281,6 +240,38 @@ impl<S: Alter> PartStore<S> {
     {
         let mut tx = begin(&mut self.conn);
         Ok(read_program(&mut tx, user)?)
+    }
+
+    /// The users that have a program, in the order of their names, with their programs. Refuses `Memory` and `Database`.
+    pub fn programs(&mut self) -> Result<Vec<(String, Vec<u8>)>, StoreError>
+        ensures told { HasCleanDisk (state S.Store self.new) → IfOk result (λ programs.
+            (before : _) → Stands (state S.Store self.old).now before → AreProgramsOf before (map pair_of programs.items)) }
+        ensures open { HasCleanDisk (state S.Store self.new) → OnOk result (IsTrue (state S.Store self.old).is_open) }
+        ensures spared { HasCleanDisk (state S.Store self.new) → Spares (state S.Store self.old) (state S.Store self.new) }
+        ensures settled { HasCleanDisk (state S.Store self.new) → IsTrue (state S.Store self.new).is_open
+            → (state S.Store self.new).committed ≡ (state S.Store self.new).now }
+        ensures refused { IfErr result (λ e. (e ≡ Memory) ⊎ (e ≡ Database)) }
+        ensures survives { Survives (state S.Store self.old) (state S.Store self.new) (λ _. ⊥) }
+    {
+        let mut tx = begin(&mut self.conn);
+        list_programs(&mut tx)
+    }
+
+    /// Replaces the programs of the listed users, and passes over those that have none. Where a user is listed twice the later
+    /// program counts. No last number changes. Refuses `Memory` and `Database`.
+    pub fn replace_programs(&mut self, programs: &[(String, Vec<u8>)]) -> Result<(), StoreError>
+        ensures made { HasCleanDisk (state S.Store self.new) → OnOk result
+            (Makes (with_programs (map pair_of programs.now)) (state S.Store self.old) (state S.Store self.new)) }
+        ensures spared { HasCleanDisk (state S.Store self.new) → OnErr result (Spares (state S.Store self.old) (state S.Store self.new)) }
+        ensures refused { IfErr result (λ e. (e ≡ Memory) ⊎ (e ≡ Database)) }
+        ensures survives { Survives (state S.Store self.old) (state S.Store self.new) (λ trees.
+            (0 < length programs.now → IsTrue (state S.Store self.old).is_open)
+            × ((before : _) → Stands (state S.Store self.old).now before → StandsFor trees (with_programs (map pair_of programs.now) before))) }
+    {
+        let mut tx = begin(&mut self.conn);
+        replace_all(&mut tx, programs)?;
+        tx.commit()?;
+        Ok(())
     }
 
     /// Adds the entries, of which there is at least one, in order, under the user's next numbers, and answers the first of

@@ -2,7 +2,7 @@ use Rattle.std.proofs.Common.{arith}
 use Rattle.sqlite.specs.State.{HasCleanDisk}
 use Rattle.sqlite.specs.Held.{state}
 use Rattle.part_store.proofs.Programs.{program_brought}
-use Rattle.part_store.proofs.store.put_program.Goals as goal
+use Rattle.part_store.proofs.stored_programs.put_program.Goals as goal
 
 pub returns-clause-step : goal.returns-clause-step
 returns-clause-step g c clean =

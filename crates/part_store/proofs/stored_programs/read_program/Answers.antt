@@ -1,6 +1,6 @@
 use Rattle.sqlite.specs.Held.{state}
 use Rattle.part_store.proofs.Programs.{program_read}
-use Rattle.part_store.proofs.store.read_program.Goals as goal
+use Rattle.part_store.proofs.stored_programs.read_program.Goals as goal
 
 pub returns-in-Some-clause-told : goal.returns-in-Some-clause-told
 returns-in-Some-clause-told g c clean =

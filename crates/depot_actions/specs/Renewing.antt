@@ -1,0 +1,31 @@
+-- How the code makes programs of the latest version.
+use Rattle.std.specs.Prelude.{◌≡◌, ℕ, List, [], ◌∷◌, Option, None, Some, if◌then◌else◌}
+use Rattle.std.specs.List.{AllZip}
+use Rattle.bytecode_format.specs.Code.{Code}
+use Rattle.bytecode_format.specs.Spelling.{spelling}
+use Rattle.sieve_engine.specs.Execution.{IsChecked}
+use Rattle.part_store.specs.Entries.{UserProgram}
+use Rattle.depot_actions.specs.DepotState.{is_latest, latest_version}
+
+-- the octets of the code with the latest version
+abbrev pub renewed_octets : Code → List ℕ
+renewed_octets code = spelling (record code { version = latest_version })
+
+-- the octets that take the place of those of a program, none where it has the latest version
+abbrev pub renewal : Code → Option (List ℕ)
+renewal code = if is_latest code then None else Some (renewed_octets code)
+
+-- the same with its user, before others
+abbrev pub with_renewal : Option (List ℕ) → UserProgram → List UserProgram → List UserProgram
+with_renewal None pair others = others
+with_renewal (Some octets) pair others = (pair.0, octets) ∷ others
+
+-- of the users whose programs have another version the programs with the latest one
+abbrev pub renewals : List UserProgram → List Code → List UserProgram
+renewals [] codes = []
+renewals (pair ∷ stored) [] = []
+renewals (pair ∷ stored) (code ∷ codes) = with_renewal (renewal code) pair (renewals stored codes)
+
+-- the stored programs are accepted, and these take the place of those that have another version
+abbrev pub AreRenewals : List UserProgram → List UserProgram → Type 0
+AreRenewals stored renewed = (codes : List Code) × AllZip (λ pair code. IsChecked pair.1 code) stored codes × (renewed ≡ renewals stored codes)

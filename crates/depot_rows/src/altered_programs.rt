@@ -1,0 +1,161 @@
+// Stored programs that something has altered: a delivery is refused, or files what the altered program says, and all else works.
+use crate::depot::KEEP;
+use bytecode_format::Action;
+use depot_actions::{Depot, Encoding, OfWrite, Refusal};
+use part_store::{EntryRow, Kind, NewEntry, PartStore, StoreError};
+use sieve_engine::execute;
+use sqlite::{MemStore, params};
+use std::alloc::{AllocError, Global};
+use std::test::Fail;
+
+const OLD: NewEntry<'static> = NewEntry {
+    folder: b"old",
+    kind: Kind::Part,
+    name: b"",
+    media: b"text/plain",
+    octets: b"foobar",
+};
+
+/// How many altered programs are still accepted, how many aren't, and on how many the depot did otherwise.
+#[derive(Clone, Copy)]
+struct Counts {
+    accepted: u32,
+    refused: u32,
+    different: u32,
+}
+
+// A program with another octet at a place.
+fn with_octet(
+    alloc: Global,
+    program: &[u8],
+    place: usize,
+    octet: u8,
+) -> Result<Vec<u8>, AllocError> {
+    let mut altered = Vec::from_slice(alloc, program)?;
+    if place < altered.len() {
+        altered[place] = octet;
+    }
+    Ok(altered)
+}
+
+// Puts octets in the place of ann's program, whatever they are, and adds an entry of hers.
+fn altered(depot: Depot<MemStore>, program: &[u8]) -> Result<Depot<MemStore>, StoreError> {
+    let mut conn = depot.release().release();
+    conn.execute(
+        "UPDATE users SET program = ?1 WHERE user = 'ann'",
+        params![program],
+    )?;
+    match PartStore::adopt(conn) {
+        Ok(opened) => {
+            let mut store = opened;
+            let entries = [OLD];
+            store.add_entries("ann", &entries)?;
+            Ok(Depot::adopt(store))
+        }
+        Err((error, _)) => Err(error),
+    }
+}
+
+// Whether a row shows what an action files of the empty message.
+fn shows(row: &EntryRow, action: &Action) -> bool {
+    let (is_part, folder) = match action {
+        Action::Keep => (false, b"INBOX".as_slice()),
+        Action::File(folder) => (false, folder.as_slice()),
+        Action::Store(folder, _) => (true, folder.as_slice()),
+    };
+    matches!(row.kind, Kind::Part) == is_part && row.folder.as_slice() == folder && row.octets == 0
+}
+
+// Whether the rows show what the actions file, in order.
+fn show_all(rows: &[EntryRow], actions: &[Action]) -> bool {
+    rows.len() == actions.len()
+        && rows
+            .iter()
+            .zip(actions)
+            .all(|(row, action)| shows(row, action))
+}
+
+// Delivers the empty message, says whether the program's actions were filed or it was refused, and removes what was filed.
+fn delivers(
+    alloc: Global,
+    depot: &mut Depot<MemStore>,
+    program: &[u8],
+    counts: &mut Counts,
+) -> Result<bool, Refusal> {
+    let delivered = depot.deliver(alloc, "ann", b"");
+    let Ok(report) = execute(alloc, program, b"") else {
+        counts.refused = counts.refused.saturating_add(1);
+        return Ok(matches!(&delivered, Err(Refusal::Database)));
+    };
+    counts.accepted = counts.accepted.saturating_add(1);
+    let rows = delivered?;
+    for row in &rows {
+        depot.remove("ann", row.number)?;
+    }
+    Ok(show_all(&rows, &report.outcome.actions))
+}
+
+// Whether ann's entries are the old one alone, which is exported.
+fn has_old(alloc: Global, depot: &mut Depot<MemStore>) -> Result<Option<u32>, Refusal> {
+    let rows = depot.list("ann")?;
+    let [row] = rows.as_slice() else {
+        return Ok(None);
+    };
+    let mut out = OfWrite::new(Vec::new(alloc));
+    depot.export(alloc, "ann", row.number, Encoding::Raw, &mut out)?;
+    let is_old = row.folder.as_slice() == OLD.folder && out.inner.as_slice() == OLD.octets;
+    Ok(is_old.then_some(row.number))
+}
+
+// Whether a depot does as it should while ann has this program: lists, exports, delivers and removes.
+fn does(
+    alloc: Global,
+    depot: &mut Depot<MemStore>,
+    program: &[u8],
+    counts: &mut Counts,
+) -> Result<bool, Refusal> {
+    let Some(number) = has_old(alloc, depot)? else {
+        return Ok(false);
+    };
+    let delivered = delivers(alloc, depot, program, counts)?;
+    depot.remove("ann", number)?;
+    Ok(delivered && depot.list("ann")?.is_empty())
+}
+
+// Tries each of the octets at a place of the program that keeps.
+fn tried_at(
+    alloc: Global,
+    laid: Depot<MemStore>,
+    place: usize,
+    counts: &mut Counts,
+) -> Result<Depot<MemStore>, Fail> {
+    let mut depot = laid;
+    for octet in 0..=255u8 {
+        let program = with_octet(alloc, KEEP, place, octet)?;
+        depot = altered(depot, &program)?;
+        if !does(alloc, &mut depot, &program, counts)? {
+            counts.different = counts.different.saturating_add(1);
+        }
+    }
+    Ok(depot)
+}
+
+#[test]
+fn each_octet_set_to_each_value(rt: HostRuntime) -> Result<(), Fail> {
+    let alloc = rt.alloc();
+    let mut depot = Depot::in_memory(alloc)?;
+    depot.set_code(alloc, "ann", KEEP)?;
+    let mut counts = Counts {
+        accepted: 0,
+        refused: 0,
+        different: 0,
+    };
+    for place in 0..KEEP.len() {
+        depot = tried_at(alloc, depot, place, &mut counts)?;
+    }
+    assert_eq!(rt; counts.different, 0);
+    assert_eq!(rt; counts.accepted.saturating_add(counts.refused), 7_936);
+    assert!(rt; counts.accepted > 31);
+    assert!(rt; counts.refused > 7_000);
+    Ok(())
+}

@@ -1,0 +1,402 @@
+// A depot whose files stop at some call: what a command leaves is what was there, or what the command makes of it, and nothing between.
+use crate::depot::{KEEP, MESSAGE, SCRIPT};
+use crate::held::{Held, held_in};
+use depot_actions::{Depot, Refusal};
+use part_store::PartStore;
+use sqlite::{Connection, FileStore, Files, Options};
+use sqlite_disk::{Crash, Disk, Fuse, Memory};
+use std::alloc::Global;
+use std::test::Fail;
+
+type Fused = Fuse<Memory>;
+
+// Keeps and files the message, and stores the attachment of the name a.txt.
+const THREE: &[u8] =
+    b"require [\"fileinto\", \"foreverypart\", \"mime\", \"vnd.depot\"]; keep; fileinto \"f\"; foreverypart { if header :mime :param \"filename\" \"Content-Disposition\" \"a.txt\" { store \"att\"; } }";
+
+// Few pages in memory, since each run opens the files twice.
+const OPTIONS: Options = Options {
+    cache_pages: 32,
+    spill_pages: 32,
+    checkpoint_frames: 1_000,
+    seed: 1,
+};
+
+// More calls than any command makes of a file.
+const MOST: u64 = 1_000;
+
+/// What is done while the files may stop.
+#[derive(Clone, Copy)]
+enum Command {
+    /// The tables are made in an empty database.
+    Adopt,
+    /// A script in place of another.
+    SetScript,
+    /// A program in place of a script.
+    SetCode,
+    /// A message with three actions.
+    DeliverThree,
+    /// A message with an attachment that another user has, too.
+    DeliverPart,
+    /// An entry whose octets no other has.
+    Remove,
+    /// A program of version 1 among others gets version 2.
+    Migrate,
+}
+
+/// A command, its name, and how many users, contents and entries it leaves.
+#[derive(Clone, Copy)]
+struct Row {
+    command: Command,
+    name: &'static str,
+    leaves: [usize; 3],
+}
+
+const ROWS: [Row; 7] = [
+    Row {
+        command: Command::Adopt,
+        name: "adopt",
+        leaves: [0, 0, 0],
+    },
+    Row {
+        command: Command::SetScript,
+        name: "set_script",
+        leaves: [4, 1, 1],
+    },
+    Row {
+        command: Command::SetCode,
+        name: "set_code",
+        leaves: [4, 1, 1],
+    },
+    Row {
+        command: Command::DeliverThree,
+        name: "deliver, three actions",
+        leaves: [4, 2, 4],
+    },
+    Row {
+        command: Command::DeliverPart,
+        name: "deliver, an attachment",
+        leaves: [4, 1, 2],
+    },
+    Row {
+        command: Command::Remove,
+        name: "remove",
+        leaves: [4, 0, 0],
+    },
+    Row {
+        command: Command::Migrate,
+        name: "migrate",
+        leaves: [4, 1, 1],
+    },
+];
+
+/// Which of the two files stops after so many calls.
+#[derive(Clone, Copy)]
+enum Stops {
+    Log,
+    Database,
+    Both,
+}
+
+/// What a command came to.
+#[derive(Clone, Copy)]
+enum Came {
+    Done,
+    /// It was refused for want of memory or for a fault of the database.
+    Failed,
+    /// It was refused for what isn't so.
+    Wrong,
+}
+
+/// What a depot was before a command, and what the command makes of it.
+#[derive(Drop)]
+struct States {
+    octets: Vec<u8>,
+    before: Held,
+    after: Held,
+}
+
+/// How the runs of a command came out.
+#[derive(Clone, Copy)]
+struct Counts {
+    before: u32,
+    after: u32,
+    neither: u32,
+    has_ended: bool,
+}
+
+// A file with these octets, which stops after so many calls.
+fn file_of(alloc: Global, octets: &[u8], calls: u64) -> Result<Fused, Fail> {
+    let mut file = Memory::new(alloc);
+    file.write_at(0, octets)?;
+    file.sync()?;
+    Ok(Fuse::new(file, calls))
+}
+
+// The files of a database of these octets.
+fn files_of(alloc: Global, octets: &[u8], stops: Stops, calls: u64) -> Result<Files<Fused>, Fail> {
+    let (log, db) = match stops {
+        Stops::Log => (calls, u64::MAX),
+        Stops::Database => (u64::MAX, calls),
+        Stops::Both => (calls, calls),
+    };
+    Ok(Files {
+        log: file_of(alloc, b"", log)?,
+        db: file_of(alloc, octets, db)?,
+    })
+}
+
+// Opens files, or gives them back.
+fn connected(
+    alloc: Global,
+    files: Files<Fused>,
+) -> Result<Connection<FileStore<Fused>>, Files<Fused>> {
+    if !files.log.may_be_used() || !files.db.may_be_used() {
+        return Err(files);
+    }
+    match Connection::open_files(alloc, files, OPTIONS) {
+        Ok(conn) => Ok(conn),
+        Err((_, left)) => Err(left.into_files()),
+    }
+}
+
+// Closes a connection, and gives its files.
+fn closed(conn: Connection<FileStore<Fused>>) -> Files<Fused> {
+    match conn.close_files() {
+        Ok(files) => files,
+        Err((_, store)) => store.close(),
+    }
+}
+
+// The depot of a connection, which is given back where it is refused.
+fn adopted(
+    conn: Connection<FileStore<Fused>>,
+) -> Result<Depot<FileStore<Fused>>, Connection<FileStore<Fused>>> {
+    match PartStore::adopt(conn) {
+        Ok(store) => Ok(Depot::adopt(store)),
+        Err((_, conn)) => Err(conn),
+    }
+}
+
+// Lays the filters and the entry that commands work on.
+fn lay(alloc: Global, depot: &mut Depot<FileStore<Fused>>) -> Result<(), Refusal> {
+    depot.set_script(alloc, "ann", SCRIPT)?;
+    depot.set_script(alloc, "bob", SCRIPT)?;
+    depot.set_code(alloc, "cat", KEEP)?;
+    depot.set_script(alloc, "tom", THREE)?;
+    depot.deliver(alloc, "bob", MESSAGE)?;
+    Ok(())
+}
+
+// Carries a command out on a depot.
+fn carry(
+    alloc: Global,
+    depot: &mut Depot<FileStore<Fused>>,
+    command: Command,
+) -> Result<(), Refusal> {
+    match command {
+        Command::Adopt => Ok(()),
+        Command::SetScript => depot.set_script(alloc, "ann", THREE),
+        Command::SetCode => depot.set_code(alloc, "ann", KEEP),
+        Command::DeliverThree => {
+            depot.deliver(alloc, "tom", MESSAGE)?;
+            Ok(())
+        }
+        Command::DeliverPart => {
+            depot.deliver(alloc, "ann", MESSAGE)?;
+            Ok(())
+        }
+        Command::Remove => depot.remove("bob", 1),
+        Command::Migrate => {
+            depot.migrate(alloc)?;
+            Ok(())
+        }
+    }
+}
+
+// What an answer is.
+fn came_of(answer: Result<(), Refusal>) -> Came {
+    match answer {
+        Ok(()) => Came::Done,
+        Err(Refusal::Memory | Refusal::Database) => Came::Failed,
+        Err(_) => Came::Wrong,
+    }
+}
+
+// Adopts a connection, carries a command out, and releases the connection.
+fn carried(
+    alloc: Global,
+    conn: Connection<FileStore<Fused>>,
+    command: Command,
+) -> (Came, Connection<FileStore<Fused>>) {
+    match adopted(conn) {
+        Ok(opened) => {
+            let mut depot = opened;
+            let came = came_of(carry(alloc, &mut depot, command));
+            (came, depot.release().release())
+        }
+        Err(conn) => (Came::Failed, conn),
+    }
+}
+
+// The same from files to files.
+fn run(alloc: Global, files: Files<Fused>, command: Command) -> (Came, Files<Fused>) {
+    match connected(alloc, files) {
+        Ok(conn) => {
+            let (came, conn) = carried(alloc, conn, command);
+            (came, closed(conn))
+        }
+        Err(files) => (Came::Failed, files),
+    }
+}
+
+// Whether a file answers no call any more.
+fn has_stopped(file: &mut Fused) -> bool {
+    !file.may_be_used() || file.len().is_err()
+}
+
+// Starts the machine again, and says whether one of its files had stopped.
+fn restarted(files: Files<Fused>) -> (bool, Files<Fused>) {
+    let Files { mut log, mut db } = files;
+    let log_stopped = has_stopped(&mut log);
+    let db_stopped = has_stopped(&mut db);
+    log.crash();
+    db.crash();
+    (log_stopped || db_stopped, Files { log, db })
+}
+
+// What the depot of a connection holds, if it can be adopted and read.
+fn seen(
+    alloc: Global,
+    conn: Connection<FileStore<Fused>>,
+) -> (Option<Held>, Connection<FileStore<Fused>>) {
+    match adopted(conn) {
+        Ok(depot) => {
+            let mut conn = depot.release().release();
+            (held_in(alloc, &mut conn).ok(), conn)
+        }
+        Err(conn) => (None, conn),
+    }
+}
+
+// Whether a delivery to a new user works.
+fn goes_on(
+    alloc: Global,
+    conn: Connection<FileStore<Fused>>,
+) -> (bool, Connection<FileStore<Fused>>) {
+    match adopted(conn) {
+        Ok(opened) => {
+            let mut depot = opened;
+            let rows = depot.deliver(alloc, "zoe", b"");
+            let works = matches!(&rows, Ok(rows) if rows.len() == 1);
+            (works, depot.release().release())
+        }
+        Err(conn) => (false, conn),
+    }
+}
+
+// What files hold, if they can be opened and the next command works.
+fn found(alloc: Global, files: Files<Fused>) -> Option<Held> {
+    match connected(alloc, files) {
+        Ok(conn) => {
+            let (held, conn) = seen(alloc, conn);
+            let (works, conn) = goes_on(alloc, conn);
+            let _files = closed(conn);
+            if works { held } else { None }
+        }
+        Err(_files) => None,
+    }
+}
+
+// The octets of a closed database that commands work on.
+fn laid(alloc: Global) -> Result<Vec<u8>, Fail> {
+    let files = files_of(alloc, b"", Stops::Both, u64::MAX)?;
+    let Ok(conn) = connected(alloc, files) else {
+        return Err(Fail::new("the files can't be opened"));
+    };
+    let Ok(opened) = adopted(conn) else {
+        return Err(Fail::new("the connection can't be adopted"));
+    };
+    let mut depot = opened;
+    lay(alloc, &mut depot)?;
+    let files = closed(depot.release().release());
+    Ok(Vec::from_slice(alloc, files.db.inner().bytes())?)
+}
+
+// What the depot is before and after a command that nothing stops.
+fn states_around(alloc: Global, command: Command) -> Result<States, Fail> {
+    let octets = if matches!(command, Command::Adopt) {
+        Vec::new(alloc)
+    } else {
+        laid(alloc)?
+    };
+    let files = files_of(alloc, &octets, Stops::Both, u64::MAX)?;
+    let Some(before) = found(alloc, files) else {
+        return Err(Fail::new("nothing is found before the command"));
+    };
+    let files = files_of(alloc, &octets, Stops::Both, u64::MAX)?;
+    let (_, files) = run(alloc, files, command);
+    let Some(after) = found(alloc, files) else {
+        return Err(Fail::new("nothing is found after the command"));
+    };
+    Ok(States {
+        octets,
+        before,
+        after,
+    })
+}
+
+// Counts a run: what was done is there, what failed is there whole or not at all.
+fn count(counts: &mut Counts, states: &States, came: Came, held: Option<Held>) {
+    let Some(held) = held else {
+        counts.neither = counts.neither.saturating_add(1);
+        return;
+    };
+    if held == states.after && !matches!(came, Came::Wrong) {
+        counts.after = counts.after.saturating_add(1);
+    } else if held == states.before && matches!(came, Came::Failed) {
+        counts.before = counts.before.saturating_add(1);
+    } else {
+        counts.neither = counts.neither.saturating_add(1);
+    }
+}
+
+// Stops a command at each call in turn, until it isn't stopped.
+fn swept(alloc: Global, states: &States, command: Command, stops: Stops) -> Result<Counts, Fail> {
+    let mut counts = Counts {
+        before: 0,
+        after: 0,
+        neither: 0,
+        has_ended: false,
+    };
+    for calls in 0..MOST {
+        let files = files_of(alloc, &states.octets, stops, calls)?;
+        let (came, files) = run(alloc, files, command);
+        let (has_stopped, files) = restarted(files);
+        let held = found(alloc, files);
+        count(&mut counts, states, came, held);
+        if !has_stopped {
+            counts.has_ended = matches!(came, Came::Done);
+            break;
+        }
+    }
+    Ok(counts)
+}
+
+#[test]
+fn a_command_is_done_or_not(rt: HostRuntime) -> Result<(), Fail> {
+    for row in &ROWS {
+        let is_first = matches!(row.command, Command::Adopt);
+        let states = states_around(rt.alloc(), row.command)?;
+        assert_eq!(rt; states.after.rows, row.leaves, "{}", row.name);
+        assert_eq!(rt; states.before == states.after, is_first, "{}", row.name);
+        for stops in [Stops::Log, Stops::Database, Stops::Both] {
+            let counts = swept(rt.alloc(), &states, row.command, stops)?;
+            assert_eq!(rt; counts.neither, 0, "{}", row.name);
+            assert!(rt; counts.has_ended, "{}", row.name);
+            assert!(rt; counts.after > 0, "{}", row.name);
+            assert!(rt; counts.before > 0 || is_first, "{}", row.name);
+        }
+    }
+    Ok(())
+}

@@ -1,0 +1,215 @@
+// Replies that can't be written: what was done stands, and what was written is the text's beginning.
+use crate::depot::{KEEP, MESSAGE, SCRIPT};
+use crate::devices::Calls;
+use crate::held::{Held, held_in};
+use depot_actions::{Depot, Encoding, OfWrite, Refusal, Sink, encode};
+use depot_cli::{Task, perform};
+use sqlite::MemStore;
+use std::alloc::Global;
+use std::io;
+use std::io::Write;
+use std::test::Fail;
+
+const ENCODINGS: [Encoding; 7] = [
+    Encoding::Raw,
+    Encoding::Base64,
+    Encoding::Base64Mime,
+    Encoding::Base32,
+    Encoding::Base32Hex,
+    Encoding::Base16,
+    Encoding::Qp,
+];
+
+/// A task, the line that it prints, and how many users, contents and entries it leaves.
+#[derive(Clone, Copy)]
+struct Row {
+    task: Task<'static>,
+    line: &'static str,
+    leaves: [usize; 3],
+}
+
+const ROWS: [Row; 5] = [
+    Row {
+        task: Task::Script {
+            user: "bob",
+            script: SCRIPT,
+        },
+        line: "stored\n",
+        leaves: [2, 1, 1],
+    },
+    Row {
+        task: Task::Code {
+            user: "bob",
+            program: KEEP,
+        },
+        line: "stored\n",
+        leaves: [2, 1, 1],
+    },
+    Row {
+        task: Task::Deliver {
+            user: "ann",
+            message: MESSAGE,
+        },
+        line: "2 part \"att\"\n",
+        leaves: [1, 1, 2],
+    },
+    Row {
+        task: Task::List { user: "ann" },
+        line: "1 part \"att\" \"a.txt\" text/plain 6\n",
+        leaves: [1, 1, 1],
+    },
+    Row {
+        task: Task::Remove {
+            user: "ann",
+            number: 1,
+        },
+        line: "removed 1\n",
+        leaves: [1, 0, 0],
+    },
+];
+
+/// Takes an octet at a time until it is full, and nothing from then on.
+#[derive(Drop)]
+struct Full {
+    octets: Vec<u8>,
+    room: usize,
+}
+
+impl Write for Full {
+    fn write(&mut self, octets: &[u8]) -> io::Result<usize> {
+        let n = octets.len().min(1).min(self.room);
+        self.octets.extend_from_slice(&octets[..n])?;
+        self.room -= n;
+        Ok(n)
+    }
+
+    fn flush(&mut self) -> io::Result<()> {
+        Ok(())
+    }
+}
+
+// A depot where ann has an entry that her filter has stored.
+fn laid(alloc: Global) -> Result<Depot<MemStore>, Refusal> {
+    let mut depot = Depot::in_memory(alloc)?;
+    depot.set_script(alloc, "ann", SCRIPT)?;
+    depot.deliver(alloc, "ann", MESSAGE)?;
+    Ok(depot)
+}
+
+// Performs a task on a new depot, and gives the status and what the depot holds then.
+fn performed<O: Sink, E: Sink>(
+    alloc: Global,
+    task: Task<'_>,
+    out: &mut O,
+    err: &mut E,
+) -> Result<(u8, Held), Fail> {
+    let mut depot = laid(alloc)?;
+    let status = perform(alloc, task, &mut depot, out, err);
+    let mut conn = depot.release().release();
+    Ok((status, held_in(alloc, &mut conn)?))
+}
+
+// Exports ann's entry as lines of base64 to a writer, and gives the status, the writer and what was told of it.
+fn exported<W: Write + Drop>(alloc: Global, writer: W) -> Result<(u8, W, Vec<u8>), Fail> {
+    let mut out = OfWrite::new(writer);
+    let mut err = OfWrite::new(Vec::new(alloc));
+    let task = Task::Export {
+        user: "ann",
+        number: 1,
+        encoding: Encoding::Base64Mime,
+    };
+    let (status, _) = performed(alloc, task, &mut out, &mut err)?;
+    Ok((status, out.inner, err.inner))
+}
+
+// Whether a task prints its line and no other, and what the depot holds then.
+fn whole(alloc: Global, row: Row) -> Result<(bool, Held), Fail> {
+    let mut out = OfWrite::new(Vec::new(alloc));
+    let mut err = OfWrite::new(Vec::new(alloc));
+    let (status, held) = performed(alloc, row.task, &mut out, &mut err)?;
+    let is_printed = out.inner.as_slice() == row.line.as_bytes() && err.inner.is_empty();
+    Ok((status == 0 && is_printed, held))
+}
+
+// Whether a task whose reply can't be written says so.
+fn is_told(rt: &HostRuntime, row: Row, whole: &Held) -> Result<bool, Fail> {
+    let mut out = OfWrite::new(Calls::new(rt, 1, 0));
+    let mut err = OfWrite::new(Vec::new(rt.alloc()));
+    let (status, held) = performed(rt.alloc(), row.task, &mut out, &mut err)?;
+    let is_told = err.inner.as_slice() == b"refused 45 Write\n".as_slice();
+    Ok(status == 1 && is_told && held == *whole)
+}
+
+// The same where nothing can be written.
+fn is_mute(rt: &HostRuntime, row: Row, whole: &Held) -> Result<bool, Fail> {
+    let mut out = OfWrite::new(Calls::new(rt, 1, 0));
+    let mut err = OfWrite::new(Calls::new(rt, 1, 0));
+    let (status, held) = performed(rt.alloc(), row.task, &mut out, &mut err)?;
+    Ok(status == 1 && held == *whole)
+}
+
+#[test]
+fn what_was_done_stands(rt: HostRuntime) -> Result<(), Fail> {
+    for row in ROWS {
+        let line = row.line;
+        let (is_printed, held) = whole(rt.alloc(), row)?;
+        assert!(rt; is_printed, "{line}");
+        assert_eq!(rt; held.rows, row.leaves, "{line}");
+        assert!(rt; is_told(&rt, row, &held)?, "{line}");
+        assert!(rt; is_mute(&rt, row, &held)?, "{line}");
+    }
+    Ok(())
+}
+
+#[test]
+fn exports_that_break_off(rt: HostRuntime) -> Result<(), Fail> {
+    let alloc = rt.alloc();
+    let whole = b"Zm9vYmFy\r\n".as_slice();
+    for calls in 0..10usize {
+        let (status, writer, told) = exported(alloc, Calls::new(&rt, 1, calls))?;
+        assert_eq!(rt; status, 1, "{calls}");
+        assert!(rt; writer.octets.as_slice() == &whole[..calls], "{calls}");
+        assert!(rt;
+            told.as_slice() == b"refused 45 Write\n".as_slice(),
+            "{calls}"
+        );
+        let full = Full {
+            octets: Vec::new(alloc),
+            room: calls,
+        };
+        let (status, writer, told) = exported(alloc, full)?;
+        assert_eq!(rt; status, 1, "full after {calls}");
+        assert!(rt;
+            writer.octets.as_slice() == &whole[..calls],
+            "full after {calls}"
+        );
+        assert!(rt;
+            told.as_slice() == b"refused 45 Write\n".as_slice(),
+            "full after {calls}"
+        );
+    }
+    Ok(())
+}
+
+#[test]
+fn every_97th_call_fails(rt: HostRuntime) -> Result<(), Fail> {
+    let alloc = rt.alloc();
+    let mut message = Vec::new(alloc);
+    for place in 0..10_000usize {
+        message.push((place.wrapping_mul(7) % 251) as u8)?;
+    }
+    let mut depot = Depot::in_memory(alloc)?;
+    depot.deliver(alloc, "ann", &message)?;
+    for encoding in ENCODINGS {
+        let whole = encode(alloc, encoding, &message)?;
+        assert!(rt; whole.len() >= 10_000);
+        for calls in (0..whole.len()).step_by(97) {
+            let mut out = OfWrite::new(Calls::new(&rt, 1, calls));
+            let broken = depot.export(alloc, "ann", 1, encoding, &mut out);
+            assert!(rt; matches!(&broken, Err(Refusal::Write)), "{calls}");
+            assert!(rt; whole.starts_with(&out.inner.octets), "{calls}");
+            assert_eq!(rt; out.inner.octets.len(), calls);
+        }
+    }
+    Ok(())
+}

@@ -1,0 +1,114 @@
+-- Programs are replaced one after another.
+use Rattle.std.proofs.Common.{◌≡◌, ℕ, ◌+◌, ◌<◌, Bool, true, false, List, [], ◌∷◌, ◌++◌, length, map, take, get_or, IsTrue, Option, Some, None, option_map, if◌then◌else◌, refl, sym, ap, subst, ◌∙◌, bytes_eq, arith}
+use Rattle.std.specs.Prelude.{String, Vec, string_bytes}
+use Rattle.std.specs.declared.alloc.Global.{Global}
+use Rattle.std.proofs.lemmas.List.{map_more}
+use Rattle.sqlite.specs.State.{State, HasCleanDisk, KeepsCommit, Survives}
+use Rattle.sqlite.proofs.StateLemmas.{survives_then}
+use Rattle.part_store.specs.Tables.{store_schema}
+use Rattle.part_store.specs.Entries.{Entries, UserProgram, program_named, with_program, with_programs}
+use Rattle.part_store.specs.Standing.{Brings, Stands, Stays, pair_of}
+use Rattle.part_store.proofs.Apart.{same_bytes}
+use Rattle.part_store.proofs.Entering.{kept_then, stands_still}
+use Rattle.part_store.proofs.FiledAll.{survives_self}
+
+-- ---- what is named
+
+named_push : (pairs : List UserProgram) (pair : UserProgram) (user program : List ℕ) → program_named (pairs ++ pair ∷ []) user program ≡ program_named (pair ∷ []) user (program_named pairs user program)
+named_push [] pair user program = refl
+named_push (first ∷ pairs) pair user program = named_push pairs pair user (if bytes_eq user first.0 then first.1 else program)
+
+pub programs_push : (pairs : List UserProgram) (pair : UserProgram) (e : Entries) → with_programs (pair ∷ []) (with_programs pairs e) ≡ with_programs (pairs ++ pair ∷ []) e
+programs_push pairs pair e = λ i. record e { programs = λ user. go user (e.programs user) i }
+  where
+    go : (user : List ℕ) (program : Option (List ℕ)) → option_map (program_named (pair ∷ []) user) (option_map (program_named pairs user) program) ≡ option_map (program_named (pairs ++ pair ∷ []) user) program
+    go user None = refl
+    go user (Some program) = ap Some (sym (named_push pairs pair user program))
+
+pub no_programs : (e : Entries) → e ≡ with_programs [] e
+no_programs e = λ i. record e { programs = λ user. go user (e.programs user) i }
+  where
+    go : (user : List ℕ) (program : Option (List ℕ)) → program ≡ option_map (program_named [] user) program
+    go user None = refl
+    go user (Some program) = refl
+
+-- who has a program has this one now
+pub one_replaced : (user program was : List ℕ) (e : Entries) → Some was ≡ e.programs user → with_program user program e ≡ with_programs ((user, program) ∷ []) e
+one_replaced user program was e has = λ i. record e { programs = λ name. pick (bytes_eq name user) (e.programs name) (λ mine. ap e.programs (same_bytes name user mine) ∙ sym has) i }
+  where
+    pick : (b : Bool) (o : Option (List ℕ)) → (b ≡ true → o ≡ Some was) → (if b then Some program else o) ≡ option_map (λ p. if b then program else p) o
+    pick true None given = absurd (let h = given refl in cc)
+    pick true (Some p) given = refl
+    pick false None given = refl
+    pick false (Some p) given = refl
+
+-- who has none gets none
+pub none_replaced : (user program : List ℕ) (e : Entries) → None ≡ e.programs user → e ≡ with_programs ((user, program) ∷ []) e
+none_replaced user program e has = λ i. record e { programs = λ name. pick (bytes_eq name user) (e.programs name) (λ mine. ap e.programs (same_bytes name user mine) ∙ sym has) i }
+  where
+    pick : (b : Bool) (o : Option (List ℕ)) → (b ≡ true → o ≡ None) → o ≡ option_map (λ p. if b then program else p) o
+    pick true None given = refl
+    pick true (Some p) given = absurd (let h = given refl in cc)
+    pick false None given = refl
+    pick false (Some p) given = refl
+
+-- ---- one after another
+
+-- so far these were replaced
+pub record Replacing (pairs : List UserProgram) (old now : State) : Type 0 where
+  pub survives : Survives old now (λ _. ⊥)
+  pub brought : HasCleanDisk now → Brings (with_programs pairs) old now
+  pub inside : HasCleanDisk now → old.now.schema ≡ store_schema → IsTrue old.in_transaction → IsTrue now.in_transaction
+  pub schema : HasCleanDisk now → old.now.schema ≡ store_schema → now.now.schema ≡ store_schema
+  pub opened : HasCleanDisk now → 0 < length pairs → IsTrue old.is_open
+  pub shut : HasCleanDisk now → IsTrue now.is_open → IsTrue old.is_open
+  pub kept : HasCleanDisk now → old.now.schema ≡ store_schema → KeepsCommit old now
+
+pub nothing_replaced : (s : State) → Replacing [] s s
+nothing_replaced s = record {
+  survives = survives_self s;
+  brought = λ clean before stands. (subst (Stands s.now) (no_programs before) stands, refl);
+  inside = λ clean has h. h;
+  schema = λ clean has. has;
+  opened = λ clean some. absurd (omega (arith, some));
+  shut = λ clean h. h;
+  kept = λ clean has. record { was_open = λ h. h; committed = λ _. refl };
+}
+
+pub replaced_more : (pairs : List UserProgram) (pair : UserProgram) (old mid new : State) → Replacing pairs old mid → Survives mid new (λ _. ⊥) → (HasCleanDisk new → Brings (with_programs (pair ∷ [])) mid new)
+    → (HasCleanDisk new → mid.now.schema ≡ store_schema → IsTrue mid.in_transaction → IsTrue new.in_transaction) → (HasCleanDisk new → mid.now.schema ≡ store_schema → new.now.schema ≡ store_schema)
+    → (HasCleanDisk new → IsTrue mid.is_open) → (HasCleanDisk new → IsTrue new.is_open → IsTrue mid.is_open) → (HasCleanDisk new → mid.now.schema ≡ store_schema → KeepsCommit mid new) → Replacing (pairs ++ pair ∷ []) old new
+replaced_more pairs pair old mid new so_far survives brings inside schema opened shut kept =
+    let early = λ (clean : HasCleanDisk new). let e : HasCleanDisk mid = omega (arith, survives.clean) in e in
+    record {
+      survives = survives_then old mid new (λ _. ⊥) (λ _. ⊥) (λ _. ⊥) (λ _ _ h. h) (λ _ _ h. h) so_far.survives survives;
+      brought = λ clean before stands.
+          let first = so_far.brought (early clean) before stands in
+          let second = brings clean (with_programs pairs before) first.0 in
+          (subst (Stands new.now) (programs_push pairs pair before) second.0, second.1 ∙ first.1);
+      inside = λ clean has h. inside clean (so_far.schema (early clean) has) (so_far.inside (early clean) has h);
+      schema = λ clean has. schema clean (so_far.schema (early clean) has);
+      opened = λ clean some. so_far.shut (early clean) (opened clean);
+      shut = λ clean h. so_far.shut (early clean) (shut clean h);
+      kept = λ clean has. kept_then old mid new (so_far.kept (early clean) has) (kept clean (so_far.schema (early clean) has));
+    }
+
+-- one pair more
+pub pairs_more : (programs : List (String Global × Vec ℕ Global)) (place : ℕ) (item : String Global × Vec ℕ Global) (user program : List ℕ) → place < length programs → item ≡ get_or programs place item
+    → user ≡ string_bytes item.0 → program ≡ item.1.items → map pair_of (take place programs) ++ (user, program) ∷ [] ≡ map pair_of (take (place + 1) programs)
+pairs_more programs place item user program lt is named code =
+    let pair : (user, program) ≡ pair_of item = λ i. (named i, code i) in
+    ap (λ p. map pair_of (take place programs) ++ p ∷ []) (pair ∙ ap pair_of is) ∙ sym (map_more pair_of programs place item lt)
+
+-- ---- one of them
+
+pub replaced_one : (old mid new : State) (user program was : List ℕ) → ((before : Entries) → Stands old.now before → Some was ≡ before.programs user) → Stays old mid
+    → (old.now.schema ≡ store_schema → KeepsCommit old mid) → (old.now.schema ≡ store_schema → IsTrue mid.is_open) → Brings (with_program user program) mid new → Brings (with_programs ((user, program) ∷ [])) old new
+replaced_one old mid new user program was told stays kept is_open brings before stands =
+    let second = brings before (stands_still old mid before stays stands) in
+    (subst (Stands new.now) (one_replaced user program was before (told before stands)) second.0, second.1 ∙ (kept stands.schema).committed (is_open stands.schema))
+
+pub passed_over : (old new : State) (user program : List ℕ) → ((before : Entries) → Stands old.now before → None ≡ before.programs user) → Stays old new → (old.now.schema ≡ store_schema → KeepsCommit old new) → (old.now.schema ≡ store_schema → IsTrue new.is_open)
+    → Brings (with_programs ((user, program) ∷ [])) old new
+passed_over old new user program told stays kept is_open before stands =
+    (subst (Stands new.now) (none_replaced user program before (told before stands)) (stands_still old new before stays stands), (kept stands.schema).committed (is_open stands.schema))

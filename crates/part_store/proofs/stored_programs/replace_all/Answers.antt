@@ -1,0 +1,21 @@
+use Rattle.std.proofs.Common.{map, take, ◌∙◌, subst}
+use Rattle.sqlite.specs.Held.{state}
+use Rattle.part_store.specs.Standing.{pair_of}
+use Rattle.part_store.proofs.Replacing.{Replacing, pairs_more, replaced_more}
+use Rattle.part_store.proofs.stored_programs.replace_all.Goals as goal
+
+pub loop-user-preserved : goal.loop-user-preserved
+loop-user-preserved g c =
+    let old = state g.S.Store c.args.tx.now.conn.now in
+    let mid = state g.S.Store c.loop-user.tx.conn.now in
+    let new = state g.S.Store c.replace_program.new.tx.conn.now in
+    let programs = c.args.programs.now in
+    let place = c.loop-user.user-index in
+    let user = c.deref.result.now in
+    let program = c.deref-in-loop-user.result.now in
+    let whole = pairs_more programs place c.loop-user-item.result user program c.loop-user-test.true c.loop-user-item.is c.deref.ensures c.deref-in-loop-user.ensures.value in
+    record {
+      same_reference = c.replace_program.ensures.same_reference ∙ c.loop-user.invariant.same_reference;
+      so_far = subst (λ pairs. Replacing pairs old new) whole (replaced_more (map pair_of (take place programs)) (user, program) old mid new c.loop-user.invariant.so_far
+          c.replace_program.ensures.survives c.in_ok-replace_program.ensures.step c.in_ok-replace_program.ensures.inside c.in_ok-replace_program.ensures.schema c.in_ok-replace_program.ensures.open c.replace_program.ensures.shut c.replace_program.ensures.kept);
+    }
