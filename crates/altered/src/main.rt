@@ -11,12 +11,13 @@ use std::fs;
 use std::io::{self, Write};
 use std::process::ExitCode;
 
-// Programs in octets: one without a loop, one with a loop, one with two in each other, and one that has every operation.
+// Programs in octets: one without a loop, one with a loop, one with two in each other, and one for each version that has all of its operations.
 const PROGRAMS: &[&str] = &[
     "keep.svbc",
     "store.svbc",
     "nested_loops.svbc",
     "every_operation.svbc",
+    "every_operation_of_version_2.svbc",
 ];
 
 const MESSAGES: &[&str] = &["multiparts.eml", "attachment.eml", "quoted_printable.eml"];

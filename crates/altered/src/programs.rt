@@ -1,7 +1,7 @@
 // Altered programs, executed on a message without octets and on messages in each other.
 use crate::counts::{Counts, with_octet};
 use refusals::Refusal;
-use sieve_engine::{check_program, execute};
+use sieve_engine::{Report, check_program, execute};
 use std::alloc::{AllocError, Global};
 
 // Four messages in each other.
@@ -10,6 +10,9 @@ const CHAIN: &[u8] =
 
 // How many pairs of octets of each program are altered.
 const PAIRS: u64 = 50_000;
+
+// Where the version of a program stands.
+const VERSION_PLACE: usize = 4;
 
 /// Each proper prefix spells no program.
 pub fn prefixes(alloc: Global, program: &[u8]) -> Result<Counts, AllocError> {
@@ -23,7 +26,7 @@ pub fn prefixes(alloc: Global, program: &[u8]) -> Result<Counts, AllocError> {
     Ok(counts)
 }
 
-/// Each octet set to each value: the program is refused, or runs within its budget.
+/// Each octet set to each value: the program is refused, or runs within its budget, and does the same in version 2.
 pub fn one_altered(alloc: Global, program: &[u8]) -> Result<Counts, AllocError> {
     let mut counts = Counts::new();
     for place in 0..program.len() {
@@ -32,7 +35,7 @@ pub fn one_altered(alloc: Global, program: &[u8]) -> Result<Counts, AllocError> 
                 alloc,
                 &with_octet(alloc, program, place, octet)?,
                 &mut counts,
-            );
+            )?;
         }
     }
     Ok(counts)
@@ -50,7 +53,7 @@ pub fn two_altered(alloc: Global, program: &[u8]) -> Result<Counts, AllocError> 
             alloc,
             &with_octet(alloc, &once, second, numbers.octet())?,
             &mut counts,
-        );
+        )?;
     }
     Ok(counts)
 }
@@ -82,15 +85,37 @@ impl Numbers {
     }
 }
 
-fn run_both(alloc: Global, program: &[u8], counts: &mut Counts) {
-    run(alloc, program, b"", counts);
-    run(alloc, program, CHAIN, counts);
+fn run_both(alloc: Global, program: &[u8], counts: &mut Counts) -> Result<(), AllocError> {
+    run(alloc, program, b"", counts)?;
+    run(alloc, program, CHAIN, counts)
 }
 
-// A program is refused for its spelling or by the verifier, or charges at most its budget.
-fn run(alloc: Global, program: &[u8], message: &[u8], counts: &mut Counts) {
+// A program is refused for its spelling or by the verifier, or charges at most its budget, and does the same in version 2.
+fn run(
+    alloc: Global,
+    program: &[u8],
+    message: &[u8],
+    counts: &mut Counts,
+) -> Result<(), AllocError> {
     match execute(alloc, program, message) {
-        Ok(report) => counts.take(report.outcome.charged <= report.limit),
+        Ok(report) => {
+            let newer = with_octet(alloc, program, VERSION_PLACE, 2)?;
+            let within = report.outcome.charged <= report.limit;
+            counts.take(within && does_the_same(alloc, &newer, message, &report));
+        }
         Err(refusal) => counts.refuse((20..=27).contains(&refusal.number())),
+    }
+    Ok(())
+}
+
+// Whether a program comes to the actions and the charge of a report, and may charge no more.
+fn does_the_same(alloc: Global, program: &[u8], message: &[u8], report: &Report) -> bool {
+    match execute(alloc, program, message) {
+        Ok(newer) => {
+            newer.outcome.charged == report.outcome.charged
+                && newer.outcome.actions == report.outcome.actions
+                && newer.limit <= report.limit
+        }
+        Err(_) => false,
     }
 }

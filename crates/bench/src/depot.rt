@@ -6,28 +6,71 @@ use sqlite::MemStore;
 use std::alloc::Global;
 use std::io;
 
+/// What is done in a new depot, `rounds` times but for a delivery's first mails.
+enum Job<'a> {
+    Deliver { script: &'a [u8] },
+    List { mails: u32 },
+    Remove { mails: u32 },
+    Export,
+}
+
 /// Delivers mails into a new depot by a script: each is the given one and its number's four octets. The sum is that of the new entries.
 #[unsafe(no_mangle)]
 pub extern "C" fn bench_deliver(alloc: Global, script: &[u8], mail: &[u8], rounds: u32) -> u64 {
-    delivered(alloc, script, mail, rounds).unwrap_or(REFUSED)
+    in_new_depot(alloc, &Job::Deliver { script }, mail, rounds)
 }
 
 /// Lists a depot into which so many mails were delivered.
 #[unsafe(no_mangle)]
 pub extern "C" fn bench_list(alloc: Global, mails: u32, mail: &[u8], rounds: u32) -> u64 {
-    listed(alloc, mails, mail, rounds).unwrap_or(REFUSED)
+    in_new_depot(alloc, &Job::List { mails }, mail, rounds)
 }
 
 /// Delivers one mail more into a depot of so many, and removes it, in each round. The sum is how many were removed.
 #[unsafe(no_mangle)]
 pub extern "C" fn bench_remove(alloc: Global, mails: u32, mail: &[u8], rounds: u32) -> u64 {
-    removed(alloc, mails, mail, rounds).unwrap_or(REFUSED)
+    in_new_depot(alloc, &Job::Remove { mails }, mail, rounds)
 }
 
 /// Exports a delivered mail in base64 of lines. The sum is how often.
 #[unsafe(no_mangle)]
 pub extern "C" fn bench_export(alloc: Global, mail: &[u8], rounds: u32) -> u64 {
-    exported(alloc, mail, rounds).unwrap_or(REFUSED)
+    in_new_depot(alloc, &Job::Export, mail, rounds)
+}
+
+// The one place where a depot is let go: that costs more proof than all that is done with it.
+fn in_new_depot(alloc: Global, job: &Job<'_>, mail: &[u8], rounds: u32) -> u64 {
+    let Ok(mut depot) = Depot::in_memory(alloc) else {
+        return REFUSED;
+    };
+    done(alloc, &mut depot, job, mail, rounds).unwrap_or(REFUSED)
+}
+
+fn done(
+    alloc: Global,
+    depot: &mut Depot<MemStore>,
+    job: &Job<'_>,
+    mail: &[u8],
+    rounds: u32,
+) -> Option<u64> {
+    match job {
+        Job::Deliver { script } => {
+            depot.set_script(alloc, "ann", script).ok()?;
+            deliver_all(alloc, depot, mail, rounds.max(1))
+        }
+        Job::List { mails } => {
+            deliver_all(alloc, depot, mail, *mails)?;
+            list_often(depot, rounds)
+        }
+        Job::Remove { mails } => {
+            deliver_all(alloc, depot, mail, *mails)?;
+            remove_often(alloc, depot, *mails, mail, rounds)
+        }
+        Job::Export => {
+            deliver_all(alloc, depot, mail, 1)?;
+            export_often(alloc, depot, rounds)
+        }
+    }
 }
 
 fn deliver_all(alloc: Global, depot: &mut Depot<MemStore>, mail: &[u8], mails: u32) -> Option<u64> {
@@ -51,15 +94,7 @@ fn deliver_one(
     depot.deliver(alloc, "ann", &own).ok()
 }
 
-fn delivered(alloc: Global, script: &[u8], mail: &[u8], rounds: u32) -> Option<u64> {
-    let mut depot = Depot::in_memory(alloc).ok()?;
-    depot.set_script(alloc, "ann", script).ok()?;
-    deliver_all(alloc, &mut depot, mail, rounds.max(1))
-}
-
-fn listed(alloc: Global, mails: u32, mail: &[u8], rounds: u32) -> Option<u64> {
-    let mut depot = Depot::in_memory(alloc).ok()?;
-    deliver_all(alloc, &mut depot, mail, mails)?;
+fn list_often(depot: &mut Depot<MemStore>, rounds: u32) -> Option<u64> {
     let mut sum: u64 = 0;
     for _ in 0..rounds {
         for row in depot.list("ann").ok()? {
@@ -69,12 +104,16 @@ fn listed(alloc: Global, mails: u32, mail: &[u8], rounds: u32) -> Option<u64> {
     Some(sum)
 }
 
-fn removed(alloc: Global, mails: u32, mail: &[u8], rounds: u32) -> Option<u64> {
-    let mut depot = Depot::in_memory(alloc).ok()?;
-    deliver_all(alloc, &mut depot, mail, mails)?;
+fn remove_often(
+    alloc: Global,
+    depot: &mut Depot<MemStore>,
+    mails: u32,
+    mail: &[u8],
+    rounds: u32,
+) -> Option<u64> {
     let mut sum: u64 = 0;
     for round in 0..rounds {
-        for row in deliver_one(alloc, &mut depot, mail, mails.wrapping_add(round))? {
+        for row in deliver_one(alloc, depot, mail, mails.wrapping_add(round))? {
             depot.remove("ann", row.number).ok()?;
             sum = sum.wrapping_add(1);
         }
@@ -82,9 +121,7 @@ fn removed(alloc: Global, mails: u32, mail: &[u8], rounds: u32) -> Option<u64> {
     Some(sum)
 }
 
-fn exported(alloc: Global, mail: &[u8], rounds: u32) -> Option<u64> {
-    let mut depot = Depot::in_memory(alloc).ok()?;
-    deliver_all(alloc, &mut depot, mail, 1)?;
+fn export_often(alloc: Global, depot: &mut Depot<MemStore>, rounds: u32) -> Option<u64> {
     let mut writer = OfWrite::new(io::sink());
     for _ in 0..rounds {
         depot

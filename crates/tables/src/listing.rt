@@ -43,13 +43,14 @@ fn name_of(octet: u8) -> &'static str {
         0x17 => "EACH",
         0x18 => "NEXT",
         0x19 => "BREAK",
+        0x1A => "TAKE",
         _ => "",
     }
 }
 
 // The octet of an operation: that of its name, or the octet itself.
 fn operation(word: &[u8]) -> Option<u8> {
-    for octet in 1..26u8 {
+    for octet in 1..27u8 {
         if name_of(octet).as_bytes() == word {
             return Some(octet);
         }
@@ -178,6 +179,10 @@ fn put_instruction(code: &mut Vec<u8>, instruction: Instruction) -> Result<(), A
 /// The listing of a program.
 pub fn listing_of(alloc: Global, program: &Program) -> Result<Vec<u8>, AllocError> {
     let mut code = Vec::new(alloc);
+    if program.version() != 1 {
+        put(&mut code, b"version ", u64::from(program.version()))?;
+        code.extend_from_slice(b"; ")?;
+    }
     put(&mut code, b"variables ", u64::from(program.variables()))?;
     for number in program.numbers() {
         put(&mut code, b"; number ", *number)?;

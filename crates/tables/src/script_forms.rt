@@ -35,6 +35,11 @@ fn put_command(command: &Command, answer: &mut Printed) -> Result<(), AllocError
             answer.word("store")?;
             put_string(folder, answer)
         }
+        Command::Take { most, name } => {
+            answer.word("take")?;
+            answer.number(u64::from(*most))?;
+            answer.text(name.as_slice())
+        }
         Command::Break(loops) => {
             answer.word("break")?;
             answer.number(*loops as u64)
