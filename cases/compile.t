@@ -26,7 +26,7 @@ What is written is compared with the examples, and verified or run.
     $ depot compile script out
     wrote 103 octets
     $ depot verify out
-    A0=10 B0=0 A1=0 B1=0 A2=0 B2=0 A3=0 B3=0
+    A0=10 B0=0 A1=0 B1=0 A2=0 B2=0 A3=0 B3=0 by chains
     $ depot run out message
     keep
     charged 8 of 10
@@ -37,7 +37,7 @@ What is written is compared with the examples, and verified or run.
     $ depot compile script out
     wrote 86 octets
     $ depot verify out
-    A0=8 B0=10 A1=0 B1=0 A2=0 B2=0 A3=0 B3=0
+    A0=8 B0=10 A1=0 B1=0 A2=0 B2=0 A3=0 B3=0 by chains
     $ depot run out message
     fileinto "x"
     charged 28 of 158
@@ -55,7 +55,7 @@ What is written is compared with the examples, and verified or run.
     $ depot compile script out
     wrote 58 octets
     $ depot verify out
-    A0=4102 B0=0 A1=0 B1=0 A2=0 B2=0 A3=0 B3=0
+    A0=4102 B0=0 A1=0 B1=0 A2=0 B2=0 A3=0 B3=0 by chains
     $ depot run out message
     fileinto "x"
     charged 7 of 4102
@@ -71,7 +71,7 @@ What is written is compared with the examples, and verified or run.
     $ depot compile script out
     wrote 86 octets
     $ depot verify out
-    A0=2 B0=0 A1=7 B1=3 A2=0 B2=0 A3=0 B3=0
+    A0=2 B0=0 A1=7 B1=3 A2=0 B2=0 A3=0 B3=0 by chains
     $ depot run out message
     store "h" 0
     keep
@@ -82,26 +82,26 @@ What is written is compared with the examples, and verified or run.
     $ depot compile script out
     wrote 63 octets
     $ depot verify out
-    A0=2 B0=0 A1=2 B1=0 A2=2 B2=0 A3=0 B3=0
+    A0=2 B0=0 A1=2 B1=0 A2=2 B2=0 A3=0 B3=0 by chains
 
 ## stored part
     $ printf 'require ["foreverypart", "vnd.depot"]; foreverypart { store "att"; }' > script
     $ depot compile script out
     wrote 60 octets
     $ depot verify out
-    A0=2 B0=0 A1=6 B1=0 A2=0 B2=0 A3=0 B3=0
+    A0=2 B0=0 A1=6 B1=0 A2=0 B2=0 A3=0 B3=0 by chains
 
 ## blocklist
     $ depot compile examples/blocklist.sieve out
     wrote 297 octets
     $ depot verify out
-    A0=2 B0=0 A1=8472 B1=31 A2=0 B2=0 A3=0 B3=0
+    A0=2 B0=0 A1=8472 B1=31 A2=0 B2=0 A3=0 B3=0 by chains
 
 ## tickets
     $ depot compile examples/tickets.sieve out
     wrote 284 octets
     $ depot verify out
-    A0=4104 B0=15 A1=16418 B1=54 A2=0 B2=0 A3=0 B3=0
+    A0=4104 B0=15 A1=16418 B1=54 A2=0 B2=0 A3=0 B3=0 by chains
 
 A file that is there already.
 
@@ -113,7 +113,7 @@ A file that is there already.
     $ depot compile second out
     wrote 31 octets
     $ depot verify out
-    A0=2 B0=0 A1=0 B1=0 A2=0 B2=0 A3=0 B3=0
+    A0=2 B0=0 A1=0 B1=0 A2=0 B2=0 A3=0 B3=0 by chains
 
 ## a refused script leaves an older file
     $ echo 'keep;' > script
@@ -124,7 +124,7 @@ A file that is there already.
     2> refused 18 BadArguments at 0
     [1]
     $ depot verify out
-    A0=2 B0=0 A1=0 B1=0 A2=0 B2=0 A3=0 B3=0
+    A0=2 B0=0 A1=0 B1=0 A2=0 B2=0 A3=0 B3=0 by chains
 
 ## by a link
     $ ln -s out link

@@ -1,4 +1,4 @@
-# Depots: script, code, deliver, list, export and remove
+# Depots: script, code, deliver, list, export, remove and migrate
 
 Filters.
 
@@ -271,5 +271,35 @@ Files that are no depot.
 
 ## a missing folder is told before a wrong user name
     $ depot list none/mail.depot Ann
+    2> refused 43 Database
+    [1]
+
+Migration.
+
+## programs of version 1 get version 2
+    $ printf 'SVBC\2\0\0\0\0\0\0\0\0\0\2' > keep
+    $ printf '\23\0\0\0\0\0\0\0' >> keep # KEEP
+    $ printf '\1\0\0\0\0\0\0\0' >> keep # HALT
+    $ : > empty
+    $ depot code mail.depot cat examples/keep.svbc
+    stored
+    $ depot code mail.depot eve keep
+    stored
+    $ depot migrate mail.depot
+    migrated 1
+    $ depot migrate mail.depot
+    migrated 0
+    $ depot deliver mail.depot cat empty
+    1 message "INBOX"
+
+## a migration makes the depot where there is none
+    $ depot migrate mail.depot
+    migrated 0
+    $ depot list mail.depot ann
+    none
+
+## a migration of what is no depot
+    $ echo 'no database' > mail.depot
+    $ depot migrate mail.depot
     2> refused 43 Database
     [1]

@@ -128,7 +128,7 @@ Loops over the parts. The messages are four messages inside of one another, or h
     $ printf 'Content-Type: message/rfc822\n\n%.0s' 1 2 3 4 > message
     $ depot eval script message
     keep
-    charged 32 of 62
+    charged 32 of 32
 
 ## break in a loop
     $ printf 'require ["foreverypart", "vnd.depot"]; foreverypart :name "o" { foreverypart { break; } store "s"; }' > script
@@ -140,14 +140,37 @@ Loops over the parts. The messages are four messages inside of one another, or h
     store "s" 3
     store "s" 4
     keep
-    charged 31 of 77
+    charged 31 of 47
 
 ## break of a name
     $ printf 'require ["foreverypart", "vnd.depot"]; foreverypart :name "o" { foreverypart { break :name "o"; } store "s"; }' > script
     $ printf 'Content-Type: message/rfc822\n\n%.0s' 1 2 3 4 > message
     $ depot eval script message
     keep
-    charged 4 of 77
+    charged 4 of 47
+
+## the same code in version 1 has a budget by powers of parts
+    $ printf 'require "foreverypart"; foreverypart { foreverypart { keep; } }' > script
+    $ printf 'Content-Type: message/rfc822\n\n%.0s' 1 2 3 4 > message
+    $ depot compile script out
+    wrote 63 octets
+    $ printf '\1' | dd of=out bs=1 seek=4 conv=notrunc 2> /dev/null
+    $ depot run out message
+    keep
+    charged 32 of 62
+    $ depot verify out
+    A0=2 B0=0 A1=2 B1=0 A2=2 B2=0 A3=0 B3=0
+
+## text taken from a part
+    $ printf 'require ["variables", "fileinto", "foreverypart", "vnd.depot"]; foreverypart { take :first 3 "v"; } fileinto "${v}";' > script
+    $ printf '\nabcdef' > message
+    $ depot eval script message
+    fileinto "abc"
+    charged 12 of 4105
+    $ depot compile script out
+    wrote 63 octets
+    $ depot verify out
+    A0=4100 B0=0 A1=5 B1=0 A2=0 B2=0 A3=0 B3=0 by chains
 
 What is told first: both files are read, then the script is checked, then the message is taken apart.
 

@@ -19,7 +19,7 @@
     $ depot compile examples/gallery/newsletters.sieve out
     wrote 266 octets
     $ depot verify out
-    A0=12327 B0=54 A1=0 B1=0 A2=0 B2=0 A3=0 B3=0
+    A0=12327 B0=54 A1=0 B1=0 A2=0 B2=0 A3=0 B3=0 by chains
 
 ## invoices
     $ depot eval examples/gallery/invoices.sieve examples/gallery/invoices.eml
@@ -37,7 +37,7 @@
     $ depot compile examples/gallery/invoices.sieve out
     wrote 302 octets
     $ depot verify out
-    A0=15 B0=33 A1=19 B1=81 A2=0 B2=0 A3=0 B3=0
+    A0=15 B0=33 A1=19 B1=81 A2=0 B2=0 A3=0 B3=0 by chains
 
 ## detail
     $ depot eval examples/gallery/detail.sieve examples/gallery/detail.eml
@@ -58,7 +58,7 @@
     $ depot compile examples/gallery/detail.sieve out
     wrote 278 octets
     $ depot verify out
-    A0=32797 B0=123 A1=0 B1=0 A2=0 B2=0 A3=0 B3=0
+    A0=32797 B0=123 A1=0 B1=0 A2=0 B2=0 A3=0 B3=0 by chains
 
 ## tickets
     $ depot eval examples/gallery/tickets.sieve examples/gallery/tickets.eml
@@ -79,7 +79,7 @@
     $ depot compile examples/gallery/tickets.sieve out
     wrote 279 octets
     $ depot verify out
-    A0=16425 B0=93 A1=0 B1=0 A2=0 B2=0 A3=0 B3=0
+    A0=16425 B0=93 A1=0 B1=0 A2=0 B2=0 A3=0 B3=0 by chains
 
 ## attachments
     $ depot eval examples/gallery/attachments.sieve examples/gallery/attachments.eml
@@ -96,7 +96,7 @@
     $ depot compile examples/gallery/attachments.sieve out
     wrote 178 octets
     $ depot verify out
-    A0=2 B0=0 A1=8216 B1=23 A2=0 B2=0 A3=0 B3=0
+    A0=2 B0=0 A1=8216 B1=23 A2=0 B2=0 A3=0 B3=0 by chains
 
 ## junk
     $ depot eval examples/gallery/junk.sieve examples/gallery/junk.eml
@@ -117,7 +117,7 @@
     $ depot compile examples/gallery/junk.sieve out
     wrote 244 octets
     $ depot verify out
-    A0=22 B0=76 A1=0 B1=0 A2=0 B2=0 A3=0 B3=0
+    A0=22 B0=76 A1=0 B1=0 A2=0 B2=0 A3=0 B3=0 by chains
 
 ## bounces
     $ depot eval examples/gallery/bounces.sieve examples/gallery/bounces.eml
@@ -133,7 +133,7 @@
     $ depot compile examples/gallery/bounces.sieve out
     wrote 293 octets
     $ depot verify out
-    A0=23 B0=29 A1=26 B1=52 A2=0 B2=0 A3=0 B3=0
+    A0=23 B0=29 A1=26 B1=52 A2=0 B2=0 A3=0 B3=0 by chains
 
 ## invitations
     $ depot eval examples/gallery/invitations.sieve examples/gallery/invitations.eml
@@ -150,7 +150,7 @@
     $ depot compile examples/gallery/invitations.sieve out
     wrote 211 octets
     $ depot verify out
-    A0=2 B0=0 A1=12322 B1=43 A2=0 B2=0 A3=0 B3=0
+    A0=2 B0=0 A1=12322 B1=43 A2=0 B2=0 A3=0 B3=0 by chains
 
 ## quarantine
     $ depot eval examples/gallery/quarantine.sieve examples/gallery/quarantine.eml
@@ -166,23 +166,23 @@
     $ depot compile examples/gallery/quarantine.sieve out
     wrote 239 octets
     $ depot verify out
-    A0=2 B0=0 A1=8468 B1=0 A2=0 B2=0 A3=0 B3=0
+    A0=2 B0=0 A1=8468 B1=0 A2=0 B2=0 A3=0 B3=0 by chains
 
 ## unseen
     $ depot eval examples/gallery/unseen.sieve examples/gallery/unseen.eml
     fileinto "Unseen"
-    charged 267 of 45222
+    charged 267 of 45214
 
 ## unseen seen
     $ depot eval examples/gallery/unseen.sieve examples/gallery/attachments.eml
     keep
-    charged 559 of 2411150
+    charged 559 of 2411070
 
 ## budget of unseen
     $ depot compile examples/gallery/unseen.sieve out
     wrote 228 octets
     $ depot verify out
-    A0=2 B0=0 A1=20510 B1=23 A2=8 B2=0 A3=0 B3=0
+    A0=2 B0=0 A1=20510 B1=23 A2=8 B2=0 A3=0 B3=0 by chains
 
 ## disguised
     $ depot eval examples/gallery/disguised.sieve examples/gallery/disguised.eml
@@ -198,7 +198,7 @@
     $ depot compile examples/gallery/disguised.sieve out
     wrote 318 octets
     $ depot verify out
-    A0=33 B0=201 A1=0 B1=0 A2=0 B2=0 A3=0 B3=0
+    A0=33 B0=201 A1=0 B1=0 A2=0 B2=0 A3=0 B3=0 by chains
 
 ## guards
     $ depot eval examples/gallery/guards.sieve examples/gallery/guards.eml
@@ -219,4 +219,4 @@
     $ depot compile examples/gallery/guards.sieve out
     wrote 296 octets
     $ depot verify out
-    A0=38 B0=58 A1=0 B1=0 A2=0 B2=0 A3=0 B3=0
+    A0=38 B0=58 A1=0 B1=0 A2=0 B2=0 A3=0 B3=0 by chains

@@ -12,3 +12,9 @@
 ## deliver, behind a mail server
 Only if: command -v flock # there is no flock
     $ "$TOP/contrib/test_deliver" depot > report || cat report
+
+## allocations that are refused, a sample
+Only if: command -v cc # there is no C compiler
+    $ "$TOP/bench/refused_allocations" depot --sample > report || cat report
+    $ grep -c ' 0 odd$' report
+    1

@@ -15,7 +15,7 @@ Programs that are accepted; `gallery.t` has more of them.
 
 ## documents
     $ depot verify examples/documents.svbc
-    A0=2 B0=0 A1=16 B1=29 A2=0 B2=0 A3=0 B3=0
+    A0=2 B0=0 A1=16 B1=29 A2=0 B2=0 A3=0 B3=0 by chains
 
 Octets that spell no program.
 

@@ -106,6 +106,7 @@ Help.
     2>   list     Lists the entries of a user
     2>   export   Writes the octets of an entry as a text
     2>   remove   Removes an entry
+    2>   migrate  Gives the filters of all users the latest version of the bytecode
     2>   help     Print this message or the help of the given subcommand(s)
     2>
     2> Options:
@@ -139,6 +140,7 @@ Help.
     2>   list     Lists the entries of a user
     2>   export   Writes the octets of an entry as a text
     2>   remove   Removes an entry
+    2>   migrate  Gives the filters of all users the latest version of the bytecode
     2>   help     Print this message or the help of the given subcommand(s)
     2>
     2> Options:
@@ -423,6 +425,26 @@ Help.
     2> Status 0: done. 1: refused, or the answer broke off, with one line on standard error.
     2> 2: the words aren't those of a command.
     2> Refusals: 1, 40, 43 to 45. docs/SPECIFICATION.md says what each means, and what to do.
+    [2]
+
+## help migrate
+    $ depot help migrate
+    2> Gives the filters of all users the latest version of the bytecode
+    2>
+    2> Usage: depot migrate <DB>
+    2>
+    2> Arguments:
+    2>   <DB>  The file of the depot, which is made if it isn't there
+    2>
+    2> Options:
+    2>   -h, --help  Print help
+    2>
+    2> Example:
+    2>   depot migrate mail.depot
+    2>
+    2> Status 0: done. 1: refused, or the answer broke off, with one line on standard error.
+    2> 2: the words aren't those of a command.
+    2> Refusals: 1, 43, 45. docs/SPECIFICATION.md says what each means, and what to do.
     [2]
 
 ## help encode
