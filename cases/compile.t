@@ -42,7 +42,7 @@ What is written is compared with the examples, and verified or run.
     fileinto "x"
     charged 28 of 158
     $ od -An -v -tx1 out
-     53 56 42 43 01 00 00 00 00 00 03 00 00 00 07 00
+     53 56 42 43 02 00 00 00 00 00 03 00 00 00 07 00
      07 53 75 62 6a 65 63 74 00 01 61 00 01 78 02 00
      00 00 00 00 00 00 02 00 00 00 00 00 00 01 0c 01
      00 01 00 00 00 01 0b 00 00 00 00 00 00 06 02 00
@@ -60,7 +60,7 @@ What is written is compared with the examples, and verified or run.
     fileinto "x"
     charged 7 of 4102
     $ od -An -v -tx1 out
-     53 56 42 43 01 00 01 00 00 00 01 00 00 00 05 00
+     53 56 42 43 02 00 01 00 00 00 01 00 00 00 05 00
      01 78 02 00 00 00 00 00 00 00 06 00 00 00 00 00
      00 00 03 00 00 00 00 00 00 00 15 00 00 00 00 00
      00 00 01 00 00 00 00 00 00 00

@@ -13,7 +13,7 @@ Standard input is closed: only a command that reads it notices.
 
 ## verify with closed input
     $ depot verify examples/discard-large.svbc <&-
-    A0=4 B0=0 A1=0 B1=0 A2=0 B2=0 A3=0 B3=0
+    A0=4 B0=0 A1=0 B1=0 A2=0 B2=0 A3=0 B3=0 by chains
 
 ## run with closed input
     $ depot run examples/discard-large.svbc examples/newsletter.eml <&-
@@ -116,7 +116,7 @@ Standard error is closed: it isn't missed where nothing is refused, and nothing 
 
 ## verify with closed errors
     $ depot verify examples/discard-large.svbc 2>&-
-    A0=4 B0=0 A1=0 B1=0 A2=0 B2=0 A3=0 B3=0
+    A0=4 B0=0 A1=0 B1=0 A2=0 B2=0 A3=0 B3=0 by chains
 
 ## run with closed errors
     $ depot run examples/discard-large.svbc examples/newsletter.eml 2>&-

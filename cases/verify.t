@@ -11,7 +11,7 @@ Programs that are accepted; `gallery.t` has more of them.
 
 ## discard large
     $ depot verify examples/discard-large.svbc
-    A0=4 B0=0 A1=0 B1=0 A2=0 B2=0 A3=0 B3=0
+    A0=4 B0=0 A1=0 B1=0 A2=0 B2=0 A3=0 B3=0 by chains
 
 ## documents
     $ depot verify examples/documents.svbc
