@@ -1,6 +1,6 @@
 # check: whether a script has a fault, and at which token
 
-`docs/SPECIFICATION.md` says what a script may have. `explain.t` is about the same faults in words, and the texts of refusals are those of README's table.
+`docs/SPECIFICATION.md` says what a script may have. `explain.t` is about the same faults in words, and the texts of refusals are those of its table.
 
 Scripts without a fault.
 

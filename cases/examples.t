@@ -1,4 +1,4 @@
-# The scripts of examples on its messages; README.md shows more of them
+# The scripts of examples on its messages; docs/TOUR.md shows more of them
 
 ## discard large
     $ depot eval examples/discard-large.sieve examples/newsletter.eml
