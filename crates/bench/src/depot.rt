@@ -7,6 +7,7 @@ use std::alloc::Global;
 use std::io;
 
 /// What is done in a new depot, `rounds` times but for a delivery's first mails.
+#[derive(Clone, Copy)]
 enum Job<'a> {
     Deliver { script: &'a [u8] },
     List { mails: u32 },
@@ -17,29 +18,29 @@ enum Job<'a> {
 /// Delivers mails into a new depot by a script: each is the given one and its number's four octets. The sum is that of the new entries.
 #[unsafe(no_mangle)]
 pub extern "C" fn bench_deliver(alloc: Global, script: &[u8], mail: &[u8], rounds: u32) -> u64 {
-    in_new_depot(alloc, &Job::Deliver { script }, mail, rounds)
+    in_new_depot(alloc, Job::Deliver { script }, mail, rounds)
 }
 
 /// Lists a depot into which so many mails were delivered.
 #[unsafe(no_mangle)]
 pub extern "C" fn bench_list(alloc: Global, mails: u32, mail: &[u8], rounds: u32) -> u64 {
-    in_new_depot(alloc, &Job::List { mails }, mail, rounds)
+    in_new_depot(alloc, Job::List { mails }, mail, rounds)
 }
 
 /// Delivers one mail more into a depot of so many, and removes it, in each round. The sum is how many were removed.
 #[unsafe(no_mangle)]
 pub extern "C" fn bench_remove(alloc: Global, mails: u32, mail: &[u8], rounds: u32) -> u64 {
-    in_new_depot(alloc, &Job::Remove { mails }, mail, rounds)
+    in_new_depot(alloc, Job::Remove { mails }, mail, rounds)
 }
 
 /// Exports a delivered mail in base64 of lines. The sum is how often.
 #[unsafe(no_mangle)]
 pub extern "C" fn bench_export(alloc: Global, mail: &[u8], rounds: u32) -> u64 {
-    in_new_depot(alloc, &Job::Export, mail, rounds)
+    in_new_depot(alloc, Job::Export, mail, rounds)
 }
 
 // The one place where a depot is let go: that costs more proof than all that is done with it.
-fn in_new_depot(alloc: Global, job: &Job<'_>, mail: &[u8], rounds: u32) -> u64 {
+fn in_new_depot(alloc: Global, job: Job<'_>, mail: &[u8], rounds: u32) -> u64 {
     let Ok(mut depot) = Depot::in_memory(alloc) else {
         return REFUSED;
     };
@@ -49,7 +50,7 @@ fn in_new_depot(alloc: Global, job: &Job<'_>, mail: &[u8], rounds: u32) -> u64 {
 fn done(
     alloc: Global,
     depot: &mut Depot<MemStore>,
-    job: &Job<'_>,
+    job: Job<'_>,
     mail: &[u8],
     rounds: u32,
 ) -> Option<u64> {
@@ -59,12 +60,12 @@ fn done(
             deliver_all(alloc, depot, mail, rounds.max(1))
         }
         Job::List { mails } => {
-            deliver_all(alloc, depot, mail, *mails)?;
+            deliver_all(alloc, depot, mail, mails)?;
             list_often(depot, rounds)
         }
         Job::Remove { mails } => {
-            deliver_all(alloc, depot, mail, *mails)?;
-            remove_often(alloc, depot, *mails, mail, rounds)
+            deliver_all(alloc, depot, mail, mails)?;
+            remove_often(alloc, depot, mails, mail, rounds)
         }
         Job::Export => {
             deliver_all(alloc, depot, mail, 1)?;
