@@ -107,6 +107,7 @@ Help.
     2>   export   Writes the octets of an entry as a text
     2>   remove   Removes an entry
     2>   migrate  Gives the filters of all users the latest version of the bytecode
+    2>   inspect  Says what a file is, and what the depot in it holds; changes nothing
     2>   help     Print this message or the help of the given subcommand(s)
     2>
     2> Options:
@@ -116,6 +117,8 @@ Help.
     2> its number and name, and status 1. Status 2 says that the words aren't those of a command.
     2> With no words at all, a program that keeps every message runs on standard input.
     2> The help of a command has an example, and says with which refusals it may end.
+    2>
+    2> depot 0.13.0
     [2]
 
 ## help command
@@ -141,6 +144,7 @@ Help.
     2>   export   Writes the octets of an entry as a text
     2>   remove   Removes an entry
     2>   migrate  Gives the filters of all users the latest version of the bytecode
+    2>   inspect  Says what a file is, and what the depot in it holds; changes nothing
     2>   help     Print this message or the help of the given subcommand(s)
     2>
     2> Options:
@@ -150,6 +154,8 @@ Help.
     2> its number and name, and status 1. Status 2 says that the words aren't those of a command.
     2> With no words at all, a program that keeps every message runs on standard input.
     2> The help of a command has an example, and says with which refusals it may end.
+    2>
+    2> depot 0.13.0
     [2]
 
 ## help check
@@ -444,6 +450,26 @@ Help.
     2>
     2> Status 0: done. 1: refused, or the answer broke off, with one line on standard error.
     2> 2: the words aren't those of a command.
+    2> Refusals: 1, 43, 45. docs/SPECIFICATION.md says what each means, and what to do.
+    [2]
+
+## help inspect
+    $ depot help inspect
+    2> Says what a file is, and what the depot in it holds; changes nothing
+    2>
+    2> Usage: depot inspect <DB>
+    2>
+    2> Arguments:
+    2>   <DB>  The file of a depot, or whatever has its name
+    2>
+    2> Options:
+    2>   -h, --help  Print help
+    2>
+    2> Example:
+    2>   depot inspect mail.depot
+    2>
+    2> Status 0: it is a depot. 1: it is none, and the line says why; or refused, or the answer broke off,
+    2> with one line on standard error. 2: the words aren't those of a command.
     2> Refusals: 1, 43, 45. docs/SPECIFICATION.md says what each means, and what to do.
     [2]
 

@@ -1,11 +1,15 @@
 // Hands the words and the system to the command line, and its errands to the depot that they name.
 #![tactic(auto)]
 
+mod place;
 mod streams;
 
+use crate::place::{Obstacle, look_at};
 use crate::streams::hold_closed;
 use depot_actions::{Depot, OfWrite, Sink};
-use depot_cli::{Errand, Next, Refusal, System, perform, run, tell, tell_usage};
+use depot_cli::{
+    Errand, Next, NoDepot, Refusal, System, inspect, perform, run, tell, tell_no_depot, tell_usage,
+};
 use sqlite::{File, FileStore};
 use std::io::ErrorKind;
 use std::process::ExitCode;
@@ -30,6 +34,7 @@ fn start<O: Sink, E: Sink>(rt: &HostRuntime, out: &mut O, err: &mut E) -> u8 {
                 match run(rt.alloc(), &texts, &mut host, out, err) {
                     Next::Exit(status) => status,
                     Next::Perform(errand) => carry(rt, &errand, out, err),
+                    Next::Inspect(name) => inspect_file(rt, name, out, err),
                 }
             }
             Err(_) => tell(err, &Refusal::Memory),
@@ -49,6 +54,37 @@ fn carry<O: Sink, E: Sink>(rt: &HostRuntime, errand: &Errand<'_>, out: &mut O, e
             status
         }
         Err(refusal) => tell(err, &refusal),
+    }
+}
+
+// Says what a file is, and gives the status. What can be seen without opening it is looked at before.
+fn inspect_file<O: Sink, E: Sink>(rt: &HostRuntime, name: &str, out: &mut O, err: &mut E) -> u8 {
+    match look_at(rt, name) {
+        Ok(log) => inspect_opened(rt, name, log, out, err),
+        Err(Obstacle::NoDepot(why)) => tell_no_depot(out, err, why),
+        Err(Obstacle::Memory) => tell(err, &Refusal::Memory),
+    }
+}
+
+// Opens a file as it is, and says what the depot in it holds, or why there is none.
+fn inspect_opened<O: Sink, E: Sink>(
+    rt: &HostRuntime,
+    name: &str,
+    log: Option<u64>,
+    out: &mut O,
+    err: &mut E,
+) -> u8 {
+    match Depot::look(rt, name) {
+        Ok(opened) => {
+            let mut depot = opened;
+            let status = inspect(rt.alloc(), log, &mut depot, out, err);
+            close(depot);
+            status
+        }
+        Err(why) => match NoDepot::of(why) {
+            Some(why) => tell_no_depot(out, err, why),
+            None => tell(err, &Refusal::Memory),
+        },
     }
 }
 

@@ -11,4 +11,5 @@ pub mod Folding
 pub mod NoCause
 pub mod Migrating
 pub mod SameRuns
+pub mod Surveying
 mod Examples

@@ -1,26 +1,31 @@
 //! The depot and its calls.
-ghost use Rattle.std.specs.Prelude.{◌≡◌, ◌≢◌, ◌⊎◌, List, ℕ, map, option_map, IfOk, IfErr, OnOk, OnErr};
+ghost use Rattle.std.specs.Prelude.{◌≡◌, ◌≢◌, ◌⊎◌, IsTrue, List, ℕ, map, option_map, IfOk, IfErr, OnOk, OnErr, true};
 ghost use Rattle.sqlite.specs.Held.{state};
 ghost use Rattle.sqlite.specs.State.{HasCleanDisk, Survives};
 ghost use Rattle.sqlite.specs.Steps.{over_memory};
-ghost use Rattle.part_store.specs.Entries.{no_entries};
+ghost use Rattle.part_store.specs.Entries.{Entries, no_entries};
 ghost use Rattle.part_store.specs.Opening.{IsReady};
 ghost use Rattle.part_store.specs.Standing.{Spares, Stands, listed};
 ghost use Rattle.refusals.specs.declared.refusal.Refusal.TheVariants.{Memory, Database, Write};
 ghost use Rattle.depot_actions.specs.Causes.{HasCause, MayRefuse};
 ghost use Rattle.depot_actions.specs.DepotState.{Deliver, Does, Done, Export, ListAll, Listed, MayLeave, Migrate, Migrated, Program, ProgramOf, Remove, SetCode, SetScript, Text};
+ghost use Rattle.depot_actions.specs.Overviews.{IsOverview};
+ghost use Rattle.sqlite.specs.Files.{file_state, IsOpened};
+ghost use Rattle.part_store.specs.Looking.{are_tables};
 ghost use Rattle.depot_actions.specs.Device.{HasBegun, HasBroken, HasTaken};
 
 use crate::checking::{check_code, code_octets};
 use crate::delivery::{actions_of, file_all};
 use crate::encoding::Encoding;
 use crate::exporting::put_text;
+use crate::inspecting::look_over;
+use crate::overview::Overview;
 use crate::refusing::refused;
 use crate::renewing::renewed_programs;
 use crate::sink::Sink;
 use crate::user::is_user_name;
 use mime_decode::Message;
-use part_store::{EntryRow, PartStore};
+use part_store::{EntryRow, PartStore, Unopened};
 use refusals::Refusal;
 use sqlite::{Alter, File, FileStore, MemStore};
 use std::alloc::Global;
@@ -245,6 +250,22 @@ impl<S: Alter> Depot<S> {
         self.store.replace_programs(&renewed).map_err(refused)?;
         Ok(renewed.len())
     }
+
+    /// What the depot holds, user by user: the last number, the entries and their octets, and the state of the filter; and how much its
+    /// contents are. Nothing changes. A filter that no longer reads and verifies is told as such.
+    ///
+    /// # Errors
+    ///
+    /// `Database`, also where octets are more than 64 bits can count. `Memory` where an allocation was refused.
+    pub fn inspect(&mut self, alloc: Global) -> Result<Overview, Refusal>
+        ensures told { HasCleanDisk (state S.Store self.new) → IfOk result (λ x. IsTrue (state S.Store self.old).is_open
+            × ((before : Entries) → Stands (state S.Store self.old).now before → IsOverview (state S.Store self.old).now.trees before x)) }
+        ensures spared { HasCleanDisk (state S.Store self.new) → Spares (state S.Store self.old) (state S.Store self.new) }
+        ensures refused { IfErr result (λ e. (e ≡ Memory) ⊎ (e ≡ Database)) }
+        ensures survives { Survives (state S.Store self.old) (state S.Store self.new) (λ _. ⊥) }
+    {
+        look_over(&mut self.store, alloc)
+    }
 }
 
 impl Depot<MemStore> {
@@ -277,6 +298,21 @@ impl Depot<FileStore<File>> {
         match PartStore::open(rt, path) {
             Ok(store) => Ok(Depot { store }),
             Err(error) => Err(refused(error)),
+        }
+    }
+
+    /// The depot in the file at a path, as it is: no table is made. The file has to be there, since one that isn't is made, empty.
+    ///
+    /// # Errors
+    ///
+    /// What the file is instead.
+    pub fn look(rt: &HostRuntime, path: &str) -> Result<Depot<FileStore<File>>, Unopened>
+        ensures opened { IfOk result (λ d. HasCleanDisk (file_state d) → IsOpened d) }
+        ensures tables { IfOk result (λ d. are_tables (file_state d).now.schema.tables ≡ true) }
+    {
+        match PartStore::look(rt, path) {
+            Ok(store) => Ok(Depot { store }),
+            Err(why) => Err(why),
         }
     }
 }

@@ -5,6 +5,8 @@
 //! and changes nothing; so what a depot holds after any calls is what the accepted ones make of it, one after another
 //! (`specs/History`, [`laws`]). What the actions of a filter file stands in `specs/Drafts`, and who may be a user in `specs/Users`.
 //!
+//! [`Depot::inspect`] tells what a depot holds, user by user (`specs/Overviews`), to whoever keeps it.
+//!
 //! [`encode`] writes octets in an [`Encoding`], and [`decode`] reads them back: exactly the octets that the
 //! text reads as, or `NotCanonical` where there are none.
 //!
@@ -18,9 +20,11 @@ mod depot;
 mod encoding;
 mod entries;
 mod exporting;
+mod inspecting;
 mod kept_parts;
 pub mod laws;
 mod naming;
+mod overview;
 mod refusing;
 mod renewing;
 mod rows;
@@ -31,6 +35,7 @@ mod user;
 pub use depot::Depot;
 pub use encoding::{Encoding, decode, encode};
 pub use exporting::put;
+pub use overview::{Overview, ProgramState, UserOverview};
 pub use refusals::Refusal;
 pub use sink::{DeviceFailed, MAX_TRIES, OfWrite, Sink};
 pub use user::{MAX_USER, is_user_name};

@@ -11,3 +11,4 @@ pub mod Running
 pub mod Gathering
 pub mod Pieces
 pub mod Files
+pub mod Inspecting

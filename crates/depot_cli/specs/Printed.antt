@@ -1,5 +1,5 @@
 -- The printed lines.
-use Rattle.std.specs.Prelude.{ℕ, suc, ◌/◌, ◌%◌, Bool, List, [], ◌∷◌, ◌++◌, ◌&&◌, ◌||◌, ◌==◌, length, not, nat_le, codes, if◌then◌else◌}
+use Rattle.std.specs.Prelude.{ℕ, suc, ◌/◌, ◌%◌, Bool, List, [], ◌∷◌, ◌++◌, ◌&&◌, ◌||◌, ◌==◌, length, not, nat_le, codes, Option, None, Some, string_bytes, if◌then◌else◌}
 use Rattle.std.specs.List.{flat_map}
 use Rattle.std.specs.Fmt.{decimal, digit_glyph}
 use Rattle.std.specs.Prelude.{false}
@@ -16,7 +16,14 @@ use Rattle.depot_cli.specs.declared.entries.Detail.{Detail}
 use Rattle.depot_cli.specs.declared.entries.Detail.TheVariants.{Brief, Full}
 use Rattle.mime_decode.specs.Content.{digest_of}
 use Rattle.mime_decode.specs.Mail.{Part}
-use Rattle.refusals.specs.Lines.{refusal_text}
+use Rattle.part_store.specs.declared.totals.ContentTotal.{ContentTotal}
+use Rattle.depot_actions.specs.declared.overview.Overview.{Overview}
+use Rattle.depot_actions.specs.declared.overview.UserOverview.{UserOverview}
+use Rattle.depot_actions.specs.declared.overview.ProgramState.{ProgramState}
+use Rattle.depot_actions.specs.declared.overview.ProgramState.TheVariants.{Missing, Accepted, Refused}
+use Rattle.depot_cli.specs.declared.no_depot.NoDepot.{NoDepot}
+use Rattle.depot_cli.specs.declared.no_depot.NoDepot.TheVariants as why
+use Rattle.refusals.specs.Lines.{name_of, number_of, refusal_text}
 use Rattle.refusals.specs.declared.refusal.Refusal.{Refusal}
 use Rattle.depot_cli.specs.declared.piece.Setting.{Setting}
 use Rattle.depot_cli.specs.declared.piece.Setting.TheVariants.{Quotes, Text}
@@ -131,3 +138,58 @@ reply_text (Export user number encoding) (Written text) = text
 reply_text (Remove user number) reply = removed_text number
 reply_text Migrate (Migrated number) = migrated_text number
 reply_text _ reply = []
+
+-- ---- what a file is
+
+-- why a file is no depot
+abbrev pub why_text : NoDepot → List ℕ
+why_text why.NoFile = codes "there is no such file"
+why_text why.NoFolder = codes "there is no such folder"
+why_text why.NoPath = codes "a part of the path is no folder"
+why_text why.NoRights = codes "this user may not read and write it"
+why_text why.Directory = codes "it is a directory"
+why_text why.Special = codes "it is no regular file"
+why_text why.SecondName = codes "it has a second name"
+why_text why.Empty = codes "it is empty"
+why_text why.Held = codes "another process holds it"
+why_text why.Closed = codes "its log or its journal can't be opened"
+why_text why.Damaged = codes "it is no database, or it is damaged"
+why_text why.OtherTables = codes "its tables are others"
+why_text why.Disk = codes "the disk failed"
+
+-- the line of that
+abbrev pub no_depot_text : NoDepot → List ℕ
+no_depot_text why = line (codes "no depot: " ++ why_text why)
+
+-- how many octets the log beside the file had, if there was one
+abbrev pub log_text : Option ℕ → List ℕ
+log_text None = codes "no log"
+log_text (Some octets) = codes "log " ++ decimal octets ++ codes " octets"
+
+-- the state of a user's filter
+abbrev pub state_text : ProgramState → List ℕ
+state_text Missing = codes "none"
+state_text (Accepted version) = codes "accepted version " ++ decimal version
+state_text (Refused refusal) = codes "refused " ++ decimal (number_of refusal) ++ codes " " ++ name_of refusal
+
+-- a user: the last number, the number of the entries, their octets and the state of the filter
+abbrev pub user_text : UserOverview → List ℕ
+user_text x =
+    codes "user " ++ quoted (string_bytes x.user) ++ codes " last " ++ decimal x.last ++ codes " entries " ++ decimal x.entries ++ codes " octets " ++ decimal x.octets
+    ++ codes " program " ++ state_text x.program
+
+-- how many contents there are, and their octets
+abbrev pub contents_text : ContentTotal → List ℕ
+contents_text total = codes "contents " ++ decimal total.contents ++ codes " octets " ++ decimal total.octets
+
+-- a line for each user
+abbrev pub users_text : List UserOverview → List ℕ
+users_text = flat_map (λ x. line (user_text x))
+
+-- that it is a depot, and its log
+abbrev pub head_text : Option ℕ → List ℕ
+head_text log = line (codes "depot") ++ line (log_text log)
+
+-- the lines of a depot
+abbrev pub overview_text : Option ℕ → Overview → List ℕ
+overview_text log x = head_text log ++ (users_text x.users.items ++ line (contents_text x.contents))

@@ -17,7 +17,7 @@ use Rattle.refusals.specs.declared.refusal.Refusal.TheVariants.{Memory, MessageT
 use Rattle.depot_cli.specs.declared.job.Job.{Job}
 use Rattle.depot_cli.specs.declared.job.Job.TheVariants as jobs
 use Rattle.depot_cli.specs.declared.line.CommandLine.{CommandLine}
-use Rattle.depot_cli.specs.declared.line.CommandLine.TheVariants.{NoWords, Check, Explain, Compile, Verify, Run, Eval, Parts, Encode, Decode, Script, Code as CodeOf, Deliver, List as ListAll, Export, Remove, Migrate}
+use Rattle.depot_cli.specs.declared.line.CommandLine.TheVariants.{NoWords, Check, Explain, Compile, Verify, Run, Eval, Parts, Encode, Decode, Script, Code as CodeOf, Deliver, List as ListAll, Export, Remove, Migrate, Inspect}
 use Rattle.depot_cli.specs.declared.errand.Errand.{Errand}
 use Rattle.depot_cli.specs.declared.errand.Order.{Order}
 use Rattle.depot_cli.specs.declared.errand.Order.TheVariants as orders
@@ -47,6 +47,7 @@ origins_of (ListAll depot user) = []
 origins_of (Export depot user number encoding) = []
 origins_of (Remove depot user number) = []
 origins_of (Migrate depot) = []
+origins_of (Inspect depot) = []
 
 -- the same of what the code says that it reads; nothing public rests on this
 abbrev pub origins_in : Inputs → List Origin
@@ -111,6 +112,16 @@ is_on_depot (Export depot user number encoding) = true
 is_on_depot (Remove depot user number) = true
 is_on_depot (Migrate depot) = true
 is_on_depot _ = false
+
+-- the command looks at what may be a depot
+abbrev pub is_inspection : CommandLine → Bool
+is_inspection (Inspect depot) = true
+is_inspection _ = false
+
+-- the file that is inspected
+abbrev pub IsInspected : CommandLine → Text → Type 0
+IsInspected (Inspect depot) name = name ≡ depot.now
+IsInspected _ name = ⊥
 
 -- the job of a command, with the octets that were read; a command on a depot has none
 abbrev pub IsJobOf : CommandLine → List (List ℕ) → Job → Type 0
@@ -192,10 +203,12 @@ pub record HasNotWorked (line : CommandLine) (status : ℕ) (old new : World) : 
   pub out : new.out ≡ old.out
   pub is_refused : status ≡ refused
 
--- what comes of a command: it was carried out with a status, or its refusal was told; or it is an errand to a depot
+-- what comes of a command: it was carried out with a status, or its refusal was told; or it is an errand to a depot; or a file is to be
+-- inspected, and nothing was done
 abbrev pub LeadsTo : CommandLine → Next → World → World → Type 0
 LeadsTo line (next.Exit status) old new = HasWorked line status old new ⊎ HasNotWorked line status old new
 LeadsTo line (next.Perform errand) old new = HasPrepared line errand old new
+LeadsTo line (next.Inspect name) old new = IsInspected line name.now × (new ≡ old)
 
 -- the words say this command
 abbrev pub IsLine : List Text → CommandLine → Type 0

@@ -16,6 +16,16 @@ pub fn depot_file<'a>(alloc: Global) -> Arg<'a>
         .help("The file of the depot, which is made if it isn't there")
 }
 
+/// The argument DB of a command that only looks.
+pub fn any_file<'a>(alloc: Global) -> Arg<'a>
+    ensures rule { rule_of result ≡ required_rule (codes "DB") }
+    ensures local { result.global ≡ false }
+{
+    Arg::new(alloc, "DB")
+        .required(true)
+        .help("The file of a depot, or whatever has its name")
+}
+
 /// The argument USER.
 pub fn user_name<'a>(alloc: Global) -> Arg<'a>
     ensures rule { rule_of result ≡ required_rule (codes "USER") }

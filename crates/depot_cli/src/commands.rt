@@ -2,10 +2,10 @@
 ghost use Rattle.std.specs.Prelude.{◌≡◌, IfOk, false};
 ghost use Rattle.clap.specs.Words.{app_of};
 ghost use Rattle.clap.specs.declared.builder.command.Command.TheViews.{out-Command as fields_of};
-ghost use Rattle.depot_cli.specs.Words.{check_app, checks_app, code_app, codecs_app, compile_app, decode_app, deliver_app, delivery_app, depot_app, encode_app, entries_app, eval_app, explain_app, export_app, filing_app, filters_app, list_app, mail_app, migrate_app, parts_app, remove_app, run_app, script_app, scripts_app, user_app, verify_app};
+ghost use Rattle.depot_cli.specs.Words.{check_app, checks_app, code_app, codecs_app, compile_app, decode_app, deliver_app, delivery_app, depot_app, encode_app, entries_app, eval_app, explain_app, export_app, filing_app, filters_app, inspect_app, list_app, mail_app, migrate_app, parts_app, remove_app, run_app, script_app, scripts_app, user_app, verify_app};
 
 use crate::arguments::{
-    depot_file, encoding_name, entry_number, message_file, out_file, program_file, script_file,
+    any_file, depot_file, encoding_name, entry_number, message_file, out_file, program_file, script_file,
     user_name,
 };
 use crate::help;
@@ -17,7 +17,9 @@ pub fn depot_command<'a>(alloc: Global, names: &'a [&'a str]) -> Result<Command<
     ensures app { IfOk result (λ c. app_of c ≡ depot_app names.entry) }
     ensures local { IfOk result (λ c. (fields_of c).has_globals ≡ false) }
 {
-    entries_command(alloc, names)?.subcommand(migrate_command(alloc)?)
+    entries_command(alloc, names)?
+        .subcommand(migrate_command(alloc)?)?
+        .subcommand(inspect_command(alloc)?)
 }
 
 // The program with all commands of users.
@@ -305,4 +307,15 @@ fn migrate_command<'a>(alloc: Global) -> Result<Command<'a>, AllocError>
         .about("Gives the filters of all users the latest version of the bytecode")
         .after_help(help::MIGRATE)
         .arg(depot_file(alloc))
+}
+
+// The command inspect.
+fn inspect_command<'a>(alloc: Global) -> Result<Command<'a>, AllocError>
+    ensures app { IfOk result (λ c. app_of c ≡ inspect_app) }
+    ensures local { IfOk result (λ c. (fields_of c).has_globals ≡ false) }
+{
+    Command::new(alloc, "inspect")
+        .about("Says what a file is, and what the depot in it holds; changes nothing")
+        .after_help(help::INSPECT)
+        .arg(any_file(alloc))
 }

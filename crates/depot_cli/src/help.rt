@@ -20,7 +20,9 @@ pub const ALL: &str = concat!(
     "An answer goes to standard output, with status 0. A refusal is one line on standard error, with\n",
     "its number and name, and status 1. Status 2 says that the words aren't those of a command.\n",
     "With no words at all, a program that keeps every message runs on standard input.\n",
-    "The help of a command has an example, and says with which refusals it may end."
+    "The help of a command has an example, and says with which refusals it may end.\n\n",
+    // The version of the program; no other place of the code has it.
+    "depot 0.13.0"
 );
 
 pub const CHECK: &str = ending!("depot check filter.sieve", "1, 2, 11 to 19, 45, 46");
@@ -69,3 +71,10 @@ pub const EXPORT: &str = ending!(
 pub const REMOVE: &str = ending!("depot remove mail.depot ann 2", "1, 40, 43 to 45");
 
 pub const MIGRATE: &str = ending!("depot migrate mail.depot", "1, 43, 45");
+
+pub const INSPECT: &str = concat!(
+    "Example:\n  depot inspect mail.depot\n\n",
+    "Status 0: it is a depot. 1: it is none, and the line says why; or refused, or the answer broke off,\n",
+    "with one line on standard error. 2: the words aren't those of a command.\n",
+    "Refusals: 1, 43, 45. docs/SPECIFICATION.md says what each means, and what to do."
+);

@@ -30,7 +30,7 @@ use std::alloc::Global;
 pub(crate) const SUCCESS: u8 = 0;
 
 /// The status of a command that was refused, or whose answer broke off.
-const REFUSED: u8 = 1;
+pub(crate) const REFUSED: u8 = 1;
 
 /// A command with the octets of its files.
 #[derive(Clone, Copy)]

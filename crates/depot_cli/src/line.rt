@@ -93,6 +93,10 @@ pub enum CommandLine<'a> {
     Migrate {
         depot: &'a str,
     },
+    /// What a file is, and what the depot in it holds.
+    Inspect {
+        depot: &'a str,
+    },
 }
 
 /// The names of the encodings.
@@ -194,6 +198,7 @@ fn depot_line_in<'a>(name: &str, found: &ArgMatches<'a>) -> CommandLine<'a>
             number: number(argument(found, "NUMBER")),
         },
         "migrate" => CommandLine::Migrate { depot },
+        "inspect" => CommandLine::Inspect { depot },
         _ => CommandLine::NoWords,
     }
 }

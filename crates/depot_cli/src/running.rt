@@ -6,7 +6,7 @@ ghost use Rattle.bytecode_format.specs.Spelling.{spelling};
 ghost use Rattle.depot_cli.specs.Host.{HostState, origin_of};
 ghost use Rattle.depot_cli.specs.Jobs.{HasTold, world};
 ghost use Rattle.refusals.specs.declared.refusal.Refusal.TheVariants.{Memory};
-ghost use Rattle.depot_cli.specs.Running.{LeadsTo, HasNotRead, HasRead, HasRun, HasShown, HasToldUsage, HaveNotRead, HaveRead, IsDepotOf, IsJobOf, IsOrderOf, input, is_on_depot, keeping_code, origins_in, origins_of, refused, usage};
+ghost use Rattle.depot_cli.specs.Running.{LeadsTo, HasNotRead, HasRead, HasRun, HasShown, HasToldUsage, HaveNotRead, HaveRead, IsDepotOf, IsInspected, IsJobOf, IsOrderOf, input, is_inspection, is_on_depot, keeping_code, origins_in, origins_of, refused, usage};
 
 use crate::errand::{Errand, Order};
 use crate::host::{Host, Input};
@@ -51,10 +51,12 @@ pub enum Next<'a> {
     Exit(u8),
     /// To perform an errand on a depot. What it reads was read, and nothing was done yet.
     Perform(Errand<'a>),
+    /// To say what the file of this name is, and what the depot in it holds. Nothing was done yet.
+    Inspect(&'a str),
 }
 
 /// Carries out what the words say, of which the first is the program's name; but a command on a depot is handed back, for whoever opens
-/// the depot to perform.
+/// the depot to perform, and so is one that inspects.
 ///
 /// What the command reads is read in the order of its words, before anything is done with it; each at most one octet past the limit.
 /// Where it can't be read, the refusal is told, and nothing after it is opened. Then the job is answered, with these octets.
@@ -69,7 +71,7 @@ pub fn run<'a, H: Host, O: Sink, E: Sink>(
         (world (H.state host.old) (O.output out.old) (E.output err.old)) (world (H.state host.new) (O.output out.new) (E.output err.new)) }
 {
     match line_of(alloc, words) {
-        Ok(line) => carry_out(alloc, line, host, out, err),
+        Ok(line) => lead(alloc, line, host, out, err),
         Err(fault) => Next::Exit(tell_fault(alloc, fault, err)),
     }
 }
@@ -98,6 +100,33 @@ fn tell_fault<E: Sink>(alloc: Global, fault: Error, err: &mut E) -> u8
     }
 }
 
+// Carries a command out, or hands it back.
+fn lead<'a, H: Host, O: Sink, E: Sink>(
+    alloc: Global,
+    line: CommandLine<'a>,
+    host: &mut H,
+    out: &mut O,
+    err: &mut E,
+) -> Next<'a>
+    ensures { LeadsTo line.entry result
+        (world (H.state host.old) (O.output out.old) (E.output err.old)) (world (H.state host.new) (O.output out.new) (E.output err.new)) }
+{
+    match inspected(line) {
+        Some(name) => Next::Inspect(name),
+        None => carry_out(alloc, line, host, out, err),
+    }
+}
+
+// The file that a command inspects, if it does.
+fn inspected<'a>(line: CommandLine<'a>) -> Option<&'a str>
+    ensures { MatchOption result (is_inspection line.entry ≡ false) (λ name. IsInspected line.entry name.now) }
+{
+    match line {
+        CommandLine::Inspect { depot } => Some(depot),
+        _ => None,
+    }
+}
+
 // Reads what a command reads, and answers its job, or hands its order back.
 fn carry_out<'a, H: Host, O: Sink, E: Sink>(
     alloc: Global,
@@ -106,6 +135,7 @@ fn carry_out<'a, H: Host, O: Sink, E: Sink>(
     out: &mut O,
     err: &mut E,
 ) -> Next<'a>
+    requires { is_inspection line ≡ false }
     ensures { LeadsTo line.entry result
         (world (H.state host.old) (O.output out.old) (E.output err.old)) (world (H.state host.new) (O.output out.new) (E.output err.new)) }
 {
@@ -184,13 +214,15 @@ fn inputs_of<'a>(line: CommandLine<'a>) -> Inputs<'a>
         CommandLine::List { .. }
         | CommandLine::Export { .. }
         | CommandLine::Remove { .. }
-        | CommandLine::Migrate { .. } => Inputs::None,
+        | CommandLine::Migrate { .. }
+        | CommandLine::Inspect { .. } => Inputs::None,
     }
 }
 
 // The job of a command that isn't on a depot, with the octets that it reads, the second ones empty where it reads once.
 fn job_of<'a>(line: CommandLine<'a>, first: &'a [u8], second: &'a [u8]) -> Job<'a>
-    requires { is_on_depot line ≡ false }
+    requires elsewhere { is_on_depot line ≡ false }
+    requires inspects { is_inspection line ≡ false }
     ensures { (inputs : List (List ℕ)) → first.entry.now ≡ input inputs 0 → second.entry.now ≡ input inputs 1 → IsJobOf line.entry inputs result }
 {
     match line {

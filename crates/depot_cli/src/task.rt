@@ -109,7 +109,7 @@ pub fn perform<S: Alter, O: Sink, E: Sink>(
 }
 
 // The status of a command that was done, whose reply was written or broke off.
-fn finish<E: Sink>(err: &mut E, written: Result<(), DeviceFailed>) -> u8
+pub(crate) fn finish<E: Sink>(err: &mut E, written: Result<(), DeviceFailed>) -> u8
     ensures ok { OnOk written ((result ≡ 0) × (E.output err.new ≡ E.output err.old)) }
     ensures err { OnErr written ((result ≡ 1) × HasTold Write (E.output err.old) (E.output err.new)) }
 {

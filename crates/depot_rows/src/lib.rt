@@ -20,6 +20,8 @@ mod held;
 #[cfg(test)]
 mod history;
 #[cfg(test)]
+mod inspecting;
+#[cfg(test)]
 mod laid_tables;
 #[cfg(test)]
 mod migrating;

@@ -6,9 +6,10 @@ use Rattle.sqlite_sql.specs.Term.{lit, col, op1}
 use Rattle.sqlite_sql.specs.declared.ops.UnaryOp.TheVariants.{Length}
 use Rattle.sqlite.specs.State.{State, ExecutesInside, Shown}
 use Rattle.part_store.specs.Tables.{content_columns}
-use Rattle.part_store.specs.Statements.{find_content_text, size_content_text, add_content_text, drop_content_text}
-use Rattle.part_store.specs.Changes.{Steps, Reads, IsFound, IsAdded, IsTaken, contents_tree, equals, columns, length_at}
-use Rattle.part_store.proofs.Meaning.{is_given, find_content_query, find_content_is, size_content_query, size_content_is, add_content_is, drop_content_is}
+use Rattle.part_store.specs.Statements.{find_content_text, size_content_text, list_contents_text, add_content_text, drop_content_text}
+use Rattle.part_store.specs.Changes.{Steps, Reads, IsFound, IsAdded, IsTaken, contents_tree, IsListed, equals, every, columns, length_at, sized}
+use Rattle.part_store.proofs.Meaning.{is_given, find_content_query, find_content_is, size_content_query, size_content_is, list_contents_query, list_contents_is, add_content_is, drop_content_is}
+use Rattle.part_store.proofs.Ordered.{ordered}
 use Rattle.part_store.proofs.Writes.{inserted, deleted, cast_null}
 use Rattle.part_store.proofs.Runs.{ran_as, stepped, read, found, found_as, taken_as, and_true}
 
@@ -25,6 +26,11 @@ content_sized old new digest rows h =
     read size_content_text (Blob digest ∷ []) old new size_content_query _ size_content_is rows h _ (λ a.
     found_as contents_tree _ (equals 1 (Blob digest)) _ (length_at 2) old.now.trees (slice_get rows 0) (λ r. and_true _) (λ r. refl)
     (found 2 (is_given 1 0 ∷ []) (op1 Length (col 1 2) ∷ []) [] old.now.trees (Blob digest ∷ []) rows a))
+
+pub contents_listed : (old new : State) (rows : List Row) → Shown list_contents_text [] old new rows → Steps (Reads (IsListed contents_tree every sized rows)) old new
+contents_listed old new rows h =
+    read list_contents_text [] old new list_contents_query _ list_contents_is rows h _ (λ a.
+    ordered 2 1 [] (op1 Length (col 1 2) ∷ []) old.now.trees [] every sized rows a (λ r. refl) (λ r. refl))
 
 pub content_taken : (old new : State) (digest : List ℕ) (count : ℕ) → ExecutesInside 0 drop_content_text (Blob digest ∷ []) old new (Ok count) → Steps (IsTaken contents_tree (equals 1 (Blob digest))) old new
 content_taken old new digest count h = stepped drop_content_text (Blob digest ∷ []) old new count _ h (λ has.

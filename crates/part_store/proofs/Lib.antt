@@ -20,6 +20,10 @@ mod Entering
 mod Unmoved
 mod Removing
 mod Listed
+mod NameOrder
 mod ProgramList
+mod UserList
+mod Looks
+mod Sums
 mod Replacing
 mod Showing

@@ -19,7 +19,7 @@ use Rattle.sqlite_tied.specs.Compute.{everything}
 use Rattle.sqlite.specs.Listing.{understood, reads_listing}
 use Rattle.sqlite.proofs.Callers.{IsPlain, command_of, statement_of}
 use Rattle.part_store.specs.Tables.{users, contents, entries, no_schema, with_users, with_contents, store_schema, users_text, contents_text, entries_text}
-use Rattle.part_store.specs.Statements.{find_user_text, drop_user_text, add_user_text, list_programs_text, find_content_text, size_content_text, add_content_text, drop_content_text, list_entries_text, find_entry_text, name_content_text, add_entry_text, drop_entry_text}
+use Rattle.part_store.specs.Statements.{find_user_text, drop_user_text, add_user_text, list_programs_text, list_users_text, find_content_text, size_content_text, list_contents_text, add_content_text, drop_content_text, list_entries_text, find_entry_text, name_content_text, add_entry_text, drop_entry_text}
 
 -- a column of the table equals a parameter
 abbrev pub is_given : ℕ → ℕ → Term
@@ -72,6 +72,13 @@ pub list_programs_is : Means store_schema list_programs_text (Select (alone list
 unfolding understood everything
 list_programs_is = (refl, (refl, refl), refl)
 
+abbrev pub list_users_query : Query
+list_users_query = picked 0 [] (col 1 1 ∷ col 1 2 ∷ col 1 3 ∷ []) ((col 1 1, ascending Binary) ∷ [])
+
+pub list_users_is : Means store_schema list_users_text (Select (alone list_users_query) (codes "user" ∷ codes "last" ∷ codes "program" ∷ []))
+unfolding understood everything
+list_users_is = (refl, (refl, refl), refl)
+
 abbrev pub drop_user_query : Query
 drop_user_query = picked 0 (is_given 1 0 ∷ []) (col 1 0 ∷ []) []
 
@@ -96,6 +103,13 @@ size_content_query = picked 2 (is_given 1 0 ∷ []) (op1 Length (col 1 2) ∷ []
 pub size_content_is : Means store_schema size_content_text (Select (alone size_content_query) (codes "length(octets)" ∷ []))
 unfolding understood everything
 size_content_is = (refl, (refl, refl), refl)
+
+abbrev pub list_contents_query : Query
+list_contents_query = picked 2 [] (col 1 1 ∷ op1 Length (col 1 2) ∷ []) ((col 1 1, ascending Binary) ∷ [])
+
+pub list_contents_is : Means store_schema list_contents_text (Select (alone list_contents_query) (codes "digest" ∷ codes "length(octets)" ∷ []))
+unfolding understood everything
+list_contents_is = (refl, (refl, refl), refl)
 
 pub add_content_is : Means store_schema add_content_text (Insert 1 (Values (lit Null ∷ col 0 0 ∷ col 0 1 ∷ []) 3))
 unfolding understood everything

@@ -1,31 +1,22 @@
 -- The rows of the answer to a listing of programs are the programs of the users that have one.
-use Rattle.std.proofs.Common.{◌≡◌, inl, inr, ℕ, ◌≤◌, true, false, cond, List, [], ◌∷◌, map, filter, sum_by, Some, Ordering, Less, Equal, Greater, is_lt, is_eq, refl, sym, ap, subst, ◌∙◌, arith}
+use Rattle.std.proofs.Common.{◌≡◌, inl, inr, ℕ, true, List, [], ◌∷◌, map, filter, Some, refl, sym, ap, ap₂, subst, ◌∙◌}
 use Rattle.std.specs.Prelude.{String, Vec}
 use Rattle.std.specs.declared.alloc.Global.{Global}
-use Rattle.std.specs.List.{AllByRecursion, list_any}
-use Rattle.std.specs.Ordering.{nat_cmp}
-use Rattle.std.specs.Cmp.Lexicographic.{slice_cmp}
+use Rattle.std.specs.List.{list_any}
 use Rattle.std.proofs.lemmas.Bool.{cases_Bool, true≢false, false_from_ne_true}
-use Rattle.std.proofs.lemmas.Cmp.{tied_itself, nat_list_cmp_total}
-use Rattle.std.proofs.lemmas.List.Sums.{sum_by-cons}
-use Rattle.std.proofs.lemmas.List.Sorted.{IsPermutation-sym, ranks_by, sorted_far, sum_by-IsPermutation}
-use Rattle.std.proofs.lemmas.Map.Text.{is_eq-slice_cmp}
+use Rattle.std.proofs.lemmas.List.Sorted.{IsPermutation-sym}
 use Rattle.sqlite_value.specs.declared.value.Value.TheVariants.{Text, Blob}
-use Rattle.sqlite_value.specs.Order.{Row, column, value_cmp}
-use Rattle.sqlite_value.proofs.OrderLemmas.{value_cmp_total, value_cmp-Text}
-use Rattle.sqlite_trees.specs.Tree.{Trees, rowid, IsAscending, IsTable}
+use Rattle.sqlite_value.specs.Order.{Row, column}
+use Rattle.sqlite_trees.specs.Tree.{Trees}
 use Rattle.sqlite_rules.specs.Lists.{Has}
 use Rattle.sqlite_rules.proofs.ListLemmas.{all_has, all_from, has_filtered, has_kept, some_has, some_from}
 use Rattle.sqlite_rules.proofs.ProbeLemmas.{has_mapped, mapped_has}
 use Rattle.sqlite.specs.Values.{or_null}
 use Rattle.sqlite.specs.State.{State}
 use Rattle.part_store.specs.Changes.{users_tree, columns, equals, has_program, IsListed, Reads, Steps}
-use Rattle.part_store.specs.Entries.{AreProgramsOf, Entries, IsBefore, UserProgram}
-use Rattle.part_store.specs.Standing.{HaveOneRow, IsUserRow, Stands, StandsFor, pair_of, row_of}
-use Rattle.part_store.proofs.Apart.{bytes_same}
-use Rattle.part_store.proofs.Equals.{equal_texts}
-use Rattle.part_store.proofs.Gaining.{filter_rises}
-use Rattle.part_store.proofs.Listed.{ascending_of_places}
+use Rattle.part_store.specs.Entries.{AreProgramsOf, Entries, UserProgram}
+use Rattle.part_store.specs.Standing.{IsUserRow, Stands, StandsFor, pair_of, row_of}
+use Rattle.part_store.proofs.NameOrder.{names_rise}
 use Rattle.part_store.proofs.Programs.{found_user, this_program}
 use Rattle.part_store.proofs.Rows.{has_permuted}
 
@@ -46,80 +37,14 @@ pairs_shown (program ∷ programs) = ap (λ rows. row_of program ∷ rows) (pair
 same_text : (m n : List ℕ) → Text m ≡ Text n → m ≡ n
 same_text m n h = cc
 
--- ---- how often a name is shown
-
-abbrev one_if : List ℕ → Row → ℕ
-one_if name row = cond (equals 0 (Text name) row) 1 0
-
-none_counted : (name : List ℕ) (rows : List Row) → ((r : Row) → Has rows r → equals 1 (Text name) r ≡ false) → sum_by (one_if name) (map shown rows) ≡ 0
-none_counted name [] none = refl
-none_counted name (r ∷ rows) none =
-    let here : one_if name (shown r) ≡ 0 = rw (none r (inl refl)) refl in
-    omega (arith, sum_by-cons (one_if name) (shown r) (map shown rows), here, none_counted name rows (λ s there. none s (inr there)))
-
--- a row isn't below itself
-not_itself : (r s : Row) → value_cmp (rowid r) (rowid s) ≡ Less → r ≡ s → ⊥
-not_itself r s less same =
-    let tie : value_cmp (rowid r) (rowid s) ≡ Equal = ap (λ (x : Row). value_cmp (rowid r) (rowid x)) (sym same) ∙ tied_itself value_cmp_total (rowid r) in
-    absurd (let e = sym less ∙ tie in cc)
-
-once_shown : (name : List ℕ) (rows : List Row) → IsTable rows → HaveOneRow rows → sum_by (one_if name) (map shown rows) ≤ 1
-once_shown name [] up apart = omega arith
-once_shown name (r ∷ rows) up apart = elim (cases_Bool (equals 1 (Text name) r)) [
-  | inl mine ↦
-      let others = none_counted name rows (λ s there. false_from_ne_true _ (λ also.
-      not_itself r s (all_has _ rows s up.0 there) (apart name r s (inl refl) (inr there) mine also))) in
-      let here : one_if name (shown r) ≡ 1 = rw mine refl in
-      omega (arith, sum_by-cons (one_if name) (shown r) (map shown rows), here, others)
-  | inr other ↦
-      let here : one_if name (shown r) ≡ 0 = rw other refl in
-      omega (arith, sum_by-cons (one_if name) (shown r) (map shown rows), here, once_shown name rows up.1 (λ n one two h k. apart n one two (inr h) (inr k)))
-]
-
--- ---- names that rise
-
-abbrev NeverFalls : List Row → Type 0
-NeverFalls = IsAscending (λ a b. is_lt (value_cmp (column b 0) (column a 0)) ≡ false)
-
-only_greater : (o : Ordering) → is_lt o ≡ false → is_eq o ≡ false → o ≡ Greater
-only_greater Less h k = absurd (true≢false h)
-only_greater Equal h k = absurd (true≢false k)
-only_greater Greater h k = refl
-
-turned : (m n : List ℕ) → slice_cmp nat_cmp n m ≡ Greater → slice_cmp nat_cmp m n ≡ Less
-turned m n h = nat_list_cmp_total.antisymm m n ∙ rw h refl
-
--- a name that isn't less, and isn't the same, is greater
-rises_to : (m n : List ℕ) (y : Row) → column y 0 ≡ Text n → is_lt (value_cmp (column y 0) (Text m)) ≡ false → equals 0 (Text m) y ≡ false → slice_cmp nat_cmp m n ≡ Less
-rises_to m n y is not_less other =
-    let apart : is_eq (slice_cmp nat_cmp n m) ≡ false = is_eq-slice_cmp n m ∙ sym (equal_texts n m) ∙ sym (ap (λ v. equals 0 (Text m) (v ∷ [])) is) ∙ other in
-    turned m n (only_greater _ (sym (ap is_lt (value_cmp-Text n m)) ∙ ap (λ v. is_lt (value_cmp v (Text m))) (sym is) ∙ not_less) apart)
-
-above : (name : List ℕ) (rows : List Row) (pairs : List UserProgram) → map row_of_pair pairs ≡ map first_two rows → AllByRecursion (λ y. is_lt (value_cmp (column y 0) (Text name)) ≡ false) rows
-    → sum_by (one_if name) rows ≡ 0 → AllByRecursion (λ (q : UserProgram). slice_cmp nat_cmp name q.0 ≡ Less) pairs
-above name rows [] same up none = tt
-above name [] (q ∷ pairs) same up none = absurd (cc)
-above name (y ∷ rows) (q ∷ pairs) same up none =
-    let cons = sum_by-cons (one_if name) y rows in
-    let first : row_of_pair q ≡ first_two y = cc in
+names_shown : (pairs : List UserProgram) (rows : List Row) → map row_of_pair pairs ≡ map first_two rows → map (λ (p : UserProgram). Text p.0) pairs ≡ map (λ (r : Row). column r 0) rows
+names_shown [] [] same = refl
+names_shown [] (r ∷ rows) same = absurd (cc)
+names_shown (p ∷ pairs) [] same = absurd (cc)
+names_shown (p ∷ pairs) (r ∷ rows) same =
+    let here : row_of_pair p ≡ first_two r = cc in
     let later : map row_of_pair pairs ≡ map first_two rows = cc in
-    let is : column y 0 ≡ Text q.0 = sym (ap (λ (r : Row). column r 0) first) in
-    let other : equals 0 (Text name) y ≡ false = false_from_ne_true _ (λ found. let one : one_if name y ≡ 1 = rw found refl in absurd (omega (arith, cons, none, one))) in
-    (rises_to name q.0 y is up.0 other, above name rows pairs later up.1 (omega (arith, cons, none)))
-
-rises : (rows : List Row) (pairs : List UserProgram) → map row_of_pair pairs ≡ map first_two rows → NeverFalls rows → ((name : List ℕ) → sum_by (one_if name) rows ≤ 1) → IsAscending IsBefore pairs
-rises rows [] same up once = tt
-rises [] (q ∷ pairs) same up once = absurd (cc)
-rises (y ∷ rows) (q ∷ pairs) same up once =
-    let first : row_of_pair q ≡ first_two y = cc in
-    let later : map row_of_pair pairs ≡ map first_two rows = cc in
-    let is : column y 0 ≡ Text q.0 = sym (ap (λ (r : Row). column r 0) first) in
-    let mine : equals 0 (Text q.0) y ≡ true = ap (λ v. equals 0 (Text q.0) (v ∷ [])) is ∙ equal_texts q.0 q.0 ∙ bytes_same q.0 in
-    let one : one_if q.0 y ≡ 1 = rw mine refl in
-    let none : sum_by (one_if q.0) rows ≡ 0 = omega (arith, sum_by-cons (one_if q.0) y rows, once q.0, one) in (
-      above q.0 rows pairs later (subst (λ v. AllByRecursion (λ r. is_lt (value_cmp (column r 0) v) ≡ false) rows) is up.0) none,
-      rises rows pairs later up.1 (λ name. omega (arith, sum_by-cons (one_if name) y rows, once name)),
-    )
+    ap₂ ◌∷◌ (ap (λ (x : Row). column x 0) here) (names_shown pairs rows later)
 
 -- ---- the answer
 
@@ -165,20 +90,11 @@ module _ (db : Trees) (e : Entries) (stands : StandsFor db e) (rows : List Row) 
         absurd (let e = sym stranger.1 ∙ has in cc)
   ]
 
-  never_falls : NeverFalls rows
-  never_falls = ascending_of_places _ rows (λ i j d less lt.
-      sorted_far (λ x y. is_lt (value_cmp (column x 0) (column y 0))) (ranks_by value_cmp_total (λ (r : Row). column r 0)) rows listed.sorted i j d (omega (arith, less)) lt)
-
-  once : (name : List ℕ) → sum_by (one_if name) rows ≤ 1
-  once name =
-      let rest : HaveOneRow having = λ n one other h k. stands.apart n one other (has_filtered _ (db users_tree) one h).0 (has_filtered _ (db users_tree) other k).0 in
-      omega (arith, sum_by-IsPermutation (one_if name) (map shown having) rows listed.same, once_shown name having (filter_rises _ _ (db users_tree) stands.users_rise) rest)
-
   pub programs_are : AreProgramsOf e pairs
   programs_are = record {
     each = all_from _ pairs each_program;
     all = all_programs;
-    rising = rises rows pairs same never_falls once;
+    rising = names_rise db e stands has_program (3 ∷ []) rows listed (λ (p : UserProgram). p.0) pairs (names_shown pairs rows same);
   }
 
 pub are_programs : (old new : State) (rows : List Row) (pairs : List UserProgram) → Steps (Reads (IsListed users_tree has_program shown rows)) old new → map row_of_pair pairs ≡ map first_two rows

@@ -15,9 +15,9 @@ use Rattle.sqlite_sql.specs.declared.ops.BinaryOp.TheVariants.{Is}
 use Rattle.sqlite.specs.Values.{or_null, bound_value}
 use Rattle.sqlite.specs.State.{State, ExecutesInside, Shown}
 use Rattle.part_store.specs.Tables.{user_columns}
-use Rattle.part_store.specs.Statements.{find_user_text, drop_user_text, add_user_text, list_programs_text}
-use Rattle.part_store.specs.Changes.{Steps, Reads, IsFound, IsListed, IsAdded, IsTaken, users_tree, equals, columns, has_program}
-use Rattle.part_store.proofs.Meaning.{is_given, find_user_query, find_user_is, list_programs_query, list_programs_is, drop_user_is, add_user_is}
+use Rattle.part_store.specs.Statements.{find_user_text, drop_user_text, add_user_text, list_programs_text, list_users_text}
+use Rattle.part_store.specs.Changes.{Steps, Reads, IsFound, IsListed, IsAdded, IsTaken, users_tree, equals, columns, every, has_program}
+use Rattle.part_store.proofs.Meaning.{is_given, find_user_query, find_user_is, list_programs_query, list_programs_is, list_users_query, list_users_is, drop_user_is, add_user_is}
 use Rattle.part_store.proofs.Ordered.{ordered}
 use Rattle.part_store.proofs.Rows.{passes}
 use Rattle.part_store.proofs.Writes.{inserted, deleted, cast_null, cast_int}
@@ -53,6 +53,11 @@ pub programs_listed : (old new : State) (rows : List Row) → Shown list_program
 programs_listed old new rows h =
     read list_programs_text [] old new list_programs_query _ list_programs_is rows h _ (λ a.
     ordered 0 1 (op1 Not (op2 (Is Binary) (col 1 3) (lit Null)) ∷ []) (col 1 3 ∷ []) old.now.trees [] has_program (columns (1 ∷ 3 ∷ [])) rows a (passes_not_null old.now.trees) (λ r. refl))
+
+pub users_listed : (old new : State) (rows : List Row) → Shown list_users_text [] old new rows → Steps (Reads (IsListed users_tree every (columns (1 ∷ 2 ∷ 3 ∷ [])) rows)) old new
+users_listed old new rows h =
+    read list_users_text [] old new list_users_query _ list_users_is rows h _ (λ a.
+    ordered 0 1 [] (col 1 2 ∷ col 1 3 ∷ []) old.now.trees [] every (columns (1 ∷ 2 ∷ 3 ∷ [])) rows a (λ r. refl) (λ r. refl))
 
 pub user_taken : (old new : State) (user : List ℕ) (count : ℕ) → ExecutesInside 0 drop_user_text (Text user ∷ []) old new (Ok count) → Steps (IsTaken users_tree (equals 1 (Text user))) old new
 user_taken old new user count h = stepped drop_user_text (Text user ∷ []) old new count _ h (λ has.

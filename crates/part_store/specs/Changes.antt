@@ -34,6 +34,10 @@ columns places r = map (column r) places
 abbrev pub equals : ℕ → Value → Row → Bool
 equals at value row = equal Binary (column row at) value
 
+-- any row
+abbrev pub every : Row → Bool
+every r = true
+
 -- a user's row has a program
 abbrev pub has_program : Row → Bool
 has_program r = not (is_null (column r 3))
@@ -45,6 +49,10 @@ is_entry user number r = equals 1 (Text user) r && equals 2 (Int (pos number)) r
 -- how many octets a column has
 abbrev pub length_at : ℕ → Row → Row
 length_at at r = unary Length (column r at) ∷ []
+
+-- a digest, and how many octets are under it
+abbrev pub sized : Row → Row
+sized r = column r 1 ∷ length_at 2 r
 
 -- the other tables have the rows that they had
 abbrev pub KeepsOthers : ℕ → Trees → Trees → Type 0

@@ -6,3 +6,6 @@ pub mod Standing
 pub mod Refusals
 pub mod Opening
 pub mod Filing
+pub mod UserLines
+pub mod Looking
+pub mod Totals

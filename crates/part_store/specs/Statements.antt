@@ -13,11 +13,17 @@ add_user_text = codes "INSERT INTO users (user, last, program) VALUES (?1, ?2, ?
 abbrev pub list_programs_text : List ℕ
 list_programs_text = codes "SELECT user, program FROM users WHERE program IS NOT NULL ORDER BY user"
 
+abbrev pub list_users_text : List ℕ
+list_users_text = codes "SELECT user, last, program FROM users ORDER BY user"
+
 abbrev pub find_content_text : List ℕ
 find_content_text = codes "SELECT octets FROM contents WHERE digest = ?1"
 
 abbrev pub size_content_text : List ℕ
 size_content_text = codes "SELECT length(octets) FROM contents WHERE digest = ?1"
+
+abbrev pub list_contents_text : List ℕ
+list_contents_text = codes "SELECT digest, length(octets) FROM contents ORDER BY digest"
 
 abbrev pub add_content_text : List ℕ
 add_content_text = codes "INSERT INTO contents (digest, octets) VALUES (?1, ?2)"

@@ -3,7 +3,7 @@ ghost use Rattle.std.specs.Prelude.{◌≡◌, [], ◌∷◌, pos, IsTrue, IfOk,
 ghost use Rattle.sqlite_value.specs.declared.value.Value.TheVariants.{Blob};
 ghost use Rattle.sqlite.specs.Held.{state};
 ghost use Rattle.sqlite.specs.State.{HasCleanDisk, KeepsCommit, Survives};
-ghost use Rattle.part_store.specs.Changes.{Steps, Reads, IsFound, IsAdded, IsTaken, contents_tree, equals, columns, length_at};
+ghost use Rattle.part_store.specs.Changes.{Steps, Reads, IsFound, IsAdded, IsTaken, contents_tree, IsListed, equals, every, columns, length_at, sized};
 
 use crate::users::first_of;
 use sqlite::{Alter, Error, Row, Transaction, params};
@@ -40,6 +40,22 @@ pub(crate) fn size<S: Alter>(
         params![digest],
     )?;
     Ok(first_of(rows))
+}
+
+/// Each digest and how many octets are under it.
+pub(crate) fn list<S: Alter>(tx: &mut Transaction<'_, S>) -> Result<Vec<Row>, Error>
+    ensures same_reference { tx.new.conn.ghost_name ≡ tx.old.conn.ghost_name }
+    ensures step { HasCleanDisk (state S.Store tx.new.conn.now) → IfOk result (λ found.
+        Steps (Reads (IsListed contents_tree every sized found.items)) (state S.Store tx.old.conn.now) (state S.Store tx.new.conn.now)) }
+    ensures open { HasCleanDisk (state S.Store tx.new.conn.now) → OnOk result (IsTrue (state S.Store tx.old.conn.now).is_open) }
+    ensures kept { HasCleanDisk (state S.Store tx.new.conn.now) → OnErr result
+        (KeepsCommit (state S.Store tx.old.conn.now) (state S.Store tx.new.conn.now)) }
+    ensures survives { Survives (state S.Store tx.old.conn.now) (state S.Store tx.new.conn.now) (λ _. ⊥) }
+{
+    tx.query_all(
+        "SELECT digest, length(octets) FROM contents ORDER BY digest",
+        &[],
+    )
 }
 
 /// Puts octets in under a digest.

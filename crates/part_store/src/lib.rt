@@ -8,17 +8,24 @@
 #![tactic(auto)]
 
 mod adding;
+mod all_users;
 mod contents;
 mod entries;
 mod entry;
 mod error;
 mod filing;
 mod listing;
+mod looking;
 mod store;
 mod stored_programs;
 mod tables;
+mod totals;
+mod user_row;
 mod users;
 
 pub use entry::{EntryRow, Kind, NewEntry};
 pub use error::StoreError;
+pub use looking::Unopened;
 pub use store::PartStore;
+pub use totals::ContentTotal;
+pub use user_row::UserRow;

@@ -1,21 +1,29 @@
 //! The store and its calls.
-ghost use Rattle.std.specs.Prelude.{◌≡◌, ◌⊎◌, ◌↔◌, ◌+◌, ◌<◌, length, map, true, false, IsTrue, option_map, MatchOption, IfOk, IfErr, OnOk, OnErr};
+ghost use Rattle.std.specs.Prelude.{◌≡◌, ◌≢◌, ◌⊎◌, ◌↔◌, ◌+◌, ◌<◌, length, map, true, false, IsTrue, option_map, MatchOption, IfOk, IfErr, OnOk, OnErr};
 ghost use Rattle.sqlite.specs.Held.{state};
 ghost use Rattle.sqlite.specs.State.{HasCleanDisk, KeepsCommit, Survives};
 ghost use Rattle.part_store.specs.Tables.{no_schema, store_schema};
 ghost use Rattle.part_store.specs.Entries.{AreProgramsOf, entries_of, listing_of, no_entries, with_entries, with_program, with_programs, without_entry};
 ghost use Rattle.part_store.specs.Standing.{Brings, Makes, Spares, Stays, Stands, StandsFor, HasContent, IsEntryAt, HasNone, NamesDigest, IsTidied, draft_of, listed, pair_of};
 ghost use Rattle.part_store.specs.declared.error.StoreError.TheVariants.{Memory, NoSuchEntry, NumberFull, Collision, Database};
-ghost use Rattle.part_store.specs.Changes.{contents_tree};
+ghost use Rattle.part_store.specs.Changes.{contents_tree, users_tree};
+ghost use Rattle.part_store.specs.Looking.{are_tables};
+ghost use Rattle.part_store.specs.Totals.{IsTotalOf};
+ghost use Rattle.part_store.specs.UserLines.{AreUsersOf, line_of};
+ghost use Rattle.sqlite.specs.Files.{file_state, IsOpened};
 ghost use Rattle.part_store.specs.Filing.{Collides, HasRoom};
 ghost use Rattle.sqlite.specs.Steps.{over_memory};
 ghost use Rattle.part_store.specs.Opening.{IsBare, IsEmptied, IsKept, IsReady, MakesEmpty};
 
 use crate::adding::{Adding, put_entries};
+use crate::all_users::list_users;
 use crate::entry::{EntryRow, NewEntry};
 use crate::error::StoreError;
 use crate::listing::list_all;
+use crate::looking::{Unopened, has_tables};
 use crate::stored_programs::{list_programs, put_program, read_program, replace_all};
+use crate::totals::{ContentTotal, count_contents};
+use crate::user_row::UserRow;
 use crate::{contents, entries, tables};
 use sqlite::{Alter, Connection, Error, File, FileStore, MemStore, Transaction};
 use sqlite_schema::schema::Schema;
@@ -207,6 +215,22 @@ impl<S: Alter> PartStore<S> {
         }
     }
 
+    /// Takes an open connection that has tables of the names of a store's, with as many columns. Any other is handed back. Nothing
+    /// is read or written.
+    pub fn adopt_as_is(conn: Connection<S>) -> Result<PartStore<S>, Connection<S>>
+        ensures same { IfOk result (λ s. s ≡ conn) }
+        ensures tables { IfOk result (λ s. are_tables (state S.Store s).now.schema.tables ≡ true) }
+        ensures settled { IfOk result (λ s. (state S.Store s).in_transaction ≡ false) }
+        ensures returned { IfErr result (λ c. c ≡ conn) }
+        ensures others { IfErr result (λ c. (state S.Store c).in_transaction ≡ false → (state S.Store c).now.schema ≢ store_schema) }
+    {
+        if conn.is_autocommit() && has_tables(conn.schema()) {
+            Ok(PartStore { conn })
+        } else {
+            Err(conn)
+        }
+    }
+
     /// Gives the connection back.
     pub fn release(self) -> Connection<S>
         ensures same { result ≡ self }
@@ -255,6 +279,37 @@ impl<S: Alter> PartStore<S> {
     {
         let mut tx = begin(&mut self.conn);
         list_programs(&mut tx)
+    }
+
+    /// All users, each with the last number and the program, in the order of their names. Refuses `Memory` and `Database`.
+    pub fn users(&mut self) -> Result<Vec<UserRow>, StoreError>
+        ensures told { HasCleanDisk (state S.Store self.new) → IfOk result (λ users. (before : _) → Stands (state S.Store self.old).now before
+            → AreUsersOf ((state S.Store self.old).now.trees users_tree) before (map line_of users.items)) }
+        ensures open { HasCleanDisk (state S.Store self.new) → OnOk result (IsTrue (state S.Store self.old).is_open) }
+        ensures spared { HasCleanDisk (state S.Store self.new) → Spares (state S.Store self.old) (state S.Store self.new) }
+        ensures settled { HasCleanDisk (state S.Store self.new) → IsTrue (state S.Store self.new).is_open
+            → (state S.Store self.new).committed ≡ (state S.Store self.new).now }
+        ensures refused { IfErr result (λ e. (e ≡ Memory) ⊎ (e ≡ Database)) }
+        ensures survives { Survives (state S.Store self.old) (state S.Store self.new) (λ _. ⊥) }
+    {
+        let mut tx = begin(&mut self.conn);
+        list_users(&mut tx)
+    }
+
+    /// How many contents there are and how many octets they have; what several entries have is counted once. Refuses `Memory` and
+    /// `Database`.
+    pub fn contents(&mut self) -> Result<ContentTotal, StoreError>
+        ensures told { HasCleanDisk (state S.Store self.new) → IfOk result (λ total. (before : _) → Stands (state S.Store self.old).now before
+            → IsTotalOf ((state S.Store self.old).now.trees contents_tree) total) }
+        ensures open { HasCleanDisk (state S.Store self.new) → OnOk result (IsTrue (state S.Store self.old).is_open) }
+        ensures spared { HasCleanDisk (state S.Store self.new) → Spares (state S.Store self.old) (state S.Store self.new) }
+        ensures settled { HasCleanDisk (state S.Store self.new) → IsTrue (state S.Store self.new).is_open
+            → (state S.Store self.new).committed ≡ (state S.Store self.new).now }
+        ensures refused { IfErr result (λ e. (e ≡ Memory) ⊎ (e ≡ Database)) }
+        ensures survives { Survives (state S.Store self.old) (state S.Store self.new) (λ _. ⊥) }
+    {
+        let mut tx = begin(&mut self.conn);
+        count_contents(&mut tx)
     }
 
     /// Replaces the programs of the listed users, and passes over those that have none. Where a user is listed twice the later
@@ -380,5 +435,22 @@ impl PartStore<FileStore<File>> {
         let mut conn = Connection::open(rt, path)?;
         ready_tables(&mut conn)?;
         Ok(PartStore { conn })
+    }
+
+    /// The store in the file at a path, as it is: no table is made, and where its tables aren't those of a store it is refused
+    /// `OtherTables`. A file that isn't there is made, empty, so see first that it is.
+    ///
+    /// To open takes the right to write, and the lock that every store holds. It makes a log beside the file where there is none;
+    /// what a log holds of a store that wasn't closed is put into the file.
+    pub fn look(rt: &HostRuntime, path: &str) -> Result<PartStore<FileStore<File>>, Unopened>
+        ensures opened { IfOk result (λ s. HasCleanDisk (file_state s) → IsOpened s) }
+        ensures tables { IfOk result (λ s. are_tables (file_state s).now.schema.tables ≡ true) }
+        ensures settled { IfOk result (λ s. (file_state s).in_transaction ≡ false) }
+    {
+        let conn = Connection::open(rt, path)?;
+        match PartStore::adopt_as_is(conn) {
+            Ok(store) => Ok(store),
+            Err(_others) => Err(Unopened::OtherTables),
+        }
     }
 }

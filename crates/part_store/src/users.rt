@@ -4,7 +4,7 @@ ghost use Rattle.sqlite_value.specs.declared.value.Value.TheVariants.{Int, Text,
 ghost use Rattle.sqlite.specs.Held.{state};
 ghost use Rattle.sqlite.specs.State.{HasCleanDisk, KeepsCommit, Survives};
 ghost use Rattle.sqlite.specs.Values.{or_null};
-ghost use Rattle.part_store.specs.Changes.{Steps, Reads, IsFound, IsListed, IsAdded, IsTaken, users_tree, equals, columns, has_program};
+ghost use Rattle.part_store.specs.Changes.{Steps, Reads, IsFound, IsListed, IsAdded, IsTaken, users_tree, equals, columns, every, has_program};
 
 use sqlite::{Alter, Error, Row, Transaction, params};
 
@@ -45,6 +45,20 @@ pub(crate) fn list_programs<S: Alter>(tx: &mut Transaction<'_, S>) -> Result<Vec
         "SELECT user, program FROM users WHERE program IS NOT NULL ORDER BY user",
         &[],
     )
+}
+
+/// All users with their last numbers and programs, in the order of their names.
+pub(crate) fn list<S: Alter>(tx: &mut Transaction<'_, S>) -> Result<Vec<Row>, Error>
+    ensures same_reference { tx.new.conn.ghost_name ≡ tx.old.conn.ghost_name }
+    ensures step { HasCleanDisk (state S.Store tx.new.conn.now) → IfOk result (λ found.
+        Steps (Reads (IsListed users_tree every (columns (1 ∷ 2 ∷ 3 ∷ [])) found.items))
+        (state S.Store tx.old.conn.now) (state S.Store tx.new.conn.now)) }
+    ensures open { HasCleanDisk (state S.Store tx.new.conn.now) → OnOk result (IsTrue (state S.Store tx.old.conn.now).is_open) }
+    ensures kept { HasCleanDisk (state S.Store tx.new.conn.now) → OnErr result
+        (KeepsCommit (state S.Store tx.old.conn.now) (state S.Store tx.new.conn.now)) }
+    ensures survives { Survives (state S.Store tx.old.conn.now) (state S.Store tx.new.conn.now) (λ _. ⊥) }
+{
+    tx.query_all("SELECT user, last, program FROM users ORDER BY user", &[])
 }
 
 /// Takes a user's row out.

@@ -1,0 +1,119 @@
+// What stands at a path, before anything there is opened.
+
+use depot_cli::NoDepot;
+use std::alloc::AllocError;
+use std::fs::{self, File, Metadata, OpenOptions};
+use std::io::{self, ErrorKind, Read};
+use std::os::unix::fs::MetadataExt;
+
+/// What the name of a log adds to that of its file.
+const LOG_ENDING: &str = "-wal";
+
+/// What a database begins with.
+const DATABASE_HEAD: &[u8; 16] = b"SQLite format 3\0";
+
+/// Why nothing at a path is opened.
+pub enum Obstacle {
+    /// There is no depot.
+    NoDepot(NoDepot),
+    /// An allocation was refused.
+    Memory,
+}
+
+impl From<io::Error> for Obstacle {
+    fn from(fault: io::Error) -> Obstacle {
+        match fault.kind() {
+            ErrorKind::OutOfMemory => Obstacle::Memory,
+            ErrorKind::NotFound => Obstacle::NoDepot(NoDepot::NoFile),
+            ErrorKind::NotADirectory => Obstacle::NoDepot(NoDepot::NoPath),
+            ErrorKind::PermissionDenied | ErrorKind::ReadOnlyFilesystem => {
+                Obstacle::NoDepot(NoDepot::NoRights)
+            }
+            _ => Obstacle::NoDepot(NoDepot::Disk),
+        }
+    }
+}
+
+impl From<AllocError> for Obstacle {
+    fn from(_refused: AllocError) -> Obstacle {
+        Obstacle::Memory
+    }
+}
+
+/// How many octets the log beside a file has, if there is one, where the file may be a depot as far as that is seen from the outside: a
+/// regular file with one name, which this process may read and write, and which begins as a database does, or is empty where its log has
+/// what it lacks.
+///
+/// # Errors
+///
+/// Why there is nothing to open. Nothing is made or changed.
+pub fn look_at(rt: &HostRuntime, path: &str) -> Result<Option<u64>, Obstacle> {
+    let found = match fs::metadata(rt, path) {
+        Ok(found) => found,
+        Err(fault) if fault.kind() == ErrorKind::NotFound => return Err(missing(rt, path)),
+        Err(fault) => return Err(fault.into()),
+    };
+    let log = octets_of_log(rt, path)?;
+    if let Some(why) = fault_of(&found, log) {
+        return Err(Obstacle::NoDepot(why));
+    }
+    let mut file = OpenOptions::new().read(true).write(true).open(rt, path)?;
+    if found.len() != 0 && !begins_as_database(&mut file)? {
+        return Err(Obstacle::NoDepot(NoDepot::Damaged));
+    }
+    Ok(log)
+}
+
+// Whether a file begins as every database does. No log is made beside one that doesn't.
+fn begins_as_database(file: &mut File) -> io::Result<bool> {
+    let mut head = [0; 16];
+    match file.read_exact(&mut head) {
+        Ok(()) => Ok(head == *DATABASE_HEAD),
+        Err(fault) if fault.kind() == ErrorKind::UnexpectedEof => Ok(false),
+        Err(fault) => Err(fault),
+    }
+}
+
+// Why nothing has a name: there is no such file, or no such folder.
+fn missing(rt: &HostRuntime, path: &str) -> Obstacle {
+    let Some((folder, _)) = path.rsplit_once('/') else {
+        return Obstacle::NoDepot(NoDepot::NoFile);
+    };
+    if folder.is_empty() {
+        return Obstacle::NoDepot(NoDepot::NoFile);
+    }
+    match fs::metadata(rt, folder) {
+        Ok(_) => Obstacle::NoDepot(NoDepot::NoFile),
+        Err(fault) if fault.kind() == ErrorKind::NotFound => Obstacle::NoDepot(NoDepot::NoFolder),
+        Err(fault) => fault.into(),
+    }
+}
+
+// The octets of the log, which lies beside the file itself where the path leads to it by a link.
+fn octets_of_log(rt: &HostRuntime, path: &str) -> Result<Option<u64>, Obstacle> {
+    let real = fs::canonicalize(rt, path)?;
+    let mut log = String::from_str(rt.alloc(), real.as_str())?;
+    log.push_str(LOG_ENDING)?;
+    match fs::symlink_metadata(rt, log.as_str()) {
+        Ok(found) => Ok(Some(found.len())),
+        Err(fault) if fault.kind() == ErrorKind::NotFound => Ok(None),
+        Err(fault) => Err(fault.into()),
+    }
+}
+
+// What is wrong with a file, if it is seen from the outside.
+fn fault_of(found: &Metadata, log: Option<u64>) -> Option<NoDepot> {
+    if found.is_dir() {
+        return Some(NoDepot::Directory);
+    }
+    if !found.is_file() {
+        return Some(NoDepot::Special);
+    }
+    if found.nlink() != 1 {
+        return Some(NoDepot::SecondName);
+    }
+    if found.len() == 0 && log.unwrap_or(0) == 0 {
+        return Some(NoDepot::Empty);
+    }
+    None
+}

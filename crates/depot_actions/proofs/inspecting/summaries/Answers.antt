@@ -1,0 +1,15 @@
+use Rattle.sqlite.specs.Held.{state}
+use Rattle.depot_actions.proofs.Surveying.{all_looked, one_looked}
+use Rattle.depot_actions.proofs.inspecting.summaries.Goals as goal
+
+pub loop-row-preserved : goal.loop-row-preserved
+loop-row-preserved g c =
+    let old = state g.S.Store c.args.store.now in
+    let mid = state g.S.Store c.loop-row.store in
+    let new = state g.S.Store c.summary.new.store in
+    one_looked c.args.rows.now c.loop-row.row-index c.row-item.result c.loop-row.users.items c.push.new.self.items c.in_ok-user.user old mid new c.loop-row-test.true c.row-item.is c.in_ok-push.ensures.items
+    c.loop-row.invariant c.summary.ensures.survives c.summary.ensures.spared c.in_ok-user.ensures.open c.in_ok-user.ensures.told
+
+pub returns-clause-told : goal.returns-clause-told
+returns-clause-told g c clean before stands =
+    all_looked c.args.rows.now c.loop-row.row-index c.loop-row.users.items (state g.S.Store c.args.store.now) (state g.S.Store c.loop-row.store) c.loop-row-test.false c.loop-row.invariant clean before stands

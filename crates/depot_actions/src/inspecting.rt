@@ -1,0 +1,169 @@
+// How a depot is looked over, user by user.
+ghost use Rattle.std.specs.Prelude.{◌≡◌, ◌⊎◌, IfErr, IfOk, IsTrue, OnOk, map, option_map, string_bytes};
+ghost use Rattle.std.specs.List.{sum_by};
+ghost use Rattle.sqlite.specs.Held.{state};
+ghost use Rattle.sqlite.specs.State.{HasCleanDisk, Survives};
+ghost use Rattle.part_store.specs.Changes.{contents_tree, users_tree};
+ghost use Rattle.part_store.specs.Entries.{Entries, entries_of, listing_of};
+ghost use Rattle.part_store.specs.Standing.{Spares, Stands, listed};
+ghost use Rattle.part_store.specs.Totals.{IsTotalOf};
+ghost use Rattle.part_store.specs.UserLines.{AreUsersOf, line_of};
+ghost use Rattle.part_store.specs.declared.entry.EntryRow.{EntryRow as Row};
+ghost use Rattle.refusals.specs.declared.refusal.Refusal.TheVariants.{Memory, Database};
+ghost use Rattle.depot_actions.specs.Overviews.{AreSummaries, IsJudged, IsOverview, IsStateOf, Summarises};
+
+use crate::overview::{Overview, ProgramState, UserOverview};
+use crate::refusing::refused;
+use part_store::{ContentTotal, EntryRow, PartStore, UserRow};
+use refusals::Refusal;
+use sieve_engine::check_program;
+use sqlite::Alter;
+use std::alloc::Global;
+
+/// What a store holds, user by user. Each user's entries are read once, and one user's at a time.
+///
+/// # Errors
+///
+/// `Database`, also where octets are more than 64 bits can count. `Memory` where an allocation was refused.
+pub(crate) fn look_over<S: Alter>(
+    store: &mut PartStore<S>,
+    alloc: Global,
+) -> Result<Overview, Refusal>
+    ensures told { HasCleanDisk (state S.Store store.new) → IfOk result (λ x. IsTrue (state S.Store store.old).is_open
+        × ((before : Entries) → Stands (state S.Store store.old).now before → IsOverview (state S.Store store.old).now.trees before x)) }
+    ensures spared { HasCleanDisk (state S.Store store.new) → Spares (state S.Store store.old) (state S.Store store.new) }
+    ensures refused { IfErr result (λ e. (e ≡ Memory) ⊎ (e ≡ Database)) }
+    ensures survives { Survives (state S.Store store.old) (state S.Store store.new) (λ _. ⊥) }
+{
+    let rows = rows_of(store)?;
+    let users = summaries(store, alloc, &rows)?;
+    let contents = total_of(store)?;
+    Ok(Overview { users, contents })
+}
+
+// The users that have a row.
+fn rows_of<S: Alter>(store: &mut PartStore<S>) -> Result<Vec<UserRow>, Refusal>
+    ensures told { HasCleanDisk (state S.Store store.new) → IfOk result (λ rows.
+        (before : Entries) → Stands (state S.Store store.old).now before → AreUsersOf ((state S.Store store.old).now.trees users_tree) before (map line_of rows.items)) }
+    ensures open { HasCleanDisk (state S.Store store.new) → OnOk result (IsTrue (state S.Store store.old).is_open) }
+    ensures spared { HasCleanDisk (state S.Store store.new) → Spares (state S.Store store.old) (state S.Store store.new) }
+    ensures refused { IfErr result (λ e. (e ≡ Memory) ⊎ (e ≡ Database)) }
+    ensures survives { Survives (state S.Store store.old) (state S.Store store.new) (λ _. ⊥) }
+{
+    store.users().map_err(refused)
+}
+
+// How many contents there are, and their octets.
+fn total_of<S: Alter>(store: &mut PartStore<S>) -> Result<ContentTotal, Refusal>
+    ensures told { HasCleanDisk (state S.Store store.new) → IfOk result (λ total.
+        (before : Entries) → Stands (state S.Store store.old).now before → IsTotalOf ((state S.Store store.old).now.trees contents_tree) total) }
+    ensures open { HasCleanDisk (state S.Store store.new) → OnOk result (IsTrue (state S.Store store.old).is_open) }
+    ensures spared { HasCleanDisk (state S.Store store.new) → Spares (state S.Store store.old) (state S.Store store.new) }
+    ensures refused { IfErr result (λ e. (e ≡ Memory) ⊎ (e ≡ Database)) }
+    ensures survives { Survives (state S.Store store.old) (state S.Store store.new) (λ _. ⊥) }
+{
+    store.contents().map_err(refused)
+}
+
+// Each of the users, summarised.
+fn summaries<S: Alter>(
+    store: &mut PartStore<S>,
+    alloc: Global,
+    rows: &[UserRow],
+) -> Result<Vec<UserOverview>, Refusal>
+    ensures told { HasCleanDisk (state S.Store store.new) → IfOk result (λ users.
+        (before : Entries) → Stands (state S.Store store.old).now before → AreSummaries before (map line_of rows.now) users.items) }
+    ensures spared { HasCleanDisk (state S.Store store.new) → Spares (state S.Store store.old) (state S.Store store.new) }
+    ensures refused { IfErr result (λ e. (e ≡ Memory) ⊎ (e ≡ Database)) }
+    ensures survives { Survives (state S.Store store.old) (state S.Store store.new) (λ _. ⊥) }
+{
+    let mut users = Vec::new(alloc);
+    for row in rows {
+        let user = summary(store, alloc, row)?;
+        users.push(user)?;
+    }
+    Ok(users)
+}
+
+// A user, summarised.
+fn summary<S: Alter>(
+    store: &mut PartStore<S>,
+    alloc: Global,
+    row: &UserRow,
+) -> Result<UserOverview, Refusal>
+    ensures told { HasCleanDisk (state S.Store store.new) → IfOk result (λ x.
+        (before : Entries) → Stands (state S.Store store.old).now before → Summarises (line_of row.now) (map listing_of (entries_of (string_bytes row.now.user) before)) x) }
+    ensures open { HasCleanDisk (state S.Store store.new) → OnOk result (IsTrue (state S.Store store.old).is_open) }
+    ensures spared { HasCleanDisk (state S.Store store.new) → Spares (state S.Store store.old) (state S.Store store.new) }
+    ensures refused { IfErr result (λ e. (e ≡ Memory) ⊎ (e ≡ Database)) }
+    ensures survives { Survives (state S.Store store.old) (state S.Store store.new) (λ _. ⊥) }
+{
+    let entries = entries_in(store, row.user.as_str())?;
+    summary_of(alloc, row, &entries)
+}
+
+// The entries of a user, who may have any name that is stored.
+fn entries_in<S: Alter>(store: &mut PartStore<S>, user: &str) -> Result<Vec<EntryRow>, Refusal>
+    ensures told { HasCleanDisk (state S.Store store.new) → IfOk result (λ rows.
+        (before : Entries) → Stands (state S.Store store.old).now before → map listed rows.items ≡ map listing_of (entries_of user.now before)) }
+    ensures open { HasCleanDisk (state S.Store store.new) → OnOk result (IsTrue (state S.Store store.old).is_open) }
+    ensures spared { HasCleanDisk (state S.Store store.new) → Spares (state S.Store store.old) (state S.Store store.new) }
+    ensures refused { IfErr result (λ e. (e ≡ Memory) ⊎ (e ≡ Database)) }
+    ensures survives { Survives (state S.Store store.old) (state S.Store store.new) (λ _. ⊥) }
+{
+    store.entries_of(user).map_err(refused)
+}
+
+// A user with these entries, summarised.
+fn summary_of(alloc: Global, row: &UserRow, entries: &[EntryRow]) -> Result<UserOverview, Refusal>
+    ensures told { IfOk result (λ x. Summarises (line_of row.now) (map listed entries.now) x) }
+    ensures refused { IfErr result (λ e. (e ≡ Memory) ⊎ (e ≡ Database)) }
+{
+    let octets = octets_of(entries)?;
+    let program = program_state(alloc, &row.program)?;
+    Ok(UserOverview {
+        user: String::from_str(alloc, row.user.as_str())?,
+        last: row.last,
+        entries: entries.len() as u64,
+        octets,
+        program,
+    })
+}
+
+// How many octets entries have together, or `Database` where that is more than 64 bits.
+fn octets_of(entries: &[EntryRow]) -> Result<u64, Refusal>
+    ensures sum { IfOk result (λ octets. octets ≡ sum_by (λ (e : Row). e.octets) entries.now) }
+    ensures refused { IfErr result (λ e. e ≡ Database) }
+{
+    let mut octets = 0u64;
+    for entry in entries {
+        match octets.checked_add(entry.octets) {
+            Some(sum) => octets = sum,
+            None => return Err(Refusal::Database),
+        }
+    }
+    Ok(octets)
+}
+
+// The state of a user's program, if he has one.
+fn program_state(alloc: Global, program: &Option<Vec<u8>>) -> Result<ProgramState, Refusal>
+    ensures judged { IfOk result (IsStateOf (option_map (λ v. v.items) program.now)) }
+    ensures refused { IfErr result (λ e. e ≡ Memory) }
+{
+    match program {
+        Some(octets) => judge(alloc, octets),
+        None => Ok(ProgramState::Missing),
+    }
+}
+
+// The state of a stored program.
+fn judge(alloc: Global, program: &[u8]) -> Result<ProgramState, Refusal>
+    ensures judged { IfOk result (IsJudged program.now) }
+    ensures refused { IfErr result (λ e. e ≡ Memory) }
+{
+    match check_program(alloc, program) {
+        Ok(verified) => Ok(ProgramState::Accepted(verified.program().version())),
+        Err(Refusal::Memory) => Err(Refusal::Memory),
+        Err(refusal) => Ok(ProgramState::Refused(refusal)),
+    }
+}

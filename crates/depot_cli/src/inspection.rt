@@ -1,0 +1,176 @@
+// What a depot holds, written line by line.
+ghost use Rattle.std.specs.Prelude.{◌≡◌, ◌++◌, OnErr, OnOk, option_map};
+ghost use Rattle.sqlite.specs.Held.{state};
+ghost use Rattle.sqlite.specs.State.{Survives};
+ghost use Rattle.depot_actions.specs.Device.{HasBroken, HasTaken};
+ghost use Rattle.depot_cli.specs.Inspecting.{HasInspected};
+ghost use Rattle.depot_cli.specs.Printed.{contents_text, head_text, line as line_of, overview_text, user_text, users_text};
+ghost use Rattle.depot_cli.specs.Tasks.{desk};
+
+use crate::job::tell;
+use crate::piece::Piece;
+use crate::printing::put_pieces;
+use crate::task::finish;
+use depot_actions::{Depot, DeviceFailed, Overview, ProgramState, Sink, UserOverview};
+use part_store::ContentTotal;
+use sqlite::Alter;
+use std::alloc::Global;
+
+/// Writes to `out` what a depot holds, after how many octets its log had before it was opened, and gives 0; or writes the line of its
+/// refusal, `Memory` or `Database`, to `err` and gives 1.
+///
+/// Writing follows the look and takes no memory. Where `out` fails, a prefix is written there, the line of `Write` to `err`, and the
+/// status is 1. The depot stays as it is.
+pub fn inspect<S: Alter, O: Sink, E: Sink>(
+    alloc: Global,
+    log: Option<u64>,
+    depot: &mut Depot<S>,
+    out: &mut O,
+    err: &mut E,
+) -> u8
+    ensures inspected { HasInspected log.entry result
+        (desk (state S.Store depot.old) (O.output out.old) (E.output err.old)) (desk (state S.Store depot.new) (O.output out.new) (E.output err.new)) }
+    ensures survives { Survives (state S.Store depot.old) (state S.Store depot.new) (λ _. ⊥) }
+{
+    match depot.inspect(alloc) {
+        Ok(overview) => finish(err, put_overview(out, log, &overview)),
+        Err(refusal) => tell(err, &refusal),
+    }
+}
+
+// Writes the lines of a depot.
+fn put_overview<O: Sink>(
+    out: &mut O,
+    log: Option<u64>,
+    overview: &Overview,
+) -> Result<(), DeviceFailed>
+    ensures ok { OnOk result (HasTaken (overview_text log.entry overview.now) (O.output out.old) (O.output out.new)) }
+    ensures err { OnErr result (HasBroken (overview_text log.entry overview.now) (O.output out.old) (O.output out.new)) }
+{
+    put_head(out, log)?;
+    put_contents(out, &overview.users, &overview.contents)
+}
+
+// Writes that it is a depot, and the line of its log.
+fn put_head<O: Sink>(out: &mut O, log: Option<u64>) -> Result<(), DeviceFailed>
+    ensures ok { OnOk result (HasTaken (head_text log.entry) (O.output out.old) (O.output out.new)) }
+    ensures err { OnErr result (HasBroken (head_text log.entry) (O.output out.old) (O.output out.new)) }
+{
+    match log {
+        Some(octets) => put_pieces(
+            out,
+            &[
+                Piece::Text("depot\nlog "),
+                Piece::Number(octets as u128),
+                Piece::Text(" octets\n"),
+            ],
+        ),
+        None => put_pieces(out, &[Piece::Text("depot\nno log\n")]),
+    }
+}
+
+// Writes the lines of users, and that of the contents.
+fn put_contents<O: Sink>(
+    out: &mut O,
+    users: &[UserOverview],
+    contents: &ContentTotal,
+) -> Result<(), DeviceFailed>
+    ensures ok { OnOk result (HasTaken (users_text users.now ++ line_of (contents_text contents.now)) (O.output out.old) (O.output out.new)) }
+    ensures err { OnErr result (HasBroken (users_text users.now ++ line_of (contents_text contents.now)) (O.output out.old) (O.output out.new)) }
+{
+    put_users(out, users)?;
+    put_total(out, contents)
+}
+
+// Writes a line for each user.
+fn put_users<O: Sink>(out: &mut O, users: &[UserOverview]) -> Result<(), DeviceFailed>
+    ensures ok { OnOk result (HasTaken (users_text users.now) (O.output out.old) (O.output out.new)) }
+    ensures err { OnErr result (HasBroken (users_text users.now) (O.output out.old) (O.output out.new)) }
+{
+    for user in users {
+        put_user(out, user)?;
+    }
+    Ok(())
+}
+
+// Writes the line of a user.
+fn put_user<O: Sink>(out: &mut O, user: &UserOverview) -> Result<(), DeviceFailed>
+    ensures ok { OnOk result (HasTaken (line_of (user_text user.now)) (O.output out.old) (O.output out.new)) }
+    ensures err { OnErr result (HasBroken (line_of (user_text user.now)) (O.output out.old) (O.output out.new)) }
+{
+    let head = Piece::Text("user ");
+    let name = Piece::Quoted(user.user.as_bytes());
+    let last = Piece::Number(user.last as u128);
+    let entries = Piece::Number(user.entries as u128);
+    let octets = Piece::Number(user.octets as u128);
+    let has_last = Piece::Text(" last ");
+    let has_entries = Piece::Text(" entries ");
+    let has_octets = Piece::Text(" octets ");
+    match &user.program {
+        ProgramState::Missing => put_pieces(
+            out,
+            &[
+                head,
+                name,
+                has_last,
+                last,
+                has_entries,
+                entries,
+                has_octets,
+                octets,
+                Piece::Text(" program none\n"),
+            ],
+        ),
+        ProgramState::Accepted(version) => put_pieces(
+            out,
+            &[
+                head,
+                name,
+                has_last,
+                last,
+                has_entries,
+                entries,
+                has_octets,
+                octets,
+                Piece::Text(" program accepted version "),
+                Piece::Number(*version as u128),
+                Piece::Text("\n"),
+            ],
+        ),
+        ProgramState::Refused(refusal) => put_pieces(
+            out,
+            &[
+                head,
+                name,
+                has_last,
+                last,
+                has_entries,
+                entries,
+                has_octets,
+                octets,
+                Piece::Text(" program refused "),
+                Piece::Number(refusal.number() as u128),
+                Piece::Text(" "),
+                Piece::Text(refusal.name()),
+                Piece::Text("\n"),
+            ],
+        ),
+    }
+}
+
+// Writes the line of the contents.
+fn put_total<O: Sink>(out: &mut O, contents: &ContentTotal) -> Result<(), DeviceFailed>
+    ensures ok { OnOk result (HasTaken (line_of (contents_text contents.now)) (O.output out.old) (O.output out.new)) }
+    ensures err { OnErr result (HasBroken (line_of (contents_text contents.now)) (O.output out.old) (O.output out.new)) }
+{
+    put_pieces(
+        out,
+        &[
+            Piece::Text("contents "),
+            Piece::Number(contents.contents as u128),
+            Piece::Text(" octets "),
+            Piece::Number(contents.octets as u128),
+            Piece::Text("\n"),
+        ],
+    )
+}

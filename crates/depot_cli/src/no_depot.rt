@@ -1,0 +1,99 @@
+// Why a file is no depot.
+ghost use Rattle.std.specs.Prelude.{◌≡◌, ◌≢◌, MatchOption};
+ghost use Rattle.part_store.specs.declared.looking.Unopened.TheVariants.{Memory};
+ghost use Rattle.depot_cli.specs.Inspecting.{HasSaidWhy};
+ghost use Rattle.depot_cli.specs.Printed.{why_text};
+
+use crate::job::{REFUSED, tell};
+use crate::piece::Piece;
+use crate::printing::put_pieces;
+use depot_actions::{DeviceFailed, Sink};
+use part_store::Unopened;
+use refusals::Refusal;
+
+/// Why a file is no depot.
+#[derive(Clone, Copy, Debug, PartialEq, Eq)]
+pub enum NoDepot {
+    /// Nothing has the name.
+    NoFile,
+    /// The folder isn't there.
+    NoFolder,
+    /// What should be a folder on the way to it is something else.
+    NoPath,
+    /// The process has no right to it; to open a depot takes that of writing.
+    NoRights,
+    /// It is a directory.
+    Directory,
+    /// It is a device, a pipe or a socket.
+    Special,
+    /// Another name is that of the same file.
+    SecondName,
+    /// It has no octets, and no log has any. A depot is made there by any command on a depot.
+    Empty,
+    /// Another process has the depot open.
+    Held,
+    /// A file beside it stands in the way.
+    Closed,
+    /// It is no database, or a damaged one.
+    Damaged,
+    /// It is a database with other tables, or none.
+    OtherTables,
+    /// The disk failed.
+    Disk,
+}
+
+impl NoDepot {
+    /// Why what isn't opened as it is is no depot, or none where memory was refused.
+    pub fn of(why: Unopened) -> Option<NoDepot>
+        ensures { MatchOption result (why ≡ Memory) (λ _. why ≢ Memory) }
+    {
+        match why {
+            Unopened::Memory => None,
+            Unopened::Held => Some(NoDepot::Held),
+            Unopened::Closed => Some(NoDepot::Closed),
+            Unopened::Damaged => Some(NoDepot::Damaged),
+            Unopened::OtherTables => Some(NoDepot::OtherTables),
+            Unopened::Disk => Some(NoDepot::Disk),
+        }
+    }
+}
+
+/// Writes to `out` why a file is no depot, and gives 1, the status of a refusal. Where `out` fails, a prefix is written there, and the
+/// line of `Write` to `err`.
+pub fn tell_no_depot<O: Sink, E: Sink>(out: &mut O, err: &mut E, why: NoDepot) -> u8
+    ensures status { result ≡ 1 }
+    ensures said { HasSaidWhy why (O.output out.old) (E.output err.old) (O.output out.new) (E.output err.new) }
+{
+    match put_pieces(
+        out,
+        &[
+            Piece::Text("no depot: "),
+            Piece::Text(words(why)),
+            Piece::Text("\n"),
+        ],
+    ) {
+        Ok(()) => REFUSED,
+        Err(DeviceFailed) => tell(err, &Refusal::Write),
+    }
+}
+
+// Why, in words.
+fn words(why: NoDepot) -> &'static str
+    ensures { result.now ≡ why_text why }
+{
+    match why {
+        NoDepot::NoFile => "there is no such file",
+        NoDepot::NoFolder => "there is no such folder",
+        NoDepot::NoPath => "a part of the path is no folder",
+        NoDepot::NoRights => "this user may not read and write it",
+        NoDepot::Directory => "it is a directory",
+        NoDepot::Special => "it is no regular file",
+        NoDepot::SecondName => "it has a second name",
+        NoDepot::Empty => "it is empty",
+        NoDepot::Held => "another process holds it",
+        NoDepot::Closed => "its log or its journal can't be opened",
+        NoDepot::Damaged => "it is no database, or it is damaged",
+        NoDepot::OtherTables => "its tables are others",
+        NoDepot::Disk => "the disk failed",
+    }
+}

@@ -1,0 +1,12 @@
+use Rattle.std.proofs.Common.{map, ◌∙◌}
+use Rattle.sqlite.specs.Held.{state}
+use Rattle.part_store.specs.UserLines.{line_of}
+use Rattle.part_store.proofs.UserList.{are_users, lines_shown}
+use Rattle.part_store.proofs.Runs.{if_ok}
+use Rattle.part_store.proofs.all_users.list_users.Goals as goal
+
+pub returns-clause-told : goal.returns-clause-told
+returns-clause-told g c clean =
+    if_ok c.users_in.result _ _ (λ users shown before stands.
+    are_users (state g.S.Store c.args.tx.now.conn.now) (state g.S.Store c.list.new.tx.conn.now) c.in_ok-rows.rows.items (map line_of users.items)
+    (c.in_ok-rows.ensures.step clean) (lines_shown users.items ∙ shown) before stands) c.users_in.ensures.shown

@@ -1,0 +1,15 @@
+use Rattle.sqlite.specs.Held.{state}
+use Rattle.part_store.proofs.Runs.{query_keeps, if_ok, if_err, ok_then, shown_open}
+use Rattle.part_store.proofs.UserRows.{users_listed}
+use Rattle.part_store.proofs.users.list.Goals as goal
+
+pub returns-clause-step : goal.returns-clause-step
+returns-clause-step g c clean =
+    if_ok c.query_all.result _ _ (λ rows shown. users_listed (state g.S.Store c.args.tx.now.conn.now) (state g.S.Store c.query_all.new.self.conn.now) rows.items shown) (c.query_all.ensures.ok clean)
+
+pub returns-clause-kept : goal.returns-clause-kept
+returns-clause-kept g c clean = if_err c.query_all.result _ _ (λ e failed. query_keeps _ _ _ _ e failed) (c.query_all.ensures.err clean)
+
+pub returns-clause-open : goal.returns-clause-open
+returns-clause-open g c clean =
+    ok_then c.query_all.result _ _ (λ rows shown. shown_open _ _ (state g.S.Store c.args.tx.now.conn.now) (state g.S.Store c.query_all.new.self.conn.now) _ shown) (c.query_all.ensures.ok clean)

@@ -1,0 +1,55 @@
+//! All users that a store knows.
+ghost use Rattle.std.specs.Prelude.{◌≡◌, ◌⊎◌, ◌∷◌, [], map, IsTrue, IfOk, IfErr, OnOk};
+ghost use Rattle.sqlite.specs.Held.{state};
+ghost use Rattle.sqlite.specs.State.{HasCleanDisk, KeepsCommit, Survives};
+ghost use Rattle.part_store.specs.Changes.{columns, users_tree};
+ghost use Rattle.part_store.specs.Tables.{store_schema};
+ghost use Rattle.part_store.specs.Standing.{Stands};
+ghost use Rattle.part_store.specs.UserLines.{AreUsersOf, answer_of, line_of};
+ghost use Rattle.part_store.specs.declared.error.StoreError.TheVariants.{Memory, Database};
+
+use crate::error::StoreError;
+use crate::user_row::UserRow;
+use crate::users;
+use sqlite::{Alter, Error, Row, Transaction};
+
+/// The users that have a row, in the order of their names.
+pub(crate) fn list_users<S: Alter>(tx: &mut Transaction<'_, S>) -> Result<Vec<UserRow>, StoreError>
+    ensures same_reference { tx.new.conn.ghost_name ≡ tx.old.conn.ghost_name }
+    ensures told { HasCleanDisk (state S.Store tx.new.conn.now) → IfOk result (λ users.
+        (before : _) → Stands (state S.Store tx.old.conn.now).now before
+        → AreUsersOf ((state S.Store tx.old.conn.now).now.trees users_tree) before (map line_of users.items)) }
+    ensures open { HasCleanDisk (state S.Store tx.new.conn.now) → OnOk result (IsTrue (state S.Store tx.old.conn.now).is_open) }
+    ensures shut { HasCleanDisk (state S.Store tx.new.conn.now) → IsTrue (state S.Store tx.new.conn.now).is_open
+        → IsTrue (state S.Store tx.old.conn.now).is_open }
+    ensures kept { HasCleanDisk (state S.Store tx.new.conn.now) → (state S.Store tx.old.conn.now).now.schema ≡ store_schema
+        → KeepsCommit (state S.Store tx.old.conn.now) (state S.Store tx.new.conn.now) }
+    ensures refused { IfErr result (λ e. (e ≡ Memory) ⊎ (e ≡ Database)) }
+    ensures survives { Survives (state S.Store tx.old.conn.now) (state S.Store tx.new.conn.now) (λ _. ⊥) }
+{
+    let rows = users::list(tx)?;
+    users_in(&rows)
+}
+
+/// The users that the rows of an answer show.
+fn users_in(rows: &Vec<Row>) -> Result<Vec<UserRow>, StoreError>
+    ensures shown { IfOk result (λ users. map answer_of users.items ≡ map (columns (0 ∷ 1 ∷ 2 ∷ [])) rows.now.items) }
+    ensures refused { IfErr result (λ e. (e ≡ Memory) ⊎ (e ≡ Database)) }
+{
+    let mut users = Vec::with_capacity(*rows.allocator(), rows.len())?;
+    for row in rows {
+        users.push(user_in(row)?)?;
+    }
+    Ok(users)
+}
+
+/// The user that a row of an answer shows.
+fn user_in(row: &Row) -> Result<UserRow, Error>
+    ensures { IfOk result (λ user. answer_of user ≡ columns (0 ∷ 1 ∷ 2 ∷ []) row.now) }
+{
+    Ok(UserRow {
+        user: row.get(0)?,
+        last: row.get(1)?,
+        program: row.get(2)?,
+    })
+}

@@ -1,0 +1,71 @@
+//! How a database is taken as it is.
+ghost use Rattle.std.specs.Prelude.{◌≡◌};
+ghost use Rattle.part_store.specs.Looking.{are_tables, is_table, three_tables, unopened_of};
+
+use sqlite::ErrorCode;
+use sqlite_schema::schema::{Schema, Table};
+use thiserror::Error;
+
+/// Why a file isn't opened as a store.
+#[derive(Clone, Copy, Debug, PartialEq, Eq, Drop, Error)]
+pub enum Unopened {
+    /// An allocation was refused, here or in the database.
+    #[error("an allocation was refused")]
+    Memory,
+    /// Another process, or another store of this one, has the file open.
+    #[error("another process holds it")]
+    Held,
+    /// The files can't be opened for reading and writing, or something else has the name of one.
+    #[error("it can't be opened")]
+    Closed,
+    /// The file holds no database, or a damaged one.
+    #[error("it is no database, or a damaged one")]
+    Damaged,
+    /// The database has other tables than a store, or none.
+    #[error("its tables are others")]
+    OtherTables,
+    /// The disk failed.
+    #[error("the disk failed")]
+    Disk,
+}
+
+impl From<sqlite::Error> for Unopened {
+    ghost from_gives = { λ error e. e ≡ unopened_of error };
+
+    fn from(error: sqlite::Error) -> Unopened {
+        match error {
+            sqlite::Error::SqliteFailure(ErrorCode::OutOfMemory) => Unopened::Memory,
+            sqlite::Error::SqliteFailure(ErrorCode::DatabaseBusy) => Unopened::Held,
+            sqlite::Error::SqliteFailure(ErrorCode::NotADatabase | ErrorCode::DatabaseCorrupt) => {
+                Unopened::Damaged
+            }
+            sqlite::Error::SqliteFailure(ErrorCode::CannotOpen) => Unopened::Closed,
+            _ => Unopened::Disk,
+        }
+    }
+}
+
+/// Whether a database has tables of the names of a store's, with as many columns.
+pub(crate) fn has_tables(schema: &Schema) -> bool
+    ensures { result ≡ are_tables schema.now.tables }
+{
+    let tables = schema.tables.as_slice();
+    if tables.len() != 3 {
+        return false;
+    }
+    are_stores(&tables[0], &tables[1], &tables[2])
+}
+
+fn are_stores(users: &Table, contents: &Table, entries: &Table) -> bool
+    ensures { result ≡ three_tables users.now contents.now entries.now }
+{
+    is_table(users, b"users", 3)
+        && is_table(contents, b"contents", 2)
+        && is_table(entries, b"entries", 7)
+}
+
+fn is_table(table: &Table, name: &[u8], columns: usize) -> bool
+    ensures { result ≡ is_table name.now columns table.now }
+{
+    table.name.as_slice() == name && table.columns.len() == columns
+}

@@ -1,0 +1,71 @@
+//! How much a store holds.
+ghost use Rattle.std.specs.Prelude.{◌≡◌, ◌⊎◌, ◌+◌, length, IsTrue, IfOk, IfErr, OnOk};
+ghost use Rattle.std.specs.List.{sum_by};
+ghost use Rattle.sqlite_value.specs.Order.{column};
+ghost use Rattle.sqlite.specs.Held.{state};
+ghost use Rattle.sqlite.specs.State.{HasCleanDisk, KeepsCommit, Survives};
+ghost use Rattle.part_store.specs.Changes.{contents_tree};
+ghost use Rattle.part_store.specs.Tables.{store_schema};
+ghost use Rattle.part_store.specs.Standing.{Stands};
+ghost use Rattle.part_store.specs.Totals.{IsTotalOf, number_of};
+ghost use Rattle.part_store.specs.declared.error.StoreError.TheVariants.{Memory, Database};
+
+use crate::contents;
+use crate::error::StoreError;
+use sqlite::{Alter, Row, Transaction};
+
+/// How much a store holds, where what several entries have is counted once.
+#[derive(Clone, Copy, Drop)]
+pub struct ContentTotal {
+    /// How many contents there are.
+    pub contents: u64,
+    /// How many octets they have together.
+    pub octets: u64,
+}
+
+/// How many contents there are, and their octets.
+pub(crate) fn count_contents<S: Alter>(
+    tx: &mut Transaction<'_, S>,
+) -> Result<ContentTotal, StoreError>
+    ensures same_reference { tx.new.conn.ghost_name ≡ tx.old.conn.ghost_name }
+    ensures told { HasCleanDisk (state S.Store tx.new.conn.now) → IfOk result (λ total. (before : _) → Stands (state S.Store tx.old.conn.now).now before
+        → IsTotalOf ((state S.Store tx.old.conn.now).now.trees contents_tree) total) }
+    ensures open { HasCleanDisk (state S.Store tx.new.conn.now) → OnOk result (IsTrue (state S.Store tx.old.conn.now).is_open) }
+    ensures shut { HasCleanDisk (state S.Store tx.new.conn.now) → IsTrue (state S.Store tx.new.conn.now).is_open
+        → IsTrue (state S.Store tx.old.conn.now).is_open }
+    ensures kept { HasCleanDisk (state S.Store tx.new.conn.now) → (state S.Store tx.old.conn.now).now.schema ≡ store_schema
+        → KeepsCommit (state S.Store tx.old.conn.now) (state S.Store tx.new.conn.now) }
+    ensures refused { IfErr result (λ e. (e ≡ Memory) ⊎ (e ≡ Database)) }
+    ensures survives { Survives (state S.Store tx.old.conn.now) (state S.Store tx.new.conn.now) (λ _. ⊥) }
+{
+    let rows = contents::list(tx)?;
+    total_of(&rows)
+}
+
+/// The total of the rows of an answer, or `Database` where it is more than 64 bits.
+fn total_of(rows: &Vec<Row>) -> Result<ContentTotal, StoreError>
+    ensures total { IfOk result (λ total. (total.contents ≡ length rows.now.items)
+        × (total.octets ≡ sum_by (λ r. number_of (column r 1)) rows.now.items)) }
+    ensures refused { IfErr result (λ e. (e ≡ Memory) ⊎ (e ≡ Database)) }
+{
+    let mut octets = 0;
+    for row in rows {
+        octets = with_size(octets, row)?;
+    }
+    Ok(ContentTotal {
+        contents: rows.len() as u64,
+        octets,
+    })
+}
+
+/// A number of octets and that which a row shows.
+fn with_size(octets: u64, row: &Row) -> Result<u64, StoreError>
+    ensures sum { IfOk result (λ sum. sum ≡ octets + number_of (column row.now 1)) }
+    ensures refused { IfErr result (λ e. (e ≡ Memory) ⊎ (e ≡ Database)) }
+{
+    let size: u64 = row.get(1)?;
+    match octets.checked_add(size) {
+        Some(sum) => Ok(sum),
+        None => Err(StoreError::Database),
+    }
+}
