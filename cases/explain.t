@@ -31,8 +31,35 @@ Tokens.
 ## byte order mark
     $ printf '\357\273\277keep;' > script
     $ depot explain script
-    script:1:1: error: `\ef` begins nothing that a script may have here
+    script:1:1: error: a byte order mark stands here: save the script as UTF-8 without one
     \ef\bb\bfkeep;
+    ^
+    2> refused 11 Lexical at 0
+    [1]
+
+## typographic quotes
+    $ printf 'require \342\200\234fileinto\342\200\235;' > script
+    $ depot explain script
+    script:1:9: error: a typographic quote stands here: strings stand between straight double quotes, "like this"
+    require \e2\80\9cfileinto\e2\80\9d;
+            ^
+    2> refused 11 Lexical at 8
+    [1]
+
+## single quotes
+    $ printf "require 'fileinto';" > script
+    $ depot explain script
+    script:1:9: error: a single quote stands here: strings stand between double quotes, "like this"
+    require 'fileinto';
+            ^
+    2> refused 11 Lexical at 8
+    [1]
+
+## slashes
+    $ printf '// bills\nkeep;\n' > script
+    $ depot explain script
+    script:1:1: error: no comment begins so: one begins with `#`, or stands between `/*` and `*/`
+    // bills
     ^
     2> refused 11 Lexical at 0
     [1]
@@ -149,7 +176,22 @@ The order of tokens.
     script:3:1: error: the script ends before its last command does
 
     ^
+    script:1:9: note: this brace is never closed
+    if true {
+            ^
     2> refused 13 Syntax at 5
+    [1]
+
+## inner brace never closed
+    $ printf 'if true {\n    keep;\n}\nif true {\n    if false {\n        discard;\n    }\n' > script
+    $ depot explain script
+    script:8:1: error: the script ends before its last command does
+
+    ^
+    script:4:9: note: this brace is never closed
+    if true {
+            ^
+    2> refused 13 Syntax at 17
     [1]
 
 ## end within a line
@@ -173,10 +215,10 @@ The order of tokens.
 Names that there are not.
 
 ## unknown command
-    $ printf 'keep; kept;' > script
+    $ printf 'keep; hold;' > script
     $ depot explain script
-    script:1:7: error: unknown command `kept`
-    keep; kept;
+    script:1:7: error: unknown command `hold`
+    keep; hold;
           ^
     2> refused 15 UnknownCommand at 2
     [1]
@@ -244,16 +286,106 @@ Names that there are not.
 ## unknown capability
     $ cat > script << 'END'
     > require ["fileinto",
-    >   "copy"];
+    >   "foldering"];
     > END
     $ depot explain script
-    script:1:1: error: depot knows no capability "copy"
-    require ["fileinto",
-    ^
+    script:2:3: error: depot knows no capability "foldering": there are "fileinto", "variables", "mime", "foreverypart", "vnd.depot", "comparator-i;octet" and "comparator-i;ascii-casemap"
+      "foldering"];
+      ^
     2> refused 17 UnknownCapability at 0
     [1]
 
-Commands and tests that other systems have.
+## capability in another case
+    $ printf 'require "FileInto";' > script
+    $ depot explain script
+    script:1:9: error: depot knows no capability "FileInto", did you mean "fileinto"?
+    require "FileInto";
+            ^
+    2> refused 17 UnknownCapability at 0
+    [1]
+
+## capability one letter off
+    $ printf 'require ["mime", "variable"];' > script
+    $ depot explain script
+    script:1:18: error: depot knows no capability "variable", did you mean "variables"?
+    require ["mime", "variable"];
+                     ^
+    2> refused 17 UnknownCapability at 0
+    [1]
+
+## capability with swapped letters
+    $ printf 'require "vnd.deopt";' > script
+    $ depot explain script
+    script:1:9: error: depot knows no capability "vnd.deopt", did you mean "vnd.depot"?
+    require "vnd.deopt";
+            ^
+    2> refused 17 UnknownCapability at 0
+    [1]
+
+## capability that is written with a backslash
+    $ printf %s 'require "fileinto"; require "fo\o";' > script
+    $ depot explain script
+    script:1:21: error: depot knows no capability "foo": there are "fileinto", "variables", "mime", "foreverypart", "vnd.depot", "comparator-i;octet" and "comparator-i;ascii-casemap"
+    require "fileinto"; require "fo\o";
+                        ^
+    2> refused 17 UnknownCapability at 3
+    [1]
+
+## command one letter off
+    $ printf 'require "fileinto"; filinto "Bills";' > script
+    $ depot explain script
+    script:1:21: error: unknown command `filinto`, did you mean `fileinto`?
+    require "fileinto"; filinto "Bills";
+                        ^
+    2> refused 15 UnknownCommand at 3
+    [1]
+
+## tag one letter off
+    $ printf 'if header :contain "Subject" "bill" { discard; }' > script
+    $ depot explain script
+    script:1:4: error: depot knows no tag `:contain`, did you mean `:contains`?
+    if header :contain "Subject" "bill" { discard; }
+       ^
+    2> refused 18 BadArguments at 1
+    [1]
+
+## unknown tag
+    $ printf 'if header :like "Subject" "bill" { discard; }' > script
+    $ depot explain script
+    script:1:4: error: depot knows no tag `:like`
+    if header :like "Subject" "bill" { discard; }
+       ^
+    2> refused 18 BadArguments at 1
+    [1]
+
+Commands, tests and capabilities that other systems have.
+
+## no capabilities
+    $ for name in vacation enotify reject ereject imap4flags editheader include copy subaddress index envelope body date relational regex mailbox duplicate ihave encoded-character
+    > do
+    >     printf 'require "%s";' $name > script
+    >     depot explain script 2> refused | head -n 1
+    >     grep -v '^refused 17 UnknownCapability at 0$' refused
+    > done; true
+    script:1:9: error: depot has no "vacation": it sends no mail
+    script:1:9: error: depot has no "enotify": it sends no mail
+    script:1:9: error: depot has no "reject": it sends no mail
+    script:1:9: error: depot has no "ereject": it sends no mail
+    script:1:9: error: depot has no "imap4flags": what it files has no flags
+    script:1:9: error: depot has no "editheader": it changes no message
+    script:1:9: error: depot has no "include": a script stands alone
+    script:1:9: error: depot has no "copy": `keep` beside `fileinto` files a message twice
+    script:1:9: error: depot has no "subaddress": `header` tests the whole value of a field
+    script:1:9: error: depot has no "index": `header` tests all fields of a name
+    script:1:9: error: depot has no "envelope": it sees the message alone
+    script:1:9: error: depot has no "body": `partbody` tests the content of a part, inside of a `foreverypart`
+    script:1:9: error: depot has no "date": it compares no times
+    script:1:9: error: depot has no "relational": `size` and `partsize` alone compare numbers
+    script:1:9: error: depot has no "regex": patterns are those of `:matches`
+    script:1:9: error: depot has no "mailbox": a folder is there once something is filed into it
+    script:1:9: error: depot has no "duplicate": a script knows no earlier message
+    script:1:9: error: depot has no "ihave": what a script requires has to be there
+    script:1:9: error: depot has no "encoded-character": a string may hold any character as it is
 
 ## no addflag
     $ printf %s 'addflag "\\Seen";' > script
@@ -529,6 +661,34 @@ Arguments.
     2> refused 18 BadArguments at 3
     [1]
 
+## units with more letters
+    $ for unit in MB KB GiB ' MB' ' bytes' k
+    > do
+    >     printf 'if anyof (true, size :over 5%s) { discard; }' "$unit" > script
+    >     depot explain script 2> refused | head -n 1
+    >     cat refused
+    > done
+    script:1:17: error: the units of a number are K, M and G, with nothing behind the letter, as in 5M
+    refused 18 BadArguments at 5
+    script:1:17: error: the units of a number are K, M and G, with nothing behind the letter, as in 5M
+    refused 18 BadArguments at 5
+    script:1:17: error: the units of a number are K, M and G, with nothing behind the letter, as in 5M
+    refused 18 BadArguments at 5
+    script:1:17: error: the units of a number are K, M and G, with nothing behind the letter, as in 5M
+    refused 18 BadArguments at 5
+    script:1:17: error: the units of a number are K, M and G, with nothing behind the letter, as in 5M
+    refused 18 BadArguments at 5
+    ok
+
+## unit of a part's octets
+    $ printf 'require ["foreverypart", "vnd.depot"];\nforeverypart {\n    if partbody :first 5KB :contains "bill" { discard; }\n}\n' > script
+    $ depot explain script
+    script:3:8: error: the units of a number are K, M and G, with nothing behind the letter, as in 5M
+        if partbody :first 5KB :contains "bill" { discard; }
+           ^
+    2> refused 18 BadArguments at 9
+    [1]
+
 ## missing order
     $ printf 'if size 100K { discard; }' > script
     $ depot explain script
@@ -548,7 +708,7 @@ Tags.
     > }
     > END
     $ depot explain script
-    script:3:5: error: depot knows no tag `:copy`
+    script:3:5: error: depot has no `:copy`: `keep` beside `fileinto` files a message twice
         fileinto :copy "Bills";
         ^
     2> refused 18 BadArguments at 9
@@ -803,7 +963,7 @@ How the line and the name of the file are printed.
 ## name with signs
     $ printf 'kep;' > 'a b:1.sieve'
     $ depot explain 'a b:1.sieve'
-    a b:1.sieve:1:1: error: unknown command `kep`
+    a b:1.sieve:1:1: error: unknown command `kep`, did you mean `keep`?
     kep;
     ^
     2> refused 15 UnknownCommand at 0
@@ -811,7 +971,7 @@ How the line and the name of the file are printed.
 
 ## standard input
     $ echo 'kep;' | depot explain /dev/stdin
-    /dev/stdin:1:1: error: unknown command `kep`
+    /dev/stdin:1:1: error: unknown command `kep`, did you mean `keep`?
     kep;
     ^
     2> refused 15 UnknownCommand at 0

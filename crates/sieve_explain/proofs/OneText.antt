@@ -10,9 +10,8 @@ use Rattle.sieve_lexer.specs.Tokens.{AreTokens}
 use Rattle.sieve_lexer.specs.declared.token.Token.{Token}
 use Rattle.sieve_parser.specs.Scripts.{IsParsed}
 use Rattle.sieve_parser.specs.Tree.{CommandsTree}
-use Rattle.sieve_explain.specs.Explaining.{Explains, HasTokens, HasTree, IsTokenNumbered, TellsDepth, TellsReason, TellsSyntax, reason_in, start_of, told}
-use Rattle.sieve_explain.specs.Faults.{syntax_blanks, too_deep_blanks}
-use Rattle.sieve_explain.specs.Reasons.{reason_blanks}
+use Rattle.sieve_explain.specs.Explaining.{Explains, HasTokens, HasTree, TellsDepth, TellsReason, TellsSyntax, reason_in, reason_told, start_of, syntax_told, told}
+use Rattle.sieve_explain.specs.Faults.{too_deep_blanks}
 
 -- the laws that a script has one list of tokens, and one tree
 abbrev pub OneList : Type 0
@@ -33,25 +32,19 @@ one_tree law script None (Some commands) p q = absurd (p commands q)
 one_tree law script (Some commands) None p q = absurd (q commands p)
 one_tree law script (Some commands) (Some others) p q = ap Some (law script commands others p q)
 
-one_token : OneList → (script : List ℕ) (number : ℕ) (token other : Option Token) → IsTokenNumbered script number token → IsTokenNumbered script number other → token ≡ other
-one_token law script number token other p q =
-    p.1.1 ∙ ap (λ (tokens : List Token). slice_get tokens number) (one_list law script p.0 q.0 p.1.0 q.1.0) ∙ sym q.1.1
-
 one_syntax : OneList → (name script : List ℕ) (number : ℕ) (text other : List ℕ) → TellsSyntax name script number text → TellsSyntax name script number other → text ≡ other
-one_syntax law name script number text other p q =
-    p.1.1 ∙ ap (λ (token : Option Token). told name script (start_of script token) (syntax_blanks script token)) (one_token law script number p.0 q.0 p.1.0 q.1.0) ∙ sym q.1.1
+one_syntax law name script number text other (tokens, (has, e)) (others, (has', e')) =
+    e ∙ ap (λ (l : List Token). syntax_told name script l (slice_get l number)) (one_list law script tokens others has has') ∙ sym e'
 
 one_depth : OneList → (name script : List ℕ) (number : ℕ) (text other : List ℕ) → TellsDepth name script number text → TellsDepth name script number other → text ≡ other
-one_depth law name script number text other p q =
-    p.1.1 ∙ ap (λ (token : Option Token). told name script (start_of script token) too_deep_blanks) (one_token law script number p.0 q.0 p.1.0 q.1.0) ∙ sym q.1.1
+one_depth law name script number text other (tokens, (has, e)) (others, (has', e')) =
+    e ∙ ap (λ (l : List Token). told name script (start_of script (slice_get l number)) too_deep_blanks) (one_list law script tokens others has has') ∙ sym e'
 
 one_reason : OneList → OneTree → (name script : List ℕ) (fault : Fault) (number : ℕ) (text other : List ℕ)
     → TellsReason name script fault number text → TellsReason name script fault number other → text ≡ other
-one_reason law same name script fault number text other (token, (tree, (numbered, has, e))) (token', (tree', (numbered', has', e'))) =
-    let p = one_token law script number token token' numbered numbered' in
-    let q = one_tree same script tree tree' has has' in
-    e ∙ ap (λ (t : Option Token). told name script (start_of script t) (reason_blanks (reason_in tree fault number))) p
-    ∙ ap (λ (t : Option CommandsTree). told name script (start_of script token') (reason_blanks (reason_in t fault number))) q ∙ sym e'
+one_reason law same name script fault number text other (tokens, (tree, (has, grown, e))) (tokens', (tree', (has', grown', e'))) =
+    e ∙ ap (λ (l : List Token). reason_told name script fault (reason_in tree fault number) l number) (one_list law script tokens tokens' has has')
+    ∙ ap (λ (t : Option CommandsTree). reason_told name script fault (reason_in t fault number) tokens' number) (one_tree same script tree tree' grown grown') ∙ sym e'
 
 pub one_text : OneList → OneTree → (name script : List ℕ) (refusal : Refusal) (text other : List ℕ) → Explains name script refusal text → Explains name script refusal other → text ≡ other
 one_text law same name script (refused.Lexical place) text other p q = p ∙ sym q

@@ -1,21 +1,25 @@
 -- What is told of a refusal is printable, where the script's name is.
 use Rattle.std.proofs.Common.{◌∙◌, ℕ, List, [], ◌∷◌, ◌++◌, length, replicate, ap, refl}
-use Rattle.std.specs.Prelude.{codes, min, take, drop}
+use Rattle.std.specs.Prelude.{Option, Some, None, codes, min, take, drop}
+use Rattle.std.specs.List.{slice_get}
 use Rattle.std.specs.Fmt.{decimal}
 use Rattle.octets.specs.Limits.{max_script}
 use Rattle.refusals.specs.declared.refusal.Refusal.{Refusal}
 use Rattle.refusals.specs.declared.refusal.Refusal.TheVariants as refused
 use Rattle.sieve_check.specs.declared.error.Fault.{Fault}
 use Rattle.sieve_check.specs.declared.error.Fault.TheVariants.{UnknownCommand, MissingCapability, UnknownCapability, BadArguments, Limit}
-use Rattle.sieve_explain.specs.Explaining.{Explains, TellsReason, heading, reason_in, start_of, told}
-use Rattle.sieve_explain.specs.Faults.{lexical_blanks, syntax_blanks, too_deep_blanks, too_long_blanks}
+use Rattle.sieve_explain.specs.Explaining.{Explains, TellsReason, fault_blanks, heading, marked_token, opened, reason_in, remark, start_of, syntax_told, told}
+use Rattle.sieve_explain.specs.Faults.{lexical_blanks, syntax_blanks, too_deep_blanks, too_long_blanks, unclosed_blanks, unit_blanks}
+use Rattle.sieve_explain.specs.Marks.{has_unit, unclosed}
+use Rattle.sieve_lexer.specs.declared.token.Token.{Token}
+use Rattle.sieve_reasons.specs.Reasons.{Reason}
 use Rattle.sieve_explain.specs.Places.{column, line_at, line_number, octets_before}
 use Rattle.sieve_explain.specs.Printable.{are_printable}
 use Rattle.sieve_explain.specs.Reasons.{reason_blanks}
 use Rattle.sieve_explain.specs.Sentences.{Blanks, filled}
 use Rattle.sieve_explain.specs.Shown.{excerpt, line, marked, shown_end, shown_start}
 use Rattle.sieve_explain.proofs.Printing.{Fine, FineBlanks, fine_append, fine_decimal, fine_end, fine_filled, fine_spaces, fine_start}
-use Rattle.sieve_explain.proofs.PrintingTables.{fine_lexical, fine_reason, fine_syntax}
+use Rattle.sieve_explain.proofs.PrintingTables.{blanks_if, fine_lexical, fine_reason, fine_syntax}
 
 fine_line : (text : List ℕ) → Fine text → Fine (line text)
 fine_line text e = fine_append text (10 ∷ []) e refl
@@ -29,34 +33,54 @@ fine_marked text place =
     (fine_line (before ++ after) (fine_append before after (fine_end (take place text)) (fine_start (drop place text))))
     (fine_line (spaces ++ codes "^") (fine_append spaces (codes "^") (fine_spaces (length before)) refl))
 
-fine_heading : (name script : List ℕ) (place : ℕ) (sentence : List ℕ) → Fine name → Fine sentence → Fine (heading name script place sentence)
-fine_heading name script place sentence p q =
+fine_heading : (kind name script : List ℕ) (place : ℕ) (sentence : List ℕ) → Fine kind → Fine name → Fine sentence → Fine (heading kind name script place sentence)
+fine_heading kind name script place sentence k p q =
     let begun = name ++ codes ":" in
     let numbered = begun ++ decimal (line_number script place) ++ codes ":" in
-    let placed = numbered ++ decimal (column script place) ++ codes ": error: " in
+    let placed = numbered ++ decimal (column script place) ++ kind in
     let first : Fine begun = fine_append name (codes ":") p refl in
     let second : Fine numbered = fine_append (begun ++ decimal (line_number script place)) (codes ":") (fine_append begun (decimal (line_number script place)) first (fine_decimal (line_number script place))) refl in
-    let third : Fine placed = fine_append (numbered ++ decimal (column script place)) (codes ": error: ") (fine_append numbered (decimal (column script place)) second (fine_decimal (column script place))) refl in
+    let third : Fine placed = fine_append (numbered ++ decimal (column script place)) kind (fine_append numbered (decimal (column script place)) second (fine_decimal (column script place))) k in
     fine_append placed sentence third q
 
-fine_told : (name script : List ℕ) (place : ℕ) (blanks : Blanks) → Fine name → FineBlanks blanks → Fine (told name script place blanks)
-fine_told name script place blanks p q =
-    fine_append (line (heading name script place (filled blanks))) (excerpt script place)
-    (fine_line (heading name script place (filled blanks)) (fine_heading name script place (filled blanks) p (fine_filled blanks q)))
+fine_remark : (kind name script : List ℕ) (place : ℕ) (blanks : Blanks) → Fine kind → Fine name → FineBlanks blanks → Fine (remark kind name script place blanks)
+fine_remark kind name script place blanks k p q =
+    fine_append (line (heading kind name script place (filled blanks))) (excerpt script place)
+    (fine_line (heading kind name script place (filled blanks)) (fine_heading kind name script place (filled blanks) k p (fine_filled blanks q)))
     (fine_marked (line_at script place) (octets_before script place))
 
+fine_told : (name script : List ℕ) (place : ℕ) (blanks : Blanks) → Fine name → FineBlanks blanks → Fine (told name script place blanks)
+fine_told name script place blanks p q = fine_remark (codes ": error: ") name script place blanks refl p q
+
+fine_opened : (name script : List ℕ) (brace : Option Token) → Fine name → Fine (opened name script brace)
+fine_opened name script None p = refl
+fine_opened name script (Some brace) p = fine_remark (codes ": note: ") name script brace.start unclosed_blanks refl p (refl, refl)
+
+fine_syntax_told : (name script : List ℕ) (tokens : List Token) (token : Option Token) → Fine name → Fine (syntax_told name script tokens token)
+fine_syntax_told name script tokens None p =
+    fine_append (told name script (length script) (syntax_blanks script None)) (opened name script (unclosed tokens))
+    (fine_told name script (length script) (syntax_blanks script None) p (fine_syntax script None)) (fine_opened name script (unclosed tokens) p)
+fine_syntax_told name script tokens (Some token) p = fine_told name script token.start (syntax_blanks script (Some token)) p (fine_syntax script (Some token))
+
+fine_fault : (script : List ℕ) (fault : Fault) (reason : Option Reason) (tokens : List Token) (number : ℕ) → FineBlanks (fault_blanks script fault reason tokens number)
+fine_fault script UnknownCommand reason tokens number = fine_reason reason
+fine_fault script MissingCapability reason tokens number = fine_reason reason
+fine_fault script UnknownCapability reason tokens number = fine_reason reason
+fine_fault script BadArguments reason tokens number = blanks_if (has_unit script (drop 1 (drop number tokens))) unit_blanks (reason_blanks reason) (refl, refl) (fine_reason reason)
+fine_fault script Limit reason tokens number = fine_reason reason
+
 fine_reasoned : (name script : List ℕ) (fault : Fault) (number : ℕ) (text : List ℕ) → Fine name → TellsReason name script fault number text → Fine text
-fine_reasoned name script fault number text p (token, (tree, (numbered, has, e))) =
-    ap are_printable e ∙ fine_told name script (start_of script token) (reason_blanks (reason_in tree fault number)) p (fine_reason (reason_in tree fault number))
+fine_reasoned name script fault number text p (tokens, (tree, (has, grown, e))) =
+    let reason = reason_in tree fault number in
+    ap are_printable e ∙ fine_told name script (start_of script (marked_token script fault reason tokens number)) (fault_blanks script fault reason tokens number) p (fine_fault script fault reason tokens number)
 
 pub printable : (name script : List ℕ) (refusal : Refusal) (text : List ℕ) → Fine name → Explains name script refusal text → Fine text
 printable name script (refused.Lexical place) text p e =
     let at = min place (length script) in ap are_printable e ∙ fine_told name script at (lexical_blanks (drop at script)) p (fine_lexical (drop at script))
 printable name script refused.ScriptTooLong text p e = ap are_printable e ∙ fine_told name script (min max_script (length script)) too_long_blanks p (refl, refl)
-printable name script (refused.Syntax number) text p (token, (numbered, e)) =
-    ap are_printable e ∙ fine_told name script (start_of script token) (syntax_blanks script token) p (fine_syntax script token)
-printable name script (refused.TooDeep number) text p (token, (numbered, e)) =
-    ap are_printable e ∙ fine_told name script (start_of script token) too_deep_blanks p (refl, refl)
+printable name script (refused.Syntax number) text p (tokens, (has, e)) = ap are_printable e ∙ fine_syntax_told name script tokens (slice_get tokens number) p
+printable name script (refused.TooDeep number) text p (tokens, (has, e)) =
+    ap are_printable e ∙ fine_told name script (start_of script (slice_get tokens number)) too_deep_blanks p (refl, refl)
 printable name script (refused.UnknownCommand number) text p e = fine_reasoned name script UnknownCommand number text p e
 printable name script (refused.MissingCapability number) text p e = fine_reasoned name script MissingCapability number text p e
 printable name script (refused.UnknownCapability number) text p e = fine_reasoned name script UnknownCapability number text p e

@@ -22,7 +22,7 @@ fine_each : (f : ℕ → List ℕ) → ((x : ℕ) → Fine (f x)) → (xs : List
 fine_each f h [] = refl
 fine_each f h (x ∷ xs) = fine_append (f x) (flat_map f xs) (h x) (fine_each f h xs)
 
-both : (a b : Bool) → (a && b) ≡ true → (a ≡ true) × (b ≡ true)
+pub both : (a b : Bool) → (a && b) ≡ true → (a ≡ true) × (b ≡ true)
 both true b e = (refl, e)
 both false b e = absurd (cc)
 

@@ -1,6 +1,7 @@
 -- The sentences are printable, whatever is filled in.
-use Rattle.std.proofs.Common.{ℕ, Bool, true, false, List, [], ◌∷◌, refl}
-use Rattle.std.specs.Prelude.{◌&&◌, ◌||◌, ◌==◌, if◌then◌else◌, Option, Some, None, is_some, codes, slice_index}
+use Rattle.std.proofs.Common.{◌≡◌, ℕ, Bool, true, false, List, [], ◌∷◌, length, take, refl}
+use Rattle.std.specs.List.{list_all, list_any}
+use Rattle.std.specs.Prelude.{◌&&◌, ◌||◌, ◌==◌, if◌then◌else◌, Option, Some, None, is_some, bytes_eq, codes, slice_index}
 use Rattle.std.specs.Char.{is_ascii_digit}
 use Rattle.sieve_lexer.specs.Classes.{begins_identifier}
 use Rattle.sieve_lexer.specs.declared.token.Token.{Token}
@@ -20,65 +21,66 @@ use Rattle.sieve_check.specs.declared.signature.Tests.TheVariants as tests
 use Rattle.sieve_reasons.specs.Reasons.{Reason}
 use Rattle.sieve_reasons.specs.declared.kind.ReasonKind.{ReasonKind}
 use Rattle.sieve_reasons.specs.declared.kind.ReasonKind.TheVariants as reasons
-use Rattle.sieve_explain.specs.Faults.{lexical_blanks, misplaced_token, syntax_blanks}
-use Rattle.sieve_explain.specs.Hints.{command_lacking, command_meant, is_any, test_lacking, test_meant, unknown_command_text, unknown_command_words, unknown_test_text, unknown_test_words, unknown_text, with_words}
+use Rattle.sieve_explain.specs.Faults.{Beginning, lexical_blanks, misplaced_token, mistaken, mistaken_blanks, other_blanks, syntax_blanks, text_at}
+use Rattle.sieve_explain.specs.Hints.{capability_names, command_meant, command_names, command_rows, lacking, lacking_rows, tag_names, test_meant, test_names, test_rows, unknown_capability_text, unknown_capability_words, unknown_command_text, unknown_command_words, unknown_tag_text, unknown_tag_words, unknown_test_text, unknown_test_words}
+use Rattle.sieve_explain.specs.Printable.{are_printable}
 use Rattle.sieve_explain.specs.Reasons.{capability_words, ending_words, no_test_words, place_text, positional_words, reason_blanks, reason_text, reason_words, tag_words, tests_words}
 use Rattle.sieve_explain.specs.Sentences.{Blanks}
-use Rattle.sieve_explain.proofs.Printing.{Fine, FineBlanks, fine_if}
+use Rattle.sieve_explain.specs.Words.{Hint, is_near, nearest, with_words, words_for}
+use Rattle.sieve_explain.proofs.Printing.{Fine, FineBlanks, both, fine_if}
 
-fine_command : (name : List ℕ) → Fine (command_meant name)
-fine_command name =
-    fine_if (is_any name (codes "elseif" ∷ codes "elif" ∷ codes "else_if" ∷ [])) _ _ refl
-    (fine_if (is_any name (codes "file" ∷ codes "move" ∷ [])) _ _ refl
-    (fine_if (is_any name (codes "delete" ∷ codes "drop" ∷ [])) _ _ refl
-    (fine_if (is_any name (codes "foreach" ∷ codes "for" ∷ [])) _ _ refl
-    (fine_if (is_any name (codes "save" ∷ [])) _ _ refl
-    (fine_if (is_any name (codes "exit" ∷ codes "return" ∷ [])) _ _ refl refl)))))
+-- a row whose words are printable, and such words
+abbrev fine_row : Hint → Bool
+fine_row row = are_printable row.words
 
-fine_no_command : (name : List ℕ) → Fine (command_lacking name)
-fine_no_command name =
-    fine_if (is_any name (codes "vacation" ∷ codes "redirect" ∷ codes "reject" ∷ codes "ereject" ∷ codes "notify" ∷ [])) _ _ refl
-    (fine_if (is_any name (codes "addflag" ∷ codes "setflag" ∷ codes "removeflag" ∷ [])) _ _ refl
-    (fine_if (is_any name (codes "addheader" ∷ codes "deleteheader" ∷ codes "replace" ∷ codes "enclose" ∷ [])) _ _ refl
-    (fine_if (is_any name (codes "include" ∷ [])) _ _ refl refl)))
+fine_for : (name : List ℕ) (rows : List Hint) → list_all fine_row rows ≡ true → Fine (words_for name rows)
+fine_for name [] e = refl
+fine_for name (row ∷ rows) e =
+    let p = both (fine_row row) (list_all fine_row rows) e in
+    fine_if (list_any (is_word name) row.names) row.words (words_for name rows) p.0 (fine_for name rows p.1)
 
-fine_test : (name : List ℕ) → Fine (test_meant name)
-fine_test name =
-    fine_if (is_any name (codes "all" ∷ codes "and" ∷ [])) _ _ refl
-    (fine_if (is_any name (codes "any" ∷ codes "or" ∷ [])) _ _ refl
-    (fine_if (is_any name (codes "subject" ∷ codes "from" ∷ codes "to" ∷ [])) _ _ refl
-    (fine_if (is_any name (codes "is" ∷ codes "contains" ∷ codes "matches" ∷ [])) _ _ refl
-    (fine_if (is_any name (codes "exist" ∷ [])) _ _ refl
-    (fine_if (is_any name (codes "filesize" ∷ [])) _ _ refl refl)))))
-
-fine_no_test : (name : List ℕ) → Fine (test_lacking name)
-fine_no_test name =
-    fine_if (is_any name (codes "address" ∷ [])) _ _ refl
-    (fine_if (is_any name (codes "envelope" ∷ [])) _ _ refl
-    (fine_if (is_any name (codes "body" ∷ [])) _ _ refl
-    (fine_if (is_any name (codes "date" ∷ codes "currentdate" ∷ [])) _ _ refl
-    (fine_if (is_any name (codes "spamtest" ∷ codes "virustest" ∷ [])) _ _ refl
-    (fine_if (is_any name (codes "mailboxexists" ∷ [])) _ _ refl
-    (fine_if (is_any name (codes "hasflag" ∷ [])) _ _ refl refl))))))
+fine_nearest : (name : List ℕ) (words : List (List ℕ)) → list_all are_printable words ≡ true → Fine (nearest name words)
+fine_nearest name [] e = refl
+fine_nearest name (word ∷ words) e =
+    let p = both (are_printable word) (list_all are_printable words) e in
+    fine_if (is_near name word) word (nearest name words) p.0 (fine_nearest name words p.1)
 
 fine_with : (words some none : List ℕ) → Fine some → Fine none → Fine (with_words words some none)
 fine_with [] some none p q = q
 fine_with (c ∷ cs) some none p q = p
 
-fine_unknown : (lacking meant alone hinting : List ℕ) → Fine alone → Fine hinting → Fine (unknown_text lacking meant alone hinting)
-fine_unknown lacking meant alone hinting p q = fine_with lacking _ _ refl (fine_with meant hinting alone q p)
+fine_lacking : (name : List ℕ) → Fine (lacking name)
+fine_lacking name = fine_for name lacking_rows refl
+
+fine_command : (name : List ℕ) → Fine (command_meant name)
+fine_command name = fine_with (words_for name command_rows) _ _ (fine_for name command_rows refl) (fine_nearest name command_names refl)
+
+fine_test : (name : List ℕ) → Fine (test_meant name)
+fine_test name = fine_with (words_for name test_rows) _ _ (fine_for name test_rows refl) (fine_nearest name test_names refl)
 
 fine_command_text : (name : List ℕ) → Fine (unknown_command_text name)
-fine_command_text name = fine_if (is_some (test_named name)) _ _ refl (fine_unknown (command_lacking name) (command_meant name) _ _ refl refl)
+fine_command_text name = fine_if (is_some (test_named name)) _ _ refl (fine_with (lacking name) _ _ refl (fine_with (command_meant name) _ _ refl refl))
 
 fine_command_words : (name : List ℕ) → Fine (unknown_command_words name)
-fine_command_words name = fine_with (command_lacking name) _ _ (fine_no_command name) (fine_command name)
+fine_command_words name = fine_with (lacking name) _ _ (fine_lacking name) (fine_command name)
 
 fine_test_text : (name : List ℕ) → Fine (unknown_test_text name)
-fine_test_text name = fine_if (is_some (command_named name)) _ _ refl (fine_unknown (test_lacking name) (test_meant name) _ _ refl refl)
+fine_test_text name = fine_if (is_some (command_named name)) _ _ refl (fine_with (lacking name) _ _ refl (fine_with (test_meant name) _ _ refl refl))
 
 fine_test_words : (name : List ℕ) → Fine (unknown_test_words name)
-fine_test_words name = fine_with (test_lacking name) _ _ (fine_no_test name) (fine_test name)
+fine_test_words name = fine_with (lacking name) _ _ (fine_lacking name) (fine_test name)
+
+fine_tag_text : (name : List ℕ) → Fine (unknown_tag_text name)
+fine_tag_text name = fine_with (lacking name) _ _ refl (fine_with (nearest name tag_names) _ _ refl refl)
+
+fine_tag_words : (name : List ℕ) → Fine (unknown_tag_words name)
+fine_tag_words name = fine_with (lacking name) _ _ (fine_lacking name) (fine_nearest name tag_names refl)
+
+fine_unknown_text : (name : List ℕ) → Fine (unknown_capability_text name)
+fine_unknown_text name = fine_with (lacking name) _ _ refl (fine_with (nearest name capability_names) _ _ refl refl)
+
+fine_unknown_words : (name : List ℕ) → Fine (unknown_capability_words name)
+fine_unknown_words name = fine_with (lacking name) _ _ (fine_lacking name) (fine_nearest name capability_names refl)
 
 fine_place : (name : List ℕ) → Fine (place_text name)
 fine_place name = fine_if (is_word name (codes "require")) _ _ refl (fine_if (is_word name (codes "elsif") || is_word name (codes "else")) _ _ refl refl)
@@ -129,27 +131,31 @@ fine_tag tag.Length = refl
 fine_tag tag.Mime = refl
 fine_tag tag.AnyChild = refl
 
-fine_words : (kind : ReasonKind) (name : List ℕ) → Fine (reason_words kind name)
-fine_words reasons.UnknownCommand name = fine_command_words name
-fine_words reasons.UnknownTest name = fine_test_words name
-fine_words (reasons.MissingCapability needed) name = fine_capability needed
-fine_words (reasons.TagArgument given) name = fine_tag given
-fine_words (reasons.MissingArgument taken) name = fine_positional taken
-fine_words (reasons.ExtraArgument taken) name = fine_positional taken
-fine_words (reasons.WrongArgument taken) name = fine_positional taken
-fine_words (reasons.WrongTests taken) name = fine_tests taken name
-fine_words (reasons.WrongEnding taken) name = fine_ending taken
-fine_words _ name = refl
+fine_words : (kind : ReasonKind) (name subject : List ℕ) → Fine (reason_words kind name subject)
+fine_words reasons.UnknownCommand name subject = fine_command_words name
+fine_words reasons.UnknownTest name subject = fine_test_words name
+fine_words reasons.UnknownCapability name subject = fine_unknown_words subject
+fine_words reasons.UnknownTag name subject = fine_tag_words subject
+fine_words (reasons.MissingCapability needed) name subject = fine_capability needed
+fine_words (reasons.TagArgument given) name subject = fine_tag given
+fine_words (reasons.MissingArgument taken) name subject = fine_positional taken
+fine_words (reasons.ExtraArgument taken) name subject = fine_positional taken
+fine_words (reasons.WrongArgument taken) name subject = fine_positional taken
+fine_words (reasons.WrongTests taken) name subject = fine_tests taken name
+fine_words (reasons.WrongEnding taken) name subject = fine_ending taken
+fine_words _ name subject = refl
 
-fine_text : (kind : ReasonKind) (name : List ℕ) → Fine (reason_text kind name)
-fine_text reasons.UnknownCommand name = fine_command_text name
-fine_text reasons.UnknownTest name = fine_test_text name
-fine_text reasons.Misplaced name = fine_place name
-fine_text _ name = refl
+fine_text : (kind : ReasonKind) (name subject : List ℕ) → Fine (reason_text kind name subject)
+fine_text reasons.UnknownCommand name subject = fine_command_text name
+fine_text reasons.UnknownTest name subject = fine_test_text name
+fine_text reasons.UnknownCapability name subject = fine_unknown_text subject
+fine_text reasons.UnknownTag name subject = fine_tag_text subject
+fine_text reasons.Misplaced name subject = fine_place name
+fine_text _ name subject = refl
 
 pub fine_reason : (reason : Option Reason) → FineBlanks (reason_blanks reason)
 fine_reason None = (refl, refl)
-fine_reason (Some reason) = (fine_text reason.kind reason.name, fine_words reason.kind reason.name)
+fine_reason (Some reason) = (fine_text reason.kind reason.name reason.subject, fine_words reason.kind reason.name reason.subject)
 
 fine_token : (kind : TokenKind) → Fine (misplaced_token kind)
 fine_token kinds.Identifier = refl
@@ -170,14 +176,30 @@ pub fine_syntax : (script : List ℕ) (token : Option Token) → FineBlanks (syn
 fine_syntax script None = (refl, refl)
 fine_syntax script (Some token) = (fine_token token.kind, refl)
 
-blanks_if : (b : Bool) (x y : Blanks) → FineBlanks x → FineBlanks y → FineBlanks (if b then x else y)
+pub blanks_if : (b : Bool) (x y : Blanks) → FineBlanks x → FineBlanks y → FineBlanks (if b then x else y)
 blanks_if true x y p q = p
 blanks_if false x y p q = q
 
-pub fine_lexical : (rest : List ℕ) → FineBlanks (lexical_blanks rest)
-fine_lexical rest =
+fine_other : (rest : List ℕ) → FineBlanks (other_blanks rest)
+fine_other rest =
     blanks_if (slice_index rest 0 == 34) _ _ (refl, refl)
     (blanks_if ((slice_index rest 0 == 47) && (slice_index rest 1 == 42)) _ _ (refl, refl)
     (blanks_if (is_ascii_digit (slice_index rest 0)) _ _ (refl, refl)
     (blanks_if (begins_identifier (slice_index rest 0)) _ _ (refl, refl)
     (blanks_if (slice_index rest 0 == 58) _ _ (refl, refl) (refl, refl)))))
+
+abbrev fine_beginning : Beginning → Bool
+fine_beginning row = are_printable row.text
+
+fine_at : (rest : List ℕ) (rows : List Beginning) → list_all fine_beginning rows ≡ true → Fine (text_at rest rows)
+fine_at rest [] e = refl
+fine_at rest (row ∷ rows) e =
+    let p = both (fine_beginning row) (list_all fine_beginning rows) e in
+    fine_if (bytes_eq (take (length row.octets) rest) row.octets) row.text (text_at rest rows) p.0 (fine_at rest rows p.1)
+
+fine_mistaken : (text : List ℕ) (other : Blanks) → Fine text → FineBlanks other → FineBlanks (mistaken_blanks text other)
+fine_mistaken [] other p q = q
+fine_mistaken (c ∷ text) other p q = (p, refl)
+
+pub fine_lexical : (rest : List ℕ) → FineBlanks (lexical_blanks rest)
+fine_lexical rest = fine_mistaken (text_at rest mistaken) (other_blanks rest) (fine_at rest mistaken refl) (fine_other rest)

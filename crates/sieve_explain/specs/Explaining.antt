@@ -1,7 +1,8 @@
 -- What is told of a refused script.
-use Rattle.std.specs.Prelude.{◌≡◌, ◌⊎◌, ℕ, ◌≤◌, List, [], ◌++◌, length, drop, min, Option, Some, None, MatchOption, codes}
+use Rattle.std.specs.Prelude.{◌≡◌, ◌⊎◌, ℕ, ◌≤◌, List, [], ◌++◌, if◌then◌else◌, length, drop, min, Option, Some, None, MatchOption, codes}
 use Rattle.std.specs.Fmt.{decimal}
 use Rattle.std.specs.List.{slice_get}
+use Rattle.std.specs.Option.{option_or}
 use Rattle.octets.specs.Limits.{max_script}
 use Rattle.refusals.specs.declared.refusal.Refusal.{Refusal}
 use Rattle.refusals.specs.declared.refusal.Refusal.TheVariants as refused
@@ -12,29 +13,30 @@ use Rattle.sieve_lexer.specs.declared.token.Token.{Token}
 use Rattle.sieve_parser.specs.Scripts.{IsParsed}
 use Rattle.sieve_parser.specs.Tree.{CommandsTree}
 use Rattle.sieve_reasons.specs.Reasons.{Reason, reason_of}
-use Rattle.sieve_explain.specs.Faults.{lexical_blanks, syntax_blanks, too_deep_blanks, too_long_blanks}
+use Rattle.sieve_explain.specs.Faults.{lexical_blanks, syntax_blanks, too_deep_blanks, too_long_blanks, unclosed_blanks, unit_blanks}
+use Rattle.sieve_explain.specs.Marks.{has_unit, string_among, unclosed}
 use Rattle.sieve_explain.specs.Places.{column, line_number}
 use Rattle.sieve_explain.specs.Reasons.{reason_blanks}
 use Rattle.sieve_explain.specs.Sentences.{Blanks, filled}
 use Rattle.sieve_explain.specs.Shown.{excerpt, line}
 
--- the script, the line and the column of a place in it, and a sentence
-abbrev pub heading : List ℕ → List ℕ → ℕ → List ℕ → List ℕ
-heading name script place sentence =
-    name ++ codes ":" ++ decimal (line_number script place) ++ codes ":" ++ decimal (column script place) ++ codes ": error: " ++ sentence
+-- the script, the line and the column of a place in it, what kind of remark it is, and a sentence
+abbrev pub heading : List ℕ → List ℕ → List ℕ → ℕ → List ℕ → List ℕ
+heading kind name script place sentence =
+    name ++ codes ":" ++ decimal (line_number script place) ++ codes ":" ++ decimal (column script place) ++ kind ++ sentence
 
--- a sentence about a place of the script, with the line of the place and a mark under it
+-- a remark of that kind about a place of the script, with the line of the place and a mark under it
+abbrev pub remark : List ℕ → List ℕ → List ℕ → ℕ → Blanks → List ℕ
+remark kind name script place blanks = line (heading kind name script place (filled blanks)) ++ excerpt script place
+
+-- what is wrong at a place
 abbrev pub told : List ℕ → List ℕ → ℕ → Blanks → List ℕ
-told name script place blanks = line (heading name script place (filled blanks)) ++ excerpt script place
+told name script place blanks = remark (codes ": error: ") name script place blanks
 
 -- the tokens of a script; no token where it has too many octets, or isn't made of tokens
 abbrev pub HasTokens : List ℕ → List Token → Type 0
 HasTokens script tokens = ((length script ≤ max_script) × AreTokens script tokens)
     ⊎ ((tokens ≡ []) × (length script ≤ max_script → (others : List Token) → AreTokens script others → ⊥))
-
--- the token of a script with that number, the first being 0, or nothing where there is none
-abbrev pub IsTokenNumbered : List ℕ → ℕ → Option Token → Type 0
-IsTokenNumbered script number token = (tokens : List Token) × (HasTokens script tokens × (token ≡ slice_get tokens number))
 
 -- where a token begins; behind the last one the script's end
 abbrev pub start_of : List ℕ → Option Token → ℕ
@@ -50,20 +52,58 @@ abbrev pub reason_in : Option CommandsTree → Fault → ℕ → Option Reason
 reason_in None fault token = None
 reason_in (Some commands) fault token = reason_of commands fault token
 
--- 13, at the token with that number
+-- where the brace stands that is never closed
+abbrev pub opened : List ℕ → List ℕ → Option Token → List ℕ
+opened name script None = []
+opened name script (Some brace) = remark (codes ": note: ") name script brace.start unclosed_blanks
+
+-- of the token at fault; of the end, also which brace is never closed, where one isn't
+abbrev pub syntax_told : List ℕ → List ℕ → List Token → Option Token → List ℕ
+syntax_told name script tokens None = told name script (length script) (syntax_blanks script None) ++ opened name script (unclosed tokens)
+syntax_told name script tokens (Some token) = told name script token.start (syntax_blanks script (Some token))
+
+-- 13, at the token with that number, the first being 0
 abbrev pub TellsSyntax : List ℕ → List ℕ → ℕ → List ℕ → Type 0
-TellsSyntax name script number text = (token : Option Token) × (IsTokenNumbered script number token
-    × (text ≡ told name script (start_of script token) (syntax_blanks script token)))
+TellsSyntax name script number text = (tokens : List Token) × (HasTokens script tokens
+    × (text ≡ syntax_told name script tokens (slice_get tokens number)))
 
 -- 14
 abbrev pub TellsDepth : List ℕ → List ℕ → ℕ → List ℕ → Type 0
-TellsDepth name script number text = (token : Option Token) × (IsTokenNumbered script number token
-    × (text ≡ told name script (start_of script token) too_deep_blanks))
+TellsDepth name script number text = (tokens : List Token) × (HasTokens script tokens
+    × (text ≡ told name script (start_of script (slice_get tokens number)) too_deep_blanks))
+
+-- the string that is no capability, or else the command
+abbrev pub string_marked : List ℕ → Option Reason → List Token → ℕ → Option Token
+string_marked script None tokens number = slice_get tokens number
+string_marked script (Some reason) tokens number = option_or (string_among script reason.subject (drop number tokens)) (slice_get tokens number)
+
+-- the token under which the mark stands
+abbrev pub marked_token : List ℕ → Fault → Option Reason → List Token → ℕ → Option Token
+marked_token script UnknownCommand reason tokens number = slice_get tokens number
+marked_token script MissingCapability reason tokens number = slice_get tokens number
+marked_token script UnknownCapability reason tokens number = string_marked script reason tokens number
+marked_token script BadArguments reason tokens number = slice_get tokens number
+marked_token script Limit reason tokens number = slice_get tokens number
+
+-- arguments with a wrong unit, or another reason
+abbrev pub arguments_blanks : List ℕ → Option Reason → List Token → ℕ → Blanks
+arguments_blanks script reason tokens number = if has_unit script (drop 1 (drop number tokens)) then unit_blanks else reason_blanks reason
+
+abbrev pub fault_blanks : List ℕ → Fault → Option Reason → List Token → ℕ → Blanks
+fault_blanks script UnknownCommand reason tokens number = reason_blanks reason
+fault_blanks script MissingCapability reason tokens number = reason_blanks reason
+fault_blanks script UnknownCapability reason tokens number = reason_blanks reason
+fault_blanks script BadArguments reason tokens number = arguments_blanks script reason tokens number
+fault_blanks script Limit reason tokens number = reason_blanks reason
+
+abbrev pub reason_told : List ℕ → List ℕ → Fault → Option Reason → List Token → ℕ → List ℕ
+reason_told name script fault reason tokens number =
+    told name script (start_of script (marked_token script fault reason tokens number)) (fault_blanks script fault reason tokens number)
 
 -- 15 to 19
 abbrev pub TellsReason : List ℕ → List ℕ → Fault → ℕ → List ℕ → Type 0
-TellsReason name script fault number text = (token : Option Token) × ((tree : Option CommandsTree) × (IsTokenNumbered script number token × HasTree script tree
-    × (text ≡ told name script (start_of script token) (reason_blanks (reason_in tree fault number)))))
+TellsReason name script fault number text = (tokens : List Token) × ((tree : Option CommandsTree) × (HasTokens script tokens × HasTree script tree
+    × (text ≡ reason_told name script fault (reason_in tree fault number) tokens number)))
 
 -- what is told of a refused script: the refusal's place, a sentence and the line; nothing of a refusal that no script has
 abbrev pub Explains : List ℕ → List ℕ → Refusal → List ℕ → Type 0

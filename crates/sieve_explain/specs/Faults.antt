@@ -1,5 +1,5 @@
 -- What is said of a script that isn't parsed.
-use Rattle.std.specs.Prelude.{ℕ, ◌^◌, ◌-◌, ◌==◌, ◌&&◌, if◌then◌else◌, List, take, Option, Some, None, slice_index, slice_range, codes}
+use Rattle.std.specs.Prelude.{ℕ, ◌^◌, ◌-◌, ◌==◌, ◌&&◌, if◌then◌else◌, List, [], ◌∷◌, length, take, Option, Some, None, slice_index, slice_range, bytes_eq, codes}
 use Rattle.std.specs.Char.{is_ascii_digit}
 use Rattle.octets.specs.Limits.{max_nesting, max_script}
 use Rattle.sieve_lexer.specs.Classes.{begins_identifier}
@@ -7,10 +7,41 @@ use Rattle.sieve_lexer.specs.declared.token.Token.{Token}
 use Rattle.sieve_lexer.specs.declared.token.TokenKind.{TokenKind}
 use Rattle.sieve_lexer.specs.declared.token.TokenKind.TheVariants.{Identifier, Tag, Number, QuotedString, MultiLineString, Semicolon, Comma, OpeningBrace, ClosingBrace, OpeningParenthesis, ClosingParenthesis, OpeningBracket, ClosingBracket}
 use Rattle.sieve_explain.specs.Sentences.{Blanks, plain}
+use Rattle.sieve_explain.specs.declared.faults.Mistake.{Mistake}
 
--- 11, by the octets from the place on
-abbrev pub lexical_blanks : List ℕ → Blanks
-lexical_blanks rest =
+-- what people write at a place where a script can't have it: the first octets, and what to write instead
+pub record Beginning : Type 0 where
+  pub octets : List ℕ
+  pub text : List ℕ
+
+abbrev pub beginning : List ℕ → List ℕ → Beginning
+beginning octets text = record { octets = octets; text = text }
+
+-- a byte order mark, the four typographic quotes, a single quote, and two slashes
+abbrev pub mistaken : List Beginning
+mistaken =
+    beginning (239 ∷ 187 ∷ 191 ∷ []) (codes "a byte order mark stands here: save the script as UTF-8 without one")
+    ∷ beginning (226 ∷ 128 ∷ 152 ∷ []) (codes "a typographic quote stands here: strings stand between straight double quotes, \"like this\"")
+    ∷ beginning (226 ∷ 128 ∷ 153 ∷ []) (codes "a typographic quote stands here: strings stand between straight double quotes, \"like this\"")
+    ∷ beginning (226 ∷ 128 ∷ 156 ∷ []) (codes "a typographic quote stands here: strings stand between straight double quotes, \"like this\"")
+    ∷ beginning (226 ∷ 128 ∷ 157 ∷ []) (codes "a typographic quote stands here: strings stand between straight double quotes, \"like this\"")
+    ∷ beginning (codes "'") (codes "a single quote stands here: strings stand between double quotes, \"like this\"")
+    ∷ beginning (codes "//") (codes "no comment begins so: one begins with `&`, or stands between `/*` and `*/`")
+    ∷ []
+
+-- the text for the first of the rows with which the octets begin, or nothing
+abbrev pub text_at : List ℕ → List Beginning → List ℕ
+text_at rest [] = []
+text_at rest (row ∷ rows) = if bytes_eq (take (length row.octets) rest) row.octets then row.text else text_at rest rows
+
+-- the same of a table of the code
+abbrev pub text_in : List ℕ → List Mistake → List ℕ
+text_in rest [] = []
+text_in rest (row ∷ rows) = if bytes_eq (take (length row.octets.now) rest) row.octets.now then row.text.now else text_in rest rows
+
+-- other octets at which neither a token nor a separator begins
+abbrev pub other_blanks : List ℕ → Blanks
+other_blanks rest =
     let octet = slice_index rest 0 in
     if octet == 34 then plain (codes "a string is never closed: this quote, or one before it, has no partner") else
     if (octet == 47) && (slice_index rest 1 == 42) then plain (codes "a comment is never closed") else
@@ -18,6 +49,15 @@ lexical_blanks rest =
     if begins_identifier octet then plain (codes "a multi-line string is never closed: its last line is a dot alone") else
     if octet == 58 then plain (codes "a colon stands here without the name of a tag behind it") else
     record (plain (codes "@ begins nothing that a script may have here")) { name = take 1 rest }
+
+-- a sentence for what is mistaken for something else, where it is that
+abbrev pub mistaken_blanks : List ℕ → Blanks → Blanks
+mistaken_blanks [] other = other
+mistaken_blanks (c ∷ text) other = record (plain (c ∷ text)) { words = codes "#" }
+
+-- 11, by the octets from the place on
+abbrev pub lexical_blanks : List ℕ → Blanks
+lexical_blanks rest = mistaken_blanks (text_at rest mistaken) (other_blanks rest)
 
 -- 12
 abbrev pub too_long_blanks : Blanks
@@ -47,3 +87,11 @@ syntax_blanks script (Some token) = record (plain (misplaced_token token.kind)) 
 -- 14
 abbrev pub too_deep_blanks : Blanks
 too_deep_blanks = record (plain (codes "braces and tests are nested more than % deep here")) { number = max_nesting }
+
+-- 13 at the end, of an opening brace that has no partner
+abbrev pub unclosed_blanks : Blanks
+unclosed_blanks = plain (codes "this brace is never closed")
+
+-- 18, where the letter of a unit has more letters behind it
+abbrev pub unit_blanks : Blanks
+unit_blanks = plain (codes "the units of a number are K, M and G, with nothing behind the letter, as in 5M")

@@ -1,7 +1,9 @@
 pub mod Places
 pub mod Shown
 pub mod Sentences
+pub mod Words
 pub mod Hints
+pub mod Marks
 pub mod Faults
 pub mod Reasons
 pub mod Explaining

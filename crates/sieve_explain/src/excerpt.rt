@@ -1,8 +1,8 @@
 // The line of a place, and a mark under it.
-ghost use Rattle.std.specs.Prelude.{◌≡◌, ◌≤◌, ◌++◌, IfOk, OnOk, drop, length, replicate, take};
+ghost use Rattle.std.specs.Prelude.{◌≡◌, ◌≤◌, ◌++◌, IfOk, OnOk, length, replicate};
 ghost use Rattle.sieve_explain.specs.Shown.{excerpt, marked, shown_end};
 
-use crate::places::{line_at, octets_before};
+use crate::places::{around, line_at, octets_before};
 use crate::shown::{push_end, push_start};
 use std::alloc::AllocError;
 
@@ -14,15 +14,6 @@ fn push_spaces(out: &mut Vec<u8>, n: usize) -> Result<(), AllocError>
         out.push(b' ')?;
     }
     Ok(())
-}
-
-// The octets of a line before a place in it, and those from the place on.
-#[tactic(auto, using(std::proofs::lemmas::List::take_min, std::proofs::lemmas::List::drop_min))]
-fn around(line: &[u8], place: usize) -> (&[u8], &[u8])
-    ensures before { result.0.now ≡ take place line.now }
-    ensures after { result.1.now ≡ drop place line.now }
-{
-    line.split_at(place.min(line.len()))
 }
 
 // Appends the end of a text, and gives how many octets that are.

@@ -1,11 +1,17 @@
 // What is told of a refused script.
-ghost use Rattle.std.specs.Prelude.{◌≡◌, ◌≤◌, ◌++◌, IfOk, IfSome, OnOk, length};
+ghost use Rattle.std.specs.Prelude.{◌≡◌, ◌≤◌, ◌++◌, IfOk, IfSome, OnOk, drop, length, option_map};
 ghost use Rattle.std.specs.List.{slice_get};
-ghost use Rattle.sieve_explain.specs.Explaining.{Explains, IsTokenNumbered, TellsDepth, TellsReason, TellsSyntax, heading, start_of, told};
+ghost use Rattle.sieve_reasons.specs.View.{view_of};
+ghost use Rattle.sieve_explain.specs.Explaining.{Explains, HasTokens, TellsDepth, TellsReason, TellsSyntax, arguments_blanks, fault_blanks, heading, marked_token, opened, reason_told, remark, start_of, string_marked, syntax_told, told};
+ghost use Rattle.sieve_explain.specs.Marks.{string_among, unclosed};
 ghost use Rattle.sieve_explain.specs.Sentences.{blanks_of, filled};
 
 use crate::excerpt::push_excerpt;
-use crate::faults::{lexical_sentence, syntax_sentence, too_deep_sentence, too_long_sentence};
+use crate::faults::{
+    lexical_sentence, syntax_sentence, too_deep_sentence, too_long_sentence, unclosed_sentence,
+    unit_sentence,
+};
+use crate::marks::{has_unit, string_among, token_at, tokens_from, unclosed};
 use crate::places::{line_number, octets_before};
 use crate::reasons::reason_sentence;
 use crate::sentence::{Sentence, push_sentence};
@@ -16,19 +22,20 @@ use sieve_lexer::laws::tokens_have_no_fault;
 use sieve_lexer::{LexicalError, MAX_SCRIPT, Token, tokens};
 use sieve_parser::laws::parsed_scripts_have_no_fault;
 use sieve_parser::{ParseError, parse};
-use sieve_reasons::reason;
+use sieve_reasons::{Reason, reason};
 use std::alloc::{AllocError, Global};
 
-// Appends the script's name, the line and the column of the place, and the sentence.
+// Appends the script's name, the line and the column of the place, what kind of remark it is, and the sentence.
 fn push_heading(
     out: &mut Vec<u8>,
+    kind: &str,
     name: &str,
     script: &[u8],
     place: usize,
     sentence: &Sentence<'_>,
 ) -> Result<(), AllocError>
     requires { place ≤ length script.now }
-    ensures { OnOk result (out.new.items ≡ out.old.items ++ heading name.now script.now place (filled (blanks_of sentence.now))) }
+    ensures { OnOk result (out.new.items ≡ out.old.items ++ heading kind.now name.now script.now place (filled (blanks_of sentence.now))) }
 {
     out.extend_from_slice(name.as_bytes())?;
     out.extend_from_slice(b":")?;
@@ -36,11 +43,30 @@ fn push_heading(
     out.extend_from_slice(b":")?;
     let column = octets_before(script, place) as u128 + 1;
     out.extend_from_slice(Buffer::new().format(column).as_bytes())?;
-    out.extend_from_slice(b": error: ")?;
+    out.extend_from_slice(kind.as_bytes())?;
     push_sentence(out, sentence)
 }
 
-// A sentence about a place of the script, with the line of the place and a mark under it.
+// A remark about a place of the script, with the line of the place and a mark under it.
+fn remark(
+    alloc: Global,
+    kind: &str,
+    name: &str,
+    script: &[u8],
+    place: usize,
+    sentence: &Sentence<'_>,
+) -> Result<Vec<u8>, AllocError>
+    requires { place ≤ length script.now }
+    ensures { IfOk result (λ text. text.items ≡ remark kind.now name.now script.now place (blanks_of sentence.now)) }
+{
+    let mut text = Vec::new(alloc);
+    push_heading(&mut text, kind, name, script, place, sentence)?;
+    text.push(b'\n')?;
+    push_excerpt(&mut text, script, place)?;
+    Ok(text)
+}
+
+// What is wrong at a place of the script.
 fn told(
     alloc: Global,
     name: &str,
@@ -51,35 +77,50 @@ fn told(
     requires { place ≤ length script.now }
     ensures { IfOk result (λ text. text.items ≡ told name.now script.now place (blanks_of sentence.now)) }
 {
-    let mut text = Vec::new(alloc);
-    push_heading(&mut text, name, script, place, sentence)?;
-    text.push(b'\n')?;
-    push_excerpt(&mut text, script, place)?;
-    Ok(text)
+    remark(alloc, ": error: ", name, script, place, sentence)
 }
 
-// The token with that number, if there is one.
-fn token_in(tokens: &[Token], number: usize) -> Option<Token>
-    ensures { result ≡ slice_get tokens.now number }
-{
-    tokens.get(number).copied()
-}
-
-// The token of the script with that number, if there is one.
-fn token_numbered(alloc: Global, script: &[u8], number: usize) -> Result<Option<Token>, AllocError>
-    ensures token { IfOk result (λ token. IsTokenNumbered script.now number token) }
-    ensures within { IfOk result (λ token. IfSome token (λ t. (t.start ≤ t.end) × (t.end ≤ length script.now))) }
+// The tokens of the script; none where it has too many octets, or isn't made of tokens.
+fn tokens_of(alloc: Global, script: &[u8]) -> Result<Vec<Token>, AllocError>
+    ensures { IfOk result (λ v. HasTokens script.now v.items) }
 {
     match tokens(alloc, script) {
-        Ok(found) => Ok(token_in(&found, number)),
+        Ok(found) => Ok(found),
         Err(error) => match error {
             LexicalError::Memory => Err(AllocError),
             _ => {
                 tokens_have_no_fault();
-                Ok(None)
+                Ok(Vec::new(alloc))
             }
         },
     }
+}
+
+// The token with that number, if there is one.
+fn token_numbered(script: &[u8], tokens: &[Token], number: usize) -> Option<Token>
+    requires { HasTokens script.now tokens.now }
+    ensures token { result ≡ slice_get tokens.now number }
+    ensures within { IfSome result (λ t. (t.start ≤ t.end) × (t.end ≤ length script.now)) }
+{
+    token_at(tokens, number)
+}
+
+// The string of the command with that number, if it is among the tokens.
+fn string_behind(script: &[u8], tokens: &[Token], number: usize, string: &[u8]) -> Option<Token>
+    requires { HasTokens script.now tokens.now }
+    ensures token { result ≡ string_among script.now string.now (drop number tokens.now) }
+    ensures within { IfSome result (λ t. (t.start ≤ t.end) × (t.end ≤ length script.now)) }
+{
+    string_among(script, string, tokens_from(tokens, number))
+}
+
+// The brace that is never closed, if there is one.
+fn open_brace(script: &[u8], tokens: &[Token]) -> Option<Token>
+    requires { HasTokens script.now tokens.now }
+    ensures token { result ≡ unclosed tokens.now }
+    ensures within { IfSome result (λ t. (t.start ≤ t.end) × (t.end ≤ length script.now)) }
+{
+    unclosed(tokens)
 }
 
 // Where the token begins; behind the last one the script's end.
@@ -140,6 +181,53 @@ pub fn explanation(
     }
 }
 
+// Where the brace stands that is never closed, where there is one.
+fn opened(
+    alloc: Global,
+    name: &str,
+    script: &[u8],
+    brace: Option<Token>,
+) -> Result<Vec<u8>, AllocError>
+    requires { IfSome brace (λ t. (t.start ≤ t.end) × (t.end ≤ length script.now)) }
+    ensures { IfOk result (λ text. text.items ≡ opened name.now script.now brace) }
+{
+    match brace {
+        Some(brace) => remark(
+            alloc,
+            ": note: ",
+            name,
+            script,
+            brace.start,
+            &unclosed_sentence(),
+        ),
+        None => Ok(Vec::new(alloc)),
+    }
+}
+
+// What is told of the token at fault, or of the end.
+fn syntax_told(
+    alloc: Global,
+    name: &str,
+    script: &[u8],
+    tokens: &[Token],
+    token: Option<Token>,
+) -> Result<Vec<u8>, AllocError>
+    requires tokens { HasTokens script.now tokens.now }
+    requires within { IfSome token (λ t. (t.start ≤ t.end) × (t.end ≤ length script.now)) }
+    ensures { IfOk result (λ text. text.items ≡ syntax_told name.now script.now tokens.now token) }
+{
+    let sentence = syntax_sentence(script, token);
+    match token {
+        Some(token) => told(alloc, name, script, token.start, &sentence),
+        None => {
+            let mut text = told(alloc, name, script, script.len(), &sentence)?;
+            let opened = opened(alloc, name, script, open_brace(script, tokens))?;
+            text.extend_from_slice(&opened)?;
+            Ok(text)
+        }
+    }
+}
+
 // What is told of a token that can't stand where it does.
 fn syntax_explanation(
     alloc: Global,
@@ -149,9 +237,9 @@ fn syntax_explanation(
 ) -> Result<Vec<u8>, AllocError>
     ensures { IfOk result (λ text. TellsSyntax name.now script.now number text.items) }
 {
-    let token = token_numbered(alloc, script, number)?;
-    let sentence = syntax_sentence(script, token);
-    told(alloc, name, script, start_of(script, token), &sentence)
+    let tokens = tokens_of(alloc, script)?;
+    let token = token_numbered(script, &tokens, number);
+    syntax_told(alloc, name, script, &tokens, token)
 }
 
 // What is told of a brace or test that is nested too deep.
@@ -163,8 +251,100 @@ fn depth_explanation(
 ) -> Result<Vec<u8>, AllocError>
     ensures { IfOk result (λ text. TellsDepth name.now script.now number text.items) }
 {
-    let place = start_of(script, token_numbered(alloc, script, number)?);
+    let tokens = tokens_of(alloc, script)?;
+    let place = start_of(script, token_numbered(script, &tokens, number));
     told(alloc, name, script, place, &too_deep_sentence())
+}
+
+// The string that is no capability, or else the command.
+fn string_marked(
+    script: &[u8],
+    reason: Option<Reason<'_>>,
+    tokens: &[Token],
+    number: usize,
+) -> Option<Token>
+    requires { HasTokens script.now tokens.now }
+    ensures token { result ≡ string_marked script.now (option_map view_of reason.entry) tokens.now number }
+    ensures within { IfSome result (λ t. (t.start ≤ t.end) × (t.end ≤ length script.now)) }
+{
+    let command = token_numbered(script, tokens, number);
+    match reason {
+        Some(reason) => string_behind(script, tokens, number, reason.subject).or(command),
+        None => command,
+    }
+}
+
+// The token under which the mark stands.
+fn marked_token(
+    script: &[u8],
+    fault: Fault,
+    reason: Option<Reason<'_>>,
+    tokens: &[Token],
+    number: usize,
+) -> Option<Token>
+    requires { HasTokens script.now tokens.now }
+    ensures token { result ≡ marked_token script.now fault (option_map view_of reason.entry) tokens.now number }
+    ensures within { IfSome result (λ t. (t.start ≤ t.end) × (t.end ≤ length script.now)) }
+{
+    match fault {
+        Fault::UnknownCapability => string_marked(script, reason, tokens, number),
+        Fault::UnknownCommand | Fault::MissingCapability | Fault::BadArguments | Fault::Limit => {
+            token_numbered(script, tokens, number)
+        }
+    }
+}
+
+// The sentence for arguments with a wrong unit, or for another reason.
+fn arguments_sentence<'a>(
+    script: &[u8],
+    reason: Option<Reason<'a>>,
+    tokens: &[Token],
+    number: usize,
+) -> Sentence<'a>
+    ensures { blanks_of result ≡ arguments_blanks script.now (option_map view_of reason.entry) tokens.now number }
+{
+    if has_unit(script, tokens_from(tokens_from(tokens, number), 1)) {
+        unit_sentence()
+    } else {
+        reason_sentence(reason)
+    }
+}
+
+// The sentence for a command or test that isn't accepted.
+fn fault_sentence<'a>(
+    script: &[u8],
+    fault: Fault,
+    reason: Option<Reason<'a>>,
+    tokens: &[Token],
+    number: usize,
+) -> Sentence<'a>
+    ensures { blanks_of result ≡ fault_blanks script.now fault (option_map view_of reason.entry) tokens.now number }
+{
+    match fault {
+        Fault::BadArguments => arguments_sentence(script, reason, tokens, number),
+        Fault::UnknownCommand
+        | Fault::MissingCapability
+        | Fault::UnknownCapability
+        | Fault::Limit => reason_sentence(reason),
+    }
+}
+
+// What is told of a command or test for that reason.
+fn reason_told(
+    alloc: Global,
+    name: &str,
+    script: &[u8],
+    fault: Fault,
+    reason: Option<Reason<'_>>,
+    tokens: &[Token],
+    number: usize,
+) -> Result<Vec<u8>, AllocError>
+    requires { HasTokens script.now tokens.now }
+    ensures { IfOk result (λ text. text.items ≡ reason_told name.now script.now fault (option_map view_of reason.entry) tokens.now number) }
+{
+    let place = start_of(script, marked_token(script, fault, reason, tokens, number));
+    let sentence = fault_sentence(script, fault, reason, tokens, number);
+    told(alloc, name, script, place, &sentence)
 }
 
 // What is told of a command or test that isn't accepted.
@@ -177,20 +357,22 @@ fn reason_explanation(
 ) -> Result<Vec<u8>, AllocError>
     ensures { IfOk result (λ text. TellsReason name.now script.now fault number text.items) }
 {
-    let place = start_of(script, token_numbered(alloc, script, number)?);
+    let tokens = tokens_of(alloc, script)?;
     match parse(alloc, script) {
-        Ok(tree) => told(
+        Ok(tree) => reason_told(
             alloc,
             name,
             script,
-            place,
-            &reason_sentence(reason(&tree, fault, number)),
+            fault,
+            reason(&tree, fault, number),
+            &tokens,
+            number,
         ),
         Err(error) => match error {
             ParseError::Memory => Err(AllocError),
             _ => {
                 parsed_scripts_have_no_fault();
-                told(alloc, name, script, place, &reason_sentence(None))
+                reason_told(alloc, name, script, fault, None, &tokens, number)
             }
         },
     }

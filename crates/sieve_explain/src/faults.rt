@@ -1,15 +1,103 @@
 // What is said of a script that isn't parsed.
-ghost use Rattle.std.specs.Prelude.{◌≡◌, ◌≤◌, IfSome, length};
-ghost use Rattle.sieve_explain.specs.Faults.{lexical_blanks, misplaced_token, syntax_blanks, too_deep_blanks, too_long_blanks};
+ghost use Rattle.std.specs.Prelude.{◌≡◌, ◌≤◌, IfSome, bytes_eq, length, take};
+ghost use Rattle.sieve_explain.specs.Faults.{lexical_blanks, misplaced_token, mistaken, mistaken_blanks, other_blanks, syntax_blanks, text_at, text_in, too_deep_blanks, too_long_blanks, unclosed_blanks, unit_blanks};
 ghost use Rattle.sieve_explain.specs.Sentences.{blanks_of};
 
+use crate::places::around;
 use crate::sentence::{Sentence, plain};
 use sieve_lexer::{MAX_SCRIPT, Token, TokenKind};
 use sieve_parser::MAX_NESTING;
 
+/// What people write at a place where a script can't have it: the first octets, and what to write instead.
+#[derive(Clone, Copy)]
+pub struct Mistake {
+    pub octets: &'static [u8],
+    pub text: &'static str,
+}
+
+// Whether the text begins with the octets.
+fn begins_with(text: &[u8], octets: &[u8]) -> bool
+    ensures { result ≡ bytes_eq (take (length octets.now) text.now) octets.now }
+{
+    let (start, _) = around(text, octets.len());
+    start == octets
+}
+
+// The text for the first of the rows with which the octets begin, or nothing.
+fn text_in(rest: &[u8], rows: &[Mistake]) -> &'static str
+    ensures { result.now ≡ text_in rest.now rows.now }
+{
+    for row in rows {
+        if begins_with(rest, row.octets) {
+            return row.text;
+        }
+    }
+    ""
+}
+
+// What to write instead of what is mistaken for something else.
+fn mistaken_text(rest: &[u8]) -> &'static str
+    ensures { result.now ≡ text_at rest.now mistaken }
+{
+    text_in(
+        rest,
+        &[
+            Mistake {
+                octets: &[0xef, 0xbb, 0xbf],
+                text: "a byte order mark stands here: save the script as UTF-8 without one",
+            },
+            Mistake {
+                octets: &[0xe2, 0x80, 0x98],
+                text: "a typographic quote stands here: strings stand between straight double quotes, \"like this\"",
+            },
+            Mistake {
+                octets: &[0xe2, 0x80, 0x99],
+                text: "a typographic quote stands here: strings stand between straight double quotes, \"like this\"",
+            },
+            Mistake {
+                octets: &[0xe2, 0x80, 0x9c],
+                text: "a typographic quote stands here: strings stand between straight double quotes, \"like this\"",
+            },
+            Mistake {
+                octets: &[0xe2, 0x80, 0x9d],
+                text: "a typographic quote stands here: strings stand between straight double quotes, \"like this\"",
+            },
+            Mistake {
+                octets: b"'",
+                text: "a single quote stands here: strings stand between double quotes, \"like this\"",
+            },
+            Mistake {
+                octets: b"//",
+                text: "no comment begins so: one begins with `&`, or stands between `/*` and `*/`",
+            },
+        ],
+    )
+}
+
 // The sentence for octets at which neither a token nor a separator begins.
 pub fn lexical_sentence(rest: &[u8]) -> Sentence<'_>
     ensures { blanks_of result ≡ lexical_blanks rest.now }
+{
+    let text = mistaken_text(rest);
+    mistaken_sentence(text, other_sentence(rest))
+}
+
+// The sentence for what is mistaken for something else, where it is that.
+fn mistaken_sentence<'a>(text: &'static str, other: Sentence<'a>) -> Sentence<'a>
+    ensures { blanks_of result ≡ mistaken_blanks text.now (blanks_of other.entry) }
+{
+    if text.is_empty() {
+        return other;
+    }
+    Sentence {
+        words: "#",
+        ..plain(text)
+    }
+}
+
+// The sentence for other octets there.
+fn other_sentence(rest: &[u8]) -> Sentence<'_>
+    ensures { blanks_of result ≡ other_blanks rest.now }
 {
     match rest {
         [b'"', ..] => plain(
@@ -104,4 +192,18 @@ pub fn too_deep_sentence() -> Sentence<'static>
         number: MAX_NESTING as u64,
         ..plain("braces and tests are nested more than % deep here")
     }
+}
+
+// The sentence for an opening brace that has no partner.
+pub fn unclosed_sentence() -> Sentence<'static>
+    ensures { blanks_of result ≡ unclosed_blanks }
+{
+    plain("this brace is never closed")
+}
+
+// The sentence for the letter of a unit with more letters behind it.
+pub fn unit_sentence() -> Sentence<'static>
+    ensures { blanks_of result ≡ unit_blanks }
+{
+    plain("the units of a number are K, M and G, with nothing behind the letter, as in 5M")
 }

@@ -1,131 +1,309 @@
 // What is said of a name that isn't known where it stands.
 ghost use Rattle.std.specs.Prelude.{◌≡◌};
-ghost use Rattle.std.specs.List.{list_any};
-ghost use Rattle.sieve_check.specs.Names.{is_word};
-ghost use Rattle.sieve_explain.specs.Hints.{command_lacking, command_meant, test_lacking, test_meant, unknown_command_text, unknown_command_words, unknown_test_text, unknown_test_words, unknown_text, with_words};
+ghost use Rattle.sieve_explain.specs.Hints.{capability_names, command_meant, command_names, command_rows, lacking, no_command_text, no_test_text, tag_names, test_meant, test_names, test_rows, unknown_capability_text, unknown_capability_words, unknown_command_text, unknown_command_words, unknown_tag_text, unknown_tag_words, unknown_test_text, unknown_test_words, unknown_text};
+ghost use Rattle.sieve_explain.specs.Words.{nearest, with_words, words_for};
 
-use octets::equal_ignoring_case;
+use crate::words::{Row, nearest, with_words, words_for};
 use sieve_check::{command_named, test_named};
 
-// Whether the name is the word but for the case of ASCII letters.
-pub fn is_word(name: &[u8], word: &str) -> bool
-    ensures { result ≡ is_word name.now word.now }
+// Why depot lacks a command, a test, a tag or a capability that Sieve has elsewhere, or what there is in its place.
+fn lacking(name: &[u8]) -> &'static str
+    ensures { result.now ≡ lacking name.now }
 {
-    equal_ignoring_case(name, word.as_bytes())
+    words_for(
+        name,
+        &[
+            Row {
+                names: &[
+                    "vacation",
+                    "vacation-seconds",
+                    "redirect",
+                    "reject",
+                    "ereject",
+                    "notify",
+                    "enotify",
+                ],
+                words: "it sends no mail",
+            },
+            Row {
+                names: &[
+                    "addflag",
+                    "setflag",
+                    "removeflag",
+                    "hasflag",
+                    "flags",
+                    "imap4flags",
+                    "imapflags",
+                ],
+                words: "what it files has no flags",
+            },
+            Row {
+                names: &[
+                    "addheader",
+                    "deleteheader",
+                    "editheader",
+                    "replace",
+                    "enclose",
+                ],
+                words: "it changes no message",
+            },
+            Row {
+                names: &["include"],
+                words: "a script stands alone",
+            },
+            Row {
+                names: &["copy"],
+                words: "`keep` beside `fileinto` files a message twice",
+            },
+            Row {
+                names: &["address", "subaddress", "localpart", "domain", "detail"],
+                words: "`header` tests the whole value of a field",
+            },
+            Row {
+                names: &["index"],
+                words: "`header` tests all fields of a name",
+            },
+            Row {
+                names: &["envelope", "environment"],
+                words: "it sees the message alone",
+            },
+            Row {
+                names: &["body"],
+                words: "`partbody` tests the content of a part, inside of a `foreverypart`",
+            },
+            Row {
+                names: &["date", "currentdate"],
+                words: "it compares no times",
+            },
+            Row {
+                names: &["relational", "count", "value", "comparator-i;ascii-numeric"],
+                words: "`size` and `partsize` alone compare numbers",
+            },
+            Row {
+                names: &["regex"],
+                words: "patterns are those of `:matches`",
+            },
+            Row {
+                names: &["spamtest", "spamtestplus", "virustest"],
+                words: "`header` tests what a scanner wrote into a field",
+            },
+            Row {
+                names: &["mailbox", "mailboxexists", "create"],
+                words: "a folder is there once something is filed into it",
+            },
+            Row {
+                names: &["duplicate"],
+                words: "a script knows no earlier message",
+            },
+            Row {
+                names: &["ihave"],
+                words: "what a script requires has to be there",
+            },
+            Row {
+                names: &["encoded-character"],
+                words: "a string may hold any character as it is",
+            },
+        ],
+    )
 }
 
-// Whether the name is one of the words but for the case of ASCII letters.
-fn is_any(name: &[u8], words: &[&str]) -> bool
-    ensures { result ≡ list_any (λ w. is_word name.now w.now) words.now }
+// What stands elsewhere for a command.
+fn command_elsewhere(name: &[u8]) -> &'static str
+    ensures { result.now ≡ words_for name.now command_rows }
 {
-    words.iter().any(|word| is_word(name, word))
+    words_for(
+        name,
+        &[
+            Row {
+                names: &["elseif", "elif", "else_if"],
+                words: "elsif",
+            },
+            Row {
+                names: &["file", "move"],
+                words: "fileinto",
+            },
+            Row {
+                names: &["delete", "drop"],
+                words: "discard",
+            },
+            Row {
+                names: &["foreach", "for"],
+                words: "foreverypart",
+            },
+            Row {
+                names: &["save"],
+                words: "store",
+            },
+            Row {
+                names: &["exit", "return"],
+                words: "stop",
+            },
+        ],
+    )
 }
 
 // The command that is meant, or nothing where none comes near.
 fn command_meant(name: &[u8]) -> &'static str
     ensures { result.now ≡ command_meant name.now }
 {
-    if is_any(name, &["elseif", "elif", "else_if"]) {
-        "elsif"
-    } else if is_any(name, &["file", "move"]) {
-        "fileinto"
-    } else if is_any(name, &["delete", "drop"]) {
-        "discard"
-    } else if is_any(name, &["foreach", "for"]) {
-        "foreverypart"
-    } else if is_any(name, &["save"]) {
-        "store"
-    } else if is_any(name, &["exit", "return"]) {
-        "stop"
-    } else {
-        ""
-    }
+    let elsewhere = command_elsewhere(name);
+    with_words(elsewhere, elsewhere, near_command(name))
 }
 
-// Why depot lacks a command that Sieve has elsewhere, or nothing where the name is none of these.
-fn command_lacking(name: &[u8]) -> &'static str
-    ensures { result.now ≡ command_lacking name.now }
+// The command whose name is near.
+fn near_command(name: &[u8]) -> &'static str
+    ensures { result.now ≡ nearest name.now command_names }
 {
-    if is_any(
+    nearest(
         name,
-        &["vacation", "redirect", "reject", "ereject", "notify"],
-    ) {
-        "it sends no mail"
-    } else if is_any(name, &["addflag", "setflag", "removeflag"]) {
-        "what it files has no flags"
-    } else if is_any(name, &["addheader", "deleteheader", "replace", "enclose"]) {
-        "it changes no message"
-    } else if is_any(name, &["include"]) {
-        "a script stands alone"
-    } else {
-        ""
-    }
+        &[
+            "require",
+            "if",
+            "elsif",
+            "else",
+            "stop",
+            "keep",
+            "discard",
+            "fileinto",
+            "set",
+            "foreverypart",
+            "break",
+            "store",
+            "take",
+        ],
+    )
+}
+
+// What stands elsewhere for a test.
+fn test_elsewhere(name: &[u8]) -> &'static str
+    ensures { result.now ≡ words_for name.now test_rows }
+{
+    words_for(
+        name,
+        &[
+            Row {
+                names: &["all", "and"],
+                words: "allof",
+            },
+            Row {
+                names: &["any", "or"],
+                words: "anyof",
+            },
+            Row {
+                names: &["subject", "from", "to", "is", "contains", "matches"],
+                words: "header",
+            },
+            Row {
+                names: &["filesize"],
+                words: "size",
+            },
+        ],
+    )
 }
 
 // The test that is meant, or nothing where none comes near.
 fn test_meant(name: &[u8]) -> &'static str
     ensures { result.now ≡ test_meant name.now }
 {
-    if is_any(name, &["all", "and"]) {
-        "allof"
-    } else if is_any(name, &["any", "or"]) {
-        "anyof"
-    } else if is_any(name, &["subject", "from", "to"]) {
-        "header"
-    } else if is_any(name, &["is", "contains", "matches"]) {
-        "header"
-    } else if is_any(name, &["exist"]) {
-        "exists"
-    } else if is_any(name, &["filesize"]) {
-        "size"
-    } else {
-        ""
-    }
+    let elsewhere = test_elsewhere(name);
+    with_words(elsewhere, elsewhere, near_test(name))
 }
 
-// Why depot lacks a test that Sieve has elsewhere, or what there is in its place.
-fn test_lacking(name: &[u8]) -> &'static str
-    ensures { result.now ≡ test_lacking name.now }
+// The test whose name is near.
+fn near_test(name: &[u8]) -> &'static str
+    ensures { result.now ≡ nearest name.now test_names }
 {
-    if is_any(name, &["address"]) {
-        "`header` tests the whole value of a field"
-    } else if is_any(name, &["envelope"]) {
-        "it sees the message alone"
-    } else if is_any(name, &["body"]) {
-        "`partbody` tests the content of a part, inside of a `foreverypart`"
-    } else if is_any(name, &["date", "currentdate"]) {
-        "it compares no times"
-    } else if is_any(name, &["spamtest", "virustest"]) {
-        "`header` tests what a scanner wrote into a field"
-    } else if is_any(name, &["mailboxexists"]) {
-        "a folder is there once something is filed into it"
-    } else if is_any(name, &["hasflag"]) {
-        "what it files has no flags"
-    } else {
-        ""
-    }
+    nearest(
+        name,
+        &[
+            "true",
+            "false",
+            "not",
+            "allof",
+            "anyof",
+            "header",
+            "exists",
+            "size",
+            "string",
+            "partsize",
+            "partbody",
+            "partdigest",
+        ],
+    )
 }
 
-// One text where there are words, and another where there are none.
-fn with_words(words: &'static str, some: &'static str, none: &'static str) -> &'static str
-    ensures { result.now ≡ with_words words.now some.now none.now }
+// The tag whose name is near.
+fn near_tag(name: &[u8]) -> &'static str
+    ensures { result.now ≡ nearest name.now tag_names }
 {
-    if words.is_empty() { none } else { some }
+    nearest(
+        name,
+        &[
+            "over",
+            "under",
+            "is",
+            "contains",
+            "matches",
+            "comparator",
+            "lower",
+            "upper",
+            "lowerfirst",
+            "upperfirst",
+            "quotewildcard",
+            "length",
+            "mime",
+            "anychild",
+            "type",
+            "subtype",
+            "contenttype",
+            "param",
+            "name",
+            "first",
+        ],
+    )
 }
 
-// The sentence for a name that isn't known: with why it is lacking, else with what is meant by it, where there is either.
+// The capability whose name is near.
+fn near_capability(name: &[u8]) -> &'static str
+    ensures { result.now ≡ nearest name.now capability_names }
+{
+    nearest(
+        name,
+        &[
+            "fileinto",
+            "variables",
+            "mime",
+            "foreverypart",
+            "vnd.depot",
+            "comparator-i;octet",
+            "comparator-i;ascii-casemap",
+        ],
+    )
+}
+
+// By why a name is lacking and what is meant by it: the text for the one, for the other, or for neither.
 fn unknown_text(
     lacking: &'static str,
     meant: &'static str,
-    alone: &'static str,
+    lacks: &'static str,
     hinting: &'static str,
+    alone: &'static str,
 ) -> &'static str
-    ensures { result.now ≡ unknown_text lacking.now meant.now alone.now hinting.now }
+    ensures { result.now ≡ unknown_text lacking.now meant.now lacks.now hinting.now alone.now }
 {
-    with_words(
-        lacking,
+    with_words(lacking, lacks, with_words(meant, hinting, alone))
+}
+
+// The sentence for a name in a command's place that nothing has: with why it is lacking, else with what is meant by it, where there is either.
+fn no_command_text(name: &[u8]) -> &'static str
+    ensures { result.now ≡ no_command_text name.now }
+{
+    unknown_text(
+        lacking(name),
+        command_meant(name),
         "depot has no @: &",
-        with_words(meant, hinting, alone),
+        "unknown command @, did you mean `&`?",
+        "unknown command @",
     )
 }
 
@@ -136,20 +314,28 @@ pub fn unknown_command_text(name: &[u8]) -> &'static str
     if test_named(name).is_some() {
         return "@ is a test: is an `if` missing before it?";
     }
-    unknown_text(
-        command_lacking(name),
-        command_meant(name),
-        "unknown command @",
-        "unknown command @, did you mean `&`?",
-    )
+    no_command_text(name)
 }
 
 // Its words.
 pub fn unknown_command_words(name: &[u8]) -> &'static str
     ensures { result.now ≡ unknown_command_words name.now }
 {
-    let lacking = command_lacking(name);
+    let lacking = lacking(name);
     with_words(lacking, lacking, command_meant(name))
+}
+
+// The sentence for a name in a test's place that nothing has: with why it is lacking, else with what is meant by it, where there is either.
+fn no_test_text(name: &[u8]) -> &'static str
+    ensures { result.now ≡ no_test_text name.now }
+{
+    unknown_text(
+        lacking(name),
+        test_meant(name),
+        "depot has no @: &",
+        "unknown test @, did you mean `&`?",
+        "unknown test @",
+    )
 }
 
 // The sentence for a name in a test's place.
@@ -159,18 +345,55 @@ pub fn unknown_test_text(name: &[u8]) -> &'static str
     if command_named(name).is_some() {
         return "@ is a command, and a test is needed here";
     }
-    unknown_text(
-        test_lacking(name),
-        test_meant(name),
-        "unknown test @",
-        "unknown test @, did you mean `&`?",
-    )
+    no_test_text(name)
 }
 
 // Its words.
 pub fn unknown_test_words(name: &[u8]) -> &'static str
     ensures { result.now ≡ unknown_test_words name.now }
 {
-    let lacking = test_lacking(name);
+    let lacking = lacking(name);
     with_words(lacking, lacking, test_meant(name))
+}
+
+// The sentence for a tag.
+pub fn unknown_tag_text(name: &[u8]) -> &'static str
+    ensures { result.now ≡ unknown_tag_text name.now }
+{
+    unknown_text(
+        lacking(name),
+        near_tag(name),
+        "depot has no #: &",
+        "depot knows no tag #, did you mean `:&`?",
+        "depot knows no tag #",
+    )
+}
+
+// Its words.
+pub fn unknown_tag_words(name: &[u8]) -> &'static str
+    ensures { result.now ≡ unknown_tag_words name.now }
+{
+    let lacking = lacking(name);
+    with_words(lacking, lacking, near_tag(name))
+}
+
+// The sentence for a string of a `require`.
+pub fn unknown_capability_text(name: &[u8]) -> &'static str
+    ensures { result.now ≡ unknown_capability_text name.now }
+{
+    unknown_text(
+        lacking(name),
+        near_capability(name),
+        "depot has no $: &",
+        "depot knows no capability $, did you mean \"&\"?",
+        "depot knows no capability $: there are \"fileinto\", \"variables\", \"mime\", \"foreverypart\", \"vnd.depot\", \"comparator-i;octet\" and \"comparator-i;ascii-casemap\"",
+    )
+}
+
+// Its words.
+pub fn unknown_capability_words(name: &[u8]) -> &'static str
+    ensures { result.now ≡ unknown_capability_words name.now }
+{
+    let lacking = lacking(name);
+    with_words(lacking, lacking, near_capability(name))
 }

@@ -2,7 +2,8 @@
 //!
 //! [`explanation`] gives the text for a refusal: a line that names the script, the line and the column and says in a sentence
 //! what is wrong there, then the line of the script, and a mark under the place. `specs/Explaining` says the text of each refusal,
-//! `specs/Faults` and `specs/Reasons` are its sentences, and `specs/Places` what lines and columns are. Octets of the script are
+//! `specs/Faults`, `specs/Reasons` and `specs/Hints` are its sentences, `specs/Words` is which words are one letter off, `specs/Marks`
+//! what is looked for among the tokens, and `specs/Places` what lines and columns are. Octets of the script are
 //! escaped and cut by `specs/Shown`. `laws` says that a refusal has one text, which can be printed anywhere, whoever wrote the script.
 #![tactic(auto)]
 
@@ -11,9 +12,11 @@ mod explaining;
 mod faults;
 mod hints;
 pub mod laws;
+mod marks;
 mod places;
 mod reasons;
 mod sentence;
 mod shown;
+mod words;
 
 pub use explaining::explanation;

@@ -1,6 +1,15 @@
 // The line and the column of a place in a script, and the text of its line.
-ghost use Rattle.std.specs.Prelude.{◌≡◌, ◌≤◌, length};
+ghost use Rattle.std.specs.Prelude.{◌≡◌, ◌≤◌, drop, length, take};
 ghost use Rattle.sieve_explain.specs.Places.{is_line_feed, line_at, line_number, octets_after, octets_before, without_return};
+
+// A text up to a place, and from it on.
+#[tactic(auto, using(std::proofs::lemmas::List::take_min, std::proofs::lemmas::List::drop_min))]
+pub fn around(text: &[u8], place: usize) -> (&[u8], &[u8])
+    ensures before { result.0.now ≡ take place text.now }
+    ensures after { result.1.now ≡ drop place text.now }
+{
+    text.split_at(place.min(text.len()))
+}
 
 // The number of the place's line.
 pub fn line_number(script: &[u8], place: usize) -> u128

@@ -5,9 +5,11 @@ ghost use Rattle.sieve_explain.specs.Reasons.{capability_words, ending_words, no
 ghost use Rattle.sieve_explain.specs.Sentences.{blanks_of};
 
 use crate::hints::{
-    is_word, unknown_command_text, unknown_command_words, unknown_test_text, unknown_test_words,
+    unknown_capability_text, unknown_capability_words, unknown_command_text, unknown_command_words,
+    unknown_tag_text, unknown_tag_words, unknown_test_text, unknown_test_words,
 };
 use crate::sentence::{Sentence, plain};
+use crate::words::is_word;
 use sieve_check::{
     Capability, Ending, MAX_LOOPS, MAX_NAME, MAX_SEGMENTS, MAX_STRING, MAX_TEST_STRINGS,
     MAX_VARIABLES, Positional, Tag, Tests, command_named,
@@ -99,13 +101,15 @@ fn tag_words(tag: Tag) -> &'static str
     }
 }
 
-// The words of a sentence, by its reason and the name of the command or test.
-fn reason_words(kind: ReasonKind, name: &[u8]) -> &'static str
-    ensures { result.now ≡ reason_words kind name.now }
+// The words of a sentence, by its reason, the name of the command or test, and what in it is at fault.
+fn reason_words(kind: ReasonKind, name: &[u8], subject: &[u8]) -> &'static str
+    ensures { result.now ≡ reason_words kind name.now subject.now }
 {
     match kind {
         ReasonKind::UnknownCommand => unknown_command_words(name),
         ReasonKind::UnknownTest => unknown_test_words(name),
+        ReasonKind::UnknownCapability => unknown_capability_words(subject),
+        ReasonKind::UnknownTag => unknown_tag_words(subject),
         ReasonKind::MissingCapability(capability) => capability_words(capability),
         ReasonKind::TagArgument(tag) => tag_words(tag),
         ReasonKind::MissingArgument(taken)
@@ -146,15 +150,15 @@ fn place_text(name: &[u8]) -> &'static str
 }
 
 // The sentence, with its blanks.
-fn reason_text(kind: ReasonKind, name: &[u8]) -> &'static str
-    ensures { result.now ≡ reason_text kind name.now }
+fn reason_text(kind: ReasonKind, name: &[u8], subject: &[u8]) -> &'static str
+    ensures { result.now ≡ reason_text kind name.now subject.now }
 {
     match kind {
         ReasonKind::UnknownCommand => unknown_command_text(name),
         ReasonKind::UnknownTest => unknown_test_text(name),
         ReasonKind::MissingCapability(_) => "@ needs `require \"&\"` before it",
-        ReasonKind::UnknownCapability => "depot knows no capability $",
-        ReasonKind::UnknownTag => "depot knows no tag #",
+        ReasonKind::UnknownCapability => unknown_capability_text(subject),
+        ReasonKind::UnknownTag => unknown_tag_text(subject),
         ReasonKind::ForeignTag => "@ takes no tag #",
         ReasonKind::RepeatedTag => "# is repeated, or stands beside another of its kind",
         ReasonKind::TwoModifiers => "# can't stand beside another modifier of its precedence",
@@ -190,10 +194,10 @@ pub fn reason_sentence<'a>(found: Option<Reason<'a>>) -> Sentence<'a>
     match found {
         None => plain("a command or test is refused here"),
         Some(reason) => Sentence {
-            text: reason_text(reason.kind, reason.name),
+            text: reason_text(reason.kind, reason.name, reason.subject),
             name: reason.name,
             subject: reason.subject,
-            words: reason_words(reason.kind, reason.name),
+            words: reason_words(reason.kind, reason.name, reason.subject),
             number: reason_limit(reason.kind),
         },
     }

@@ -1,0 +1,97 @@
+-- What an explanation looks for among the tokens of a script.
+use Rattle.std.specs.Prelude.{ℕ, ◌-◌, ◌+◌, Bool, true, false, not, ◌&&◌, ◌||◌, ◌==◌, if◌then◌else◌, List, [], ◌∷◌, length, take, drop, take_while, Option, Some, None, bytes_eq, codes, slice_range}
+use Rattle.std.specs.List.{list_any, slice_get}
+use Rattle.std.specs.Option.{option_or}
+use Rattle.sieve_check.specs.Names.{is_word}
+use Rattle.sieve_lexer.specs.declared.token.Token.{Token}
+use Rattle.sieve_lexer.specs.declared.token.TokenKind.{TokenKind}
+use Rattle.sieve_lexer.specs.declared.token.TokenKind.TheVariants.{Identifier, Number, QuotedString, Semicolon, OpeningBrace, ClosingBrace}
+
+abbrev pub text_of : List ℕ → Token → List ℕ
+text_of script token = slice_range script token.start token.end
+
+-- ---- a string of a command
+
+abbrev pub is_quoted : TokenKind → Bool
+is_quoted QuotedString = true
+is_quoted _ = false
+
+abbrev pub is_semicolon : TokenKind → Bool
+is_semicolon Semicolon = true
+is_semicolon _ = false
+
+-- the octets without the first and the last one
+abbrev pub inner : List ℕ → List ℕ
+inner text = take (length text - 2) (drop 1 text)
+
+-- the token is the string between quotes, without an escape in it
+abbrev pub spells : List ℕ → List ℕ → Token → Bool
+spells script string token = is_quoted token.kind && bytes_eq (inner (text_of script token)) string
+
+abbrev pub passes : List ℕ → List ℕ → Token → Bool
+passes script string token = not (spells script string token || is_semicolon token.kind)
+
+abbrev pub if_spelled : List ℕ → List ℕ → Option Token → Option Token
+if_spelled script string None = None
+if_spelled script string (Some token) = if spells script string token then Some token else None
+
+-- the first token up to the end of the command that spells the string, if there is one
+abbrev pub string_among : List ℕ → List ℕ → List Token → Option Token
+string_among script string tokens = if_spelled script string (slice_get tokens (length (take_while (passes script string) tokens)))
+
+-- ---- a unit with more letters
+
+abbrev pub is_name : TokenKind → Bool
+is_name Identifier = true
+is_name _ = false
+
+abbrev pub is_amount : TokenKind → Bool
+is_amount Number = true
+is_amount _ = false
+
+abbrev pub is_number_at : Option Token → Bool
+is_number_at None = false
+is_number_at (Some token) = is_amount token.kind
+
+-- what people write behind a number, or behind its K, M or G
+abbrev pub is_unit : List ℕ → Bool
+is_unit text =
+    list_any (is_word text) (codes "b" ∷ codes "kb" ∷ codes "mb" ∷ codes "gb" ∷ codes "ib" ∷ codes "kib" ∷ codes "mib" ∷ codes "gib"
+    ∷ codes "k" ∷ codes "m" ∷ codes "g" ∷ codes "byte" ∷ codes "bytes" ∷ codes "octets" ∷ [])
+
+abbrev pub is_unit_at : List ℕ → Option Token → Bool
+is_unit_at script None = false
+is_unit_at script (Some token) = is_unit (text_of script token)
+
+abbrev pub is_no_name : Token → Bool
+is_no_name token = not (is_name token.kind)
+
+-- the first identifier of the tokens is such a unit, and stands behind a number
+abbrev pub has_unit : List ℕ → List Token → Bool
+has_unit script tokens =
+    let place = length (take_while is_no_name tokens) in
+    is_number_at (slice_get tokens (place - 1)) && is_unit_at script (slice_get tokens place)
+
+-- ---- a brace without its partner
+
+-- how many closing braces have no partner, with one more token before those that have that many
+abbrev pub unopened_over : TokenKind → ℕ → ℕ
+unopened_over ClosingBrace waiting = waiting + 1
+unopened_over OpeningBrace waiting = waiting - 1
+unopened_over _ waiting = waiting
+
+abbrev pub unopened : List Token → ℕ
+unopened [] = 0
+unopened (token ∷ tokens) = unopened_over token.kind (unopened tokens)
+
+abbrev pub is_opening : TokenKind → Bool
+is_opening OpeningBrace = true
+is_opening _ = false
+
+abbrev pub if_unclosed : Token → ℕ → Option Token
+if_unclosed token waiting = if is_opening token.kind && waiting == 0 then Some token else None
+
+-- the last opening brace that has no partner, if there is one
+abbrev pub unclosed : List Token → Option Token
+unclosed [] = None
+unclosed (token ∷ tokens) = option_or (unclosed tokens) (if_unclosed token (unopened tokens))

@@ -1,0 +1,112 @@
+// Tables of words, and words that are one letter off.
+ghost use Rattle.std.specs.Prelude.{◌≡◌, map};
+ghost use Rattle.std.specs.List.{list_any};
+ghost use Rattle.sieve_check.specs.Names.{is_word};
+ghost use Rattle.sieve_explain.specs.Words.{begin_off, begin_swapped, differ_at, is_near, nearest, with_words, words_in};
+
+use crate::places::around;
+use octets::equal_ignoring_case;
+
+/// A row of a table: names, and the words for each of them.
+#[derive(Clone, Copy)]
+pub struct Row {
+    pub names: &'static [&'static str],
+    pub words: &'static str,
+}
+
+// Whether the texts are the same but for the case of ASCII letters.
+fn is_same(a: &[u8], b: &[u8]) -> bool
+    ensures { result ≡ is_word a.now b.now }
+{
+    equal_ignoring_case(a, b)
+}
+
+// Whether the name is the word but for the case of ASCII letters.
+pub fn is_word(name: &[u8], word: &str) -> bool
+    ensures { result ≡ is_word name.now word.now }
+{
+    is_same(name, word.as_bytes())
+}
+
+// Whether the name is one of the words but for the case of ASCII letters.
+pub fn is_any(name: &[u8], words: &[&str]) -> bool
+    ensures { result ≡ list_any (λ w. is_word name.now w.now) words.now }
+{
+    words.iter().any(|word| is_word(name, word))
+}
+
+// The words of the first row that has the name, or none.
+pub fn words_for(name: &[u8], rows: &[Row]) -> &'static str
+    ensures { result.now ≡ words_in name.now rows.now }
+{
+    for row in rows {
+        if is_any(name, row.names) {
+            return row.words;
+        }
+    }
+    ""
+}
+
+// One text where there are words, and another where there are none.
+pub fn with_words(words: &'static str, some: &'static str, none: &'static str) -> &'static str
+    ensures { result.now ≡ with_words words.now some.now none.now }
+{
+    if words.is_empty() { none } else { some }
+}
+
+// Whether the first two octets are swapped, and all else is the same.
+fn begin_swapped(a: &[u8], b: &[u8]) -> bool
+    ensures { result ≡ begin_swapped a.now b.now }
+{
+    let (first_a, behind_a) = around(a, 1);
+    let (first_b, behind_b) = around(b, 1);
+    let (second_a, _) = around(behind_a, 1);
+    let (second_b, _) = around(behind_b, 1);
+    let (_, rest_a) = around(a, 2);
+    let (_, rest_b) = around(b, 2);
+    is_same(first_a, second_b) && is_same(second_a, first_b) && is_same(rest_a, rest_b)
+}
+
+// Whether the first octet is another one, is missing, is one too many, or is swapped with the next, and all else is the same.
+fn begin_off(a: &[u8], b: &[u8]) -> bool
+    ensures { result ≡ begin_off a.now b.now }
+{
+    let (_, behind_a) = around(a, 1);
+    let (_, behind_b) = around(b, 1);
+    is_same(behind_a, behind_b)
+        || is_same(a, behind_b)
+        || is_same(behind_a, b)
+        || begin_swapped(a, b)
+}
+
+// Whether it is so at the place, before which both are the same.
+fn differ_at(a: &[u8], b: &[u8], place: usize) -> bool
+    ensures { result ≡ differ_at a.now b.now place }
+{
+    let (before_a, from_a) = around(a, place);
+    let (before_b, from_b) = around(b, place);
+    is_same(before_a, before_b) && begin_off(from_a, from_b)
+}
+
+// Whether the name is the word but for one letter, or but for the case of ASCII letters.
+fn is_near(name: &[u8], word: &[u8]) -> bool
+    ensures { result ≡ is_near name.now word.now }
+{
+    let mut near = false;
+    for place in 0..word.len() + 1 {
+        near = near || differ_at(name, word, place);
+    }
+    near
+}
+
+// The first of the words that is near, or nothing.
+pub fn nearest(name: &[u8], words: &[&'static str]) -> &'static str
+    ensures { result.now ≡ nearest name.now (map (λ w. w.now) words.now) }
+{
+    for word in words {
+        if is_near(name, word.as_bytes()) {
+            return word;
+        }
+    }
+    ""
+}
