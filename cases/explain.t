@@ -191,7 +191,7 @@ The order of tokens.
     script:4:9: note: this brace is never closed
     if true {
             ^
-    2> refused 13 Syntax at 17
+    2> refused 13 Syntax at 15
     [1]
 
 ## end within a line
@@ -686,7 +686,7 @@ Arguments.
     script:3:8: error: the units of a number are K, M and G, with nothing behind the letter, as in 5M
         if partbody :first 5KB :contains "bill" { discard; }
            ^
-    2> refused 18 BadArguments at 9
+    2> refused 18 BadArguments at 10
     [1]
 
 ## missing order
