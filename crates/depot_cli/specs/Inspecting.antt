@@ -39,5 +39,5 @@ HasInspected log status old new =
 
 -- why a file is no depot was written, or the sink broke while it was
 abbrev pub HasSaidWhy : NoDepot → Output → Output → Output → Output → Type 0
-HasSaidWhy why out err out2 err2 =
-    (HasTaken (no_depot_text why) out out2 × (err2 ≡ err)) ⊎ (HasBroken (no_depot_text why) out out2 × HasTold Write err err2)
+HasSaidWhy reason out err out2 err2 =
+    (HasTaken (no_depot_text reason) out out2 × (err2 ≡ err)) ⊎ (HasBroken (no_depot_text reason) out out2 × HasTold Write err err2)

@@ -159,24 +159,24 @@ why_text why.Disk = codes "the disk failed"
 
 -- the line of that
 abbrev pub no_depot_text : NoDepot → List ℕ
-no_depot_text why = line (codes "no depot: " ++ why_text why)
+no_depot_text reason = line (codes "no depot: " ++ why_text reason)
 
 -- how many octets the log beside the file had, if there was one
 abbrev pub log_text : Option ℕ → List ℕ
 log_text None = codes "no log"
 log_text (Some octets) = codes "log " ++ decimal octets ++ codes " octets"
 
--- the state of a user's filter
-abbrev pub state_text : ProgramState → List ℕ
-state_text Missing = codes "none"
-state_text (Accepted version) = codes "accepted version " ++ decimal version
-state_text (Refused refusal) = codes "refused " ++ decimal (number_of refusal) ++ codes " " ++ name_of refusal
+-- the state of a user's filter, and the end of its line
+abbrev pub state_line : ProgramState → List ℕ
+state_line Missing = line (codes "none")
+state_line (Accepted version) = codes "accepted version " ++ (decimal version ++ 10 ∷ [])
+state_line (Refused refusal) = codes "refused " ++ (decimal (number_of refusal) ++ (codes " " ++ (name_of refusal ++ 10 ∷ [])))
 
--- a user: the last number, the number of the entries, their octets and the state of the filter
-abbrev pub user_text : UserOverview → List ℕ
-user_text x =
-    codes "user " ++ quoted (string_bytes x.user) ++ codes " last " ++ decimal x.last ++ codes " entries " ++ decimal x.entries ++ codes " octets " ++ decimal x.octets
-    ++ codes " program " ++ state_text x.program
+-- the line of a user: the last number, the number of the entries, their octets and the state of the filter
+abbrev pub user_line : UserOverview → List ℕ
+user_line x =
+    codes "user " ++ (quoted (string_bytes x.user) ++ (codes " last " ++ (decimal x.last ++ (codes " entries " ++ (decimal x.entries ++ (codes " octets " ++ (decimal x.octets
+    ++ (codes " program " ++ state_line x.program))))))))
 
 -- how many contents there are, and their octets
 abbrev pub contents_text : ContentTotal → List ℕ
@@ -184,7 +184,7 @@ contents_text total = codes "contents " ++ decimal total.contents ++ codes " oct
 
 -- a line for each user
 abbrev pub users_text : List UserOverview → List ℕ
-users_text = flat_map (λ x. line (user_text x))
+users_text users = flat_map user_line users
 
 -- that it is a depot, and its log
 abbrev pub head_text : Option ℕ → List ℕ

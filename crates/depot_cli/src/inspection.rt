@@ -1,10 +1,10 @@
 // What a depot holds, written line by line.
-ghost use Rattle.std.specs.Prelude.{◌≡◌, ◌++◌, OnErr, OnOk, option_map};
+ghost use Rattle.std.specs.Prelude.{◌≡◌, ◌++◌, OnErr, OnOk};
 ghost use Rattle.sqlite.specs.Held.{state};
 ghost use Rattle.sqlite.specs.State.{Survives};
 ghost use Rattle.depot_actions.specs.Device.{HasBroken, HasTaken};
 ghost use Rattle.depot_cli.specs.Inspecting.{HasInspected};
-ghost use Rattle.depot_cli.specs.Printed.{contents_text, head_text, line as line_of, overview_text, user_text, users_text};
+ghost use Rattle.depot_cli.specs.Printed.{contents_text, head_text, line as line_of, overview_text, user_line, users_text};
 ghost use Rattle.depot_cli.specs.Tasks.{desk};
 
 use crate::job::tell;
@@ -28,7 +28,7 @@ pub fn inspect<S: Alter, O: Sink, E: Sink>(
     out: &mut O,
     err: &mut E,
 ) -> u8
-    ensures inspected { HasInspected log.entry result
+    ensures inspected { HasInspected log result
         (desk (state S.Store depot.old) (O.output out.old) (E.output err.old)) (desk (state S.Store depot.new) (O.output out.new) (E.output err.new)) }
     ensures survives { Survives (state S.Store depot.old) (state S.Store depot.new) (λ _. ⊥) }
 {
@@ -44,8 +44,8 @@ fn put_overview<O: Sink>(
     log: Option<u64>,
     overview: &Overview,
 ) -> Result<(), DeviceFailed>
-    ensures ok { OnOk result (HasTaken (overview_text log.entry overview.now) (O.output out.old) (O.output out.new)) }
-    ensures err { OnErr result (HasBroken (overview_text log.entry overview.now) (O.output out.old) (O.output out.new)) }
+    ensures ok { OnOk result (HasTaken (overview_text log overview.now) (O.output out.old) (O.output out.new)) }
+    ensures err { OnErr result (HasBroken (overview_text log overview.now) (O.output out.old) (O.output out.new)) }
 {
     put_head(out, log)?;
     put_contents(out, &overview.users, &overview.contents)
@@ -53,8 +53,8 @@ fn put_overview<O: Sink>(
 
 // Writes that it is a depot, and the line of its log.
 fn put_head<O: Sink>(out: &mut O, log: Option<u64>) -> Result<(), DeviceFailed>
-    ensures ok { OnOk result (HasTaken (head_text log.entry) (O.output out.old) (O.output out.new)) }
-    ensures err { OnErr result (HasBroken (head_text log.entry) (O.output out.old) (O.output out.new)) }
+    ensures ok { OnOk result (HasTaken (head_text log) (O.output out.old) (O.output out.new)) }
+    ensures err { OnErr result (HasBroken (head_text log) (O.output out.old) (O.output out.new)) }
 {
     match log {
         Some(octets) => put_pieces(
@@ -95,8 +95,8 @@ fn put_users<O: Sink>(out: &mut O, users: &[UserOverview]) -> Result<(), DeviceF
 
 // Writes the line of a user.
 fn put_user<O: Sink>(out: &mut O, user: &UserOverview) -> Result<(), DeviceFailed>
-    ensures ok { OnOk result (HasTaken (line_of (user_text user.now)) (O.output out.old) (O.output out.new)) }
-    ensures err { OnErr result (HasBroken (line_of (user_text user.now)) (O.output out.old) (O.output out.new)) }
+    ensures ok { OnOk result (HasTaken (user_line user.now) (O.output out.old) (O.output out.new)) }
+    ensures err { OnErr result (HasBroken (user_line user.now) (O.output out.old) (O.output out.new)) }
 {
     let head = Piece::Text("user ");
     let name = Piece::Quoted(user.user.as_bytes());

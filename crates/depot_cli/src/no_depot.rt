@@ -12,7 +12,7 @@ use part_store::Unopened;
 use refusals::Refusal;
 
 /// Why a file is no depot.
-#[derive(Clone, Copy, Debug, PartialEq, Eq)]
+#[derive(Clone, Copy)]
 pub enum NoDepot {
     /// Nothing has the name.
     NoFile,

@@ -12,6 +12,7 @@ returns-in_err-put_head-clause-err g c =
 pub returns-clause-err : goal.returns-clause-err
 returns-clause-err g c =
     let x = c.args.overview.now in
+    let broken = rw c.deref.ensures.value at c.put_contents.ensures.err in
     on_err_weaker c.put_contents.result
     (λ last. broken_later (head_text c.args.log) (users_text x.users.items ++ line (contents_text x.contents)) c.in_ok-put_head.ensures.ok last)
-    c.put_contents.ensures.err
+    broken

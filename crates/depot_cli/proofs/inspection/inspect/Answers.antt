@@ -1,0 +1,7 @@
+use Rattle.depot_cli.proofs.Seeing.{seen}
+use Rattle.depot_cli.proofs.inspection.inspect.Goals as goal
+
+pub returns-in-Ok-clause-inspected : goal.returns-in-Ok-clause-inspected
+returns-in-Ok-clause-inspected g c =
+    seen c.put_overview.result c.args.log c.in-Ok.overview c.finish.result _ _ (λ clean. let told = c.in-Ok.ensures.told clean in (told.0, told.1, c.in-Ok.ensures.spared clean))
+    c.put_overview.ensures.ok c.put_overview.ensures.err c.finish.ensures.ok c.finish.ensures.err
