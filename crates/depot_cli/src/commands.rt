@@ -5,8 +5,8 @@ ghost use Rattle.clap.specs.declared.builder.command.Command.TheViews.{out-Comma
 ghost use Rattle.depot_cli.specs.Words.{check_app, checks_app, code_app, codecs_app, compile_app, decode_app, deliver_app, delivery_app, depot_app, encode_app, entries_app, eval_app, explain_app, export_app, filing_app, filters_app, inspect_app, list_app, mail_app, migrate_app, parts_app, remove_app, run_app, script_app, scripts_app, user_app, verify_app};
 
 use crate::arguments::{
-    any_file, depot_file, encoding_name, entry_number, message_file, out_file, program_file, script_file,
-    user_name,
+    any_file, depot_file, encoding_name, entry_number, message_file, out_file, program_file,
+    script_file, user_name,
 };
 use crate::help;
 use clap::Command;

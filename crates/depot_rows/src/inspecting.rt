@@ -33,14 +33,8 @@ const ENTRIES: [&str; 3] = [
 ];
 
 const WHYS: [(NoDepot, &str); 13] = [
-    (
-        NoDepot::NoFile,
-        "no depot: there is no such file\n",
-    ),
-    (
-        NoDepot::NoFolder,
-        "no depot: there is no such folder\n",
-    ),
+    (NoDepot::NoFile, "no depot: there is no such file\n"),
+    (NoDepot::NoFolder, "no depot: there is no such folder\n"),
     (
         NoDepot::NoPath,
         "no depot: a part of the path is no folder\n",
@@ -49,26 +43,11 @@ const WHYS: [(NoDepot, &str); 13] = [
         NoDepot::NoRights,
         "no depot: this user may not read and write it\n",
     ),
-    (
-        NoDepot::Directory,
-        "no depot: it is a directory\n",
-    ),
-    (
-        NoDepot::Special,
-        "no depot: it is no regular file\n",
-    ),
-    (
-        NoDepot::SecondName,
-        "no depot: it has a second name\n",
-    ),
-    (
-        NoDepot::Empty,
-        "no depot: it is empty\n",
-    ),
-    (
-        NoDepot::Held,
-        "no depot: another process holds it\n",
-    ),
+    (NoDepot::Directory, "no depot: it is a directory\n"),
+    (NoDepot::Special, "no depot: it is no regular file\n"),
+    (NoDepot::SecondName, "no depot: it has a second name\n"),
+    (NoDepot::Empty, "no depot: it is empty\n"),
+    (NoDepot::Held, "no depot: another process holds it\n"),
     (
         NoDepot::Closed,
         "no depot: its log or its journal can't be opened\n",
@@ -77,14 +56,8 @@ const WHYS: [(NoDepot, &str); 13] = [
         NoDepot::Damaged,
         "no depot: it is no database, or it is damaged\n",
     ),
-    (
-        NoDepot::OtherTables,
-        "no depot: its tables are others\n",
-    ),
-    (
-        NoDepot::Disk,
-        "no depot: the disk failed\n",
-    ),
+    (NoDepot::OtherTables, "no depot: its tables are others\n"),
+    (NoDepot::Disk, "no depot: the disk failed\n"),
 ];
 
 // The depot of tables that SQL laid.
@@ -154,7 +127,12 @@ fn is_taken(alloc: Global, tables: &[&str]) -> Result<bool, sqlite::Error> {
 fn other_tables(rt: HostRuntime) -> Result<(), Fail> {
     let alloc = rt.alloc();
     assert!(rt; !is_taken(alloc, &[])?);
-    assert!(rt; !is_taken(alloc, &["CREATE TABLE users (user TEXT, last INTEGER, program BLOB)"])?);
+    assert!(rt;
+        !is_taken(
+            alloc,
+            &["CREATE TABLE users (user TEXT, last INTEGER, program BLOB)"]
+        )?
+    );
     let conn = PartStore::in_memory(alloc)?.release();
     assert!(rt; PartStore::adopt_as_is(conn).is_ok());
     Ok(())
