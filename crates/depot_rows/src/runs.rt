@@ -2,7 +2,7 @@
 
 use crate::shelf::{Asked, Known, Shelf};
 use depot_actions::{Depot, OfWrite, Sink};
-use depot_cli::{Errand, Next, perform, run, tell};
+use depot_cli::{Errand, Next, inspect, perform, run, tell};
 use std::alloc::Global;
 use std::io;
 
@@ -38,6 +38,17 @@ fn carry<O: Sink, E: Sink>(alloc: Global, errand: &Errand<'_>, out: &mut O, err:
     }
 }
 
+// Inspects an empty depot in memory, and gives the status.
+fn look<O: Sink, E: Sink>(alloc: Global, out: &mut O, err: &mut E) -> u8 {
+    match Depot::in_memory(alloc) {
+        Ok(opened) => {
+            let mut depot = opened;
+            inspect(alloc, None, &mut depot, out, err)
+        }
+        Err(refusal) => tell(err, &refusal),
+    }
+}
+
 // Runs words on a shelf with a script and a message.
 fn come(rt: &HostRuntime, words: &[&str], room: usize) -> Seen {
     let mut host = Shelf::new(rt.alloc(), SCRIPT, MESSAGE, b"MZXW6YTBOI======", room);
@@ -46,6 +57,7 @@ fn come(rt: &HostRuntime, words: &[&str], room: usize) -> Seen {
     let status = match run(rt.alloc(), words, &mut host, &mut out, &mut err) {
         Next::Exit(status) => status,
         Next::Perform(errand) => carry(rt.alloc(), &errand, &mut out, &mut err),
+        Next::Inspect(_) => look(rt.alloc(), &mut out, &mut err),
     };
     let Shelf {
         asked,
