@@ -96,7 +96,7 @@ fn an_empty_depot(rt: HostRuntime) -> Result<(), Fail> {
     let mut err = OfWrite::new(Vec::new(alloc));
     let status = inspect(alloc, None, &mut depot, &mut out, &mut err);
     assert_eq!(rt; status, 0);
-    assert!(rt; out.inner.as_slice() == b"depot\nno log\ncontents 0 octets 0\n");
+    assert!(rt; out.inner.as_slice() == b"depot\nno log\ncontents 0 octets 0\n".as_slice());
     Ok(())
 }
 
