@@ -220,3 +220,37 @@
     wrote 296 octets
     $ depot verify out
     A0=38 B0=58 A1=0 B1=0 A2=0 B2=0 A3=0 B3=0 by chains
+
+## projects
+    $ depot eval examples/gallery/projects.sieve examples/gallery/projects.eml
+    fileinto "Projects/Heron"
+    charged 1235 of 149345
+
+## projects without a name
+    $ depot eval examples/gallery/projects.sieve examples/gallery/tickets.eml
+    keep
+    charged 429 of 41717
+
+## budget of projects
+    $ depot compile examples/gallery/projects.sieve projects.svbc
+    wrote 218 octets
+    $ depot verify projects.svbc
+    A0=2 B0=0 A1=28913 B1=37 A2=0 B2=0 A3=0 B3=0 by chains
+
+## forms
+    $ depot eval examples/gallery/forms.sieve examples/gallery/forms.eml
+    fileinto "Tickets/4711"
+    store "Tickets/4711" 2
+    store "Tickets/4711" 3
+    charged 2339 of 481608
+
+## forms without a form
+    $ depot eval examples/gallery/forms.sieve examples/gallery/tickets.eml
+    keep
+    charged 193 of 102759
+
+## budget of forms
+    $ depot compile examples/gallery/forms.sieve forms.svbc
+    wrote 358 octets
+    $ depot verify forms.svbc
+    A0=12316 B0=0 A1=69683 B1=60 A2=0 B2=0 A3=0 B3=0 by chains
