@@ -529,7 +529,7 @@ impl<'a> Code<'a> {
     }
 
     fn octets(&self) -> Vec<u8> {
-        let mut octets = b"SVBC\x01\0\0".to_vec();
+        let mut octets = b"SVBC\x02\0\0".to_vec();
         octets.extend_from_slice(&(self.numbers.len() as u16).to_be_bytes());
         octets.extend_from_slice(&(self.strings.len() as u16).to_be_bytes());
         octets.extend_from_slice(&(self.instructions.len() as u32).to_be_bytes());
