@@ -71,7 +71,6 @@ impl<'p> SharedText<'p> {
 }
 
 // The first octets of a text that others may hold too. A short one isn't copied.
-#[tactic(auto, using(std::proofs::lemmas::List::take_all))]
 fn cut_shared<'p>(alloc: Global, octets: Rc<Vec<u8>>) -> Result<SharedText<'p>, AllocError>
     ensures { IfOk result (λ text. items_of text ≡ take max_value octets.value.items) }
 {
