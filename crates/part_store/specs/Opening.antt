@@ -1,13 +1,16 @@
 -- What an open finds and leaves.
-use Rattle.std.specs.Prelude.{◌≡◌, false, IsTrue}
+use Rattle.std.specs.Prelude.{◌≡◌, ◌⊎◌, false, [], IsTrue}
 use Rattle.sqlite_disk.specs.declared.Disk.{Ghosts}
 use Rattle.sqlite.specs.declared.FileStore.{FileStore}
+use Rattle.sqlite.specs.Effect.{Database, IsDatabase}
 use Rattle.sqlite.specs.State.{State, HasCleanDisk, Survives}
 use Rattle.sqlite.specs.Held.{Held}
-use Rattle.sqlite.specs.Files.{file_state, IsOpened}
+use Rattle.sqlite.specs.Files.{file_state, HoldsDatabase, IsOpened}
+use Rattle.sqlite.specs.Recovery.{Image}
+use Rattle.sqlite.specs.Start.{FindsIn}
 use Rattle.sqlite_trees.specs.Tree.{Trees}
 use Rattle.part_store.specs.Tables.{no_schema}
-use Rattle.part_store.specs.Entries.{no_entries}
+use Rattle.part_store.specs.Entries.{Entries, no_entries}
 use Rattle.part_store.specs.Standing.{Stands, StandsFor}
 
 -- a database has no table, index or view
@@ -34,3 +37,26 @@ pub record IsReady {D : Type 0} {g : Ghosts D} (now : Held (FileStore D g)) : Ty
   pub same : (IsBare (file_state found) → ⊥) → now ≡ found
   pub settled : (file_state now).in_transaction ≡ false
   pub survives : Survives (file_state found) (file_state now) (MakesEmpty (file_state found))
+
+-- the two files hold this database
+pub record Holds (image : Image) (d : Database) : Type 0 where
+  pub trees : ∥ HoldsDatabase image d.trees ∥₁
+  -- its trees list its schema, and obey it
+  pub listed : IsDatabase d
+
+-- the two files hold a store, which stands for this state
+abbrev pub HoldsStore : Image → Entries → Type 0
+HoldsStore image e = (d : Database) × Holds image d × Stands d e
+
+-- the file is empty or isn't there, or the two hold a database without table, index or view
+abbrev pub HoldsNoTables : Image → Type 0
+HoldsNoTables image = (image.db ≡ []) ⊎ ((d : Database) × Holds image d × (d.schema ≡ no_schema))
+
+-- an open store shows this state, which is committed
+abbrev pub IsAt : Entries → State → Type 0
+IsAt e s = Stands s.now e × (s.committed ≡ s.now) × IsTrue s.is_open
+
+-- the same as `IsReady`, where what was found is what the two files held
+pub record IsReadyFrom {D : Type 0} {g : Ghosts D} (image : Image) (now : Held (FileStore D g)) : Type 0 where
+  pub ready : IsReady now
+  pub finds : HasCleanDisk (file_state ready.found) → FindsIn image (file_state ready.found)

@@ -13,7 +13,9 @@ ghost use Rattle.part_store.specs.UserLines.{AreUsersOf, line_of};
 ghost use Rattle.sqlite.specs.Files.{file_state, IsOpened};
 ghost use Rattle.part_store.specs.Filing.{Collides, HasRoom};
 ghost use Rattle.sqlite.specs.Steps.{over_memory};
-ghost use Rattle.part_store.specs.Opening.{IsBare, IsEmptied, IsKept, IsReady, MakesEmpty};
+ghost use Rattle.part_store.specs.Opening.{HoldsNoTables, HoldsStore, IsAt, IsBare, IsEmptied, IsKept, IsReady, IsReadyFrom, MakesEmpty};
+ghost use Rattle.sqlite.specs.WalFiles.{image_at};
+ghost use Rattle.sqlite.specs.Start.{FindsIn};
 
 use crate::adding::{Adding, put_entries};
 use crate::all_users::list_users;
@@ -25,7 +27,9 @@ use crate::stored_programs::{list_programs, put_program, read_program, replace_a
 use crate::totals::{ContentTotal, count_contents};
 use crate::user_row::UserRow;
 use crate::{contents, entries, tables};
-use sqlite::{Alter, Connection, Error, File, FileStore, MemStore, Transaction};
+use sqlite::{
+    Alter, Connection, Error, File, FileFrom, FileStore, MemStore, Start, Transaction, Unknown,
+};
 use sqlite_schema::schema::Schema;
 use std::alloc::Global;
 use std::marker::Model;
@@ -425,6 +429,45 @@ impl PartStore<MemStore> {
     }
 }
 
+/// The database in the file at a path.
+fn connect<B: Start>(
+    rt: &HostRuntime,
+    path: &str,
+    start: B,
+) -> Result<Connection<FileStore<FileFrom<B>>>, Error>
+    ensures opened { IfOk result (λ c. HasCleanDisk (file_state c) → IsOpened c) }
+    ensures found { IfOk result (λ c. HasCleanDisk (file_state c) → FindsIn (image_at B.Start) (file_state c)) }
+{
+    match Connection::open_from(rt, path, false, start) {
+        Ok(conn) => Ok(conn),
+        Err((error, _)) => Err(error),
+    }
+}
+
+impl<B: Start> PartStore<FileStore<FileFrom<B>>> {
+    /// The store in the file at a path, where `B` stands for what the file and its log held. A file that isn't there, is empty or
+    /// has no tables becomes the empty store. Refuses `Memory`, and `Database` where the file can't be opened or is no database.
+    ///
+    /// No clause ties `B` to the path: that the file there is opened, and no other, is seen in the body.
+    pub fn open_from(
+        rt: &HostRuntime,
+        path: &str,
+        start: B,
+    ) -> Result<PartStore<FileStore<FileFrom<B>>>, StoreError>
+        ensures ready { IfOk result (IsReadyFrom (image_at B.Start)) }
+        ensures found { IfOk result (λ s. HasCleanDisk (file_state s)
+            → (held : _) → HoldsStore (image_at B.Start) held → IsAt held (file_state s)) }
+        ensures empty { IfOk result (λ s. HasCleanDisk (file_state s)
+            → HoldsNoTables (image_at B.Start) → IsAt no_entries (file_state s)) }
+        ensures settled { IfOk result (λ s. (file_state s).in_transaction ≡ false) }
+        ensures refused { IfErr result (λ e. (e ≡ Memory) ⊎ (e ≡ Database)) }
+    {
+        let mut conn = connect(rt, path, start)?;
+        ready_tables(&mut conn)?;
+        Ok(PartStore { conn })
+    }
+}
+
 impl PartStore<FileStore<File>> {
     /// The store in the file at a path, which is made if it isn't there. Refuses `Memory`, and `Database` where the
     /// file can't be opened or is no database.
@@ -432,9 +475,7 @@ impl PartStore<FileStore<File>> {
         ensures ready { IfOk result IsReady }
         ensures refused { IfErr result (λ e. (e ≡ Memory) ⊎ (e ≡ Database)) }
     {
-        let mut conn = Connection::open(rt, path)?;
-        ready_tables(&mut conn)?;
-        Ok(PartStore { conn })
+        PartStore::open_from(rt, path, Unknown)
     }
 
     /// The store in the file at a path, as it is: no table is made, and where its tables aren't those of a store it is refused

@@ -1,0 +1,73 @@
+-- What is opened stands for what the files held.
+use Rattle.std.proofs.Common.{◌≡◌, inl, inr, List, [], length, refl, sym, ap, subst, ◌∙◌, arith}
+use Rattle.std.proofs.Math.Logic.{∥∥₁_elim}
+use Rattle.sqlite_disk.specs.declared.Disk.{Ghosts}
+use Rattle.sqlite.specs.declared.FileStore.{FileStore}
+use Rattle.sqlite.specs.Effect.{Database, IsDatabase}
+use Rattle.sqlite.specs.State.{State, HasCleanDisk, IsLive, Opens}
+use Rattle.sqlite.specs.Held.{Held}
+use Rattle.sqlite.specs.Files.{file_state, HoldsDatabase, IsOpened}
+use Rattle.sqlite.specs.Recovery.{Image}
+use Rattle.sqlite.specs.Start.{FindsIn}
+use Rattle.sqlite_catalog.specs.Listing.{Lists}
+use Rattle.sqlite_catalog.proofs.ReadLemmas.{lists_once}
+use Rattle.sqlite_schema.specs.declared.schema.Schema.{Schema}
+use Rattle.sqlite_trees.specs.Objects.{catalog_tree}
+use Rattle.sqlite_trees.specs.Sound.{is_sound_list}
+use Rattle.sqlite_trees.specs.Tree.{Trees}
+use Rattle.sqlite_trees.specs.Props.{Trees-set}
+use Rattle.sqlite_value.specs.Order.{Row}
+use Rattle.part_store.specs.Tables.{no_schema, store_schema}
+use Rattle.part_store.specs.Entries.{Entries, no_entries}
+use Rattle.part_store.specs.Standing.{Stands}
+use Rattle.part_store.specs.Opening.{Holds, HoldsNoTables, HoldsStore, IsAt, IsBare, IsReady, IsReadyFrom}
+
+-- a database is its trees, which list one schema
+pub same_database : (a b : Database) → a.trees ≡ b.trees → IsDatabase a → IsDatabase b → a ≡ b
+same_database a b same one other =
+    let schema = lists_once _ a.schema b.schema one.lists (subst (λ (t : Trees). IsDatabase (record { schema = b.schema; trees = t })) (sym same) other).lists in
+    λ i. record { schema = schema i; trees = same i }
+
+-- what an open found is the database that the files held
+pub finds_held : (image : Image) (s : State) (d : Database) → Opens s → IsLive s → FindsIn image s → Holds image d → s.now ≡ d
+finds_held image s d opens live finds holds =
+    let trees : s.committed.trees ≡ d.trees = ∥∥₁_elim holds.trees (Trees-set _ _) (finds.holds d.trees) in
+    same_database s.now d (ap (λ (x : Database). x.trees) opens.clean ∙ trees) (live opens.is_open).0 holds.listed
+
+lists_nothing : (objects : List Row) (schema : Schema) → objects ≡ [] → Lists objects schema → schema ≡ no_schema
+unfolding is_sound_list
+lists_nothing objects schema none lists =
+    let empty : Lists [] no_schema = record { listed = record { tables = tt; indexes = tt; views = tt; owned = tt; named = tt; loads = refl }; guarded = tt } in
+    lists_once [] schema no_schema (subst (λ rows. Lists rows schema) none lists) empty
+
+-- an open of an empty file found no tables
+finds_nothing : (image : Image) (s : State) → Opens s → IsLive s → FindsIn image s → image.db ≡ [] → IsBare s
+finds_nothing image s opens live finds none = elim finds.reads [
+  | inl there ↦ absurd (omega (arith, ap length none, there.3.found.present))
+  | inr empty ↦ lists_nothing _ s.now.schema (ap (λ (x : Database). x.trees catalog_tree) opens.clean ∙ empty.1.1) (live opens.is_open).0.lists
+]
+
+has_tables : (s : State) → s.now.schema ≡ store_schema → IsBare s → ⊥
+has_tables s is none = let more : 3 ≡ 0 = ap (λ (x : Schema). length x.tables) (sym is ∙ none) in omega (arith, more)
+
+module _ {D : Type 0} {g : Ghosts D} (image : Image) (now : Held (FileStore D g)) (from : IsReadyFrom image now) (clean : HasCleanDisk (file_state now)) where
+  early : HasCleanDisk (file_state from.ready.found)
+  early = omega (arith, from.ready.survives.clean)
+
+  found_is : (d : Database) → Holds image d → (file_state from.ready.found).now ≡ d
+  found_is d holds =
+      let opened = from.ready.opened early in
+      finds_held image (file_state from.ready.found) d opened.0 opened.1 (from.finds early) holds
+
+  pub opens_held : (e : Entries) → HoldsStore image e → IsAt e (file_state now)
+  opens_held e (d, holds, stands) =
+      let is = found_is d holds in
+      let opened = (from.ready.opened early).0 in
+      let found : IsAt e (file_state from.ready.found) = (subst (λ (x : Database). Stands x e) (sym is) stands, sym opened.clean, opened.is_open) in
+      subst (λ (h : Held (FileStore D g)). IsAt e (file_state h)) (sym (from.ready.same (has_tables (file_state from.ready.found) found.0.schema))) found
+
+  pub opens_none : HoldsNoTables image → IsAt no_entries (file_state now)
+  opens_none (inl none) =
+      let opened = from.ready.opened early in
+      from.ready.made clean (finds_nothing image (file_state from.ready.found) opened.0 opened.1 (from.finds early) none)
+  opens_none (inr (d, holds, none)) = from.ready.made clean (ap (λ (x : Database). x.schema) (found_is d holds) ∙ none)
