@@ -1,5 +1,5 @@
 // Texts written.
-ghost use Rattle.std.specs.Prelude.{◌≡◌, ◌++◌, ◌+◌, ◌-◌, ◌^◌, ◌≤◌, ◌<◌, false, true, ℕ, IfOk, OnErr, OnOk, length, min, not, slice_index, take};
+ghost use Rattle.std.specs.Prelude.{◌≡◌, ◌++◌, ◌+◌, ◌-◌, ◌*◌, ◌^◌, ◌≤◌, ◌<◌, false, true, ℕ, IfOk, OnErr, OnOk, length, min, not, slice_index, take};
 ghost use Rattle.std.specs.List.{filter};
 ghost use Rattle.quoted_printable.specs.QuotedPrintable.{encoding_of, escape_of, first_line, tokens_of, tokens_of_line, token_of, joined, run_of, is_literal, soft_break, stands};
 
@@ -183,7 +183,8 @@ fn is_literal(octet: u8) -> bool
 // Room for the text of octets: all tokens, where the last octet may be a blank, and a soft break for each 73 octets of them,
 // the fewest that a line has.
 fn text_room(octets: &[u8]) -> usize
-    ensures { min (length (encoding_of octets.now)) (2 ^ 64 - 1) ≤ result }
+    ensures enough { min (length (encoding_of octets.now)) (2 ^ 64 - 1) ≤ result }
+    ensures few { result ≤ 4 * length octets.now + 6 }
 {
     let escaped = escaped_count(octets) + 1;
     let tokens = octets.len().saturating_add(escaped.saturating_mul(2));

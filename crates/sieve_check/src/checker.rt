@@ -20,8 +20,8 @@ use std::alloc::Global;
 /// [`CheckError::UnknownCommand`] where its name isn't known; else as [`CheckError::MissingCapability`] where it
 /// needs a capability that wasn't required; else as [`CheckError::UnknownCapability`] where a `require` names
 /// something else than a capability; else as [`CheckError::BadArguments`] where it stands at a wrong place (a
-/// `break` where there is no such loop to leave, a `store` or a test of the current part outside of all loops), or has
-/// other arguments, tests or another end than it takes, or expands a string with a reference into a namespace or to a
+/// `break` where there is no such loop to leave, a `store`, a `take` or a test of the current part outside of all loops),
+/// or has other arguments, tests or another end than it takes, or expands a string with a reference into a namespace or to a
 /// capture after the last one, or sets what is no name; else as [`CheckError::Limit`] where one of its strings has
 /// too many octets, or the lists of a test have too many strings, or it expands a string of too many segments or with too
 /// long a name, or sets too long a name, or opens a loop within as many others as may be open, or where the script has too

@@ -1,5 +1,5 @@
 // The captures that a run has.
-ghost use Rattle.std.specs.Prelude.{◌≡◌, [], IfOk, IfSome, slice_index_or};
+ghost use Rattle.std.specs.Prelude.{◌≡◌, [], None, IfOk, IfSome, IsNone, IsSomeAnd, slice_index_or};
 ghost use Rattle.mail_matching.specs.FirstMatch.{no_captures};
 ghost use Rattle.sieve_vm.specs.SharedTexts.{items_of};
 
@@ -59,25 +59,12 @@ impl<'p, 'm> HeldCaptures<'p, 'm> {
         ensures text { IfOk result (λ text. items_of text ≡ slice_index_or self.old number []) }
     {
         let place = usize::from(number);
-        if let Some(text) = self.text_made(place)? {
+        if let Some(text) = text_made(&self.made, place)? {
             return Ok(text);
         }
         let text = SharedText::new(alloc, Vec::from_slice(alloc, self.octets(place))?)?;
         keep(&mut self.made, place + 1, place, text.share()?)?;
         Ok(text)
-    }
-
-    // The text of a capture, if it was made.
-    fn text_made(&self, place: usize) -> Result<Option<SharedText<'p>>, AllocError>
-        ensures { IfOk result (λ found. IfSome found (λ text. items_of text ≡ slice_index_or self.now place [])) }
-    {
-        match self.made.get(place) {
-            Some(found) => match found {
-                Some(text) => Ok(Some(text.share()?)),
-                None => Ok(None),
-            },
-            None => Ok(None),
-        }
     }
 
     // The octets of a capture.
@@ -88,5 +75,22 @@ impl<'p, 'm> HeldCaptures<'p, 'm> {
             Some(captured) => captured.text(place),
             None => &[],
         }
+    }
+}
+
+// The text that was made of a capture, if one was.
+fn text_made<'p>(
+    made: &[Option<SharedText<'p>>],
+    place: usize,
+) -> Result<Option<SharedText<'p>>, AllocError>
+    ensures some { IfOk result (λ found. IfSome found (λ text. IsSomeAnd (slice_index_or made.now place None) (λ held. items_of text ≡ items_of held))) }
+    ensures none { IfOk result (λ found. IsNone found → slice_index_or made.now place None ≡ None) }
+{
+    match made.get(place) {
+        Some(found) => match found {
+            Some(text) => Ok(Some(text.share()?)),
+            None => Ok(None),
+        },
+        None => Ok(None),
     }
 }

@@ -1,5 +1,5 @@
 // Texts that are cut and joined.
-ghost use Rattle.std.specs.Prelude.{◌≡◌, ◌≤◌, ◌++◌, IfOk, OnOk, length, take, sum_by};
+ghost use Rattle.std.specs.Prelude.{◌≡◌, ◌≤◌, ◌++◌, IfOk, OnOk, length, min, take, sum_by};
 ghost use Rattle.std.specs.List.{concat};
 ghost use Rattle.octets.specs.Limits.{max_string, max_value};
 ghost use Rattle.mail_matching.specs.Texts.{AreTexts};
@@ -46,11 +46,19 @@ pub fn joined<T: Texts>(alloc: Global, texts: &T) -> Result<Vec<u8>, AllocError>
     requires { AreTexts (T.texts texts.now) }
     ensures { IfOk result (λ octets. octets.items ≡ take max_string (concat (T.texts texts.now))) }
 {
-    let mut out = Vec::with_capacity(alloc, total_len(texts).min(MAX_STRING))?;
+    let mut out = Vec::with_capacity(alloc, joined_len(texts))?;
     for place in 0..texts.count() {
         put(&mut out, texts.text(place))?;
     }
     Ok(out)
+}
+
+// How many octets there are of texts that are joined.
+fn joined_len<T: Texts>(texts: &T) -> usize
+    requires { AreTexts (T.texts texts.now) }
+    ensures { result ≡ min (sum_by length (T.texts texts.now)) max_string }
+{
+    total_len(texts).min(MAX_STRING)
 }
 
 // Puts a text at the end, as far as there is room.

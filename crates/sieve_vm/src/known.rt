@@ -1,5 +1,5 @@
 // What is known of parts, once it was found.
-ghost use Rattle.std.specs.Prelude.{◌≡◌, ◌<◌, ◌≤◌, ◌==◌, ℕ, Some, None, IfSome, OnErr, OnOk, length, slice_index_or, if◌then◌else◌};
+ghost use Rattle.std.specs.Prelude.{◌≡◌, ◌<◌, ◌≤◌, ◌==◌, ℕ, Some, None, IfSome, IsNone, OnErr, OnOk, length, slice_index_or, if◌then◌else◌};
 
 use octets::Octets;
 use std::alloc::AllocError;
@@ -18,6 +18,7 @@ pub fn known<T: Copy>(list: &[Option<T>], part: usize) -> Option<T>
 /// The octets that are known of a part.
 pub fn octets_known(list: &[Option<Octets>], part: usize) -> Option<&[u8]>
     ensures some { IfSome result (λ octets. slice_index_or list.now part None ≡ Some octets.now) }
+    ensures none { IsNone result → slice_index_or list.now part None ≡ None }
 {
     match list.get(part) {
         Some(found) => match found {

@@ -1,6 +1,6 @@
 // The open loops, and what is known of the parts that they visit.
-ghost use Rattle.std.specs.Prelude.{◌≡◌, ◌<◌, ◌≤◌, ◌+◌, ◌-◌, ℕ, suc, List, [], ◌∷◌, Some, IfOk, OnOk, IfSome, IsSome, length, drop, take};
-ghost use Rattle.std.specs.Cow.{cow_slice_items};
+ghost use Rattle.std.specs.Prelude.{◌≡◌, ◌<◌, ◌≤◌, ◌+◌, ◌-◌, ℕ, suc, List, [], ◌∷◌, Some, IfOk, OnOk, IfSome, IsNone, IsSome, length, drop, take};
+ghost use Rattle.std.specs.Cow.{IsBorrowedSlice, cow_slice_items};
 ghost use Rattle.octets.specs.Limits.{max_loops, max_parts, max_value};
 ghost use Rattle.mime_decode.specs.Content.{digest_of};
 ghost use Rattle.mime_decode.specs.Mail.{Part};
@@ -235,7 +235,8 @@ fn decoded_beginning(
     alloc: Global,
     content: &CowSlice<'_, u8>,
 ) -> Result<Option<Octets>, AllocError>
-    ensures { IfOk result (λ found. IfSome found (λ octets. octets ≡ take max_value (cow_slice_items content.now))) }
+    ensures decoded { IfOk result (λ found. IfSome found (λ octets. octets ≡ take max_value (cow_slice_items content.now))) }
+    ensures lent { IfOk result (λ found. IsNone found → IsBorrowedSlice content.now) }
 {
     match content {
         CowSlice::Borrowed(_) => Ok(None),

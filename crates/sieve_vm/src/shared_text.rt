@@ -1,5 +1,5 @@
 // Texts that several may hold.
-ghost use Rattle.std.specs.Prelude.{◌≡◌, IfOk, take, true};
+ghost use Rattle.std.specs.Prelude.{◌≡◌, IfOk, length, nat_le, take};
 ghost use Rattle.octets.specs.Limits.{max_value};
 ghost use Rattle.sieve_vm.specs.SharedTexts.{items_of};
 
@@ -70,7 +70,7 @@ impl<'p> SharedText<'p> {
     }
 }
 
-// The first octets of a text that others may hold too.
+// The first octets of a text that others may hold too. A short one isn't copied.
 fn cut_shared<'p>(alloc: Global, octets: Rc<Vec<u8>>) -> Result<SharedText<'p>, AllocError>
     ensures { IfOk result (λ text. items_of text ≡ take max_value octets.value.items) }
 {
@@ -84,9 +84,8 @@ fn cut_shared<'p>(alloc: Global, octets: Rc<Vec<u8>>) -> Result<SharedText<'p>, 
 }
 
 // Whether all of the octets are the first ones.
-#[tactic(auto, using(std::proofs::lemmas::List::take_all))]
 fn is_short(octets: &Vec<u8>) -> bool
-    ensures { result ≡ true → octets.now.items ≡ take max_value octets.now.items }
+    ensures { result ≡ nat_le (length octets.now.items) max_value }
 {
     octets.len() <= MAX_VALUE
 }

@@ -2,8 +2,8 @@ use Rattle.std.proofs.Common.{arith}
 use Rattle.quoted_printable.proofs.Rooms.{encoding_fits}
 use Rattle.quoted_printable.proofs.encode.text_room.Goals as goal
 
-pub returns : goal.returns
-returns c =
+pub returns-clause-enough : goal.returns-clause-enough
+returns-clause-enough c =
     omega (
       arith,
       encoding_fits c.args.octets.now,
