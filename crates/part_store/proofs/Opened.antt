@@ -1,12 +1,17 @@
 -- What is opened stands for what the files held.
-use Rattle.std.proofs.Common.{◌≡◌, inl, inr, List, [], length, refl, sym, ap, subst, ◌∙◌, arith}
+use Rattle.std.proofs.Common.{◌≡◌, ◌⊎◌, Option, None, Some, IfSome, Result, Ok, Err, inl, inr, List, [], length, refl, sym, ap, subst, ◌∙◌, arith}
 use Rattle.std.proofs.Math.Logic.{∥∥₁_elim}
 use Rattle.sqlite_disk.specs.declared.Disk.{Ghosts}
+use Rattle.sqlite_disk.specs.declared.Files.{Files}
+use Rattle.sqlite.specs.declared.file.Leftover.{Leftover}
+use Rattle.sqlite.specs.declared.error.Error.{Error}
+use Rattle.sqlite.specs.declared.error.Error.TheVariants.{SqliteFailure}
+use Rattle.sqlite.specs.declared.error.ErrorCode.TheVariants.{CannotOpen, OutOfMemory, DatabaseBusy}
 use Rattle.sqlite.specs.declared.FileStore.{FileStore}
 use Rattle.sqlite.specs.Effect.{Database, IsDatabase}
 use Rattle.sqlite.specs.State.{State, HasCleanDisk, IsLive, Opens}
 use Rattle.sqlite.specs.Held.{Held}
-use Rattle.sqlite.specs.Files.{file_state, HoldsDatabase, IsOpened}
+use Rattle.sqlite.specs.Files.{file_state, image_of, FailsToOpenFiles, HoldsDatabase, IsCleanLeft, IsOpened, LeavesFiles}
 use Rattle.sqlite.specs.Recovery.{Image}
 use Rattle.sqlite.specs.Start.{FindsIn}
 use Rattle.sqlite_catalog.specs.Listing.{Lists}
@@ -20,7 +25,8 @@ use Rattle.sqlite_value.specs.Order.{Row}
 use Rattle.part_store.specs.Tables.{no_schema, store_schema}
 use Rattle.part_store.specs.Entries.{Entries, no_entries}
 use Rattle.part_store.specs.Standing.{Stands}
-use Rattle.part_store.specs.Opening.{Holds, HoldsNoTables, HoldsStore, IsAt, IsBare, IsReady, IsReadyFrom}
+use Rattle.part_store.specs.Opening.{HasCause, Holds, HoldsNoTables, HoldsStore, IsAt, IsBare, IsReady, IsReadyFrom, IsUnopened, OpensOrTells}
+use Rattle.part_store.specs.declared.error.StoreError.{StoreError}
 
 -- a database is its trees, which list one schema
 pub same_database : (a b : Database) → a.trees ≡ b.trees → IsDatabase a → IsDatabase b → a ≡ b
@@ -33,6 +39,11 @@ pub finds_held : (image : Image) (s : State) (d : Database) → Opens s → IsLi
 finds_held image s d opens live finds holds =
     let trees : s.committed.trees ≡ d.trees = ∥∥₁_elim holds.trees (Trees-set _ _) (finds.holds d.trees) in
     same_database s.now d (ap (λ (x : Database). x.trees) opens.clean ∙ trees) (live opens.is_open).0 holds.listed
+
+-- and it stands for the same
+pub shows_held : (image : Image) (s : State) → Opens s → IsLive s → FindsIn image s → (e : Entries) → HoldsStore image e → IsAt e s
+shows_held image s opens live finds e (d, holds, stands) =
+    (subst (λ (x : Database). Stands x e) (sym (finds_held image s d opens live finds holds)) stands, sym opens.clean, opens.is_open)
 
 lists_nothing : (objects : List Row) (schema : Schema) → objects ≡ [] → Lists objects schema → schema ≡ no_schema
 unfolding is_sound_list
@@ -60,10 +71,9 @@ module _ {D : Type 0} {g : Ghosts D} (image : Image) (now : Held (FileStore D g)
       finds_held image (file_state from.ready.found) d opened.0 opened.1 (from.finds early) holds
 
   pub opens_held : (e : Entries) → HoldsStore image e → IsAt e (file_state now)
-  opens_held e (d, holds, stands) =
-      let is = found_is d holds in
-      let opened = (from.ready.opened early).0 in
-      let found : IsAt e (file_state from.ready.found) = (subst (λ (x : Database). Stands x e) (sym is) stands, sym opened.clean, opened.is_open) in
+  opens_held e held =
+      let opened = from.ready.opened early in
+      let found = shows_held image (file_state from.ready.found) opened.0 opened.1 (from.finds early) e held in
       subst (λ (h : Held (FileStore D g)). IsAt e (file_state h)) (sym (from.ready.same (has_tables (file_state from.ready.found) found.0.schema))) found
 
   pub opens_none : HoldsNoTables image → IsAt no_entries (file_state now)
@@ -71,3 +81,16 @@ module _ {D : Type 0} {g : Ghosts D} (image : Image) (now : Held (FileStore D g)
       let opened = from.ready.opened early in
       from.ready.made clean (finds_nothing image (file_state from.ready.found) opened.0 opened.1 (from.finds early) none)
   opens_none (inr (d, holds, none)) = from.ready.made clean (ap (λ (x : Database). x.schema) (found_is d holds) ∙ none)
+
+-- what the database's open tells of files that held the image
+pub tells : {D : Type 0} {g : Ghosts D} (image : Image) (P Q : Files D → Type 0) (same : (files : Files D) → P files → Q files → image_of g files ≡ image) (left : Option (Leftover D g)) (e : Error)
+    → (left ≡ None → (e ≡ SqliteFailure CannotOpen) ⊎ ((e ≡ SqliteFailure OutOfMemory) ⊎ (e ≡ SqliteFailure DatabaseBusy)))
+    → IfSome left (λ it. (files : Files D) × P files × Q files × (IsCleanLeft it → FailsToOpenFiles files it e × LeavesFiles files it)) → IsUnopened image left e
+tells image P Q same None e system caused = system refl
+tells image P Q same (Some left) e system caused = (caused.0, same caused.0 caused.1 caused.2, caused.3)
+
+-- a refusal of files that had no tables
+pub unmade : {D : Type 0} {g : Ghosts D} (image : Image) (result : Result (Held (FileStore D g)) StoreError) (found : Held (FileStore D g)) → OpensOrTells {g = g} image (Ok found)
+    → IsBare (file_state found) → HasCause image result
+unmade image (Ok s) found finds bare = tt
+unmade image (Err e) found finds bare = λ _. inr (found, finds, bare)

@@ -1,17 +1,25 @@
 -- What an open finds and leaves.
-use Rattle.std.specs.Prelude.{◌≡◌, ◌⊎◌, false, [], IsTrue}
+use Rattle.std.specs.Prelude.{◌≡◌, ◌⊎◌, false, [], Option, None, Some, Result, Ok, Err, IsTrue, ⊤}
 use Rattle.sqlite_disk.specs.declared.Disk.{Ghosts}
+use Rattle.sqlite_disk.specs.declared.Files.{Files}
 use Rattle.sqlite.specs.declared.FileStore.{FileStore}
+use Rattle.sqlite.specs.declared.file.Leftover.{Leftover}
+use Rattle.sqlite.specs.declared.error.Error.{Error}
+use Rattle.sqlite.specs.declared.error.Error.TheVariants.{SqliteFailure}
+use Rattle.sqlite.specs.declared.error.ErrorCode.TheVariants.{CannotOpen, OutOfMemory, DatabaseBusy}
 use Rattle.sqlite.specs.Effect.{Database, IsDatabase}
 use Rattle.sqlite.specs.State.{State, HasCleanDisk, Survives}
 use Rattle.sqlite.specs.Held.{Held}
-use Rattle.sqlite.specs.Files.{file_state, HoldsDatabase, IsOpened}
+use Rattle.sqlite.specs.Files.{file_state, image_of, HoldsDatabase, IsOpened, IsCleanLeft, FailsToOpenFiles, LeavesFiles}
 use Rattle.sqlite.specs.Recovery.{Image}
 use Rattle.sqlite.specs.Start.{FindsIn}
 use Rattle.sqlite_trees.specs.Tree.{Trees}
 use Rattle.part_store.specs.Tables.{no_schema}
 use Rattle.part_store.specs.Entries.{Entries, no_entries}
 use Rattle.part_store.specs.Standing.{Stands, StandsFor}
+use Rattle.part_store.specs.Refusals.{refusal_of}
+use Rattle.part_store.specs.declared.error.StoreError.{StoreError}
+use Rattle.part_store.specs.declared.error.StoreError.TheVariants.{Database as refused}
 
 -- a database has no table, index or view
 abbrev pub IsBare : State → Type 0
@@ -60,3 +68,21 @@ IsAt e s = Stands s.now e × (s.committed ≡ s.now) × IsTrue s.is_open
 pub record IsReadyFrom {D : Type 0} {g : Ghosts D} (image : Image) (now : Held (FileStore D g)) : Type 0 where
   pub ready : IsReady now
   pub finds : HasCleanDisk (file_state ready.found) → FindsIn image (file_state ready.found)
+
+-- Why the files weren't opened. With none left the system refused them; else they are left as the database's open leaves them.
+abbrev pub IsUnopened : {D : Type 0} {g : Ghosts D} → Image → Option (Leftover D g) → Error → Type 0
+IsUnopened image None e = (e ≡ SqliteFailure CannotOpen) ⊎ ((e ≡ SqliteFailure OutOfMemory) ⊎ (e ≡ SqliteFailure DatabaseBusy))
+IsUnopened {D} {g} image (Some left) e =
+    (files : Files D) × (image_of g files ≡ image) × (IsCleanLeft left → FailsToOpenFiles files left e × LeavesFiles files left)
+
+abbrev pub OpensOrTells : {D : Type 0} {g : Ghosts D} → Image → Result (Held (FileStore D g)) Error → Type 0
+OpensOrTells image (Ok found) = HasCleanDisk (file_state found) → FindsIn image (file_state found)
+OpensOrTells {D} {g} image (Err e) = (left : Option (Leftover D g)) × IsUnopened image left e
+
+-- An open that is refused `Database` has one of two causes: the files weren't opened, or they had no tables and got none.
+abbrev pub HasCause : {D : Type 0} {g : Ghosts D} → Image → Result (Held (FileStore D g)) StoreError → Type 0
+HasCause image (Ok s) = ⊤
+HasCause {D} {g} image (Err e) =
+    e ≡ refused
+    → ((left : Option (Leftover D g)) × (error : Error) × (refusal_of error ≡ refused) × IsUnopened image left error)
+    ⊎ ((found : Held (FileStore D g)) × OpensOrTells image (Ok found) × IsBare (file_state found))

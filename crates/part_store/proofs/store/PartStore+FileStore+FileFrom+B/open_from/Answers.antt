@@ -1,4 +1,4 @@
-use Rattle.part_store.proofs.Opened.{opens_held, opens_none}
+use Rattle.part_store.proofs.Opened.{opens_held, opens_none, unmade}
 use Rattle.part_store.proofs.store.PartStore+FileStore+FileFrom+B.open_from.Goals as goal
 
 pub returns-clause-ready : goal.returns-clause-ready
@@ -20,3 +20,7 @@ returns-clause-found g c clean = opens_held _ _ (returns-clause-ready g c) clean
 
 pub returns-clause-empty : goal.returns-clause-empty
 returns-clause-empty g c clean = opens_none _ _ (returns-clause-ready g c) clean
+
+pub returns-in_err-ready_tables-clause-cause : goal.returns-in_err-ready_tables-clause-cause
+returns-in_err-ready_tables-clause-cause g c =
+    unmade _ _ c.in_ok-conn.conn c.in_ok-conn.ensures.found (c.in_err-ready_tables.ensures.bare c.in_ok-conn.ensures.fresh)
