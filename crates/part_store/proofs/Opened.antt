@@ -1,5 +1,5 @@
 -- What is opened stands for what the files held.
-use Rattle.std.proofs.Common.{◌≡◌, ◌⊎◌, Option, None, Some, IfSome, Result, Ok, Err, inl, inr, List, [], length, refl, sym, ap, subst, ◌∙◌, arith}
+use Rattle.std.proofs.Common.{◌≡◌, ◌⊎◌, Option, None, Some, IfSome, Result, Ok, Err, IfOk, inl, inr, List, [], length, refl, sym, ap, subst, ◌∙◌, arith}
 use Rattle.std.proofs.Math.Logic.{∥∥₁_elim}
 use Rattle.sqlite_disk.specs.declared.Disk.{Ghosts}
 use Rattle.sqlite_disk.specs.declared.Files.{Files}
@@ -11,7 +11,7 @@ use Rattle.sqlite.specs.declared.FileStore.{FileStore}
 use Rattle.sqlite.specs.Effect.{Database, IsDatabase}
 use Rattle.sqlite.specs.State.{State, HasCleanDisk, IsLive, Opens}
 use Rattle.sqlite.specs.Held.{Held}
-use Rattle.sqlite.specs.Files.{file_state, image_of, FailsToOpenFiles, HoldsDatabase, IsCleanLeft, IsOpened, LeavesFiles}
+use Rattle.sqlite.specs.Files.{file_state, image_of, FailsToOpenFiles, IsCleanLeft, LeavesFiles}
 use Rattle.sqlite.specs.Recovery.{Image}
 use Rattle.sqlite.specs.Start.{FindsIn}
 use Rattle.sqlite_catalog.specs.Listing.{Lists}
@@ -94,3 +94,7 @@ pub unmade : {D : Type 0} {g : Ghosts D} (image : Image) (result : Result (Held 
     → IsBare (file_state found) → HasCause image result
 unmade image (Ok s) found finds bare = tt
 unmade image (Err e) found finds bare = λ _. inr (found, finds, bare)
+
+pub ready_of : {D : Type 0} {g : Ghosts D} (image : Image) (result : Result (Held (FileStore D g)) StoreError) → IfOk result (IsReadyFrom image) → IfOk result IsReady
+ready_of image (Ok s) from = from.ready
+ready_of image (Err e) from = tt
