@@ -1,5 +1,5 @@
 -- What is opened stands for what the files held.
-use Rattle.std.proofs.Common.{◌≡◌, ◌⊎◌, Option, None, Some, IfSome, Result, Ok, Err, IfOk, inl, inr, List, [], length, refl, sym, ap, subst, ◌∙◌, arith}
+use Rattle.std.proofs.Common.{◌≡◌, ◌⊎◌, Option, None, Some, IfSome, Result, Ok, Err, IfOk, IsTrue, inl, inr, List, [], length, refl, sym, ap, subst, ◌∙◌, arith}
 use Rattle.std.proofs.Math.Logic.{∥∥₁_elim}
 use Rattle.sqlite_disk.specs.declared.Disk.{Ghosts}
 use Rattle.sqlite_disk.specs.declared.Files.{Files}
@@ -11,8 +11,9 @@ use Rattle.sqlite.specs.declared.FileStore.{FileStore}
 use Rattle.sqlite.specs.Effect.{Database, IsDatabase}
 use Rattle.sqlite.specs.State.{State, HasCleanDisk, IsLive, Opens}
 use Rattle.sqlite.specs.Held.{Held}
-use Rattle.sqlite.specs.Files.{file_state, image_of, FailsToOpenFiles, IsCleanLeft, LeavesFiles}
+use Rattle.sqlite.specs.Files.{file_state, image_of, FailsToOpenFiles, HoldsDatabase, IsCleanLeft, LeavesFiles}
 use Rattle.sqlite.specs.Recovery.{Image}
+use Rattle.sqlite.specs.Closing.{HoldsAlone, IsCopied}
 use Rattle.sqlite.specs.Start.{FindsIn}
 use Rattle.sqlite_catalog.specs.Listing.{Lists}
 use Rattle.sqlite_catalog.proofs.ReadLemmas.{lists_once}
@@ -25,7 +26,7 @@ use Rattle.sqlite_value.specs.Order.{Row}
 use Rattle.part_store.specs.Tables.{no_schema, store_schema}
 use Rattle.part_store.specs.Entries.{Entries, no_entries}
 use Rattle.part_store.specs.Standing.{Stands}
-use Rattle.part_store.specs.Opening.{HasCause, Holds, HoldsNoTables, HoldsStore, IsAt, IsBare, IsReady, IsReadyFrom, IsUnopened, OpensOrTells}
+use Rattle.part_store.specs.Opening.{HasCause, Holds, HoldsNoTables, HoldsStore, IsAt, IsBare, IsReady, IsReadyFrom, IsUnopened, KeepsStore, OpensOrTells}
 use Rattle.part_store.specs.declared.error.StoreError.{StoreError}
 
 -- a database is its trees, which list one schema
@@ -98,3 +99,15 @@ unmade image (Err e) found finds bare = λ _. inr (found, finds, bare)
 pub ready_of : {D : Type 0} {g : Ghosts D} (image : Image) (result : Result (Held (FileStore D g)) StoreError) → IfOk result (IsReadyFrom image) → IfOk result IsReady
 ready_of image (Ok s) from = from.ready
 ready_of image (Err e) from = tt
+
+-- files to which a store's last commit was copied keep the store
+pub keeps : {D : Type 0} {g : Ghosts D} (c : Held (FileStore D g)) (files : Files D) → IsCopied c files → IsLive (file_state c) → (IsTrue (file_state c).is_open → (file_state c).now ≡ (file_state c).committed)
+    → (e : Entries) → Stands (file_state c).now e → KeepsStore g files e
+keeps {D} {g} c files copied live settled e stands =
+    let same = settled copied.was_open in
+    let holds = λ (image : Image) (alone : HoldsAlone image (file_state c).committed.trees). let r : HoldsStore image e = (
+      (file_state c).now,
+      record { trees = subst (λ (d : Database). ∥ HoldsDatabase image d.trees ∥₁) (sym same) alone.both; listed = (live copied.was_open).0 },
+      stands,
+    ) in r in
+    record { seen = holds _ copied.seen; left = λ image may. holds image (copied.left image may) }

@@ -13,6 +13,7 @@ use Rattle.sqlite.specs.Held.{Held}
 use Rattle.sqlite.specs.Files.{file_state, image_of, HoldsDatabase, IsOpened, IsCleanLeft, FailsToOpenFiles, LeavesFiles}
 use Rattle.sqlite.specs.Recovery.{Image}
 use Rattle.sqlite.specs.Start.{FindsIn}
+use Rattle.sqlite.specs.WalFiles.{outcomes}
 use Rattle.sqlite_trees.specs.Tree.{Trees}
 use Rattle.part_store.specs.Tables.{no_schema}
 use Rattle.part_store.specs.Entries.{Entries, no_entries}
@@ -86,3 +87,8 @@ HasCause {D} {g} image (Err e) =
     e ≡ refused
     → ((left : Option (Leftover D g)) × (error : Error) × (refusal_of error ≡ refused) × IsUnopened image left error)
     ⊎ ((found : Held (FileStore D g)) × OpensOrTells image (Ok found) × IsBare (file_state found))
+
+-- the two files hold the store of this state, as they read now and as a crash may leave them
+pub record KeepsStore {D : Type 0} (g : Ghosts D) (files : Files D) (e : Entries) : Type 0 where
+  pub seen : HoldsStore (image_of g files) e
+  pub left : (image : Image) → outcomes g files.log files.db image → HoldsStore image e

@@ -10,10 +10,11 @@ ghost use Rattle.part_store.specs.Changes.{contents_tree, users_tree};
 ghost use Rattle.part_store.specs.Looking.{are_tables};
 ghost use Rattle.part_store.specs.Totals.{IsTotalOf};
 ghost use Rattle.part_store.specs.UserLines.{AreUsersOf, line_of};
-ghost use Rattle.sqlite.specs.Files.{file_state, IsOpened};
+ghost use Rattle.sqlite.specs.Files.{file_state, IsClosed, IsOpened};
+ghost use Rattle.sqlite.specs.WalReads.{AreClean};
 ghost use Rattle.part_store.specs.Filing.{Collides, HasRoom};
 ghost use Rattle.sqlite.specs.Steps.{over_memory};
-ghost use Rattle.part_store.specs.Opening.{HasCause, HoldsNoTables, HoldsStore, IsAt, IsBare, IsEmptied, IsKept, IsReady, IsReadyFrom, MakesEmpty, OpensOrTells};
+ghost use Rattle.part_store.specs.Opening.{HasCause, HoldsNoTables, HoldsStore, IsAt, IsBare, IsEmptied, IsKept, IsReady, IsReadyFrom, KeepsStore, MakesEmpty, OpensOrTells};
 ghost use Rattle.sqlite.specs.WalFiles.{image_at};
 
 use crate::adding::{Adding, put_entries};
@@ -27,8 +28,10 @@ use crate::totals::{ContentTotal, count_contents};
 use crate::user_row::UserRow;
 use crate::{contents, entries, tables};
 use sqlite::{
-    Alter, Connection, Error, File, FileFrom, FileStore, MemStore, Start, Transaction, Unknown,
+    Alter, Connection, Error, File, FileFrom, FileStore, Files, MemStore, Start, Transaction,
+    Unknown,
 };
+use sqlite_disk::Disk;
 use sqlite_schema::schema::Schema;
 use std::alloc::Global;
 use std::marker::Model;
@@ -431,6 +434,27 @@ impl PartStore<MemStore> {
         let mut conn = Connection::open_in_memory(alloc)?;
         ready_tables(&mut conn)?;
         Ok(PartStore { conn })
+    }
+}
+
+impl<D: Disk + Drop> PartStore<FileStore<D>> {
+    /// Closes the store: its log is copied into its file, and both are given back. They hold what the store stands for, also after
+    /// a crash, and that is what `open_from` finds in them. Refuses `Memory` and `Database`; a crash leaves what it could leave before.
+    pub fn close_files(self) -> Result<Files<D>, (StoreError, FileStore<D>)>
+        ensures holds { IfOk result (λ files. AreClean D.Disk files.log files.db
+            → (held : _) → Stands (file_state self).now held → KeepsStore D.Disk files held) }
+        ensures open { IfOk result (λ files. AreClean D.Disk files.log files.db → IsTrue (file_state self).is_open) }
+        ensures closed { IfErr result (λ e. IsClosed self e.1) }
+        ensures refused { IfErr result (λ e. (e.0 ≡ Memory) ⊎ (e.0 ≡ Database)) }
+    {
+        let PartStore { conn } = self;
+        // What holds of every connection is known where it is asked.
+        let _settled = conn.is_autocommit();
+        let _live = conn.schema();
+        match conn.close_files() {
+            Ok(files) => Ok(files),
+            Err((error, store)) => Err((StoreError::from(error), store)),
+        }
     }
 }
 
