@@ -21,7 +21,11 @@ use std::io::{self, ErrorKind};
 pub fn words(alloc: Global, args: Args) -> Result<Vec<String>, AllocError>
     ensures { IfOk result (λ words. words.items ≡ into_iter_items args) }
 {
-    args.collect(alloc)
+    let mut words = Vec::new(alloc);
+    for word in args {
+        words.push(word)?;
+    }
+    Ok(words)
 }
 
 /// Words as texts, all of them and in their order.
