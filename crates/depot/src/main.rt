@@ -79,6 +79,6 @@ fn inspect_file<O: Sink, E: Sink>(rt: &HostRuntime, name: &str, out: &mut O, err
 // copies it.
 fn close<W: Drop>(opened: Result<Depot<FileStore<File>>, W>) {
     if let Ok(depot) = opened {
-        let _ = depot.release().release().close();
+        let _ = depot.release().close_files();
     }
 }
