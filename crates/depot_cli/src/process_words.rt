@@ -1,6 +1,8 @@
 // The words of a process.
-ghost use Rattle.std.specs.Prelude.{◌≡◌, ◌≢◌, ◌⊎◌, IfOk, codes, map, string_bytes};
+ghost use Rattle.std.specs.Prelude.{◌≡◌, ◌≢◌, IfOk, codes, map, string_bytes};
+ghost use Rattle.std.specs.IoError.{error_kind};
 ghost use Rattle.std.specs.Vec.Iter.{into_iter_items};
+ghost use Rattle.std.specs.declared.io.ErrorKind.TheVariants.{OutOfMemory};
 ghost use Rattle.depot_cli.specs.Jobs.{HasTold};
 ghost use Rattle.depot_cli.specs.Running.{HasShown, refused, usage};
 ghost use Rattle.refusals.specs.declared.refusal.Refusal.TheVariants.{Memory};
@@ -46,8 +48,10 @@ pub fn texts<'a>(alloc: Global, words: &'a [String]) -> Result<Vec<&'a str>, All
 /// Tells why the words of a process can't be had, and gives the status: 1 and the line of `Memory` where an allocation was refused, else
 /// 2 and that a word isn't UTF-8.
 pub fn tell_no_words<E: Sink>(err: &mut E, fault: &io::Error) -> u8
-    ensures { ((result ≡ refused) × HasTold Memory (E.output err.old) (E.output err.new))
-        ⊎ ((result ≡ usage) × HasShown (codes "error: a word isn't UTF-8\n") (E.output err.old) (E.output err.new)) }
+    ensures memory { error_kind fault.now ≡ OutOfMemory
+        → (result ≡ refused) × HasTold Memory (E.output err.old) (E.output err.new) }
+    ensures other { error_kind fault.now ≢ OutOfMemory
+        → (result ≡ usage) × HasShown (codes "error: a word isn't UTF-8\n") (E.output err.old) (E.output err.new) }
 {
     if fault.kind() == ErrorKind::OutOfMemory {
         return tell(err, &Refusal::Memory);
