@@ -1,0 +1,8 @@
+//! Bytecode that people can read and write: programs as listings.
+#![tactic(auto)]
+
+mod names;
+mod writing;
+
+pub use names::name_of;
+pub use writing::disassemble;
