@@ -1,6 +1,8 @@
 //! Bytecode that people can read and write: programs as listings.
 #![tactic(auto)]
 
+#[cfg(test)]
+mod ample;
 mod names;
 mod writing;
 
