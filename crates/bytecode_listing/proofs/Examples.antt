@@ -1,8 +1,7 @@
 -- Listings, by computation.
-use Rattle.std.proofs.Common.{◌≡◌, ℕ, [], ◌∷◌, ◌++◌, codes, refl}
+use Rattle.std.proofs.Common.{◌≡◌, [], ◌∷◌, codes, refl}
 use Rattle.std.specs.Fmt.{digits}
-use Rattle.bytecode_format.specs.Code.{Code}
-use Rattle.bytecode_listing.specs.Listing.{listing_of, quoted, two_digits, operation_text, fields_text, instruction_text, line}
+use Rattle.bytecode_listing.specs.Listing.{listing_of, quoted, operation_text, fields_text, instruction_text}
 
 -- a quote, a backslash and what isn't printed are told by their digits
 quotes : quoted (97 ∷ 0 ∷ 97 ∷ 34 ∷ 98 ∷ 92 ∷ 126 ∷ 127 ∷ 255 ∷ []) ≡ codes "\"a\\00a\\22b\\5c~\\7f\\ff\""
