@@ -1,0 +1,43 @@
+-- What operations are called.
+use Rattle.std.specs.Prelude.{ℕ, List, [], ◌∷◌, Option, Some, None, bytes_eq, if◌then◌else◌, codes}
+use Rattle.bytecode_format.specs.Operations.{operations}
+use Rattle.bytecode_format.specs.declared.operation.Operation.{Operation}
+use Rattle.bytecode_format.specs.declared.operation.Operation.TheVariants.{Halt, Literal, Variable, Capture, Join, Set, Bool, Not, Jump, JumpIfTrue, JumpIfFalse, Header, Exists, String, Size, PartSize, PartBody, PartDigest, Keep, Discard, File, Store, Each, Next, Break, Take}
+
+-- the name of an operation
+abbrev pub name_of : Operation → List ℕ
+name_of Halt = codes "HALT"
+name_of Literal = codes "LIT"
+name_of Variable = codes "VAR"
+name_of Capture = codes "CAP"
+name_of Join = codes "JOIN"
+name_of Set = codes "SET"
+name_of Bool = codes "BOOL"
+name_of Not = codes "NOT"
+name_of Jump = codes "JMP"
+name_of JumpIfTrue = codes "JT"
+name_of JumpIfFalse = codes "JF"
+name_of Header = codes "HEADER"
+name_of Exists = codes "EXISTS"
+name_of String = codes "STRING"
+name_of Size = codes "SIZE"
+name_of PartSize = codes "PARTSIZE"
+name_of PartBody = codes "PARTBODY"
+name_of PartDigest = codes "PARTDIGEST"
+name_of Keep = codes "KEEP"
+name_of Discard = codes "DISCARD"
+name_of File = codes "FILE"
+name_of Store = codes "STORE"
+name_of Each = codes "EACH"
+name_of Next = codes "NEXT"
+name_of Break = codes "BREAK"
+name_of Take = codes "TAKE"
+
+-- the first of some operations that has this name
+abbrev pub named_among : List Operation → List ℕ → Option Operation
+named_among [] name = None
+named_among (operation ∷ others) name = if bytes_eq (name_of operation) name then Some operation else named_among others name
+
+-- the operation of this name
+abbrev pub operation_named : List ℕ → Option Operation
+operation_named name = named_among operations name

@@ -1,0 +1,39 @@
+// What operations are called.
+ghost use Rattle.std.specs.Prelude.{◌≡◌};
+ghost use Rattle.bytecode_listing.specs.Names.{name_of};
+
+use bytecode_format::Operation;
+
+/// The operation's name in a listing.
+pub fn name_of(operation: Operation) -> &'static [u8]
+    ensures { result.now ≡ name_of operation }
+{
+    match operation {
+        Operation::Halt => b"HALT",
+        Operation::Literal => b"LIT",
+        Operation::Variable => b"VAR",
+        Operation::Capture => b"CAP",
+        Operation::Join => b"JOIN",
+        Operation::Set => b"SET",
+        Operation::Bool => b"BOOL",
+        Operation::Not => b"NOT",
+        Operation::Jump => b"JMP",
+        Operation::JumpIfTrue => b"JT",
+        Operation::JumpIfFalse => b"JF",
+        Operation::Header => b"HEADER",
+        Operation::Exists => b"EXISTS",
+        Operation::String => b"STRING",
+        Operation::Size => b"SIZE",
+        Operation::PartSize => b"PARTSIZE",
+        Operation::PartBody => b"PARTBODY",
+        Operation::PartDigest => b"PARTDIGEST",
+        Operation::Keep => b"KEEP",
+        Operation::Discard => b"DISCARD",
+        Operation::File => b"FILE",
+        Operation::Store => b"STORE",
+        Operation::Each => b"EACH",
+        Operation::Next => b"NEXT",
+        Operation::Break => b"BREAK",
+        Operation::Take => b"TAKE",
+    }
+}

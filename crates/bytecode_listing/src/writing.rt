@@ -1,0 +1,184 @@
+// Programs as listings.
+ghost use Rattle.std.specs.Prelude.{◌≡◌, ◌++◌, ◌<◌, false, IfOk, OnOk, codes};
+ghost use Rattle.std.specs.List.{flat_map};
+ghost use Rattle.std.specs.Fmt.{decimal, digit_glyph};
+ghost use Rattle.bytecode_listing.specs.Listing.{is_plain, two_digits, escaped_octet, quoted, operation_text, field_text, fields_text, instruction_text, instruction_lines, number_line, string_line, line, listing_of};
+
+use crate::names::name_of;
+use bytecode_format::{Instruction, Operation, Program};
+use itoa::Buffer;
+use octets::Octets;
+use std::alloc::{AllocError, Global};
+
+// Appends a number in decimal digits.
+fn put_number(out: &mut Vec<u8>, number: u64) -> Result<(), AllocError>
+    ensures { OnOk result (out.new.items ≡ out.old.items ++ decimal number) }
+{
+    out.extend_from_slice(Buffer::new().format(number as u128).as_bytes())
+}
+
+// A hexadecimal digit.
+fn digit(n: u8) -> u8
+    requires { n < 16 }
+    ensures { result ≡ digit_glyph false n }
+{
+    if n < 10 { b'0' + n } else { b'a' - 10 + n }
+}
+
+// Appends an octet as two hexadecimal digits.
+fn put_digits(out: &mut Vec<u8>, octet: u8) -> Result<(), AllocError>
+    ensures { OnOk result (out.new.items ≡ out.old.items ++ two_digits octet) }
+{
+    out.extend_from_slice(&[digit(octet / 16), digit(octet % 16)])
+}
+
+// Whether an octet stands for itself between quotes.
+fn is_plain(octet: u8) -> bool
+    ensures { result ≡ is_plain octet }
+{
+    matches!(octet, 32..=126) && !matches!(octet, b'"' | b'\\')
+}
+
+// Appends an octet between quotes.
+fn put_octet(out: &mut Vec<u8>, octet: u8) -> Result<(), AllocError>
+    ensures { OnOk result (out.new.items ≡ out.old.items ++ escaped_octet octet) }
+{
+    if is_plain(octet) {
+        Ok(out.push(octet)?)
+    } else {
+        out.push(b'\\')?;
+        put_digits(out, octet)
+    }
+}
+
+// Appends octets as they stand between quotes.
+fn put_escaped(out: &mut Vec<u8>, octets: &[u8]) -> Result<(), AllocError>
+    ensures { OnOk result (out.new.items ≡ out.old.items ++ flat_map escaped_octet octets.now) }
+{
+    'octets: for octet in octets {
+        put_octet(out, *octet)?;
+    }
+    Ok(())
+}
+
+// Appends octets between quotes.
+fn put_quoted(out: &mut Vec<u8>, octets: &[u8]) -> Result<(), AllocError>
+    ensures { OnOk result (out.new.items ≡ out.old.items ++ quoted octets.now) }
+{
+    out.push(b'"')?;
+    put_escaped(out, octets)?;
+    Ok(out.push(b'"')?)
+}
+
+// Appends an operation's name, or OP and the octet that names none.
+fn put_operation(out: &mut Vec<u8>, octet: u8) -> Result<(), AllocError>
+    ensures { OnOk result (out.new.items ≡ out.old.items ++ operation_text octet) }
+{
+    if let Some(operation) = Operation::of(octet) {
+        out.extend_from_slice(name_of(operation))
+    } else {
+        out.extend_from_slice(b"OP ")?;
+        put_digits(out, octet)
+    }
+}
+
+// Appends a field, unless it is 0.
+fn put_field(out: &mut Vec<u8>, name: &[u8], number: u64) -> Result<(), AllocError>
+    ensures { OnOk result (out.new.items ≡ out.old.items ++ field_text name.now number) }
+{
+    if number == 0 {
+        return Ok(());
+    }
+    out.push(b' ')?;
+    out.extend_from_slice(name)?;
+    out.push(b' ')?;
+    put_number(out, number)
+}
+
+// Appends the fields of an instruction.
+fn put_fields(out: &mut Vec<u8>, instruction: Instruction) -> Result<(), AllocError>
+    ensures { OnOk result (out.new.items ≡ out.old.items ++ fields_text instruction) }
+{
+    put_field(out, b"a", u64::from(instruction.a))?;
+    put_field(out, b"b", u64::from(instruction.b))?;
+    put_field(out, b"c", u64::from(instruction.c))
+}
+
+// Appends the line of an instruction.
+fn put_instruction(
+    out: &mut Vec<u8>,
+    place: usize,
+    instruction: Instruction,
+) -> Result<(), AllocError>
+    ensures { OnOk result (out.new.items ≡ out.old.items ++ line (instruction_text place instruction)) }
+{
+    put_number(out, place as u64)?;
+    out.push(b' ')?;
+    put_operation(out, instruction.op)?;
+    put_fields(out, instruction)?;
+    Ok(out.push(b'\n')?)
+}
+
+// Appends the lines of instructions.
+fn put_instructions(out: &mut Vec<u8>, instructions: &[Instruction]) -> Result<(), AllocError>
+    ensures { OnOk result (out.new.items ≡ out.old.items ++ instruction_lines 0 instructions.now) }
+{
+    'table: for place in 0..instructions.len() {
+        put_instruction(out, place, instructions[place])?;
+    }
+    Ok(())
+}
+
+// Appends a line of a word and a number.
+fn put_count(out: &mut Vec<u8>, word: &[u8], number: u64) -> Result<(), AllocError>
+    ensures { OnOk result (out.new.items ≡ out.old.items ++ line (word.now ++ decimal number)) }
+{
+    out.extend_from_slice(word)?;
+    put_number(out, number)?;
+    Ok(out.push(b'\n')?)
+}
+
+// Appends the lines of numbers.
+fn put_numbers(out: &mut Vec<u8>, numbers: &[u64]) -> Result<(), AllocError>
+    ensures { OnOk result (out.new.items ≡ out.old.items ++ flat_map number_line numbers.now) }
+{
+    'table: for number in numbers {
+        put_count(out, b"number ", *number)?;
+    }
+    Ok(())
+}
+
+// Appends the line of a string.
+fn put_string(out: &mut Vec<u8>, text: &[u8]) -> Result<(), AllocError>
+    ensures { OnOk result (out.new.items ≡ out.old.items ++ string_line text.now) }
+{
+    out.extend_from_slice(b"string ")?;
+    put_quoted(out, text)?;
+    Ok(out.push(b'\n')?)
+}
+
+// Appends the lines of strings.
+fn put_strings(out: &mut Vec<u8>, strings: &[Octets]) -> Result<(), AllocError>
+    ensures { OnOk result (out.new.items ≡ out.old.items ++ flat_map string_line strings.now) }
+{
+    'table: for text in strings {
+        put_string(out, text.as_slice())?;
+    }
+    Ok(())
+}
+
+/// The listing of a program: a line for its version, one for its number of variables, one for each
+/// number, string and instruction. LF ends each line.
+///
+/// An error comes only where memory was refused.
+pub fn disassemble(alloc: Global, program: &Program) -> Result<Vec<u8>, AllocError>
+    ensures { IfOk result (λ v. v.items ≡ listing_of program.now) }
+{
+    let mut out = Vec::new(alloc);
+    put_count(&mut out, b"version ", u64::from(program.version()))?;
+    put_count(&mut out, b"variables ", u64::from(program.variables()))?;
+    put_numbers(&mut out, program.numbers())?;
+    put_strings(&mut out, program.strings())?;
+    put_instructions(&mut out, program.instructions())?;
+    Ok(out)
+}
