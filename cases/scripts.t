@@ -18,3 +18,11 @@ Only if: command -v cc # there is no C compiler
     $ "$TOP/bench/refused_allocations" depot --sample > report || cat report
     $ grep -c ' 0 odd$' report
     1
+
+## files that were cut, changed in a bit, or made by others
+Only if: python3 -c 'import sqlite3' # there is no sqlite3 for python3
+    $ "$TOP/cases/changed_files" depot
+    cut at each of 18 pages: refused
+    one bit changed: usual 36, refused 2, other 62
+    other tables: refused
+    a column more: usual
