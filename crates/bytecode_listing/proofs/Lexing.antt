@@ -1,12 +1,12 @@
 -- Tokens, octet by octet.
 use Rattle.std.proofs.Common.{◌≡◌, ℕ, zero, suc, ◌+◌, ◌*◌, ◌<◌, ◌≤◌, ◌==◌, ◌&&◌, ◌||◌, Bool, true, false, cond, if◌then◌else◌, List, [], ◌∷◌, ◌++◌, length, take, drop, Option, Some, None, Result, Ok, Err, refl, sym, ap, subst, ◌∙◌, append_assoc, arith}
-use Rattle.std.specs.Prelude.{bytes_eq, nat_le}
+use Rattle.std.specs.Prelude.{bytes_eq, nat_le, not}
 use Rattle.std.specs.List.{prefix_len, take_while}
 use Rattle.std.specs.Char.{digit_value, is_ascii_digit}
 use Rattle.std.proofs.lemmas.List.{append-nil}
 use Rattle.std.proofs.lemmas.Bool.Decides.{nat_tests}
 use Rattle.bytecode_listing.specs.Tokens.{Token, Word, Text, Wrong, Placed, Stand, Between, Comment, InWord, InText, Escape, Digit, Stopped, is_white, is_word_octet, is_hex, begun, after, ended, tokens_from, tokens_of}
-use Rattle.bytecode_listing.specs.Items.{Tokens, word_in, word_at, text_in, text_at, left_at, begins_with, begins_number, is_word}
+use Rattle.bytecode_listing.specs.Items.{Tokens, word_in, word_at, text_in, text_at, left_at, is_left, begins_with, begins_number, is_word}
 use Rattle.bytecode_listing.specs.Readers.{IsStart, led, escape_at, said_at}
 
 -- ---- blanks and comments
@@ -212,6 +212,9 @@ escape_stops start said (x ∷ y ∷ more) e = first_class (is_hex x) (by_class 
     first_class true h = h
     first_class false h = h
 
+pub unequal : (a b : ℕ) → (a ≡ b → ⊥) → (a == b) ≡ false
+unequal a b h = grind (arith, nat_tests)
+
 -- one octet of a string
 pub said_stops : (start : ℕ) (said octets rest : List ℕ) (x : ℕ) → octets ≡ x ∷ rest → (x == 34) ≡ false → said_at x rest ≡ None → text_at (tokens_from (InText start said) octets) ≡ Err start
 unfolding tokens_from
@@ -244,3 +247,13 @@ text_ends start said rest = refl
 pub text_broken : (start : ℕ) (said : List ℕ) → text_at (tokens_from (InText start said) []) ≡ Err start
 unfolding tokens_from
 text_broken start said = refl
+
+-- a token is left where an octet is that is neither blank nor in a comment
+pub some_left : (text : List ℕ) → IsStart text → not (length text == 0) ≡ is_left (tokens_of text)
+unfolding tokens_from
+some_left [] h = refl
+some_left (x ∷ rest) h = by_tokens (tokens_of (x ∷ rest)) (first_left (x ∷ rest) h)
+  where
+    by_tokens : (tokens : Tokens) → suc (length rest) ≡ left_at tokens → not (suc (length rest) == 0) ≡ is_left tokens
+    by_tokens [] e = absurd (omega (arith, e))
+    by_tokens (t ∷ tokens) e = grind arith

@@ -1,22 +1,10 @@
--- Names and numbers, one step at a time.
+-- Numbers, one digit at a time.
 use Rattle.std.proofs.Common.{◌≡◌, ℕ, zero, suc, ◌+◌, ◌-◌, ◌*◌, ◌^◌, ◌<◌, ◌≤◌, ◌&&◌, nat_lt, Bool, true, false, if◌then◌else◌, List, [], ◌∷◌, drop, Option, Some, None, refl, sym, ap, ◌∙◌, arith}
-use Rattle.std.specs.Prelude.{slice_get}
 use Rattle.std.specs.Str.{all_ascii_digits}
 use Rattle.std.specs.Char.{is_ascii_digit}
-use Rattle.std.proofs.lemmas.Bool.{le-ltb, ltb-false}
+use Rattle.std.proofs.lemmas.Bool.{le-ltb, lt-ltb, ltb-false}
 use Rattle.bytecode_listing.specs.Items.{value_from}
 use Rattle.bytecode_listing.specs.Readers.{decimal_on}
-
-pub here : {A : Type 0} (xs : List A) (k : ℕ) (x : A) → slice_get xs k ≡ Some x → drop k xs ≡ x ∷ drop (suc k) xs
-here [] k x e = absurd cc
-here {A} (y ∷ ys) zero x e = let same : y ≡ x = cc in ap (λ (z : A). z ∷ ys) same
-here (y ∷ ys) (suc k) x e = here ys k x e
-
-pub past : {A : Type 0} (xs : List A) (k : ℕ) → slice_get xs k ≡ None → drop k xs ≡ []
-past [] zero e = refl
-past [] (suc k) e = refl
-past (y ∷ ys) zero e = absurd cc
-past (y ∷ ys) (suc k) e = past ys k e
 
 -- one digit more
 abbrev pub one_more : ℕ → ℕ → Option ℕ
@@ -51,3 +39,6 @@ digit_stops value digit text rest t e =
         none true = refl
         none false = refl
     by_class false b f e = refl
+
+pub no_digit_left : (value : ℕ) → value < 2 ^ 64 → decimal_on value [] ≡ Some value
+no_digit_left value small = ap (λ b. if b then Some value else None) (lt-ltb value (2 ^ 64) small)

@@ -1,6 +1,6 @@
 -- What a listing says: the items that its tokens are, in their order.
 -- Reading gives a value and the tokens after it, or how many octets are left where the first token begins that can't stand there.
-use Rattle.std.specs.Prelude.{◌≡◌, ℕ, zero, suc, ◌+◌, ◌-◌, ◌*◌, ◌^◌, ◌&&◌, ◌==◌, nat_le, nat_lt, Bool, true, false, not, List, [], ◌∷◌, length, Option, Some, None, is_some, unwrap_or, Result, Ok, Err, bytes_eq, codes, if◌then◌else◌}
+use Rattle.std.specs.Prelude.{◌≡◌, ℕ, zero, suc, ◌+◌, ◌-◌, ◌*◌, ◌^◌, ◌&&◌, ◌==◌, nat_le, nat_lt, Bool, true, false, not, List, [], ◌∷◌, length, Option, Some, None, is_some, unwrap_or, Result, Ok, Err, MatchResult, bytes_eq, codes, if◌then◌else◌}
 use Rattle.std.specs.Str.{all_ascii_digits}
 use Rattle.std.specs.Char.{digit_value, is_ascii_digit}
 use Rattle.octets.specs.Limits.{max_variables, max_string}
@@ -160,8 +160,10 @@ many_at begins item (suc most) place tokens =
 abbrev pub all_at : {A : Type 0} → (Tokens → Bool) → (ℕ → Tokens → Result (A × Tokens) ℕ) → Tokens → Result (List A × Tokens) ℕ
 all_at begins item tokens = many_at begins item (length tokens) 0 tokens
 
+-- whether a token is left
 abbrev pub is_left : Tokens → Bool
-is_left tokens = not (length tokens == 0)
+is_left [] = false
+is_left (token ∷ rest) = true
 
 -- a listing's tokens: version, variables, numbers, strings and instructions
 unfoldable pub items_at : Tokens → Result Code ℕ
@@ -183,3 +185,8 @@ said_by listing = items_at (tokens_of listing)
 pub record Lists (listing : List ℕ) (code : Code) : Type 0 where
   pub says : said_by listing ≡ Ok code
   pub within : IsProgram code
+
+-- The first fault of a listing, after so many octets: the token that can't stand there, or the listing's end where all can, and what is
+-- said exceeds the limits of a program.
+abbrev pub FaultsAt : List ℕ → ℕ → Type 0
+FaultsAt listing place = MatchResult (said_by listing) (λ code. (place ≡ length listing) × ¬ IsProgram code) (λ left. place ≡ length listing - left)

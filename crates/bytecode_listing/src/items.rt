@@ -14,7 +14,7 @@ use std::alloc::Global;
 
 /// Reads this word.
 #[tactic(auto, unfolding(crate::specs::Items::keyword_at))]
-fn keyword_of<'a>(octets: &'a [u8], word: &[u8]) -> Result<&'a [u8], ReadError>
+pub fn keyword_of<'a>(octets: &'a [u8], word: &[u8]) -> Result<&'a [u8], ReadError>
     ensures { Gives (λ x. tokens_of x.now) result (keyword_at word.now (tokens_of octets.now)) }
 {
     let (read, rest) = word_of(octets)?;

@@ -1,12 +1,16 @@
 //! Bytecode that people can read and write: programs as listings.
 #![tactic(auto)]
 
+#[cfg(test)]
+mod ample;
+mod assembling;
 mod error;
 mod items;
 mod names;
 mod tokens;
 mod writing;
 
+pub use assembling::assemble;
 pub use error::ListingError;
 pub use names::name_of;
 pub use writing::disassemble;

@@ -2,7 +2,7 @@
 ghost use Rattle.std.specs.Prelude.{◌≡◌, ◌∷◌, ◌≤◌, ◌<◌, [], length, MatchOption, MatchResult, option_map, IfSome, Some, None, if◌then◌else◌};
 ghost use Rattle.std.specs.List.{take_while};
 ghost use Rattle.bytecode_listing.specs.Tokens.{Comment, InText, Text, is_white, is_hex, is_word_octet, tokens_of, tokens_from};
-ghost use Rattle.bytecode_listing.specs.Items.{word_at, text_in, text_at, left_at, begins_with, begins_number};
+ghost use Rattle.bytecode_listing.specs.Items.{word_at, text_in, text_at, left_at, is_left, begins_with, begins_number};
 ghost use Rattle.bytecode_listing.specs.Readers.{Fails, Gives, IsStart, escape_at, led, octet_from, said_at};
 ghost use Rattle.std.specs.Char.{digit_value};
 
@@ -102,6 +102,13 @@ pub fn left_at(octets: &[u8]) -> usize
     ensures { result ≡ left_at (tokens_of octets.now) }
 {
     token_start(octets).len()
+}
+
+/// Whether a token is left.
+pub fn is_left(octets: &[u8]) -> bool
+    ensures { result ≡ is_left (tokens_of octets.now) }
+{
+    !token_start(octets).is_empty()
 }
 
 /// Whether the tokens begin with this word, which isn't empty.
