@@ -1,12 +1,12 @@
 -- Tokens, octet by octet.
-use Rattle.std.proofs.Common.{◌≡◌, ℕ, zero, suc, ◌+◌, ◌*◌, ◌<◌, ◌≤◌, ◌==◌, ◌&&◌, ◌||◌, Bool, true, false, cond, if◌then◌else◌, List, [], ◌∷◌, ◌++◌, length, take, drop, Option, Some, None, Result, Ok, Err, refl, sym, ap, subst, ◌∙◌, append_assoc, arith}
-use Rattle.std.specs.Prelude.{bytes_eq, nat_le, not}
+use Rattle.std.proofs.Common.{◌≡◌, ℕ, suc, ◌+◌, ◌*◌, ◌<◌, ◌==◌, ◌&&◌, Bool, true, false, cond, if◌then◌else◌, List, [], ◌∷◌, ◌++◌, length, take, drop, Option, Some, None, Err, refl, sym, ap, ◌∙◌, append_assoc, arith}
+use Rattle.std.specs.Prelude.{not}
 use Rattle.std.specs.List.{prefix_len, take_while}
-use Rattle.std.specs.Char.{digit_value, is_ascii_digit}
+use Rattle.std.specs.Char.{digit_value}
 use Rattle.std.proofs.lemmas.List.{append-nil}
 use Rattle.std.proofs.lemmas.Bool.Decides.{nat_tests}
 use Rattle.bytecode_listing.specs.Tokens.{Token, Word, Text, Wrong, Placed, Stand, Between, Comment, InWord, InText, Escape, Digit, Stopped, is_white, is_word_octet, is_hex, begun, after, ended, tokens_from, tokens_of}
-use Rattle.bytecode_listing.specs.Items.{Tokens, word_in, word_at, text_in, text_at, left_at, is_left, begins_with, begins_number, is_word}
+use Rattle.bytecode_listing.specs.Items.{Tokens, word_in, word_at, text_in, text_at, left_at, is_left}
 use Rattle.bytecode_listing.specs.Readers.{IsStart, led, escape_at, said_at}
 
 -- ---- blanks and comments
@@ -65,6 +65,7 @@ stopped_word start (x ∷ rest) = stopped_word start rest
 
 abbrev mutual
   unfolding tokens_from
+
   text_word : (start : ℕ) (said rest : List ℕ) → word_at (tokens_from (InText start said) rest) ≡ Err start
   text_word start said [] = refl
   text_word start said (x ∷ rest) = text_step (x == 34) (x == 92) start said (said ++ x ∷ []) rest (escape_word start said rest) (text_word start (said ++ x ∷ []) rest)
@@ -148,11 +149,11 @@ pub first_left : (text : List ℕ) → IsStart text → length text ≡ left_at 
 unfolding tokens_from
 first_left [] h = refl
 first_left (x ∷ rest) h = sym (
-  ap left_at (begins_so x rest h.0 h.1)
-  ∙ choice (x == 34) (λ s. left_at (tokens_from s rest) ≡ suc (length rest)) (InText (suc (length rest)) []) (if is_word_octet x then InWord (suc (length rest)) (x ∷ []) else Stopped (suc (length rest)))
-  (text_left (suc (length rest)) [] rest)
-  (choice (is_word_octet x) (λ s. left_at (tokens_from s rest) ≡ suc (length rest)) (InWord (suc (length rest)) (x ∷ [])) (Stopped (suc (length rest))) (ap left_at (word_run (suc (length rest)) (x ∷ []) rest)) (stopped_left (suc (length rest)) rest))
-)
+    ap left_at (begins_so x rest h.0 h.1)
+    ∙ choice (x == 34) (λ s. left_at (tokens_from s rest) ≡ suc (length rest)) (InText (suc (length rest)) []) (if is_word_octet x then InWord (suc (length rest)) (x ∷ []) else Stopped (suc (length rest)))
+    (text_left (suc (length rest)) [] rest)
+    (choice (is_word_octet x) (λ s. left_at (tokens_from s rest) ≡ suc (length rest)) (InWord (suc (length rest)) (x ∷ [])) (Stopped (suc (length rest))) (ap left_at (word_run (suc (length rest)) (x ∷ []) rest)) (stopped_left (suc (length rest)) rest))
+    )
 
 -- ---- what the readers need
 

@@ -1,5 +1,5 @@
 -- Names of operations, one octet after the other.
-use Rattle.std.proofs.Common.{◌≡◌, ℕ, zero, suc, ◌+◌, ◌-◌, ◌<◌, ◌≤◌, Bool, true, false, if◌then◌else◌, List, [], ◌∷◌, drop, length, Option, Some, None, refl, sym, ap, subst, ◌∙◌, inl, inr, arith}
+use Rattle.std.proofs.Common.{◌≡◌, ℕ, zero, suc, ◌+◌, ◌-◌, ◌≤◌, true, false, if◌then◌else◌, List, [], ◌∷◌, drop, Some, None, refl, sym, ap, subst, ◌∙◌, inl, inr, arith}
 use Rattle.std.specs.Prelude.{slice_get, bytes_eq}
 use Rattle.std.proofs.lemmas.Bool.{cases_lt}
 use Rattle.std.proofs.lemmas.Option.{slice_get_past}
@@ -41,8 +41,8 @@ pub named_here : (octet : ℕ) (operation : Operation) (name : List ℕ) → 1 �
 unfolding named_among
 named_here octet operation name one e same =
     sym (
-      ap (λ (ops : List Operation). named_among octet ops name) (at_octet octet (octet - 1) operation (omega arith) e)
-      ∙ ap (λ b. if b then Some octet else named_among (suc octet) (drop octet operations) name) same
+    ap (λ (ops : List Operation). named_among octet ops name) (at_octet octet (octet - 1) operation (omega arith) e)
+    ∙ ap (λ b. if b then Some octet else named_among (suc octet) (drop octet operations) name) same
     )
 
 pub named_on : (octet : ℕ) (operation : Operation) (name : List ℕ) → 1 ≤ octet → operation_of octet ≡ Some operation → bytes_eq (name_of operation) name ≡ false
@@ -54,8 +54,8 @@ named_on octet operation name one e other =
     ap (λ n. named_among (octet + 1) (drop n operations) name) next
     ∙ ap (λ n. named_among n (drop octet operations) name) more
     ∙ sym (
-      ap (λ (ops : List Operation). named_among octet ops name) (at_octet octet (octet - 1) operation (omega arith) e)
-      ∙ ap (λ b. if b then Some octet else named_among (suc octet) (drop octet operations) name) other
+    ap (λ (ops : List Operation). named_among octet ops name) (at_octet octet (octet - 1) operation (omega arith) e)
+    ∙ ap (λ b. if b then Some octet else named_among (suc octet) (drop octet operations) name) other
     )
 
 pub named_last : (octet : ℕ) (name : List ℕ) → 1 ≤ octet → operation_of octet ≡ None → None ≡ named_among octet (drop (octet - 1) operations) name

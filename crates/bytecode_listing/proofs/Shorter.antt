@@ -1,9 +1,9 @@
 -- What a reader leaves is shorter than what it was given.
-use Rattle.std.proofs.Common.{◌≡◌, ℕ, zero, suc, ◌+◌, ◌^◌, ◌-◌, ◌<◌, ◌≤◌, Bool, true, false, if◌then◌else◌, List, [], ◌∷◌, length, Option, Some, None, is_some, Result, Ok, Err, refl, codes, arith}
+use Rattle.std.proofs.Common.{ℕ, suc, ◌^◌, ◌-◌, ◌<◌, ◌≤◌, Bool, true, false, if◌then◌else◌, List, [], ◌∷◌, length, Option, Some, None, is_some, Result, Ok, Err, codes, arith}
 use Rattle.std.specs.Prelude.{bytes_eq, nat_le, unwrap_or}
 use Rattle.bytecode_format.specs.declared.instruction.Instruction.{Instruction}
 use Rattle.bytecode_listing.specs.Names.{octet_named}
-use Rattle.bytecode_listing.specs.Tokens.{Token, Word, Text, Wrong, Placed}
+use Rattle.bytecode_listing.specs.Tokens.{Token, Word, Text, Wrong}
 use Rattle.bytecode_listing.specs.Items.{Tokens, ◌>>=◌, left_at, word_in, word_at, text_in, text_at, begins_with, begins_number, keyword_at, value_from, is_within, number_at, octet_in, found, octet_at, operation_at, field_number, field_at, Fields, round_at, fields_at, place_at, instruction_at, number_item, string_item}
 
 -- fewer tokens than that are left, where something was read

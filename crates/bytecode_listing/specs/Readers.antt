@@ -1,5 +1,5 @@
 -- How the private readers go; nothing public rests on it.
-use Rattle.std.specs.Prelude.{◌≡◌, ℕ, ◌+◌, ◌*◌, ◌^◌, ◌&&◌, nat_lt, if◌then◌else◌, Bool, false, List, [], ◌∷◌, ◌++◌, length, Option, Some, None, Result, Ok, Err, ◌==◌}
+use Rattle.std.specs.Prelude.{◌≡◌, ℕ, ◌+◌, ◌*◌, ◌^◌, ◌&&◌, nat_lt, if◌then◌else◌, false, List, [], ◌∷◌, length, Option, Some, None, Result, Ok, Err, ◌==◌}
 use Rattle.std.specs.Char.{digit_value}
 use Rattle.std.specs.Str.{all_ascii_digits}
 use Rattle.bytecode_listing.specs.declared.error.ReadError.{ReadError}

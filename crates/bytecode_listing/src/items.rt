@@ -120,11 +120,7 @@ struct Fields {
 
 // Reads a field's name and its number.
 #[tactic(auto, unfolding(crate::specs::Items::field_number))]
-fn field_of<'a>(
-    octets: &'a [u8],
-    name: &[u8],
-    highest: u64,
-) -> Result<(u64, &'a [u8]), ReadError>
+fn field_of<'a>(octets: &'a [u8], name: &[u8], highest: u64) -> Result<(u64, &'a [u8]), ReadError>
     ensures number { Gives (λ x. (x.0, tokens_of x.1.now)) result (field_number name.now highest (tokens_of octets.now)) }
     ensures small { IfOk result (λ x. x.0 ≤ highest) }
 {

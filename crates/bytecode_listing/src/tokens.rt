@@ -74,7 +74,10 @@ fn token_start(octets: &[u8]) -> &[u8]
 fn word_len(octets: &[u8]) -> usize
     ensures { result ≡ length (take_while is_word_octet octets.now) }
 {
-    octets.iter().take_while(|octet| is_word_octet(**octet)).count()
+    octets
+        .iter()
+        .take_while(|octet| is_word_octet(**octet))
+        .count()
 }
 
 /// The word that the tokens begin with, and what is left after it; an empty one where they begin with no

@@ -1,4 +1,4 @@
-use Rattle.std.proofs.Common.{◌≡◌, codes, length, refl, sym, ◌∙◌}
+use Rattle.std.proofs.Common.{codes, length, refl, sym, ◌∙◌}
 use Rattle.std.proofs.lemmas.Result.{err_from_is_err_and}
 use Rattle.bytecode_listing.specs.Tokens.{tokens_of}
 use Rattle.bytecode_listing.specs.Items.{begins_with, string_item}

@@ -1,6 +1,6 @@
-use Rattle.std.proofs.Common.{◌≡◌, sym, ap, ◌∙◌}
+use Rattle.std.proofs.Common.{sym, ap, ◌∙◌}
 use Rattle.bytecode_listing.specs.Readers.{decimal_on}
-use Rattle.bytecode_listing.proofs.Numbers.{digit_goes_on, digit_stops, no_digit_left}
+use Rattle.bytecode_listing.proofs.Numbers.{digit_stops, no_digit_left}
 use Rattle.bytecode_listing.proofs.items.decimal_of.Goals as goal
 
 pub returns-in_err-value : goal.returns-in_err-value

@@ -1,7 +1,5 @@
-use Rattle.std.proofs.Common.{◌≡◌, ◌-◌, suc, ◌+◌, ◌≤◌, drop, [], ◌∷◌, Some, None, List, ℕ, refl, sym, ap, ◌∙◌, arith}
+use Rattle.std.proofs.Common.{List, ℕ, sym, ap, ◌∙◌, arith}
 use Rattle.std.specs.Prelude.{bytes_eq}
-use Rattle.bytecode_format.specs.Operations.{operations, operation_of}
-use Rattle.bytecode_listing.specs.Names.{named_among}
 use Rattle.bytecode_listing.proofs.Naming.{named_here, named_on, named_last, known}
 use Rattle.bytecode_listing.proofs.names.octet_named.Goals as goal
 

@@ -1,4 +1,4 @@
-use Rattle.std.proofs.Common.{sym, ap, ◌∙◌}
+use Rattle.std.proofs.Common.{ap, ◌∙◌}
 use Rattle.std.specs.Prelude.{not}
 use Rattle.bytecode_listing.specs.Items.{is_left}
 use Rattle.bytecode_listing.proofs.Lexing.{some_left}

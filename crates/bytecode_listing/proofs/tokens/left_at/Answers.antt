@@ -1,4 +1,4 @@
-use Rattle.std.proofs.Common.{sym, ap, ◌∙◌}
+use Rattle.std.proofs.Common.{ap, ◌∙◌}
 use Rattle.bytecode_listing.specs.Items.{left_at}
 use Rattle.bytecode_listing.proofs.Lexing.{first_left}
 use Rattle.bytecode_listing.proofs.tokens.left_at.Goals as goal

@@ -1,4 +1,4 @@
-use Rattle.std.proofs.Common.{◌≡◌, [], ◌∷◌, sym, ap, subst, ◌∙◌, ℕ, List}
+use Rattle.std.proofs.Common.{◌≡◌, [], ◌∷◌, sym, ap, ◌∙◌, ℕ, List}
 use Rattle.bytecode_listing.specs.Tokens.{InText, Text, tokens_from, tokens_of}
 use Rattle.bytecode_listing.specs.Items.{text_at, text_in}
 use Rattle.bytecode_listing.proofs.Lexing.{said_stops, said_goes_on, text_ends, text_broken, unequal}
