@@ -214,6 +214,32 @@ Only if: [ "$(id -u)" != 0 ] # this user may read and write every file
     2> refused 45 Write
     [1]
 
+A file that was made, and can't have its name: the call that gives it is made to fail.
+
+## a file that can't have its name is taken away
+Only if: command -v cc # there is no C compiler
+    $ echo 'int rename(const char *old, const char *new) { return -1; }' > fails.c
+    $ cc -shared -fPIC -o fails.so fails.c
+    $ LD_PRELOAD=$PWD/fails.so depot compile examples/discard-large.sieve out
+    2> refused 45 Write
+    [1]
+    $ ls -A
+    depot
+    examples
+    fails.c
+    fails.so
+
+## the one that has the name stays
+Only if: command -v cc # there is no C compiler
+    $ echo 'int rename(const char *old, const char *new) { return -1; }' > fails.c
+    $ cc -shared -fPIC -o fails.so fails.c
+    $ printf 'keep;' > older
+    $ LD_PRELOAD=$PWD/fails.so depot compile examples/discard-large.sieve older
+    2> refused 45 Write
+    [1]
+    $ depot check older
+    ok
+
 Devices.
 
 ## into the null device

@@ -88,6 +88,24 @@ fn broken(refusal: &Refusal) -> Option<(u8, usize)> {
     }
 }
 
+// The program of these instructions in a version.
+fn program_of(alloc: Global, version: u8, code: &[Instruction]) -> Result<Program, Fail> {
+    Ok(Program::build(
+        version,
+        0,
+        Vec::new(alloc),
+        Vec::new(alloc),
+        code.to_vec(alloc)?,
+    )?)
+}
+
+// What a run on a message may charge.
+fn limit(verified: &Verified, message: &Message<'_>) -> u128 {
+    verified
+        .budget()
+        .at(message.size() as u64, message.parts() as u64)
+}
+
 // An accepted program runs as the plain machine does, within its budget.
 fn runs_plainly(
     alloc: Global,
@@ -100,26 +118,53 @@ fn runs_plainly(
         return Ok(false);
     };
     let outcome = run(alloc, verified, message)?;
-    let limit = verified
-        .budget()
-        .at(message.size() as u64, message.parts() as u64);
     // Each of them keeps the message, by KEEP or by the implicit keep.
     let kept = matches!(outcome.actions.as_slice(), [Action::Keep]);
-    Ok(kept && outcome.charged == wanted && wanted <= limit)
+    Ok(kept && outcome.charged == wanted && wanted <= limit(verified, message))
 }
 
-// Whether the verifier and the machine do with a program what the plain ones do; true where it is accepted.
+// So it does on both messages.
+fn runs_on_both(
+    alloc: Global,
+    code: &[Instruction],
+    verified: &Verified,
+    messages: &Messages,
+) -> Result<bool, Fail> {
+    Ok(
+        runs_plainly(alloc, code, verified, &messages.chain, &[3, 2, 1, 0])?
+            && runs_plainly(alloc, code, verified, &messages.crossing, &[3, 1, 0, 0])?,
+    )
+}
+
+// What is accepted in version 1 is so in version 2, and does the same there, within a budget that is no larger.
+fn goes_on(
+    alloc: Global,
+    code: &[Instruction],
+    verified: &Verified,
+    messages: &Messages,
+) -> Result<bool, Fail> {
+    match verify(alloc, program_of(alloc, 2, code)?) {
+        Ok(latest) => Ok(
+            limit(&latest, &messages.chain) <= limit(verified, &messages.chain)
+                && limit(&latest, &messages.crossing) <= limit(verified, &messages.crossing)
+                && runs_on_both(alloc, code, &latest, messages)?,
+        ),
+        Err(_refused) => Ok(false),
+    }
+}
+
+// Whether the verifier and the machine do with a program what the plain ones do, in both versions; true where it is accepted.
 fn agrees(alloc: Global, code: &[Instruction], messages: &Messages) -> Result<bool, Fail> {
-    let program = Program::build(1, 0, Vec::new(alloc), Vec::new(alloc), code.to_vec(alloc)?)?;
-    match verify(alloc, program) {
+    match verify(alloc, program_of(alloc, 1, code)?) {
         Ok(verified) => {
             if fault(code).is_some() {
                 return Err(Fail::from("another verdict"));
             }
-            if !runs_plainly(alloc, code, &verified, &messages.chain, &[3, 2, 1, 0])?
-                || !runs_plainly(alloc, code, &verified, &messages.crossing, &[3, 1, 0, 0])?
-            {
+            if !runs_on_both(alloc, code, &verified, messages)? {
                 return Err(Fail::from("another run"));
+            }
+            if !goes_on(alloc, code, &verified, messages)? {
+                return Err(Fail::from("another run in version 2"));
             }
             Ok(true)
         }

@@ -1,10 +1,11 @@
 //! The depot and its calls.
-ghost use Rattle.std.specs.Prelude.{◌≡◌, ◌≢◌, ◌⊎◌, IsTrue, List, ℕ, map, option_map, IfOk, IfErr, OnOk, OnErr, true};
+ghost use Rattle.std.specs.Prelude.{◌≡◌, ◌≢◌, ◌⊎◌, IsTrue, List, ℕ, map, option_map, IfOk, IfErr, OnOk, OnErr, true, false};
 ghost use Rattle.sqlite.specs.Held.{state};
 ghost use Rattle.sqlite.specs.State.{HasCleanDisk, Survives};
 ghost use Rattle.sqlite.specs.Steps.{over_memory};
 ghost use Rattle.part_store.specs.Entries.{Entries, no_entries};
-ghost use Rattle.part_store.specs.Opening.{IsReady};
+ghost use Rattle.part_store.specs.Opening.{HoldsNoTables, HoldsStore, IsAt, IsReady, IsReadyFrom};
+ghost use Rattle.sqlite.specs.WalFiles.{image_at};
 ghost use Rattle.part_store.specs.Standing.{Spares, Stands, listed};
 ghost use Rattle.refusals.specs.declared.refusal.Refusal.TheVariants.{Memory, Database, Write};
 ghost use Rattle.depot_actions.specs.Causes.{HasCause, MayRefuse};
@@ -27,7 +28,7 @@ use crate::user::is_user_name;
 use mime_decode::Message;
 use part_store::{EntryRow, PartStore, Unopened};
 use refusals::Refusal;
-use sqlite::{Alter, File, FileStore, MemStore};
+use sqlite::{Alter, File, FileFrom, FileStore, MemStore, Start, Unknown};
 use std::alloc::Global;
 use std::marker::Model;
 
@@ -276,11 +277,63 @@ impl Depot<MemStore> {
     /// `Memory` where an allocation was refused, `Database` where the database fails.
     pub fn in_memory(alloc: Global) -> Result<Depot<MemStore>, Refusal>
         ensures empty { IfOk result (λ d. Stands (state over_memory d).now no_entries) }
+        ensures committed { IfOk result (λ d. (state over_memory d).committed ≡ (state over_memory d).now) }
+        ensures open { IfOk result (λ d. IsTrue (state over_memory d).is_open) }
+        ensures settled { IfOk result (λ d. (state over_memory d).in_transaction ≡ false) }
         ensures refused { IfErr result (λ e. (e ≡ Memory) ⊎ (e ≡ Database)) }
     {
         match PartStore::in_memory(alloc) {
             Ok(store) => Ok(Depot { store }),
             Err(error) => Err(refused(error)),
+        }
+    }
+}
+
+impl<B: Start> Depot<FileStore<FileFrom<B>>> {
+    /// The depot in the file at a path, where `B` stands for what the file and its log held. One that isn't there, is empty or has
+    /// no tables becomes the empty depot. No clause ties `B` to the path: that the file there is opened is seen in the bodies.
+    ///
+    /// # Errors
+    ///
+    /// `Memory` where an allocation was refused; `Database` where the file can't be opened, is no database, or is open elsewhere.
+    pub fn open_from(
+        rt: &HostRuntime,
+        path: &str,
+        start: B,
+    ) -> Result<Depot<FileStore<FileFrom<B>>>, Refusal>
+        ensures ready { IfOk result (IsReadyFrom (image_at B.Start)) }
+        ensures found { IfOk result (λ d. HasCleanDisk (file_state d)
+            → (held : Entries) → HoldsStore (image_at B.Start) held → IsAt held (file_state d)) }
+        ensures empty { IfOk result (λ d. HasCleanDisk (file_state d)
+            → HoldsNoTables (image_at B.Start) → IsAt no_entries (file_state d)) }
+        ensures settled { IfOk result (λ d. (file_state d).in_transaction ≡ false) }
+        ensures refused { IfErr result (λ e. (e ≡ Memory) ⊎ (e ≡ Database)) }
+    {
+        match PartStore::open_from(rt, path, start) {
+            Ok(store) => Ok(Depot { store }),
+            Err(error) => Err(refused(error)),
+        }
+    }
+
+    /// The same as `look`, where `B` stands for what the file and its log held.
+    ///
+    /// # Errors
+    ///
+    /// What the file is instead.
+    pub fn look_from(
+        rt: &HostRuntime,
+        path: &str,
+        start: B,
+    ) -> Result<Depot<FileStore<FileFrom<B>>>, Unopened>
+        ensures opened { IfOk result (λ d. HasCleanDisk (file_state d) → IsOpened d) }
+        ensures found { IfOk result (λ d. HasCleanDisk (file_state d)
+            → (held : Entries) → HoldsStore (image_at B.Start) held → IsAt held (file_state d)) }
+        ensures tables { IfOk result (λ d. are_tables (file_state d).now.schema.tables ≡ true) }
+        ensures settled { IfOk result (λ d. (file_state d).in_transaction ≡ false) }
+    {
+        match PartStore::look_from(rt, path, start) {
+            Ok(store) => Ok(Depot { store }),
+            Err(why) => Err(why),
         }
     }
 }
@@ -295,10 +348,7 @@ impl Depot<FileStore<File>> {
         ensures ready { IfOk result IsReady }
         ensures refused { IfErr result (λ e. (e ≡ Memory) ⊎ (e ≡ Database)) }
     {
-        match PartStore::open(rt, path) {
-            Ok(store) => Ok(Depot { store }),
-            Err(error) => Err(refused(error)),
-        }
+        Depot::open_from(rt, path, Unknown)
     }
 
     /// The depot in the file at a path, as it is: no table is made. The file has to be there, since one that isn't is made, empty.
@@ -310,9 +360,6 @@ impl Depot<FileStore<File>> {
         ensures opened { IfOk result (λ d. HasCleanDisk (file_state d) → IsOpened d) }
         ensures tables { IfOk result (λ d. are_tables (file_state d).now.schema.tables ≡ true) }
     {
-        match PartStore::look(rt, path) {
-            Ok(store) => Ok(Depot { store }),
-            Err(why) => Err(why),
-        }
+        Depot::look_from(rt, path, Unknown)
     }
 }

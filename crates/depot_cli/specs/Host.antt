@@ -32,6 +32,10 @@ pub record HostState : Type 0 where
   pub given : ℕ
   pub faults : ℕ
 
+-- a host of which nothing is told but how many octets it gave, and how many calls have failed
+abbrev pub untold : ℕ → ℕ → HostState
+untold given faults = record { contents = λ _. None; calls = None; given = given; faults = faults }
+
 -- the host was asked for one thing more
 abbrev pub with_call : Call → HostState → HostState
 with_call call state = record state { calls = option_map (λ calls. calls ++ call ∷ []) state.calls }

@@ -12,3 +12,5 @@ pub mod Gathering
 pub mod Pieces
 pub mod Files
 pub mod Inspecting
+pub mod NoDepots
+pub mod Carrying

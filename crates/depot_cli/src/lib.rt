@@ -9,6 +9,7 @@
 #![tactic(auto)]
 
 mod arguments;
+mod carrying;
 mod commands;
 mod entries;
 mod errand;
@@ -24,18 +25,21 @@ mod new_file;
 mod no_depot;
 mod piece;
 mod printing;
+mod process_words;
 mod reading;
 mod running;
 mod source;
 mod system;
 mod task;
 
+pub use carrying::{carry, inspect_opened};
 pub use errand::{Errand, Order};
 pub use host::{Host, Input};
 pub use inspection::inspect;
 pub use job::{Job, answer, tell};
 pub use line::{CommandLine, line_of};
 pub use no_depot::{NoDepot, tell_no_depot};
+pub use process_words::{tell_no_words, texts, words};
 pub use reading::read_limited;
 pub use refusals::Refusal;
 pub use running::{Next, run, tell_usage};

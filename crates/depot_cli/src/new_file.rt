@@ -1,7 +1,7 @@
 // A file that is being made, beside the one whose name it is to have.
-ghost use Rattle.std.specs.Prelude.{◌≡◌, IfOk};
+ghost use Rattle.std.specs.Prelude.{◌≡◌, IfOk, IfSome};
 ghost use Rattle.std.specs.Path.{path_buf_bytes, path_with_file_name};
-ghost use Rattle.depot_cli.specs.Files.{new_name};
+ghost use Rattle.depot_cli.specs.Files.{IsReached, new_name};
 
 use depot_actions::{DeviceFailed, OfWrite, Sink};
 use std::alloc::{AllocError, Global};
@@ -58,7 +58,8 @@ pub fn begin<R: Files>(
     name: &str,
     script: &str,
 ) -> io::Result<NewFile<R::File>>
-    ensures { IfOk result (λ file. file.sink.faults ≡ 0) }
+    ensures faults { IfOk result (λ file. file.sink.faults ≡ 0) }
+    ensures stands { IfOk result (λ file. IfSome file.paths (λ paths. IsReached name.now (path_buf_bytes paths.kept))) }
 {
     match File::options().write(true).open(rt, name) {
         Ok(file) => {
@@ -89,7 +90,8 @@ fn begin_in_place_of<R: Files>(
     script: &str,
     old: &Metadata,
 ) -> io::Result<NewFile<R::File>>
-    ensures { IfOk result (λ file. file.sink.faults ≡ 0) }
+    ensures faults { IfOk result (λ file. file.sink.faults ≡ 0) }
+    ensures stands { IfOk result (λ file. IfSome file.paths (λ paths. IsReached name.now (path_buf_bytes paths.kept))) }
 {
     let kept = without_links(rt, alloc, name)?;
     if is_same_file(rt, script, old) || !is_same_file(rt, kept.as_str(), old) {
@@ -121,7 +123,8 @@ fn begin_beside<R: Files>(
     kept: PathBuf,
     mode: u32,
 ) -> io::Result<NewFile<R::File>>
-    ensures { IfOk result (λ file. file.sink.faults ≡ 0) }
+    ensures faults { IfOk result (λ file. file.sink.faults ≡ 0) }
+    ensures stands { IfOk result (λ file. IfSome file.paths (λ paths. path_buf_bytes paths.kept ≡ path_buf_bytes kept)) }
 {
     for n in 0..MAX_NAMES {
         let made = path_beside(alloc, &kept, number, n)?;
@@ -157,7 +160,9 @@ fn path_beside(alloc: Global, kept: &PathBuf, number: u32, n: u32) -> Result<Pat
 }
 
 // The path of what a name stands for after symbolic links, also where there is no such file.
-fn without_links<R: Files>(rt: &R, alloc: Global, name: &str) -> io::Result<PathBuf> {
+fn without_links<R: Files>(rt: &R, alloc: Global, name: &str) -> io::Result<PathBuf>
+    ensures { IfOk result (λ path. IsReached name.now (path_buf_bytes path)) }
+{
     let mut path = PathBuf::from_str(alloc, name)?;
     for _ in 0..MAX_LINKS {
         match rt.read_link(alloc, path.as_str()) {

@@ -1,7 +1,7 @@
 // Why a file is no depot.
-ghost use Rattle.std.specs.Prelude.{◌≡◌, ◌≢◌, MatchOption};
-ghost use Rattle.part_store.specs.declared.looking.Unopened.TheVariants.{Memory};
+ghost use Rattle.std.specs.Prelude.{◌≡◌};
 ghost use Rattle.depot_cli.specs.Inspecting.{HasSaidWhy};
+ghost use Rattle.depot_cli.specs.NoDepots.{no_depot_of};
 ghost use Rattle.depot_cli.specs.Printed.{why_text};
 
 use crate::job::{REFUSED, tell};
@@ -45,7 +45,7 @@ pub enum NoDepot {
 impl NoDepot {
     /// Why what isn't opened as it is is no depot, or none where memory was refused.
     pub fn of(why: Unopened) -> Option<NoDepot>
-        ensures { MatchOption result (why ≡ Memory) (λ _. why ≢ Memory) }
+        ensures { result ≡ no_depot_of why }
     {
         match why {
             Unopened::Memory => None,

@@ -1,5 +1,8 @@
 // The system as a host.
-ghost use Rattle.std.specs.Prelude.{◌≡◌, ◌⊎◌};
+ghost use Rattle.std.specs.Prelude.{◌≡◌, ◌⊎◌, IfErr, IfOk, IfSome, OnOk};
+ghost use Rattle.std.specs.Path.{path_buf_bytes};
+ghost use Rattle.depot_cli.specs.Files.{IsReached};
+ghost use Rattle.depot_cli.specs.Host.{HasNotMade, IsFreshOutput, makes, untold, with_call};
 ghost use Rattle.depot_actions.specs.Device.{counted};
 ghost use Rattle.refusals.specs.declared.refusal.Refusal.TheVariants.{Memory};
 
@@ -72,9 +75,7 @@ impl<R: Files + io::Input> Host for System<'_, R> {
 
     type Writer = NewFile<R::File>;
 
-    ghost use Rattle.std.specs.Prelude.{None};
-
-    ghost state = { λ s. record { contents = λ _. None; calls = None; given = s.given; faults = s.faults } };
+    ghost state = { λ s. untold s.given s.faults };
 
     fn open(&mut self, input: Input<'_>) -> Result<Self::Reader, Refusal> {
         match input {
@@ -91,7 +92,15 @@ impl<R: Files + io::Input> Host for System<'_, R> {
         self.faults = self.faults.saturating_add(reader.faults);
     }
 
-    fn create(&mut self, alloc: Global, name: &str, script: &str) -> Result<Self::Writer, Refusal> {
+    fn create(&mut self, alloc: Global, name: &str, script: &str) -> Result<Self::Writer, Refusal>
+        ensures fresh { IfOk result (λ file. IsFreshOutput (untold self.old.given self.old.faults)
+            (record { written = R.File.contents file.sink.inner; faults = file.sink.faults })) }
+        ensures ok { OnOk result (untold self.new.given self.new.faults
+            ≡ with_call (makes name.now script.now) (untold self.old.given self.old.faults)) }
+        ensures err { IfErr result (λ e. HasNotMade e name.now script.now
+            (untold self.old.given self.old.faults) (untold self.new.given self.new.faults)) }
+        ensures stands { IfOk result (λ file. IfSome file.paths (λ paths. IsReached name.now (path_buf_bytes paths.kept))) }
+    {
         match begin(self.rt, alloc, self.number, name, script) {
             Ok(file) => Ok(file),
             Err(fault) => Err(self.refusal(&fault, Refusal::Write)),

@@ -27,3 +27,4 @@ mod Looks
 mod Sums
 mod Replacing
 mod Showing
+mod Opened

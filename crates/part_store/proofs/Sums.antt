@@ -1,9 +1,9 @@
 -- The rows of an answer about the contents come to what the table has.
-use Rattle.std.proofs.Common.{◌≡◌, ℕ, pos, List, [], ◌∷◌, length, map, filter, sum_by, refl, sym, ap, ◌∙◌, arith}
+use Rattle.std.proofs.Common.{◌≡◌, ℕ, List, [], ◌∷◌, length, map, filter, sum_by, refl, sym, ap, ◌∙◌, arith}
 use Rattle.std.specs.List.{AllByRecursion}
 use Rattle.std.proofs.lemmas.List.Sums.{sum_by-cons}
 use Rattle.std.proofs.lemmas.List.Sorted.{sum_by-IsPermutation}
-use Rattle.sqlite_value.specs.declared.value.Value.TheVariants.{Int, Blob}
+use Rattle.sqlite_value.specs.declared.value.Value.TheVariants.{Blob}
 use Rattle.sqlite_value.specs.Order.{Row, column}
 use Rattle.sqlite_sql.specs.declared.ops.UnaryOp.TheVariants.{Length}
 use Rattle.sqlite_sql.specs.Ops.{unary}

@@ -1,14 +1,26 @@
 -- What an open finds and leaves.
-use Rattle.std.specs.Prelude.{◌≡◌, false, IsTrue}
+use Rattle.std.specs.Prelude.{◌≡◌, ◌⊎◌, false, [], Option, None, Some, Result, Ok, Err, IsTrue, ⊤}
 use Rattle.sqlite_disk.specs.declared.Disk.{Ghosts}
+use Rattle.sqlite_disk.specs.declared.Files.{Files}
 use Rattle.sqlite.specs.declared.FileStore.{FileStore}
+use Rattle.sqlite.specs.declared.file.Leftover.{Leftover}
+use Rattle.sqlite.specs.declared.error.Error.{Error}
+use Rattle.sqlite.specs.declared.error.Error.TheVariants.{SqliteFailure}
+use Rattle.sqlite.specs.declared.error.ErrorCode.TheVariants.{CannotOpen, OutOfMemory, DatabaseBusy}
+use Rattle.sqlite.specs.Effect.{Database, IsDatabase}
 use Rattle.sqlite.specs.State.{State, HasCleanDisk, Survives}
 use Rattle.sqlite.specs.Held.{Held}
-use Rattle.sqlite.specs.Files.{file_state, IsOpened}
+use Rattle.sqlite.specs.Files.{file_state, image_of, HoldsDatabase, IsOpened, IsCleanLeft, FailsToOpenFiles, LeavesFiles}
+use Rattle.sqlite.specs.Recovery.{Image}
+use Rattle.sqlite.specs.Start.{FindsIn}
+use Rattle.sqlite.specs.WalFiles.{outcomes}
 use Rattle.sqlite_trees.specs.Tree.{Trees}
 use Rattle.part_store.specs.Tables.{no_schema}
-use Rattle.part_store.specs.Entries.{no_entries}
+use Rattle.part_store.specs.Entries.{Entries, no_entries}
 use Rattle.part_store.specs.Standing.{Stands, StandsFor}
+use Rattle.part_store.specs.Refusals.{refusal_of}
+use Rattle.part_store.specs.declared.error.StoreError.{StoreError}
+use Rattle.part_store.specs.declared.error.StoreError.TheVariants.{Database as refused}
 
 -- a database has no table, index or view
 abbrev pub IsBare : State → Type 0
@@ -34,3 +46,49 @@ pub record IsReady {D : Type 0} {g : Ghosts D} (now : Held (FileStore D g)) : Ty
   pub same : (IsBare (file_state found) → ⊥) → now ≡ found
   pub settled : (file_state now).in_transaction ≡ false
   pub survives : Survives (file_state found) (file_state now) (MakesEmpty (file_state found))
+
+-- the two files hold this database
+pub record Holds (image : Image) (d : Database) : Type 0 where
+  pub trees : ∥ HoldsDatabase image d.trees ∥₁
+  -- its trees list its schema, and obey it
+  pub listed : IsDatabase d
+
+-- the two files hold a store, which stands for this state
+abbrev pub HoldsStore : Image → Entries → Type 0
+HoldsStore image e = (d : Database) × Holds image d × Stands d e
+
+-- the file is empty or isn't there, or the two hold a database without table, index or view
+abbrev pub HoldsNoTables : Image → Type 0
+HoldsNoTables image = (image.db ≡ []) ⊎ ((d : Database) × Holds image d × (d.schema ≡ no_schema))
+
+-- an open store shows this state, which is committed
+abbrev pub IsAt : Entries → State → Type 0
+IsAt e s = Stands s.now e × (s.committed ≡ s.now) × IsTrue s.is_open
+
+-- the same as `IsReady`, where what was found is what the two files held
+pub record IsReadyFrom {D : Type 0} {g : Ghosts D} (image : Image) (now : Held (FileStore D g)) : Type 0 where
+  pub ready : IsReady now
+  pub finds : HasCleanDisk (file_state ready.found) → FindsIn image (file_state ready.found)
+
+-- Why the files weren't opened. With none left the system refused them; else they are left as the database's open leaves them.
+abbrev pub IsUnopened : {D : Type 0} {g : Ghosts D} → Image → Option (Leftover D g) → Error → Type 0
+IsUnopened image None e = (e ≡ SqliteFailure CannotOpen) ⊎ ((e ≡ SqliteFailure OutOfMemory) ⊎ (e ≡ SqliteFailure DatabaseBusy))
+IsUnopened {D} {g} image (Some left) e =
+    (files : Files D) × (image_of g files ≡ image) × (IsCleanLeft left → FailsToOpenFiles files left e × LeavesFiles files left)
+
+abbrev pub OpensOrTells : {D : Type 0} {g : Ghosts D} → Image → Result (Held (FileStore D g)) Error → Type 0
+OpensOrTells image (Ok found) = HasCleanDisk (file_state found) → FindsIn image (file_state found)
+OpensOrTells {D} {g} image (Err e) = (left : Option (Leftover D g)) × IsUnopened image left e
+
+-- An open that is refused `Database` has one of two causes: the files weren't opened, or they had no tables and got none.
+abbrev pub HasCause : {D : Type 0} {g : Ghosts D} → Image → Result (Held (FileStore D g)) StoreError → Type 0
+HasCause image (Ok s) = ⊤
+HasCause {D} {g} image (Err e) =
+    e ≡ refused
+    → ((left : Option (Leftover D g)) × (error : Error) × (refusal_of error ≡ refused) × IsUnopened image left error)
+    ⊎ ((found : Held (FileStore D g)) × OpensOrTells image (Ok found) × IsBare (file_state found))
+
+-- the two files hold the store of this state, as they read now and as a crash may leave them
+pub record KeepsStore {D : Type 0} (g : Ghosts D) (files : Files D) (e : Entries) : Type 0 where
+  pub seen : HoldsStore (image_of g files) e
+  pub left : (image : Image) → outcomes g files.log files.db image → HoldsStore image e

@@ -1,5 +1,5 @@
 //! The store and its calls.
-ghost use Rattle.std.specs.Prelude.{◌≡◌, ◌≢◌, ◌⊎◌, ◌↔◌, ◌+◌, ◌<◌, length, map, true, false, IsTrue, option_map, MatchOption, IfOk, IfErr, OnOk, OnErr};
+ghost use Rattle.std.specs.Prelude.{◌≡◌, ◌≢◌, ◌⊎◌, ◌↔◌, ◌+◌, ◌<◌, length, map, true, false, IsTrue, option_map, MatchOption, Err, IfOk, IfErr, IsErrAnd, OnOk, OnErr};
 ghost use Rattle.sqlite.specs.Held.{state};
 ghost use Rattle.sqlite.specs.State.{HasCleanDisk, KeepsCommit, Survives};
 ghost use Rattle.part_store.specs.Tables.{no_schema, store_schema};
@@ -10,10 +10,12 @@ ghost use Rattle.part_store.specs.Changes.{contents_tree, users_tree};
 ghost use Rattle.part_store.specs.Looking.{are_tables};
 ghost use Rattle.part_store.specs.Totals.{IsTotalOf};
 ghost use Rattle.part_store.specs.UserLines.{AreUsersOf, line_of};
-ghost use Rattle.sqlite.specs.Files.{file_state, IsOpened};
+ghost use Rattle.sqlite.specs.Files.{file_state, IsClosed, IsOpened};
+ghost use Rattle.sqlite.specs.WalReads.{AreClean};
 ghost use Rattle.part_store.specs.Filing.{Collides, HasRoom};
 ghost use Rattle.sqlite.specs.Steps.{over_memory};
-ghost use Rattle.part_store.specs.Opening.{IsBare, IsEmptied, IsKept, IsReady, MakesEmpty};
+ghost use Rattle.part_store.specs.Opening.{HasCause, HoldsNoTables, HoldsStore, IsAt, IsBare, IsEmptied, IsKept, IsReady, IsReadyFrom, KeepsStore, MakesEmpty, OpensOrTells};
+ghost use Rattle.sqlite.specs.WalFiles.{image_at};
 
 use crate::adding::{Adding, put_entries};
 use crate::all_users::list_users;
@@ -25,7 +27,11 @@ use crate::stored_programs::{list_programs, put_program, read_program, replace_a
 use crate::totals::{ContentTotal, count_contents};
 use crate::user_row::UserRow;
 use crate::{contents, entries, tables};
-use sqlite::{Alter, Connection, Error, File, FileStore, MemStore, Transaction};
+use sqlite::{
+    Alter, Connection, Error, File, FileFrom, FileStore, Files, MemStore, Start, Transaction,
+    Unknown,
+};
+use sqlite_disk::Disk;
 use sqlite_schema::schema::Schema;
 use std::alloc::Global;
 use std::marker::Model;
@@ -91,6 +97,9 @@ fn ready_tables<S: Alter>(conn: &mut Connection<S>) -> Result<(), StoreError>
     ensures made { HasCleanDisk (state S.Store conn.new) → OnOk result (IsBare (state S.Store conn.old) → IsEmptied (state S.Store conn.new)) }
     ensures same { OnOk result ((IsBare (state S.Store conn.old) → ⊥) → conn.new ≡ conn.old) }
     ensures settled { OnOk result ((state S.Store conn.new).in_transaction ≡ false) }
+    ensures mode { (state S.Store conn.new).in_transaction ≡ (state S.Store conn.old).in_transaction }
+    ensures inside { IsTrue (state S.Store conn.old).in_transaction → result ≡ Err Database }
+    ensures bare { OnErr result ((state S.Store conn.old).in_transaction ≡ false → IsBare (state S.Store conn.old)) }
     ensures spared { HasCleanDisk (state S.Store conn.new) → OnErr result (IsTrue (state S.Store conn.new).is_open → IsKept (state S.Store conn.old) (state S.Store conn.new)) }
     ensures refused { IfErr result (λ e. (e ≡ Memory) ⊎ (e ≡ Database)) }
     ensures survives { Survives (state S.Store conn.old) (state S.Store conn.new) (MakesEmpty (state S.Store conn.old)) }
@@ -197,13 +206,16 @@ fn take_entry<S: Alter>(tx: &mut Transaction<'_, S>, user: &str, number: u32) ->
 impl<S: Alter> PartStore<S> {
     /// Takes an open connection that has no tables, or those of a store. Where there are none they are made and committed; any other
     /// connection stays as it is. A crash on the way leaves the database as it was, or with the empty tables. A refusal, `Memory` or
-    /// `Database`, hands the connection back, with what it shows and what is committed as they were, unless a failure has shut it. One
-    /// inside of a transaction is refused `Database`.
+    /// `Database`, hands the connection back, with what it shows and what is committed as they were, unless a failure has shut it, and
+    /// in a transaction if it was in one. One in a transaction is refused `Database`; of the others only one without tables is refused.
     pub fn adopt(conn: Connection<S>) -> Result<PartStore<S>, (StoreError, Connection<S>)>
         ensures made { IfOk result (λ s. HasCleanDisk (state S.Store s) → IsBare (state S.Store conn) → IsEmptied (state S.Store s)) }
         ensures same { IfOk result (λ s. (IsBare (state S.Store conn) → ⊥) → s ≡ conn) }
         ensures settled { IfOk result (λ s. (state S.Store s).in_transaction ≡ false) }
         ensures spared { IfErr result (λ e. HasCleanDisk (state S.Store e.1) → IsTrue (state S.Store e.1).is_open → IsKept (state S.Store conn) (state S.Store e.1)) }
+        ensures mode { IfErr result (λ e. (state S.Store e.1).in_transaction ≡ (state S.Store conn).in_transaction) }
+        ensures inside { IsTrue (state S.Store conn).in_transaction → IsErrAnd result (λ e. e.0 ≡ Database) }
+        ensures bare { IfErr result (λ e. (state S.Store conn).in_transaction ≡ false → IsBare (state S.Store conn)) }
         ensures refused { IfErr result (λ e. (e.0 ≡ Memory) ⊎ (e.0 ≡ Database)) }
         ensures survives { IfOk result (λ s. Survives (state S.Store conn) (state S.Store s) (MakesEmpty (state S.Store conn))) }
         ensures broken { IfErr result (λ e. Survives (state S.Store conn) (state S.Store e.1) (MakesEmpty (state S.Store conn))) }
@@ -425,6 +437,87 @@ impl PartStore<MemStore> {
     }
 }
 
+impl<D: Disk + Drop> PartStore<FileStore<D>> {
+    /// Closes the store: its log is copied into its file, and both are given back. They hold what the store stands for, also after
+    /// a crash, and that is what `open_from` finds in them. Refuses `Memory` and `Database`; a crash leaves what it could leave before.
+    pub fn close_files(self) -> Result<Files<D>, (StoreError, FileStore<D>)>
+        ensures holds { IfOk result (λ files. AreClean D.Disk files.log files.db
+            → (held : _) → Stands (file_state self).now held → KeepsStore D.Disk files held) }
+        ensures open { IfOk result (λ files. AreClean D.Disk files.log files.db → IsTrue (file_state self).is_open) }
+        ensures closed { IfErr result (λ e. IsClosed self e.1) }
+        ensures refused { IfErr result (λ e. (e.0 ≡ Memory) ⊎ (e.0 ≡ Database)) }
+    {
+        let PartStore { conn } = self;
+        // What holds of every connection is known where it is asked.
+        let _settled = conn.is_autocommit();
+        let _live = conn.schema();
+        match conn.close_files() {
+            Ok(files) => Ok(files),
+            Err((error, store)) => Err((StoreError::from(error), store)),
+        }
+    }
+}
+
+/// The database in the file at a path.
+fn connect<B: Start>(
+    rt: &HostRuntime,
+    path: &str,
+    start: B,
+) -> Result<Connection<FileStore<FileFrom<B>>>, Error>
+    ensures opened { IfOk result (λ c. HasCleanDisk (file_state c) → IsOpened c) }
+    ensures fresh { IfOk result (λ c. (file_state c).in_transaction ≡ false) }
+    ensures found { OpensOrTells (image_at B.Start) result }
+{
+    match Connection::open_from(rt, path, false, start) {
+        Ok(conn) => Ok(conn),
+        Err((error, _)) => Err(error),
+    }
+}
+
+impl<B: Start> PartStore<FileStore<FileFrom<B>>> {
+    /// The store in the file at a path, where `B` stands for what the file and its log held. A file that isn't there, is empty or
+    /// has no tables becomes the empty store. Refuses `Memory`, and `Database` where the file can't be opened or is no database.
+    ///
+    /// No clause ties `B` to the path: that the file there is opened, and no other, is seen in the body.
+    pub fn open_from(
+        rt: &HostRuntime,
+        path: &str,
+        start: B,
+    ) -> Result<PartStore<FileStore<FileFrom<B>>>, StoreError>
+        ensures ready { IfOk result (IsReadyFrom (image_at B.Start)) }
+        ensures found { IfOk result (λ s. HasCleanDisk (file_state s)
+            → (held : _) → HoldsStore (image_at B.Start) held → IsAt held (file_state s)) }
+        ensures empty { IfOk result (λ s. HasCleanDisk (file_state s)
+            → HoldsNoTables (image_at B.Start) → IsAt no_entries (file_state s)) }
+        ensures settled { IfOk result (λ s. (file_state s).in_transaction ≡ false) }
+        ensures refused { IfErr result (λ e. (e ≡ Memory) ⊎ (e ≡ Database)) }
+        ensures cause { HasCause (image_at B.Start) result }
+    {
+        let mut conn = connect(rt, path, start)?;
+        ready_tables(&mut conn)?;
+        Ok(PartStore { conn })
+    }
+
+    /// The same as `look`, where `B` stands for what the file and its log held. No clause ties `B` to the path.
+    pub fn look_from(
+        rt: &HostRuntime,
+        path: &str,
+        start: B,
+    ) -> Result<PartStore<FileStore<FileFrom<B>>>, Unopened>
+        ensures opened { IfOk result (λ s. HasCleanDisk (file_state s) → IsOpened s) }
+        ensures found { IfOk result (λ s. HasCleanDisk (file_state s)
+            → (held : _) → HoldsStore (image_at B.Start) held → IsAt held (file_state s)) }
+        ensures tables { IfOk result (λ s. are_tables (file_state s).now.schema.tables ≡ true) }
+        ensures settled { IfOk result (λ s. (file_state s).in_transaction ≡ false) }
+    {
+        let conn = connect(rt, path, start)?;
+        match PartStore::adopt_as_is(conn) {
+            Ok(store) => Ok(store),
+            Err(_others) => Err(Unopened::OtherTables),
+        }
+    }
+}
+
 impl PartStore<FileStore<File>> {
     /// The store in the file at a path, which is made if it isn't there. Refuses `Memory`, and `Database` where the
     /// file can't be opened or is no database.
@@ -432,9 +525,7 @@ impl PartStore<FileStore<File>> {
         ensures ready { IfOk result IsReady }
         ensures refused { IfErr result (λ e. (e ≡ Memory) ⊎ (e ≡ Database)) }
     {
-        let mut conn = Connection::open(rt, path)?;
-        ready_tables(&mut conn)?;
-        Ok(PartStore { conn })
+        PartStore::open_from(rt, path, Unknown)
     }
 
     /// The store in the file at a path, as it is: no table is made, and where its tables aren't those of a store it is refused
@@ -447,10 +538,6 @@ impl PartStore<FileStore<File>> {
         ensures tables { IfOk result (λ s. are_tables (file_state s).now.schema.tables ≡ true) }
         ensures settled { IfOk result (λ s. (file_state s).in_transaction ≡ false) }
     {
-        let conn = Connection::open(rt, path)?;
-        match PartStore::adopt_as_is(conn) {
-            Ok(store) => Ok(store),
-            Err(_others) => Err(Unopened::OtherTables),
-        }
+        PartStore::look_from(rt, path, Unknown)
     }
 }

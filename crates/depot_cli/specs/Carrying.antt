@@ -1,0 +1,59 @@
+-- What comes of an errand and of an inspection, by what opening the file gave.
+use Rattle.std.specs.Prelude.{◌≡◌, ℕ, Option, None, Some, Result, Ok, Err, ⊤}
+use Rattle.sqlite.specs.State.{State, Survives}
+use Rattle.part_store.specs.declared.looking.Unopened.{Unopened}
+use Rattle.depot_actions.specs.DepotState.{Command}
+use Rattle.depot_actions.specs.Device.{Output}
+use Rattle.refusals.specs.declared.refusal.Refusal.{Refusal}
+use Rattle.refusals.specs.declared.refusal.Refusal.TheVariants.{Memory}
+use Rattle.depot_cli.specs.Inspecting.{HasInspected, HasSaidWhy}
+use Rattle.depot_cli.specs.Jobs.{HasTold}
+use Rattle.depot_cli.specs.NoDepots.{no_depot_of}
+use Rattle.depot_cli.specs.Tasks.{HasPerformed, MayAdd, desk}
+use Rattle.depot_cli.specs.declared.no_depot.NoDepot.{NoDepot}
+
+-- ---- errands
+
+-- An errand was carried to what opening gave, with this status: its command was performed on the
+-- depot, which is open still; or the refusal of opening was told, with status 1.
+abbrev pub HasCarried :
+    {H : Type 0} → (H → State) → Command → ℕ → Result H Refusal → Result H Refusal
+    → Output → Output → Output → Output → Type 0
+HasCarried store command status (Ok old) (Ok new) out err out2 err2 =
+    HasPerformed command status (desk (store old) out err) (desk (store new) out2 err2)
+HasCarried store command status (Err refusal) (Err same) out err out2 err2 =
+    (same ≡ refusal) × (status ≡ 1) × HasTold refusal err err2 × (out2 ≡ out)
+HasCarried store command status opened left out err out2 err2 = ⊥
+
+-- what a crash may leave of the depot, where one was opened: what it could leave before, or what the
+-- command makes of it
+abbrev pub OutlastsCarrying :
+    {H : Type 0} → (H → State) → Command → Result H Refusal → Result H Refusal → Type 0
+OutlastsCarrying store command (Ok old) (Ok new) =
+    Survives (store old) (store new) (MayAdd command (store old))
+OutlastsCarrying store command opened left = ⊤
+
+-- ---- inspections
+
+-- why a file is no depot was written, or the refusal was told where that can't be known for want of
+-- memory
+abbrev pub HasToldWhy : Option NoDepot → Output → Output → Output → Output → Type 0
+HasToldWhy None out err out2 err2 = HasTold Memory err err2 × (out2 ≡ out)
+HasToldWhy (Some reason) out err out2 err2 = HasSaidWhy reason out err out2 err2
+
+-- What opening a file as it is gave was inspected, with this status: what the depot holds was told,
+-- and it is open still; or why there is none, with status 1.
+abbrev pub HasReported :
+    {H : Type 0} → (H → State) → Option ℕ → ℕ → Result H Unopened → Result H Unopened
+    → Output → Output → Output → Output → Type 0
+HasReported store log status (Ok old) (Ok new) out err out2 err2 =
+    HasInspected log status (desk (store old) out err) (desk (store new) out2 err2)
+HasReported store log status (Err why) (Err same) out err out2 err2 =
+    (same ≡ why) × (status ≡ 1) × HasToldWhy (no_depot_of why) out err out2 err2
+HasReported store log status opened left out err out2 err2 = ⊥
+
+-- a crash leaves nothing of the depot that it couldn't leave before
+abbrev pub OutlastsReporting :
+    {H : Type 0} → (H → State) → Result H Unopened → Result H Unopened → Type 0
+OutlastsReporting store (Ok old) (Ok new) = Survives (store old) (store new) (λ _. ⊥)
+OutlastsReporting store opened left = ⊤

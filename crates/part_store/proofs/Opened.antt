@@ -1,0 +1,113 @@
+-- What is opened stands for what the files held.
+use Rattle.std.proofs.Common.{◌≡◌, ◌⊎◌, Option, None, Some, IfSome, Result, Ok, Err, IfOk, IsTrue, inl, inr, List, [], length, refl, sym, ap, subst, ◌∙◌, arith}
+use Rattle.std.proofs.Math.Logic.{∥∥₁_elim}
+use Rattle.sqlite_disk.specs.declared.Disk.{Ghosts}
+use Rattle.sqlite_disk.specs.declared.Files.{Files}
+use Rattle.sqlite.specs.declared.file.Leftover.{Leftover}
+use Rattle.sqlite.specs.declared.error.Error.{Error}
+use Rattle.sqlite.specs.declared.error.Error.TheVariants.{SqliteFailure}
+use Rattle.sqlite.specs.declared.error.ErrorCode.TheVariants.{CannotOpen, OutOfMemory, DatabaseBusy}
+use Rattle.sqlite.specs.declared.FileStore.{FileStore}
+use Rattle.sqlite.specs.Effect.{Database, IsDatabase}
+use Rattle.sqlite.specs.State.{State, HasCleanDisk, IsLive, Opens}
+use Rattle.sqlite.specs.Held.{Held}
+use Rattle.sqlite.specs.Files.{file_state, image_of, FailsToOpenFiles, HoldsDatabase, IsCleanLeft, LeavesFiles}
+use Rattle.sqlite.specs.Recovery.{Image}
+use Rattle.sqlite.specs.Closing.{HoldsAlone, IsCopied}
+use Rattle.sqlite.specs.Start.{FindsIn}
+use Rattle.sqlite_catalog.specs.Listing.{Lists}
+use Rattle.sqlite_catalog.proofs.ReadLemmas.{lists_once}
+use Rattle.sqlite_schema.specs.declared.schema.Schema.{Schema}
+use Rattle.sqlite_trees.specs.Objects.{catalog_tree}
+use Rattle.sqlite_trees.specs.Sound.{is_sound_list}
+use Rattle.sqlite_trees.specs.Tree.{Trees}
+use Rattle.sqlite_trees.specs.Props.{Trees-set}
+use Rattle.sqlite_value.specs.Order.{Row}
+use Rattle.part_store.specs.Tables.{no_schema, store_schema}
+use Rattle.part_store.specs.Entries.{Entries, no_entries}
+use Rattle.part_store.specs.Standing.{Stands}
+use Rattle.part_store.specs.Opening.{HasCause, Holds, HoldsNoTables, HoldsStore, IsAt, IsBare, IsReady, IsReadyFrom, IsUnopened, KeepsStore, OpensOrTells}
+use Rattle.part_store.specs.declared.error.StoreError.{StoreError}
+
+-- a database is its trees, which list one schema
+pub same_database : (a b : Database) → a.trees ≡ b.trees → IsDatabase a → IsDatabase b → a ≡ b
+same_database a b same one other =
+    let schema = lists_once _ a.schema b.schema one.lists (subst (λ (t : Trees). IsDatabase (record { schema = b.schema; trees = t })) (sym same) other).lists in
+    λ i. record { schema = schema i; trees = same i }
+
+-- what an open found is the database that the files held
+pub finds_held : (image : Image) (s : State) (d : Database) → Opens s → IsLive s → FindsIn image s → Holds image d → s.now ≡ d
+finds_held image s d opens live finds holds =
+    let trees : s.committed.trees ≡ d.trees = ∥∥₁_elim holds.trees (Trees-set _ _) (finds.holds d.trees) in
+    same_database s.now d (ap (λ (x : Database). x.trees) opens.clean ∙ trees) (live opens.is_open).0 holds.listed
+
+-- and it stands for the same
+pub shows_held : (image : Image) (s : State) → Opens s → IsLive s → FindsIn image s → (e : Entries) → HoldsStore image e → IsAt e s
+shows_held image s opens live finds e (d, holds, stands) =
+    (subst (λ (x : Database). Stands x e) (sym (finds_held image s d opens live finds holds)) stands, sym opens.clean, opens.is_open)
+
+lists_nothing : (objects : List Row) (schema : Schema) → objects ≡ [] → Lists objects schema → schema ≡ no_schema
+unfolding is_sound_list
+lists_nothing objects schema none lists =
+    let empty : Lists [] no_schema = record { listed = record { tables = tt; indexes = tt; views = tt; owned = tt; named = tt; loads = refl }; guarded = tt } in
+    lists_once [] schema no_schema (subst (λ rows. Lists rows schema) none lists) empty
+
+-- an open of an empty file found no tables
+finds_nothing : (image : Image) (s : State) → Opens s → IsLive s → FindsIn image s → image.db ≡ [] → IsBare s
+finds_nothing image s opens live finds none = elim finds.reads [
+  | inl there ↦ absurd (omega (arith, ap length none, there.3.found.present))
+  | inr empty ↦ lists_nothing _ s.now.schema (ap (λ (x : Database). x.trees catalog_tree) opens.clean ∙ empty.1.1) (live opens.is_open).0.lists
+]
+
+has_tables : (s : State) → s.now.schema ≡ store_schema → IsBare s → ⊥
+has_tables s is none = let more : 3 ≡ 0 = ap (λ (x : Schema). length x.tables) (sym is ∙ none) in omega (arith, more)
+
+module _ {D : Type 0} {g : Ghosts D} (image : Image) (now : Held (FileStore D g)) (from : IsReadyFrom image now) (clean : HasCleanDisk (file_state now)) where
+  early : HasCleanDisk (file_state from.ready.found)
+  early = omega (arith, from.ready.survives.clean)
+
+  found_is : (d : Database) → Holds image d → (file_state from.ready.found).now ≡ d
+  found_is d holds =
+      let opened = from.ready.opened early in
+      finds_held image (file_state from.ready.found) d opened.0 opened.1 (from.finds early) holds
+
+  pub opens_held : (e : Entries) → HoldsStore image e → IsAt e (file_state now)
+  opens_held e held =
+      let opened = from.ready.opened early in
+      let found = shows_held image (file_state from.ready.found) opened.0 opened.1 (from.finds early) e held in
+      subst (λ (h : Held (FileStore D g)). IsAt e (file_state h)) (sym (from.ready.same (has_tables (file_state from.ready.found) found.0.schema))) found
+
+  pub opens_none : HoldsNoTables image → IsAt no_entries (file_state now)
+  opens_none (inl none) =
+      let opened = from.ready.opened early in
+      from.ready.made clean (finds_nothing image (file_state from.ready.found) opened.0 opened.1 (from.finds early) none)
+  opens_none (inr (d, holds, none)) = from.ready.made clean (ap (λ (x : Database). x.schema) (found_is d holds) ∙ none)
+
+-- what the database's open tells of files that held the image
+pub tells : {D : Type 0} {g : Ghosts D} (image : Image) (P Q : Files D → Type 0) (same : (files : Files D) → P files → Q files → image_of g files ≡ image) (left : Option (Leftover D g)) (e : Error)
+    → (left ≡ None → (e ≡ SqliteFailure CannotOpen) ⊎ ((e ≡ SqliteFailure OutOfMemory) ⊎ (e ≡ SqliteFailure DatabaseBusy)))
+    → IfSome left (λ it. (files : Files D) × P files × Q files × (IsCleanLeft it → FailsToOpenFiles files it e × LeavesFiles files it)) → IsUnopened image left e
+tells image P Q same None e system caused = system refl
+tells image P Q same (Some left) e system caused = (caused.0, same caused.0 caused.1 caused.2, caused.3)
+
+-- a refusal of files that had no tables
+pub unmade : {D : Type 0} {g : Ghosts D} (image : Image) (result : Result (Held (FileStore D g)) StoreError) (found : Held (FileStore D g)) → OpensOrTells {g = g} image (Ok found)
+    → IsBare (file_state found) → HasCause image result
+unmade image (Ok s) found finds bare = tt
+unmade image (Err e) found finds bare = λ _. inr (found, finds, bare)
+
+pub ready_of : {D : Type 0} {g : Ghosts D} (image : Image) (result : Result (Held (FileStore D g)) StoreError) → IfOk result (IsReadyFrom image) → IfOk result IsReady
+ready_of image (Ok s) from = from.ready
+ready_of image (Err e) from = tt
+
+-- files to which a store's last commit was copied keep the store
+pub keeps : {D : Type 0} {g : Ghosts D} (c : Held (FileStore D g)) (files : Files D) → IsCopied c files → IsLive (file_state c) → (IsTrue (file_state c).is_open → (file_state c).now ≡ (file_state c).committed)
+    → (e : Entries) → Stands (file_state c).now e → KeepsStore g files e
+keeps {D} {g} c files copied live settled e stands =
+    let same = settled copied.was_open in
+    let holds = λ (image : Image) (alone : HoldsAlone image (file_state c).committed.trees). let r : HoldsStore image e = (
+      (file_state c).now,
+      record { trees = subst (λ (d : Database). ∥ HoldsDatabase image d.trees ∥₁) (sym same) alone.both; listed = (live copied.was_open).0 },
+      stands,
+    ) in r in
+    record { seen = holds _ copied.seen; left = λ image may. holds image (copied.left image may) }
