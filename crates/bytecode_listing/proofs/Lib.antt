@@ -1,1 +1,6 @@
 mod Examples
+mod Lexing
+mod Naming
+mod Numbers
+mod Shorter
+mod Loop

@@ -1,5 +1,5 @@
 -- What operations are called.
-use Rattle.std.specs.Prelude.{ℕ, List, [], ◌∷◌, Option, Some, None, bytes_eq, if◌then◌else◌, codes}
+use Rattle.std.specs.Prelude.{ℕ, suc, List, [], ◌∷◌, Option, Some, None, bytes_eq, if◌then◌else◌, codes}
 use Rattle.bytecode_format.specs.Operations.{operations}
 use Rattle.bytecode_format.specs.declared.operation.Operation.{Operation}
 use Rattle.bytecode_format.specs.declared.operation.Operation.TheVariants.{Halt, Literal, Variable, Capture, Join, Set, Bool, Not, Jump, JumpIfTrue, JumpIfFalse, Header, Exists, String, Size, PartSize, PartBody, PartDigest, Keep, Discard, File, Store, Each, Next, Break, Take}
@@ -33,11 +33,11 @@ name_of Next = codes "NEXT"
 name_of Break = codes "BREAK"
 name_of Take = codes "TAKE"
 
--- the first of some operations that has this name
-abbrev pub named_among : List Operation → List ℕ → Option Operation
-named_among [] name = None
-named_among (operation ∷ others) name = if bytes_eq (name_of operation) name then Some operation else named_among others name
+-- the octet of the first of some operations that has this name, where they are numbered from this octet on
+unfoldable pub named_among : ℕ → List Operation → List ℕ → Option ℕ
+named_among octet [] name = None
+named_among octet (operation ∷ others) name = if bytes_eq (name_of operation) name then Some octet else named_among (suc octet) others name
 
--- the operation of this name
-abbrev pub operation_named : List ℕ → Option Operation
-operation_named name = named_among operations name
+-- the octet of the operation of this name
+abbrev pub octet_named : List ℕ → Option ℕ
+octet_named name = named_among 1 operations name

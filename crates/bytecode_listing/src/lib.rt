@@ -3,8 +3,14 @@
 
 #[cfg(test)]
 mod ample;
+mod assembling;
+mod error;
+mod items;
 mod names;
+mod tokens;
 mod writing;
 
+pub use assembling::assemble;
+pub use error::ListingError;
 pub use names::name_of;
 pub use writing::disassemble;

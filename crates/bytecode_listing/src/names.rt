@@ -1,6 +1,6 @@
 // What operations are called.
 ghost use Rattle.std.specs.Prelude.{◌≡◌};
-ghost use Rattle.bytecode_listing.specs.Names.{name_of};
+ghost use Rattle.bytecode_listing.specs.Names.{name_of, octet_named};
 
 use bytecode_format::Operation;
 
@@ -36,4 +36,18 @@ pub fn name_of(operation: Operation) -> &'static [u8]
         Operation::Break => b"BREAK",
         Operation::Take => b"TAKE",
     }
+}
+
+/// The octet of the operation that has this name in a listing.
+pub(crate) fn octet_named(name: &[u8]) -> Option<u8>
+    ensures { result ≡ octet_named name.now }
+{
+    let mut octet = 1;
+    'table: while let Some(operation) = Operation::of(octet) {
+        if name_of(operation) == name {
+            return Some(octet);
+        }
+        octet += 1;
+    }
+    None
 }

@@ -1,5 +1,5 @@
 // Programs as listings.
-ghost use Rattle.std.specs.Prelude.{◌≡◌, ◌++◌, ◌<◌, false, IfOk, OnOk, codes};
+ghost use Rattle.std.specs.Prelude.{◌≡◌, ◌++◌, ◌<◌, false, IfOk, OnOk};
 ghost use Rattle.std.specs.List.{flat_map};
 ghost use Rattle.std.specs.Fmt.{decimal, digit_glyph};
 ghost use Rattle.bytecode_listing.specs.Listing.{is_plain, two_digits, escaped_octet, quoted, operation_text, field_text, fields_text, instruction_text, instruction_lines, number_line, string_line, line, listing_of};
@@ -110,7 +110,8 @@ fn put_instruction(
     place: usize,
     instruction: Instruction,
 ) -> Result<(), AllocError>
-    ensures { OnOk result (out.new.items ≡ out.old.items ++ line (instruction_text place instruction)) }
+    ensures { OnOk result
+        (out.new.items ≡ out.old.items ++ line (instruction_text place instruction)) }
 {
     put_number(out, place as u64)?;
     out.push(b' ')?;

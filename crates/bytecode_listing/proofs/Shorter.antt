@@ -1,0 +1,151 @@
+-- What a reader leaves is shorter than what it was given.
+use Rattle.std.proofs.Common.{ℕ, suc, ◌^◌, ◌-◌, ◌<◌, ◌≤◌, Bool, true, false, if◌then◌else◌, List, [], ◌∷◌, length, Option, Some, None, is_some, Result, Ok, Err, codes, arith}
+use Rattle.std.specs.Prelude.{bytes_eq, nat_le, unwrap_or}
+use Rattle.bytecode_format.specs.declared.instruction.Instruction.{Instruction}
+use Rattle.bytecode_listing.specs.Names.{octet_named}
+use Rattle.bytecode_listing.specs.Tokens.{Token, Word, Text, Wrong}
+use Rattle.bytecode_listing.specs.Items.{Tokens, ◌>>=◌, left_at, word_in, word_at, text_in, text_at, begins_with, begins_number, keyword_at, value_from, is_within, number_at, octet_in, found, octet_at, operation_at, field_number, field_at, Fields, round_at, fields_at, place_at, instruction_at, number_item, string_item}
+
+-- fewer tokens than that are left, where something was read
+abbrev pub Leaves : {A : Type 0} → ℕ → Result (A × Tokens) ℕ → Type 0
+Leaves n (Ok x) = length x.1 < n
+Leaves n (Err left) = Unit {0}
+
+abbrev pub LeavesRest : ℕ → Result Tokens ℕ → Type 0
+LeavesRest n (Ok rest) = length rest < n
+LeavesRest n (Err left) = Unit {0}
+
+chain : {A B : Type 0} (n m : ℕ) (r : Result (A × Tokens) ℕ) (f : A × Tokens → Result (B × Tokens) ℕ) → Leaves n r → ((x : A × Tokens) → length x.1 < n → Leaves m (f x)) → Leaves m (r >>= f)
+chain n m (Ok x) f h k = k x h
+chain n m (Err left) f h k = tt
+
+then_rest : {A : Type 0} (n m : ℕ) (r : Result (A × Tokens) ℕ) (f : A × Tokens → Result Tokens ℕ) → Leaves n r → ((x : A × Tokens) → length x.1 < n → LeavesRest m (f x)) → LeavesRest m (r >>= f)
+then_rest n m (Ok x) f h k = k x h
+then_rest n m (Err left) f h k = tt
+
+rest_then : {A : Type 0} (n m : ℕ) (r : Result Tokens ℕ) (f : Tokens → Result (A × Tokens) ℕ) → LeavesRest n r → ((rest : Tokens) → length rest < n → Leaves m (f rest)) → Leaves m (r >>= f)
+rest_then n m (Ok rest) f h k = k rest h
+rest_then n m (Err left) f h k = tt
+
+wider : {A : Type 0} (n m : ℕ) (r : Result (A × Tokens) ℕ) → n ≤ m → Leaves n r → Leaves m r
+wider n m (Ok x) le h = omega arith
+wider n m (Err left) le h = tt
+
+if_leaves : {A : Type 0} (n : ℕ) (b : Bool) (x y : Result (A × Tokens) ℕ) → Leaves n x → Leaves n y → Leaves n (if b then x else y)
+if_leaves n true x y h k = h
+if_leaves n false x y h k = k
+
+if_leaves_rest : (n : ℕ) (b : Bool) (x y : Result Tokens ℕ) → LeavesRest n x → LeavesRest n y → LeavesRest n (if b then x else y)
+if_leaves_rest n true x y h k = h
+if_leaves_rest n false x y h k = k
+
+word_leaves : (tokens : Tokens) → Leaves (length tokens) (word_at tokens)
+word_leaves [] = tt
+word_leaves (first ∷ rest) = in_token first.token
+  where
+    in_token : (token : Token) → Leaves (suc (length rest)) (word_in token first.left rest)
+    in_token (Word w) = omega arith
+    in_token (Text t) = tt
+    in_token Wrong = tt
+
+text_leaves : (tokens : Tokens) → Leaves (length tokens) (text_at tokens)
+text_leaves [] = tt
+text_leaves (first ∷ rest) = in_token first.token
+  where
+    in_token : (token : Token) → Leaves (suc (length rest)) (text_in token first.left rest)
+    in_token (Word w) = tt
+    in_token (Text t) = if_leaves (suc (length rest)) (nat_le (length t) 16384) (Ok (t, rest)) (Err first.left) (omega arith) tt
+    in_token Wrong = tt
+
+keyword_leaves : (word : List ℕ) (tokens : Tokens) → LeavesRest (length tokens) (keyword_at word tokens)
+unfolding keyword_at
+keyword_leaves word tokens =
+    then_rest (length tokens) (length tokens) (word_at tokens) (λ read. if bytes_eq read.0 word then Ok read.1 else Err (left_at tokens)) (word_leaves tokens)
+    (λ read h. if_leaves_rest (length tokens) (bytes_eq read.0 word) (Ok read.1) (Err (left_at tokens)) h tt)
+
+number_leaves : (low high : ℕ) (tokens : Tokens) → Leaves (length tokens) (number_at low high tokens)
+unfolding number_at
+number_leaves low high tokens =
+    chain (length tokens) (length tokens) (word_at tokens) (λ read. if is_within low high read.0 then Ok (value_from 0 read.0, read.1) else Err (left_at tokens)) (word_leaves tokens)
+    (λ read h. if_leaves (length tokens) (is_within low high read.0) (Ok (value_from 0 read.0, read.1)) (Err (left_at tokens)) h tt)
+
+found_leaves : {A : Type 0} (n : ℕ) (x : Option A) (left : ℕ) (rest : Tokens) → length rest < n → Leaves n (found x left rest)
+found_leaves n None left rest h = tt
+found_leaves n (Some x) left rest h = h
+
+octet_leaves : (tokens : Tokens) → Leaves (length tokens) (octet_at tokens)
+unfolding octet_at
+octet_leaves tokens =
+    chain (length tokens) (length tokens) (word_at tokens) (λ read. found (octet_in read.0) (left_at tokens) read.1) (word_leaves tokens)
+    (λ read h. found_leaves (length tokens) (octet_in read.0) (left_at tokens) read.1 h)
+
+operation_leaves : (tokens : Tokens) → Leaves (length tokens) (operation_at tokens)
+unfolding operation_at
+operation_leaves tokens =
+    chain (length tokens) (length tokens) (word_at tokens) (λ read. if bytes_eq read.0 (codes "OP") then octet_at read.1 else found (octet_named read.0) (left_at tokens) read.1) (word_leaves tokens)
+    (λ read h. if_leaves (length tokens) (bytes_eq read.0 (codes "OP")) (octet_at read.1) (found (octet_named read.0) (left_at tokens) read.1) (wider (length read.1) (length tokens) (octet_at read.1) (omega arith) (octet_leaves read.1)) (found_leaves (length tokens) (octet_named read.0) (left_at tokens) read.1 h))
+
+field_number_leaves : (name : List ℕ) (highest : ℕ) (tokens : Tokens) → Leaves (length tokens) (field_number name highest tokens)
+unfolding field_number
+field_number_leaves name highest tokens =
+    rest_then (length tokens) (length tokens) (keyword_at name tokens) (λ rest. number_at 0 highest rest) (keyword_leaves name tokens)
+    (λ rest h. wider (length rest) (length tokens) (number_at 0 highest rest) (omega arith) (number_leaves 0 highest rest))
+
+field_leaves : (name : List ℕ) (highest : ℕ) (given : Option ℕ) (tokens : Tokens) → Leaves (suc (length tokens)) (field_at name highest given tokens)
+unfolding field_at
+field_leaves name highest given tokens =
+    let read : Result (Option ℕ × Tokens) ℕ = field_number name highest tokens >>= λ n. Ok (Some n.0, n.1) in
+    let reads : Leaves (suc (length tokens)) read = chain (length tokens) (suc (length tokens)) (field_number name highest tokens) (λ n. Ok (Some n.0, n.1)) (field_number_leaves name highest tokens) (λ n h. omega (arith, h)) in
+    if_leaves (suc (length tokens)) (begins_with name tokens) (if is_some given then Err (left_at tokens) else read) (Ok (given, tokens))
+    (if_leaves (suc (length tokens)) (is_some given) (Err (left_at tokens)) read tt reads)
+    (omega arith)
+
+round_leaves : (given : Fields) (tokens : Tokens) → Leaves (suc (length tokens)) (round_at given tokens)
+unfolding round_at
+round_leaves given tokens =
+    let n : ℕ = suc (length tokens) in
+    let last : (a b c : Option ℕ × Tokens) → Result (Fields × Tokens) ℕ = λ a b c. Ok (record { a = a.0; b = b.0; c = c.0 }, c.1) in
+    chain n n (field_at (codes "a") 255 given.a tokens) (λ a. field_at (codes "b") 65535 given.b a.1 >>= λ b. field_at (codes "c") 4294967295 given.c b.1 >>= λ c. last a b c) (field_leaves (codes "a") 255 given.a tokens)
+    (λ a h. chain n n (field_at (codes "b") 65535 given.b a.1) (λ b. field_at (codes "c") 4294967295 given.c b.1 >>= λ c. last a b c) (wider (suc (length a.1)) n (field_at (codes "b") 65535 given.b a.1) (omega (arith, h)) (field_leaves (codes "b") 65535 given.b a.1))
+    (λ b k. chain n n (field_at (codes "c") 4294967295 given.c b.1) (λ c. last a b c) (wider (suc (length b.1)) n (field_at (codes "c") 4294967295 given.c b.1) (omega (arith, k)) (field_leaves (codes "c") 4294967295 given.c b.1))
+    (λ c l. l)))
+
+fields_leaves : (tokens : Tokens) → Leaves (suc (length tokens)) (fields_at tokens)
+unfolding fields_at
+fields_leaves tokens =
+    let n : ℕ = suc (length tokens) in
+    let none : Fields = record { a = None; b = None; c = None } in
+    chain n n (round_at none tokens) (λ first. round_at first.0 first.1 >>= λ second. round_at second.0 second.1) (round_leaves none tokens)
+    (λ first h. chain n n (round_at first.0 first.1) (λ second. round_at second.0 second.1) (wider (suc (length first.1)) n (round_at first.0 first.1) (omega (arith, h)) (round_leaves first.0 first.1))
+    (λ second k. wider (suc (length second.1)) n (round_at second.0 second.1) (omega (arith, k)) (round_leaves second.0 second.1)))
+
+place_leaves : (place : ℕ) (tokens : Tokens) → LeavesRest (suc (length tokens)) (place_at place tokens)
+unfolding place_at
+place_leaves place tokens =
+    let read : Result Tokens ℕ = number_at place place tokens >>= λ n. Ok n.1 in
+    if_leaves_rest (suc (length tokens)) (begins_number (word_at tokens)) read (Ok tokens)
+    (then_rest (length tokens) (suc (length tokens)) (number_at place place tokens) (λ n. Ok n.1) (number_leaves place place tokens) (λ n h. omega (arith, h)))
+    (omega arith)
+
+pub instruction_leaves : (place : ℕ) (tokens : Tokens) → Leaves (length tokens) (instruction_at place tokens)
+unfolding instruction_at
+instruction_leaves place tokens =
+    let n : ℕ = length tokens in
+    let last : (operation : ℕ × Tokens) (fields : Fields × Tokens) → Result (Instruction × Tokens) ℕ =
+    λ operation fields. Ok (record { op = operation.0; a = unwrap_or fields.0.a 0; b = unwrap_or fields.0.b 0; c = unwrap_or fields.0.c 0 }, fields.1) in
+    rest_then (suc n) n (place_at place tokens) (λ rest. operation_at rest >>= λ operation. fields_at operation.1 >>= λ fields. last operation fields) (place_leaves place tokens)
+    (λ rest h. chain n n (operation_at rest) (λ operation. fields_at operation.1 >>= λ fields. last operation fields) (wider (length rest) n (operation_at rest) (omega (arith, h)) (operation_leaves rest))
+    (λ operation k. chain n n (fields_at operation.1) (λ fields. last operation fields) (wider (suc (length operation.1)) n (fields_at operation.1) (omega (arith, k)) (fields_leaves operation.1))
+    (λ fields l. l)))
+
+pub number_item_leaves : (place : ℕ) (tokens : Tokens) → Leaves (length tokens) (number_item place tokens)
+unfolding number_item
+number_item_leaves place tokens =
+    rest_then (length tokens) (length tokens) (keyword_at (codes "number") tokens) (λ rest. number_at 0 (2 ^ 64 - 1) rest) (keyword_leaves (codes "number") tokens)
+    (λ rest h. wider (length rest) (length tokens) (number_at 0 (2 ^ 64 - 1) rest) (omega arith) (number_leaves 0 (2 ^ 64 - 1) rest))
+
+pub string_item_leaves : (place : ℕ) (tokens : Tokens) → Leaves (length tokens) (string_item place tokens)
+unfolding string_item
+string_item_leaves place tokens =
+    rest_then (length tokens) (length tokens) (keyword_at (codes "string") tokens) (λ rest. text_at rest) (keyword_leaves (codes "string") tokens)
+    (λ rest h. wider (length rest) (length tokens) (text_at rest) (omega arith) (text_leaves rest))

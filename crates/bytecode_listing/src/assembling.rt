@@ -1,0 +1,128 @@
+// Programs from listings.
+ghost use Rattle.std.specs.Prelude.{◌≡◌, ℕ, IfOk, IfErr, codes};
+ghost use Rattle.bytecode_listing.specs.Tokens.{tokens_of};
+ghost use Rattle.bytecode_listing.specs.Items.{begins_with, is_left, instruction_at, number_item, string_item, all_at, items_at, Lists, FaultsAt};
+ghost use Rattle.bytecode_listing.specs.Readers.{Gives};
+ghost use Rattle.bytecode_listing.specs.declared.error.ListingError.TheVariants.{Fault};
+
+use crate::error::{ListingError, ReadError};
+use crate::items::{instruction_of, keyword_of, number_of, number_row, string_row};
+use crate::tokens::{begins_with, is_left};
+use bytecode_format::{Instruction, Program};
+use octets::Octets;
+use std::alloc::Global;
+
+/// The lowest version of the format.
+const LOWEST_VERSION: u64 = 1;
+
+/// The highest version of the format.
+const HIGHEST_VERSION: u64 = 2;
+
+/// The most variables that a program has.
+const MAX_VARIABLES: u64 = 128;
+
+// Reads the table of numbers.
+fn numbers_of(alloc: Global, octets: &[u8]) -> Result<(Vec<u64>, &[u8]), ReadError>
+    ensures { Gives (λ x. (x.0.items, tokens_of x.1.now)) result (all_at (begins_with (codes "number")) number_item (tokens_of octets.now)) }
+{
+    let mut numbers = Vec::new(alloc);
+    let mut rest = octets;
+    'table: while begins_with(rest, b"number") {
+        let (number, after) = number_row(rest)?;
+        numbers.push(number)?;
+        rest = after;
+    }
+    Ok((numbers, rest))
+}
+
+// Reads the table of strings.
+fn strings_of(alloc: Global, octets: &[u8]) -> Result<(Vec<Octets>, &[u8]), ReadError>
+    ensures { Gives (λ x. (x.0.items, tokens_of x.1.now)) result (all_at (begins_with (codes "string")) string_item (tokens_of octets.now)) }
+{
+    let mut strings = Vec::new(alloc);
+    let mut rest = octets;
+    'table: while begins_with(rest, b"string") {
+        let (string, after) = string_row(alloc, rest)?;
+        strings.push(string)?;
+        rest = after;
+    }
+    Ok((strings, rest))
+}
+
+// Reads the instructions, up to the listing's end.
+fn instructions_of(alloc: Global, octets: &[u8]) -> Result<(Vec<Instruction>, &[u8]), ReadError>
+    ensures { Gives (λ x. (x.0.items, tokens_of x.1.now)) result (all_at is_left instruction_at (tokens_of octets.now)) }
+{
+    let mut instructions = Vec::new(alloc);
+    let mut rest = octets;
+    'table: while is_left(rest) {
+        let (instruction, after) = instruction_of(rest, instructions.as_slice().len())?;
+        instructions.push(instruction)?;
+        rest = after;
+    }
+    Ok((instructions, rest))
+}
+
+/// What a listing says.
+#[derive(Drop)]
+struct Parts {
+    version: u8,
+    variables: u16,
+    numbers: Vec<u64>,
+    strings: Vec<Octets>,
+    instructions: Vec<Instruction>,
+}
+
+// Reads a listing.
+#[tactic(auto, unfolding(crate::specs::Items::items_at))]
+fn parts_of(alloc: Global, octets: &[u8]) -> Result<Parts, ReadError>
+    ensures { Gives (λ p. record { version = p.version; variables = p.variables; numbers = p.numbers.items; strings = p.strings.items; instructions = p.instructions.items }) result (items_at (tokens_of octets.now)) }
+{
+    let rest = keyword_of(octets, b"version")?;
+    let (version, rest) = number_of(rest, LOWEST_VERSION, HIGHEST_VERSION)?;
+    let rest = keyword_of(rest, b"variables")?;
+    let (variables, rest) = number_of(rest, 0, MAX_VARIABLES)?;
+    let (numbers, rest) = numbers_of(alloc, rest)?;
+    let (strings, rest) = strings_of(alloc, rest)?;
+    let (instructions, _) = instructions_of(alloc, rest)?;
+    Ok(Parts {
+        version: version as u8,
+        variables: variables as u16,
+        numbers,
+        strings,
+        instructions,
+    })
+}
+
+/// The program that a listing says.
+///
+/// `Fault` comes exactly where it says none: with the place of the first token that can't stand where it
+/// stands; or, where all can, with the listing's end, where the program exceeds the limits of programs.
+/// `Memory` comes only where an allocation was refused. What is allocated grows with the listing, whose
+/// length is for the caller to limit; the listing is gone through once.
+pub fn assemble(alloc: Global, listing: &[u8]) -> Result<Program, ListingError>
+    ensures listed { IfOk result (λ p. Lists listing.now p) }
+    ensures fault { IfErr result (λ e. (place : ℕ) → e ≡ Fault place → FaultsAt listing.now place) }
+{
+    let parts = match parts_of(alloc, listing) {
+        Ok(parts) => parts,
+        Err(ReadError::Memory) => return Err(ListingError::Memory),
+        Err(ReadError::At(left)) => {
+            return Err(ListingError::Fault {
+                place: listing.len().saturating_sub(left),
+            });
+        }
+    };
+    match Program::build(
+        parts.version,
+        parts.variables,
+        parts.numbers,
+        parts.strings,
+        parts.instructions,
+    ) {
+        Ok(program) => Ok(program),
+        Err(_) => Err(ListingError::Fault {
+            place: listing.len(),
+        }),
+    }
+}

@@ -1,0 +1,44 @@
+// Why there is no program.
+ghost use Rattle.std.specs.Prelude.{◌≡◌};
+ghost use Rattle.bytecode_listing.specs.declared.error.ReadError.TheVariants.{Memory};
+
+use std::alloc::{AllocError, AllocFailed};
+use thiserror::Error;
+
+/// Why a listing is no program's.
+#[derive(Debug, Drop, Error)]
+pub enum ListingError {
+    /// An allocation was refused.
+    #[error("memory was refused")]
+    Memory,
+    /// What stands at this place can't stand there, or the program that is listed exceeds the limits of
+    /// programs; then the place is the listing's end.
+    #[error("fault at octet {place}")]
+    Fault {
+        /// How many octets of the listing stand before it.
+        place: usize,
+    },
+}
+
+/// Why reading ends: memory was refused, or what begins where so many octets are left can't stand there.
+#[derive(Drop)]
+pub enum ReadError {
+    Memory,
+    At(usize),
+}
+
+impl From<AllocError> for ReadError {
+    ghost from_gives = { λ _ e. e ≡ Memory };
+
+    fn from(_refused: AllocError) -> ReadError {
+        ReadError::Memory
+    }
+}
+
+impl<T: Drop> From<AllocFailed<T>> for ReadError {
+    ghost from_gives = { λ _ e. e ≡ Memory };
+
+    fn from(_refused: AllocFailed<T>) -> ReadError {
+        ReadError::Memory
+    }
+}

@@ -1,0 +1,244 @@
+// The items of a listing, one at a time: each reader gives what it read and what is left after it.
+ghost use Rattle.std.specs.Prelude.{◌≡◌, ℕ, ◌+◌, ◌*◌, ◌-◌, ◌^◌, ◌&&◌, ◌≤◌, ◌<◌, nat_lt, length, IfOk, Some, None, if◌then◌else◌, codes};
+ghost use Rattle.std.specs.Char.{is_ascii_digit};
+ghost use Rattle.bytecode_listing.specs.Tokens.{tokens_of};
+ghost use Rattle.bytecode_listing.specs.Items.{keyword_at, field_number, number_at, is_within, value_from, octet_in, octet_at, operation_at, field_at, round_at, fields_at, place_at, instruction_at, number_item, string_item};
+ghost use Rattle.bytecode_listing.specs.Readers.{Gives, decimal_on};
+
+use crate::error::ReadError;
+use crate::names::octet_named;
+use crate::tokens::{begins_number, begins_with, first, left_at, octet_from, text_of, word_of};
+use bytecode_format::Instruction;
+use octets::Octets;
+use std::alloc::Global;
+
+/// Reads this word.
+#[tactic(auto, unfolding(crate::specs::Items::keyword_at))]
+pub fn keyword_of<'a>(octets: &'a [u8], word: &[u8]) -> Result<&'a [u8], ReadError>
+    ensures { Gives (λ x. tokens_of x.now) result (keyword_at word.now (tokens_of octets.now)) }
+{
+    let (read, rest) = word_of(octets)?;
+    if read == word {
+        Ok(rest)
+    } else {
+        Err(ReadError::At(left_at(octets)))
+    }
+}
+
+// The number that one more digit makes of a number, where 64 bits hold it.
+fn more(value: u64, digit: u8) -> Option<u64>
+    ensures { result ≡ (if is_ascii_digit digit && nat_lt (10 * value + (digit - 48)) (2 ^ 64) then Some (10 * value + (digit - 48)) else None) }
+{
+    if !digit.is_ascii_digit() {
+        return None;
+    }
+    value.checked_mul(10)?.checked_add(u64::from(digit - b'0'))
+}
+
+// The number that decimal digits spell, where 64 bits hold it.
+fn decimal_of(word: &[u8]) -> Option<u64>
+    ensures { result ≡ decimal_on 0 word.now }
+{
+    let mut value: u64 = 0;
+    let mut rest = word;
+    'digits: while let Some((digit, after)) = first(rest) {
+        value = more(value, digit)?;
+        rest = after;
+    }
+    Some(value)
+}
+
+// The number from `low` to `high` that a word is.
+fn value_within(word: &[u8], low: u64, high: u64) -> Option<u64>
+    ensures { result ≡ (if is_within low high word.now then Some (value_from 0 word.now) else None) }
+{
+    let value = decimal_of(word)?;
+    if low <= value && value <= high {
+        Some(value)
+    } else {
+        None
+    }
+}
+
+// Reads a number from `low` to `high`.
+#[tactic(auto, unfolding(crate::specs::Items::number_at))]
+pub fn number_of(octets: &[u8], low: u64, high: u64) -> Result<(u64, &[u8]), ReadError>
+    ensures number { Gives (λ x. (x.0, tokens_of x.1.now)) result (number_at low high (tokens_of octets.now)) }
+    ensures small { IfOk result (λ x. x.0 ≤ high) }
+{
+    let (word, rest) = word_of(octets)?;
+    match value_within(word, low, high) {
+        Some(value) => Ok((value, rest)),
+        None => Err(ReadError::At(left_at(octets))),
+    }
+}
+
+// The octet that two hexadecimal digits are.
+fn octet_of(word: &[u8]) -> Option<u8>
+    ensures { result ≡ octet_in word.now }
+{
+    match word {
+        [high, low] => octet_from(*high, *low),
+        _ => None,
+    }
+}
+
+// Reads an octet.
+#[tactic(auto, unfolding(crate::specs::Items::octet_at))]
+fn octet_word(octets: &[u8]) -> Result<(u8, &[u8]), ReadError>
+    ensures { Gives (λ x. (x.0, tokens_of x.1.now)) result (octet_at (tokens_of octets.now)) }
+{
+    let (word, rest) = word_of(octets)?;
+    match octet_of(word) {
+        Some(octet) => Ok((octet, rest)),
+        None => Err(ReadError::At(left_at(octets))),
+    }
+}
+
+// Reads an operation: its name, or OP and the octet.
+#[tactic(auto, unfolding(crate::specs::Items::operation_at))]
+fn operation_of(octets: &[u8]) -> Result<(u8, &[u8]), ReadError>
+    ensures { Gives (λ x. (x.0, tokens_of x.1.now)) result (operation_at (tokens_of octets.now)) }
+{
+    let (word, rest) = word_of(octets)?;
+    if word == b"OP".as_slice() {
+        return octet_word(rest);
+    }
+    match octet_named(word) {
+        Some(octet) => Ok((octet, rest)),
+        None => Err(ReadError::At(left_at(octets))),
+    }
+}
+
+/// The fields of an instruction that have been given.
+#[derive(Clone, Copy)]
+struct Fields {
+    a: Option<u8>,
+    b: Option<u16>,
+    c: Option<u32>,
+}
+
+// Reads a field's name and its number.
+#[tactic(auto, unfolding(crate::specs::Items::field_number))]
+fn field_of<'a>(octets: &'a [u8], name: &[u8], highest: u64) -> Result<(u64, &'a [u8]), ReadError>
+    ensures number { Gives (λ x. (x.0, tokens_of x.1.now)) result (field_number name.now highest (tokens_of octets.now)) }
+    ensures small { IfOk result (λ x. x.0 ≤ highest) }
+{
+    number_of(keyword_of(octets, name)?, 0, highest)
+}
+
+// Reads the field a, where it stands first.
+#[tactic(auto, unfolding(crate::specs::Items::field_at))]
+fn a_of(octets: &[u8], given: Option<u8>) -> Result<(Option<u8>, &[u8]), ReadError>
+    ensures { Gives (λ x. (x.0, tokens_of x.1.now)) result (field_at (codes "a") (2 ^ 8 - 1) given (tokens_of octets.now)) }
+{
+    if !begins_with(octets, b"a") {
+        return Ok((given, octets));
+    }
+    if given.is_some() {
+        return Err(ReadError::At(left_at(octets)));
+    }
+    let (number, rest) = field_of(octets, b"a", u64::from(u8::MAX))?;
+    Ok((Some(number as u8), rest))
+}
+
+// Reads the field b, where it stands first.
+#[tactic(auto, unfolding(crate::specs::Items::field_at))]
+fn b_of(octets: &[u8], given: Option<u16>) -> Result<(Option<u16>, &[u8]), ReadError>
+    ensures { Gives (λ x. (x.0, tokens_of x.1.now)) result (field_at (codes "b") (2 ^ 16 - 1) given (tokens_of octets.now)) }
+{
+    if !begins_with(octets, b"b") {
+        return Ok((given, octets));
+    }
+    if given.is_some() {
+        return Err(ReadError::At(left_at(octets)));
+    }
+    let (number, rest) = field_of(octets, b"b", u64::from(u16::MAX))?;
+    Ok((Some(number as u16), rest))
+}
+
+// Reads the field c, where it stands first.
+#[tactic(auto, unfolding(crate::specs::Items::field_at))]
+fn c_of(octets: &[u8], given: Option<u32>) -> Result<(Option<u32>, &[u8]), ReadError>
+    ensures { Gives (λ x. (x.0, tokens_of x.1.now)) result (field_at (codes "c") (2 ^ 32 - 1) given (tokens_of octets.now)) }
+{
+    if !begins_with(octets, b"c") {
+        return Ok((given, octets));
+    }
+    if given.is_some() {
+        return Err(ReadError::At(left_at(octets)));
+    }
+    let (number, rest) = field_of(octets, b"c", u64::from(u32::MAX))?;
+    Ok((Some(number as u32), rest))
+}
+
+// Reads each field that stands there, in the order a, b, c.
+#[tactic(auto, unfolding(crate::specs::Items::round_at))]
+fn round_of(octets: &[u8], given: Fields) -> Result<(Fields, &[u8]), ReadError>
+    ensures { Gives (λ x. (record { a = x.0.a; b = x.0.b; c = x.0.c }, tokens_of x.1.now)) result (round_at (record { a = given.a; b = given.b; c = given.c }) (tokens_of octets.now)) }
+{
+    let (a, rest) = a_of(octets, given.a)?;
+    let (b, rest) = b_of(rest, given.b)?;
+    let (c, rest) = c_of(rest, given.c)?;
+    Ok((Fields { a, b, c }, rest))
+}
+
+// Reads the fields of an instruction, in any order.
+#[tactic(auto, unfolding(crate::specs::Items::fields_at))]
+fn fields_of(octets: &[u8]) -> Result<(Fields, &[u8]), ReadError>
+    ensures { Gives (λ x. (record { a = x.0.a; b = x.0.b; c = x.0.c }, tokens_of x.1.now)) result (fields_at (tokens_of octets.now)) }
+{
+    let none = Fields {
+        a: None,
+        b: None,
+        c: None,
+    };
+    let (given, rest) = round_of(octets, none)?;
+    let (given, rest) = round_of(rest, given)?;
+    round_of(rest, given)
+}
+
+// Reads an instruction's place, where a number stands first.
+#[tactic(auto, unfolding(crate::specs::Items::place_at))]
+fn place_of(octets: &[u8], place: usize) -> Result<&[u8], ReadError>
+    ensures { Gives (λ x. tokens_of x.now) result (place_at place (tokens_of octets.now)) }
+{
+    if !begins_number(octets) {
+        return Ok(octets);
+    }
+    let (_, rest) = number_of(octets, place as u64, place as u64)?;
+    Ok(rest)
+}
+
+/// Reads an instruction at its place.
+#[tactic(auto, unfolding(crate::specs::Items::instruction_at))]
+pub fn instruction_of(octets: &[u8], place: usize) -> Result<(Instruction, &[u8]), ReadError>
+    ensures { Gives (λ x. (x.0, tokens_of x.1.now)) result (instruction_at place (tokens_of octets.now)) }
+{
+    let rest = place_of(octets, place)?;
+    let (op, rest) = operation_of(rest)?;
+    let (fields, rest) = fields_of(rest)?;
+    let instruction = Instruction {
+        op,
+        a: fields.a.unwrap_or(0),
+        b: fields.b.unwrap_or(0),
+        c: fields.c.unwrap_or(0),
+    };
+    Ok((instruction, rest))
+}
+
+/// Reads a number of the table.
+#[tactic(auto, unfolding(crate::specs::Items::number_item))]
+pub fn number_row(octets: &[u8]) -> Result<(u64, &[u8]), ReadError>
+    ensures { (place : ℕ) → Gives (λ x. (x.0, tokens_of x.1.now)) result (number_item place (tokens_of octets.now)) }
+{
+    number_of(keyword_of(octets, b"number")?, 0, u64::MAX)
+}
+
+/// Reads a string of the table.
+#[tactic(auto, unfolding(crate::specs::Items::string_item))]
+pub fn string_row(alloc: Global, octets: &[u8]) -> Result<(Octets, &[u8]), ReadError>
+    ensures { (place : ℕ) → Gives (λ x. (x.0, tokens_of x.1.now)) result (string_item place (tokens_of octets.now)) }
+{
+    text_of(alloc, keyword_of(octets, b"string")?)
+}
