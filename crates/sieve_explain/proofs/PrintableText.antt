@@ -9,7 +9,7 @@ use Rattle.refusals.specs.declared.refusal.Refusal.TheVariants as refused
 use Rattle.sieve_check.specs.declared.error.Fault.{Fault}
 use Rattle.sieve_check.specs.declared.error.Fault.TheVariants.{UnknownCommand, MissingCapability, UnknownCapability, BadArguments, Limit}
 use Rattle.sieve_explain.specs.Explaining.{Explains, TellsReason, fault_blanks, heading, marked_token, opened, reason_in, remark, start_of, syntax_told, told}
-use Rattle.sieve_explain.specs.Faults.{lexical_blanks, syntax_blanks, too_deep_blanks, too_long_blanks, unclosed_blanks, unit_blanks}
+use Rattle.sieve_explain.specs.Faults.{lexical_blanks, listing_blanks, syntax_blanks, too_deep_blanks, too_long_blanks, unclosed_blanks, unit_blanks}
 use Rattle.sieve_explain.specs.Marks.{has_unit, unclosed}
 use Rattle.sieve_lexer.specs.declared.token.Token.{Token}
 use Rattle.sieve_reasons.specs.Reasons.{Reason}
@@ -19,7 +19,7 @@ use Rattle.sieve_explain.specs.Reasons.{reason_blanks}
 use Rattle.sieve_explain.specs.Sentences.{Blanks, filled}
 use Rattle.sieve_explain.specs.Shown.{excerpt, line, marked, shown_end, shown_start}
 use Rattle.sieve_explain.proofs.Printing.{Fine, FineBlanks, fine_append, fine_decimal, fine_end, fine_filled, fine_spaces, fine_start}
-use Rattle.sieve_explain.proofs.PrintingTables.{blanks_if, fine_lexical, fine_reason, fine_syntax}
+use Rattle.sieve_explain.proofs.PrintingTables.{blanks_if, fine_lexical, fine_listing, fine_reason, fine_syntax}
 
 fine_line : (text : List ℕ) → Fine text → Fine (line text)
 fine_line text e = fine_append text (10 ∷ []) e refl
@@ -86,4 +86,6 @@ printable name script (refused.MissingCapability number) text p e = fine_reasone
 printable name script (refused.UnknownCapability number) text p e = fine_reasoned name script UnknownCapability number text p e
 printable name script (refused.BadArguments number) text p e = fine_reasoned name script BadArguments number text p e
 printable name script (refused.Limit number) text p e = fine_reasoned name script Limit number text p e
+printable name script (refused.Listing place) text p e =
+    let at = min place (length script) in ap are_printable e ∙ fine_told name script at (listing_blanks (drop at script)) p (fine_listing (drop at script))
 printable name script _ text p e = ap are_printable e

@@ -13,7 +13,7 @@ use Rattle.sieve_lexer.specs.declared.token.Token.{Token}
 use Rattle.sieve_parser.specs.Scripts.{IsParsed}
 use Rattle.sieve_parser.specs.Tree.{CommandsTree}
 use Rattle.sieve_reasons.specs.Reasons.{Reason, reason_of}
-use Rattle.sieve_explain.specs.Faults.{lexical_blanks, syntax_blanks, too_deep_blanks, too_long_blanks, unclosed_blanks, unit_blanks}
+use Rattle.sieve_explain.specs.Faults.{lexical_blanks, listing_blanks, syntax_blanks, too_deep_blanks, too_long_blanks, unclosed_blanks, unit_blanks}
 use Rattle.sieve_explain.specs.Marks.{has_unit, string_among, unclosed}
 use Rattle.sieve_explain.specs.Places.{column, line_number}
 use Rattle.sieve_explain.specs.Reasons.{reason_blanks}
@@ -105,7 +105,8 @@ abbrev pub TellsReason : List ℕ → List ℕ → Fault → ℕ → List ℕ �
 TellsReason name script fault number text = (tokens : List Token) × ((tree : Option CommandsTree) × (HasTokens script tokens × HasTree script tree
     × (text ≡ reason_told name script fault (reason_in tree fault number) tokens number)))
 
--- what is told of a refused script: the refusal's place, a sentence and the line; nothing of a refusal that no script has
+-- what is told of a refused script, or of a listing of a program: the refusal's place, a sentence and the line; nothing of a refusal that
+-- neither has
 abbrev pub Explains : List ℕ → List ℕ → Refusal → List ℕ → Type 0
 Explains name script (refused.Lexical place) text = let at = min place (length script) in text ≡ told name script at (lexical_blanks (drop at script))
 Explains name script refused.ScriptTooLong text = text ≡ told name script (min max_script (length script)) too_long_blanks
@@ -116,4 +117,5 @@ Explains name script (refused.MissingCapability number) text = TellsReason name 
 Explains name script (refused.UnknownCapability number) text = TellsReason name script UnknownCapability number text
 Explains name script (refused.BadArguments number) text = TellsReason name script BadArguments number text
 Explains name script (refused.Limit number) text = TellsReason name script Limit number text
+Explains name script (refused.Listing place) text = let at = min place (length script) in text ≡ told name script at (listing_blanks (drop at script))
 Explains name script _ text = text ≡ []

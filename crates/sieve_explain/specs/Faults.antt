@@ -1,5 +1,5 @@
 -- What is said of a script that isn't parsed.
-use Rattle.std.specs.Prelude.{ℕ, ◌^◌, ◌-◌, ◌==◌, ◌&&◌, if◌then◌else◌, List, [], ◌∷◌, length, take, Option, Some, None, slice_index, slice_range, bytes_eq, codes}
+use Rattle.std.specs.Prelude.{ℕ, suc, ◌^◌, ◌-◌, ◌==◌, ◌&&◌, nat_lt, if◌then◌else◌, List, [], ◌∷◌, length, take, take_while, Option, Some, None, slice_index, slice_range, bytes_eq, codes}
 use Rattle.std.specs.Char.{is_ascii_digit}
 use Rattle.octets.specs.Limits.{max_nesting, max_script}
 use Rattle.sieve_lexer.specs.Classes.{begins_identifier}
@@ -95,3 +95,17 @@ unclosed_blanks = plain (codes "this brace is never closed")
 -- 18, where the letter of a unit has more letters behind it
 abbrev pub unit_blanks : Blanks
 unit_blanks = plain (codes "the units of a number are K, M and G, with nothing behind the letter, as in 5M")
+
+-- ---- of a listing
+
+abbrev pub is_dark : ℕ → Bool
+is_dark octet = nat_lt 32 octet
+
+-- 28, by the octets from the place on: what stands there goes up to the next blank
+abbrev pub listing_blanks : List ℕ → Blanks
+listing_blanks [] = plain (codes "the listing ends before its program does, or the program exceeds the limits of programs")
+listing_blanks (octet ∷ rest) =
+    if octet == 34
+    then plain (codes "no string can stand here, or this one is never closed, too long, or has a backslash without two hexadecimal digits")
+    else record (plain (codes "@ can't stand here: after version and variables stand numbers, strings, and then instructions with their fields"))
+      { name = take (suc (length (take_while is_dark rest))) (octet ∷ rest) }

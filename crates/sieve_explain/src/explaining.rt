@@ -8,7 +8,7 @@ ghost use Rattle.sieve_explain.specs.Sentences.{blanks_of, filled};
 
 use crate::excerpt::push_excerpt;
 use crate::faults::{
-    lexical_sentence, syntax_sentence, too_deep_sentence, too_long_sentence, unclosed_sentence,
+    lexical_sentence, listing_sentence, syntax_sentence, too_deep_sentence, too_long_sentence, unclosed_sentence,
     unit_sentence,
 };
 use crate::marks::{has_unit, string_among, token_at, tokens_from, unclosed};
@@ -135,8 +135,8 @@ fn start_of(script: &[u8], token: Option<Token>) -> usize
     }
 }
 
-/// Why a script is refused, for whoever wrote it: where, a sentence, the line and a mark under the place. Empty for a refusal that
-/// no script gets.
+/// Why a script, or a listing of a program, is refused, for whoever wrote it: where, a sentence, the line and a mark under the place.
+/// Empty for a refusal that neither gets.
 ///
 /// # Errors
 ///
@@ -177,6 +177,11 @@ pub fn explanation(
             reason_explanation(alloc, name, script, Fault::BadArguments, *place)
         }
         Refusal::Limit { place } => reason_explanation(alloc, name, script, Fault::Limit, *place),
+        Refusal::Listing { place } => {
+            let place = (*place).min(script.len());
+            let (_, rest) = script.split_at(place);
+            told(alloc, name, script, place, &listing_sentence(rest))
+        }
         _ => Ok(Vec::new(alloc)),
     }
 }

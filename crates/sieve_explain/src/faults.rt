@@ -1,6 +1,6 @@
 // What is said of a script that isn't parsed.
 ghost use Rattle.std.specs.Prelude.{◌≡◌, ◌≤◌, IfSome, bytes_eq, length, take};
-ghost use Rattle.sieve_explain.specs.Faults.{lexical_blanks, misplaced_token, mistaken, mistaken_blanks, other_blanks, syntax_blanks, text_at, text_in, too_deep_blanks, too_long_blanks, unclosed_blanks, unit_blanks};
+ghost use Rattle.sieve_explain.specs.Faults.{lexical_blanks, listing_blanks, misplaced_token, mistaken, mistaken_blanks, other_blanks, syntax_blanks, text_at, text_in, too_deep_blanks, too_long_blanks, unclosed_blanks, unit_blanks};
 ghost use Rattle.sieve_explain.specs.Sentences.{blanks_of};
 
 use crate::places::around;
@@ -92,6 +92,26 @@ fn mistaken_sentence<'a>(text: &'static str, other: Sentence<'a>) -> Sentence<'a
     Sentence {
         words: "#",
         ..plain(text)
+    }
+}
+
+/// The sentence for what can't stand where it does in a listing, up to the next blank, or for its end.
+pub fn listing_sentence(rest: &[u8]) -> Sentence<'_>
+    ensures { blanks_of result ≡ listing_blanks rest.now }
+{
+    match rest {
+        [] => plain(
+            "the listing ends before its program does, or the program exceeds the limits of programs",
+        ),
+        [b'"', ..] => plain(
+            "no string can stand here, or this one is never closed, too long, or has a backslash without two hexadecimal digits",
+        ),
+        [_, others @ ..] => Sentence {
+            name: &rest[..1 + others.iter().take_while(|octet| **octet > b' ').count()],
+            ..plain(
+                "@ can't stand here: after version and variables stand numbers, strings, and then instructions with their fields",
+            )
+        },
     }
 }
 
