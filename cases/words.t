@@ -91,24 +91,27 @@ Help.
     2> Usage: depot [COMMAND]
     2>
     2> Commands:
-    2>   check    Says whether a Sieve script has a fault, and where
-    2>   explain  Says in words what the fault of a Sieve script is, and shows its line
-    2>   compile  Writes a Sieve script as a filter program (bytecode)
-    2>   verify   Says whether a filter program is safe to run, and what it may charge
-    2>   run      Runs a filter program on a message, and prints what it does with it
-    2>   eval     Runs a Sieve script on a message, and prints what it does with it
-    2>   parts    Lists the parts of a message: place, depth, media type, length and digest of the content
-    2>   encode   Writes the octets of standard input as a text
-    2>   decode   Writes the octets that the text on standard input stands for
-    2>   script   Stores a Sieve script, compiled, as the filter of a user
-    2>   code     Stores a filter program (bytecode) as the filter of a user
-    2>   deliver  Files a message, or parts of it, as the filter of a user says
-    2>   list     Lists the entries of a user
-    2>   export   Writes the octets of an entry as a text
-    2>   remove   Removes an entry
-    2>   migrate  Gives the filters of all users the latest version of the bytecode
-    2>   inspect  Says what a file is, and what the depot in it holds; changes nothing
-    2>   help     Print this message or the help of the given subcommand(s)
+    2>   check        Says whether a Sieve script has a fault, and where
+    2>   explain      Says in words what the fault of a Sieve script is, and shows its line
+    2>   compile      Writes a Sieve script as a filter program (bytecode)
+    2>   verify       Says whether a filter program is safe to run, and what it may charge
+    2>   run          Runs a filter program on a message, and prints what it does with it
+    2>   disassemble  Lists a filter program, an instruction a line, and says what the verifier says of it
+    2>   assemble     Writes the filter program (bytecode) that a listing says
+    2>   eval         Runs a Sieve script on a message, and prints what it does with it
+    2>   parts        Lists the parts of a message: place, depth, media type, length and digest of the content
+    2>   encode       Writes the octets of standard input as a text
+    2>   decode       Writes the octets that the text on standard input stands for
+    2>   script       Stores a Sieve script, compiled, as the filter of a user
+    2>   code         Stores a filter program (bytecode) as the filter of a user
+    2>   program      Writes the filter program (bytecode) of a user to a file
+    2>   deliver      Files a message, or parts of it, as the filter of a user says
+    2>   list         Lists the entries of a user
+    2>   export       Writes the octets of an entry as a text
+    2>   remove       Removes an entry
+    2>   migrate      Gives the filters of all users the latest version of the bytecode
+    2>   inspect      Says what a file is, and what the depot in it holds; changes nothing
+    2>   help         Print this message or the help of the given subcommand(s)
     2>
     2> Options:
     2>   -h, --help  Print help
@@ -118,7 +121,7 @@ Help.
     2> With no words at all, a program that keeps every message runs on standard input.
     2> The help of a command has an example, and says with which refusals it may end.
     2>
-    2> depot 0.14.0
+    2> depot 0.15.0
     [2]
 
 ## help command
@@ -128,24 +131,27 @@ Help.
     2> Usage: depot [COMMAND]
     2>
     2> Commands:
-    2>   check    Says whether a Sieve script has a fault, and where
-    2>   explain  Says in words what the fault of a Sieve script is, and shows its line
-    2>   compile  Writes a Sieve script as a filter program (bytecode)
-    2>   verify   Says whether a filter program is safe to run, and what it may charge
-    2>   run      Runs a filter program on a message, and prints what it does with it
-    2>   eval     Runs a Sieve script on a message, and prints what it does with it
-    2>   parts    Lists the parts of a message: place, depth, media type, length and digest of the content
-    2>   encode   Writes the octets of standard input as a text
-    2>   decode   Writes the octets that the text on standard input stands for
-    2>   script   Stores a Sieve script, compiled, as the filter of a user
-    2>   code     Stores a filter program (bytecode) as the filter of a user
-    2>   deliver  Files a message, or parts of it, as the filter of a user says
-    2>   list     Lists the entries of a user
-    2>   export   Writes the octets of an entry as a text
-    2>   remove   Removes an entry
-    2>   migrate  Gives the filters of all users the latest version of the bytecode
-    2>   inspect  Says what a file is, and what the depot in it holds; changes nothing
-    2>   help     Print this message or the help of the given subcommand(s)
+    2>   check        Says whether a Sieve script has a fault, and where
+    2>   explain      Says in words what the fault of a Sieve script is, and shows its line
+    2>   compile      Writes a Sieve script as a filter program (bytecode)
+    2>   verify       Says whether a filter program is safe to run, and what it may charge
+    2>   run          Runs a filter program on a message, and prints what it does with it
+    2>   disassemble  Lists a filter program, an instruction a line, and says what the verifier says of it
+    2>   assemble     Writes the filter program (bytecode) that a listing says
+    2>   eval         Runs a Sieve script on a message, and prints what it does with it
+    2>   parts        Lists the parts of a message: place, depth, media type, length and digest of the content
+    2>   encode       Writes the octets of standard input as a text
+    2>   decode       Writes the octets that the text on standard input stands for
+    2>   script       Stores a Sieve script, compiled, as the filter of a user
+    2>   code         Stores a filter program (bytecode) as the filter of a user
+    2>   program      Writes the filter program (bytecode) of a user to a file
+    2>   deliver      Files a message, or parts of it, as the filter of a user says
+    2>   list         Lists the entries of a user
+    2>   export       Writes the octets of an entry as a text
+    2>   remove       Removes an entry
+    2>   migrate      Gives the filters of all users the latest version of the bytecode
+    2>   inspect      Says what a file is, and what the depot in it holds; changes nothing
+    2>   help         Print this message or the help of the given subcommand(s)
     2>
     2> Options:
     2>   -h, --help  Print help
@@ -155,7 +161,7 @@ Help.
     2> With no words at all, a program that keeps every message runs on standard input.
     2> The help of a command has an example, and says with which refusals it may end.
     2>
-    2> depot 0.14.0
+    2> depot 0.15.0
     [2]
 
 ## help check
@@ -260,6 +266,47 @@ Help.
     2> Refusals: 1 to 3, 20 to 27, 45, 46. docs/SPECIFICATION.md says what each means, and what to do.
     [2]
 
+## help disassemble
+    $ depot help disassemble
+    2> Lists a filter program, an instruction a line, and says what the verifier says of it
+    2>
+    2> Usage: depot disassemble <PROGRAM>
+    2>
+    2> Arguments:
+    2>   <PROGRAM>  The file of a filter program (bytecode)
+    2>
+    2> Options:
+    2>   -h, --help  Print help
+    2>
+    2> Example:
+    2>   depot disassemble filter.svbc > filter.listing
+    2>
+    2> Status 0: done. 1: refused, or the answer broke off, with one line on standard error.
+    2> 2: the words aren't those of a command.
+    2> Refusals: 1, 2, 20, 45, 46. docs/SPECIFICATION.md says what each means, and what to do.
+    [2]
+
+## help assemble
+    $ depot help assemble
+    2> Writes the filter program (bytecode) that a listing says
+    2>
+    2> Usage: depot assemble <LISTING> <OUT>
+    2>
+    2> Arguments:
+    2>   <LISTING>  The file of a filter program's listing
+    2>   <OUT>      The file that the filter program is written to
+    2>
+    2> Options:
+    2>   -h, --help  Print help
+    2>
+    2> Example:
+    2>   depot assemble filter.listing filter.svbc
+    2>
+    2> Status 0: done. 1: refused, or the answer broke off, with one line on standard error.
+    2> 2: the words aren't those of a command.
+    2> Refusals: 1, 2, 28, 45, 46. docs/SPECIFICATION.md says what each means, and what to do.
+    [2]
+
 ## help eval
     $ depot eval --help
     2> Runs a Sieve script on a message, and prints what it does with it
@@ -343,6 +390,28 @@ Help.
     2> Status 0: done. 1: refused, or the answer broke off, with one line on standard error.
     2> 2: the words aren't those of a command.
     2> Refusals: 1, 2, 20 to 27, 43 to 46. docs/SPECIFICATION.md says what each means, and what to do.
+    [2]
+
+## help program
+    $ depot help program
+    2> Writes the filter program (bytecode) of a user to a file
+    2>
+    2> Usage: depot program <DB> <USER> <OUT>
+    2>
+    2> Arguments:
+    2>   <DB>    The file of the depot, which is made if it isn't there
+    2>   <USER>  The name of a user: 1 to 64 of a to z, 0 to 9, dot, underscore and hyphen
+    2>   <OUT>   The file that the filter program is written to
+    2>
+    2> Options:
+    2>   -h, --help  Print help
+    2>
+    2> Example:
+    2>   depot program mail.depot ann filter.svbc
+    2>
+    2> Status 0: done. 1: refused, or the answer broke off, with one line on standard error.
+    2> 2: the words aren't those of a command.
+    2> Refusals: 1, 40, 43 to 45. docs/SPECIFICATION.md says what each means, and what to do.
     [2]
 
 ## help deliver

@@ -8,8 +8,8 @@ use crate::place::{Obstacle, look_at};
 use crate::streams::hold_closed;
 use depot_actions::{Depot, OfWrite, Sink};
 use depot_cli::{
-    Errand, Next, Refusal, System, carry, inspect_opened, run, tell, tell_no_depot, tell_no_words,
-    texts, words,
+    Errand, Host, Next, Refusal, Saving, System, carry, inspect_opened, run, save, tell,
+    tell_no_depot, tell_no_words, texts, words,
 };
 use sqlite::{File, FileStore};
 use std::process::ExitCode;
@@ -40,6 +40,7 @@ fn start<O: Sink, E: Sink>(rt: &HostRuntime, out: &mut O, err: &mut E) -> u8 {
         Next::Exit(status) => status,
         Next::Perform(errand) => perform_errand(rt, &errand, out, err),
         Next::Inspect(name) => inspect_file(rt, name, out, err),
+        Next::Save(saving) => save_program(rt, saving, &mut host, out, err),
     }
 }
 
@@ -57,6 +58,20 @@ fn perform_errand<O: Sink, E: Sink>(
 ) -> u8 {
     let mut opened = Depot::open(rt, errand.name);
     let status = carry(rt.alloc(), errand, &mut opened, out, err);
+    close(opened);
+    status
+}
+
+// Opens the depot of a user, and has his program saved from it.
+fn save_program<H: Host, O: Sink, E: Sink>(
+    rt: &HostRuntime,
+    saving: Saving<'_>,
+    host: &mut H,
+    out: &mut O,
+    err: &mut E,
+) -> u8 {
+    let mut opened = Depot::open(rt, saving.name);
+    let status = save(rt.alloc(), saving, &mut opened, host, out, err);
     close(opened);
     status
 }

@@ -6,7 +6,7 @@ use Rattle.depot_actions.specs.Causes.{HasCause, IsExport}
 use Rattle.depot_actions.specs.DepotState.{Command, Reply}
 use Rattle.depot_actions.specs.Device.{HasBegun, HasBroken, HasTaken}
 use Rattle.refusals.specs.declared.refusal.Refusal.{Refusal}
-use Rattle.refusals.specs.declared.refusal.Refusal.TheVariants.{Memory, MessageTooLarge, TooManyParts, NotCanonical, Lexical, ScriptTooLong, Syntax, TooDeep, UnknownCommand, MissingCapability, UnknownCapability, BadArguments, Limit, Spelling, Index, Form, End, Loop, Jump, NoPart, Stack, NoSuchEntry, NumberFull, Collision, Database, UserName, Write, Read}
+use Rattle.refusals.specs.declared.refusal.Refusal.TheVariants.{Memory, MessageTooLarge, TooManyParts, NotCanonical, Lexical, ScriptTooLong, Syntax, TooDeep, UnknownCommand, MissingCapability, UnknownCapability, BadArguments, Limit, Spelling, Index, Form, End, Loop, Jump, NoPart, Stack, Listing, NoSuchEntry, NumberFull, Collision, Database, UserName, Write, Read}
 use Rattle.depot_cli.specs.Jobs.{HasTold}
 use Rattle.depot_cli.specs.Printed.{reply_text}
 use Rattle.depot_cli.specs.Tasks.{Desk, HasDone, HasPerformed}
@@ -41,6 +41,7 @@ comes_late (Loop place) = inr (inr (λ is. cc is, λ is. cc is))
 comes_late (Jump place) = inr (inr (λ is. cc is, λ is. cc is))
 comes_late (NoPart place) = inr (inr (λ is. cc is, λ is. cc is))
 comes_late (Stack place) = inr (inr (λ is. cc is, λ is. cc is))
+comes_late (Listing place) = inr (inr (λ is. cc is, λ is. cc is))
 comes_late NoSuchEntry = inr (inr (λ is. cc is, λ is. cc is))
 comes_late NumberFull = inr (inr (λ is. cc is, λ is. cc is))
 comes_late Collision = inr (inr (λ is. cc is, λ is. cc is))

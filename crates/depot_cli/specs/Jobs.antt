@@ -1,5 +1,5 @@
 -- What jobs answer, why they are refused, and what answering does.
-use Rattle.std.specs.Prelude.{◌≡◌, ◌≢◌, ◌<◌, ◌⊎◌, ℕ, List, length, Option, None, Some}
+use Rattle.std.specs.Prelude.{◌≡◌, ◌≢◌, ◌<◌, ◌⊎◌, ◌++◌, ℕ, List, length, codes, Option, None, Some}
 use Rattle.octets.specs.Limits.{max_program, max_script}
 use Rattle.octet_lanes.specs.Encoding.{IsOctets}
 use Rattle.depot_actions.specs.Device.{HasBroken, HasTaken, Output}
@@ -8,11 +8,13 @@ use Rattle.bytecode_cost.specs.Text.{budget_text}
 use Rattle.bytecode_format.specs.declared.action.Action.{Action}
 use Rattle.bytecode_format.specs.Code.{Code}
 use Rattle.bytecode_format.specs.Spelling.{spelling}
+use Rattle.bytecode_listing.specs.Items.{FaultsAt, Lists}
+use Rattle.bytecode_listing.specs.Listing.{listing_of}
 use Rattle.bytecode_verifier.specs.Budget.{budget_of}
 use Rattle.sieve_check.specs.Typed.{CommandForms}
 use Rattle.sieve_engine.specs.Evaluation.{IsCompiled, IsEvaluation, IsEvaluationRefusal, IsScript, IsScriptRefusal}
 use Rattle.sieve_engine.specs.Execution as engine
-use Rattle.sieve_engine.specs.Execution.{IsChecked, IsExecution, IsProgramRefusal, IsRefusal}
+use Rattle.sieve_engine.specs.Execution.{IsChecked, IsExecution, IsProgramRefusal, IsRefusal, Spells}
 use Rattle.sieve_explain.specs.Explaining.{Explains}
 use Rattle.mime_decode.specs.Mail.{IsReadable, mail_of}
 use Rattle.depot_cli.specs.Host.{HasMade, HasNotMade, HostState}
@@ -20,11 +22,21 @@ use Rattle.depot_cli.specs.Printed.{line, ok_text, parts_text, refusal_line, rep
 use Rattle.refusals.specs.declared.refusal.Refusal.{Refusal}
 use Rattle.refusals.specs.declared.refusal.Refusal.TheVariants as refusals
 use Rattle.depot_cli.specs.declared.job.Job.{Job}
-use Rattle.depot_cli.specs.declared.job.Job.TheVariants.{Check, Explain, Compile, Verify, Run, Eval, Parts, Encode, Decode}
+use Rattle.depot_cli.specs.declared.job.Job.TheVariants.{Check, Explain, Compile, Verify, Run, Disassemble, Assemble, Eval, Parts, Encode, Decode}
 
--- The text of a job's answer: that the script has no fault, how many octets its program has, the budget of the accepted program, the
--- lines of the run, those of the message's parts, or the octets and nothing else. The script's program was made a file; no other job
--- asks anything of the host.
+-- What the verifier says of a program, as a line: the budget of one that is accepted, or the refusal.
+abbrev pub IsVerdict : List ℕ → List ℕ → Type 0
+IsVerdict octets text =
+    ((code : Code) × IsChecked octets code × (text ≡ line (budget_text (budget_of code))))
+    ⊎ ((refusal : Refusal) × (refusal ≢ refusals.Memory) × IsProgramRefusal octets refusal × (text ≡ refusal_line refusal))
+
+-- what a program's listing is followed by: a comment with that line
+abbrev pub commented : List ℕ → List ℕ
+commented verdict = codes "; " ++ verdict
+
+-- The text of a job's answer: that the script has no fault, how many octets the program of the script or the listing has, the budget of
+-- the accepted program, the program's listing and what the verifier says of it, the lines of the run, those of the message's parts, or
+-- the octets and nothing else. The program of a script or a listing was made a file; no other job asks anything of the host.
 abbrev pub IsAnswer : Job → List ℕ → HostState → HostState → Type 0
 IsAnswer (Check script) text old new = (form : CommandForms) × IsScript script.now form × (text ≡ line ok_text) × (new ≡ old)
 IsAnswer (Explain script name) text old new = (form : CommandForms) × IsScript script.now form × (text ≡ line ok_text) × (new ≡ old)
@@ -33,22 +45,32 @@ IsAnswer (Compile script name out) text old new =
 IsAnswer (Verify program) text old new = (code : Code) × IsChecked program.now code × (text ≡ line (budget_text (budget_of code))) × (new ≡ old)
 IsAnswer (Run program message) text old new =
     (actions : List Action) × (charged : ℕ) × (limit : ℕ) × IsExecution program.now message.now actions charged limit × (text ≡ report_text actions charged limit) × (new ≡ old)
+IsAnswer (Disassemble program) text old new =
+    (code : Code) × (verdict : List ℕ) × Spells program.now code × IsVerdict program.now verdict × (text ≡ listing_of code ++ commented verdict) × (new ≡ old)
+IsAnswer (Assemble listing name out) text old new =
+    (code : Code) × Lists listing.now code × (text ≡ line (wrote_text (length (spelling code)))) × HasMade out.now name.now (spelling code) old new
 IsAnswer (Eval script message) text old new =
     (actions : List Action) × (charged : ℕ) × (limit : ℕ) × IsEvaluation script.now message.now actions charged limit × (text ≡ report_text actions charged limit) × (new ≡ old)
 IsAnswer (Parts message) text old new = IsReadable message.now × (text ≡ parts_text (mail_of message.now).parts) × (new ≡ old)
 IsAnswer (Encode encoding octets) text old new = (text ≡ text_of encoding octets.now) × (new ≡ old)
 IsAnswer (Decode encoding text) octets old new = IsOctets octets × Reads encoding text.now octets × (new ≡ old)
 
--- What a job finds, beside its refusal: a script's fault in words, which goes to standard output.
+-- What a job finds, beside its refusal: the fault of a script, or of a listing, in words, which goes to standard output.
 abbrev pub IsFinding : Job → List ℕ → Refusal → HostState → HostState → Type 0
 IsFinding (Explain script name) text refusal old new =
     (refusal ≢ refusals.Memory) × IsScriptRefusal script.now refusal × Explains name.now script.now refusal text × (new ≡ old)
+IsFinding (Assemble listing name out) text refusal old new =
+    (place : ℕ) × (refusal ≡ refusals.Listing place) × FaultsAt listing.now place × Explains name.now listing.now refusal text × (new ≡ old)
 IsFinding _ text refusal old new = ⊥
 
 -- the text of a job's answer, with none; or that of a finding, with its refusal
 abbrev pub IsShown : Job → List ℕ → Option Refusal → HostState → HostState → Type 0
 IsShown job text None old new = IsAnswer job text old new
 IsShown job text (Some refusal) old new = IsFinding job text refusal old new
+
+-- the octets spell no program, or memory was refused
+abbrev pub IsUnspelled : List ℕ → Refusal → Type 0
+IsUnspelled octets refusal = (refusal ≡ refusals.Memory) ⊎ ((refusal ≡ refusals.Spelling) × ((code : Code) → Spells octets code → ⊥))
 
 -- The first refusal of a job's octets, of which the host isn't asked anything; or the job's file could not be made.
 abbrev pub IsJobRefusal : Job → Refusal → HostState → HostState → Type 0
@@ -59,6 +81,9 @@ IsJobRefusal (Compile script name out) refusal old new =
     ⊎ ((code : Code) × IsCompiled script.now code × HasNotMade refusal out.now name.now old new)
 IsJobRefusal (Verify program) refusal old new = IsProgramRefusal program.now refusal × (new ≡ old)
 IsJobRefusal (Run program message) refusal old new = IsRefusal program.now message.now refusal × (new ≡ old)
+IsJobRefusal (Disassemble program) refusal old new = IsUnspelled program.now refusal × (new ≡ old)
+IsJobRefusal (Assemble listing name out) refusal old new =
+    ((refusal ≡ refusals.Memory) × (new ≡ old)) ⊎ ((code : Code) × Lists listing.now code × HasNotMade refusal out.now name.now old new)
 IsJobRefusal (Eval script message) refusal old new = IsEvaluationRefusal script.now message.now refusal × (new ≡ old)
 IsJobRefusal (Parts message) refusal old new = engine.IsUnread message.now refusal × (new ≡ old)
 IsJobRefusal (Encode encoding octets) refusal old new = (refusal ≡ refusals.Memory) × (new ≡ old)
@@ -75,6 +100,7 @@ HasLongScript _ = ⊥
 abbrev pub HasLongProgram : Job → Type 0
 HasLongProgram (Verify program) = max_program < length program.now
 HasLongProgram (Run program message) = max_program < length program.now
+HasLongProgram (Disassemble program) = max_program < length program.now
 HasLongProgram _ = ⊥
 
 -- ---- what answering does

@@ -17,10 +17,11 @@ use Rattle.refusals.specs.declared.refusal.Refusal.TheVariants.{Memory, MessageT
 use Rattle.depot_cli.specs.declared.job.Job.{Job}
 use Rattle.depot_cli.specs.declared.job.Job.TheVariants as jobs
 use Rattle.depot_cli.specs.declared.line.CommandLine.{CommandLine}
-use Rattle.depot_cli.specs.declared.line.CommandLine.TheVariants.{NoWords, Check, Explain, Compile, Verify, Run, Eval, Parts, Encode, Decode, Script, Code as CodeOf, Deliver, List as ListAll, Export, Remove, Migrate, Inspect}
+use Rattle.depot_cli.specs.declared.line.CommandLine.TheVariants.{NoWords, Check, Explain, Compile, Verify, Run, Disassemble, Assemble, Eval, Parts, Encode, Decode, Script, Code as CodeOf, Program, Deliver, List as ListAll, Export, Remove, Migrate, Inspect}
 use Rattle.depot_cli.specs.declared.errand.Errand.{Errand}
 use Rattle.depot_cli.specs.declared.errand.Order.{Order}
 use Rattle.depot_cli.specs.declared.errand.Order.TheVariants as orders
+use Rattle.depot_cli.specs.declared.saving.Saving.{Saving}
 use Rattle.depot_cli.specs.declared.running.Next.{Next}
 use Rattle.depot_cli.specs.declared.running.Next.TheVariants as next
 use Rattle.depot_cli.specs.declared.running.Inputs.{Inputs}
@@ -36,12 +37,15 @@ origins_of (Explain script) = file script.now ∷ []
 origins_of (Compile script out) = file script.now ∷ []
 origins_of (Verify program) = file program.now ∷ []
 origins_of (Run program message) = file program.now ∷ file message.now ∷ []
+origins_of (Disassemble program) = file program.now ∷ []
+origins_of (Assemble listing out) = file listing.now ∷ []
 origins_of (Eval script message) = file script.now ∷ file message.now ∷ []
 origins_of (Parts message) = file message.now ∷ []
 origins_of (Encode encoding) = standard ∷ []
 origins_of (Decode encoding) = standard ∷ []
 origins_of (Script depot user script) = file script.now ∷ []
 origins_of (CodeOf depot user program) = file program.now ∷ []
+origins_of (Program depot user out) = []
 origins_of (Deliver depot user message) = file message.now ∷ []
 origins_of (ListAll depot user) = []
 origins_of (Export depot user number encoding) = []
@@ -123,6 +127,17 @@ abbrev pub IsInspected : CommandLine → Text → Type 0
 IsInspected (Inspect depot) name = name ≡ depot.now
 IsInspected _ name = ⊥
 
+-- the command saves a user's program as a file
+abbrev pub is_saving : CommandLine → Bool
+is_saving (Program depot user out) = true
+is_saving _ = false
+
+-- whose program is saved, from which depot's file, and as which file
+abbrev pub IsSavingOf : CommandLine → Saving → Type 0
+IsSavingOf (Program depot user out) saving =
+    (saving.name.now ≡ depot.now) × (saving.user.now ≡ user.now) × (saving.out.now ≡ out.now)
+IsSavingOf _ saving = ⊥
+
 -- the job of a command, with the octets that were read; a command on a depot has none
 abbrev pub IsJobOf : CommandLine → List (List ℕ) → Job → Type 0
 IsJobOf NoWords inputs job = (program message : Bor (List ℕ)) × (job ≡ jobs.Run program message) × (program.now ≡ spelling keeping_code) × (message.now ≡ input inputs 0)
@@ -132,6 +147,9 @@ IsJobOf (Compile name out) inputs job =
     (script : Bor (List ℕ)) × (from to : Bor Text) × (job ≡ jobs.Compile script from to) × (script.now ≡ input inputs 0) × (from.now ≡ name.now) × (to.now ≡ out.now)
 IsJobOf (Verify name) inputs job = (program : Bor (List ℕ)) × (job ≡ jobs.Verify program) × (program.now ≡ input inputs 0)
 IsJobOf (Run name other) inputs job = (program message : Bor (List ℕ)) × (job ≡ jobs.Run program message) × (program.now ≡ input inputs 0) × (message.now ≡ input inputs 1)
+IsJobOf (Disassemble name) inputs job = (program : Bor (List ℕ)) × (job ≡ jobs.Disassemble program) × (program.now ≡ input inputs 0)
+IsJobOf (Assemble name out) inputs job =
+    (listing : Bor (List ℕ)) × (from to : Bor Text) × (job ≡ jobs.Assemble listing from to) × (listing.now ≡ input inputs 0) × (from.now ≡ name.now) × (to.now ≡ out.now)
 IsJobOf (Eval name other) inputs job = (script message : Bor (List ℕ)) × (job ≡ jobs.Eval script message) × (script.now ≡ input inputs 0) × (message.now ≡ input inputs 1)
 IsJobOf (Parts name) inputs job = (message : Bor (List ℕ)) × (job ≡ jobs.Parts message) × (message.now ≡ input inputs 0)
 IsJobOf (Encode encoding) inputs job = (octets : Bor (List ℕ)) × (job ≡ jobs.Encode encoding octets) × (octets.now ≡ input inputs 0)
@@ -204,11 +222,12 @@ pub record HasNotWorked (line : CommandLine) (status : ℕ) (old new : World) : 
   pub is_refused : status ≡ refused
 
 -- what comes of a command: it was carried out with a status, or its refusal was told; or it is an errand to a depot; or a file is to be
--- inspected, and nothing was done
+-- inspected, or a program to be saved, and nothing was done
 abbrev pub LeadsTo : CommandLine → Next → World → World → Type 0
 LeadsTo line (next.Exit status) old new = HasWorked line status old new ⊎ HasNotWorked line status old new
 LeadsTo line (next.Perform errand) old new = HasPrepared line errand old new
 LeadsTo line (next.Inspect name) old new = IsInspected line name.now × (new ≡ old)
+LeadsTo line (next.Save saving) old new = IsSavingOf line saving × (new ≡ old)
 
 -- the words say this command
 abbrev pub IsLine : List Text → CommandLine → Type 0

@@ -8,7 +8,7 @@ use Rattle.clap.specs.declared.builder.value_parser.ValueParser.TheVariants as p
 use Rattle.depot_actions.specs.declared.encoding.Encoding.{Encoding}
 use Rattle.depot_actions.specs.declared.encoding.Encoding.TheVariants.{Raw, Base64, Base64Mime, Base32, Base32Hex, Base16, Qp}
 use Rattle.depot_cli.specs.declared.line.CommandLine.{CommandLine}
-use Rattle.depot_cli.specs.declared.line.CommandLine.TheVariants.{NoWords, Check, Explain, Compile, Verify, Run, Eval, Parts, Encode, Decode, Script, Code, Deliver, List as ListAll, Export, Remove, Migrate, Inspect}
+use Rattle.depot_cli.specs.declared.line.CommandLine.TheVariants.{NoWords, Check, Explain, Compile, Verify, Run, Disassemble, Assemble, Eval, Parts, Encode, Decode, Script, Code, Program, Deliver, List as ListAll, Export, Remove, Migrate, Inspect}
 use Rattle.octets.specs.Limits.{max_entry_number}
 
 -- an argument that has to be there
@@ -38,6 +38,14 @@ verify_app = with_rule (new_app (codes "verify")) (required_rule (codes "PROGRAM
 -- run PROGRAM MESSAGE
 abbrev pub run_app : App
 run_app = with_rule (with_rule (new_app (codes "run")) (required_rule (codes "PROGRAM"))) (required_rule (codes "MESSAGE"))
+
+-- disassemble PROGRAM
+abbrev pub disassemble_app : App
+disassemble_app = with_rule (new_app (codes "disassemble")) (required_rule (codes "PROGRAM"))
+
+-- assemble LISTING OUT
+abbrev pub assemble_app : App
+assemble_app = with_rule (with_rule (new_app (codes "assemble")) (required_rule (codes "LISTING"))) (required_rule (codes "OUT"))
 
 -- parts MESSAGE
 abbrev pub parts_app : App
@@ -79,6 +87,10 @@ script_app = with_rule (user_app (codes "script")) (required_rule (codes "SCRIPT
 abbrev pub code_app : App
 code_app = with_rule (user_app (codes "code")) (required_rule (codes "PROGRAM"))
 
+-- program DB USER OUT
+abbrev pub program_app : App
+program_app = with_rule (user_app (codes "program")) (required_rule (codes "OUT"))
+
 -- deliver DB USER MESSAGE
 abbrev pub deliver_app : App
 deliver_app = with_rule (user_app (codes "deliver")) (required_rule (codes "MESSAGE"))
@@ -111,9 +123,13 @@ scripts_app = with_subcommand checks_app compile_app.top
 abbrev pub filters_app : App
 filters_app = with_subcommand (with_subcommand scripts_app verify_app.top) run_app.top
 
+-- the program with those, and the commands on listings of filter programs
+abbrev pub listings_app : App
+listings_app = with_subcommand (with_subcommand filters_app disassemble_app.top) assemble_app.top
+
 -- the program with all commands that take messages, scripts or filter programs
 abbrev pub mail_app : App
-mail_app = with_subcommand (with_subcommand filters_app eval_app.top) parts_app.top
+mail_app = with_subcommand (with_subcommand listings_app eval_app.top) parts_app.top
 
 -- the program with all commands that need no depot, where these are the names of the encodings
 abbrev pub codecs_app : Texts → App
@@ -123,9 +139,13 @@ codecs_app names = with_subcommand (with_subcommand mail_app (encode_app names).
 abbrev pub filing_app : Texts → App
 filing_app names = with_subcommand (with_subcommand (codecs_app names) script_app.top) code_app.top
 
+-- the program with those, and the command that gives back a filter's program
+abbrev pub keeping_app : Texts → App
+keeping_app names = with_subcommand (filing_app names) program_app.top
+
 -- the program with those, and the commands that file and list
 abbrev pub delivery_app : Texts → App
-delivery_app names = with_subcommand (with_subcommand (filing_app names) deliver_app.top) list_app.top
+delivery_app names = with_subcommand (with_subcommand (keeping_app names) deliver_app.top) list_app.top
 
 -- migrate DB
 abbrev pub migrate_app : App
@@ -175,10 +195,11 @@ pub record IsNumber (text : Text) (number : ℕ) : Type 0 where
   pub value : IsNumberText text → number ≡ digits_value 10 (without_leading_plus text)
   pub none : (IsNumberText text → ⊥) → number ≡ 0
 
--- the name isn't that of a command on a message, a script or a program, nor of one that encodes or decodes
+-- the name isn't that of a command on a message, a script, a program or a listing, nor of one that encodes or decodes
 abbrev pub IsNoMailCommand : Text → Type 0
 IsNoMailCommand name =
-    (name ≢ codes "check") × (name ≢ codes "explain") × (name ≢ codes "compile") × (name ≢ codes "verify") × (name ≢ codes "run") × (name ≢ codes "eval") × (name ≢ codes "parts") × (name ≢ codes "encode") × (name ≢ codes "decode")
+    (name ≢ codes "check") × (name ≢ codes "explain") × (name ≢ codes "compile") × (name ≢ codes "verify") × (name ≢ codes "run")
+    × (name ≢ codes "disassemble") × (name ≢ codes "assemble") × (name ≢ codes "eval") × (name ≢ codes "parts") × (name ≢ codes "encode") × (name ≢ codes "decode")
 
 -- nor of a command on a depot
 abbrev pub IsNoDepotCommand : Text → Type 0
@@ -202,6 +223,10 @@ Says (Eval script message) matches =
 Says (Verify program) matches = (rows : List Row) × IsCommand (codes "verify") matches rows × (program.now ≡ argument (codes "PROGRAM") rows)
 Says (Run program message) matches =
     (rows : List Row) × IsCommand (codes "run") matches rows × (program.now ≡ argument (codes "PROGRAM") rows) × (message.now ≡ argument (codes "MESSAGE") rows)
+Says (Disassemble program) matches =
+    (rows : List Row) × IsCommand (codes "disassemble") matches rows × (program.now ≡ argument (codes "PROGRAM") rows)
+Says (Assemble listing out) matches =
+    (rows : List Row) × IsCommand (codes "assemble") matches rows × (listing.now ≡ argument (codes "LISTING") rows) × (out.now ≡ argument (codes "OUT") rows)
 Says (Parts message) matches = (rows : List Row) × IsCommand (codes "parts") matches rows × (message.now ≡ argument (codes "MESSAGE") rows)
 Says (Encode encoding) matches =
     (rows : List Row) × IsCommand (codes "encode") matches rows × (encoding ≡ encoding_named (argument (codes "ENCODING") rows))
@@ -211,6 +236,8 @@ Says (Script depot user script) matches =
     (rows : List Row) × IsCommand (codes "script") matches rows × IsOf rows depot.now user.now × (script.now ≡ argument (codes "SCRIPT") rows)
 Says (Code depot user program) matches =
     (rows : List Row) × IsCommand (codes "code") matches rows × IsOf rows depot.now user.now × (program.now ≡ argument (codes "PROGRAM") rows)
+Says (Program depot user out) matches =
+    (rows : List Row) × IsCommand (codes "program") matches rows × IsOf rows depot.now user.now × (out.now ≡ argument (codes "OUT") rows)
 Says (Deliver depot user message) matches =
     (rows : List Row) × IsCommand (codes "deliver") matches rows × IsOf rows depot.now user.now × (message.now ≡ argument (codes "MESSAGE") rows)
 Says (ListAll depot user) matches = (rows : List Row) × IsCommand (codes "list") matches rows × IsOf rows depot.now user.now

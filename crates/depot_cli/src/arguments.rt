@@ -88,6 +88,16 @@ pub fn program_file<'a>(alloc: Global) -> Arg<'a>
         .help("The file of a filter program (bytecode)")
 }
 
+/// The argument LISTING.
+pub fn listing_file<'a>(alloc: Global) -> Arg<'a>
+    ensures rule { rule_of result ≡ required_rule (codes "LISTING") }
+    ensures local { result.global ≡ false }
+{
+    Arg::new(alloc, "LISTING")
+        .required(true)
+        .help("The file of a filter program's listing")
+}
+
 /// The argument MESSAGE.
 pub fn message_file<'a>(alloc: Global) -> Arg<'a>
     ensures rule { rule_of result ≡ required_rule (codes "MESSAGE") }

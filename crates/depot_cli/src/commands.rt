@@ -2,11 +2,11 @@
 ghost use Rattle.std.specs.Prelude.{◌≡◌, IfOk, false};
 ghost use Rattle.clap.specs.Words.{app_of};
 ghost use Rattle.clap.specs.declared.builder.command.Command.TheViews.{out-Command as fields_of};
-ghost use Rattle.depot_cli.specs.Words.{check_app, checks_app, code_app, codecs_app, compile_app, decode_app, deliver_app, delivery_app, depot_app, encode_app, entries_app, eval_app, explain_app, export_app, filing_app, filters_app, inspect_app, list_app, mail_app, migrate_app, parts_app, remove_app, run_app, script_app, scripts_app, user_app, verify_app};
+ghost use Rattle.depot_cli.specs.Words.{assemble_app, check_app, checks_app, code_app, codecs_app, compile_app, decode_app, deliver_app, delivery_app, depot_app, disassemble_app, encode_app, entries_app, eval_app, explain_app, export_app, filing_app, filters_app, inspect_app, keeping_app, list_app, listings_app, mail_app, migrate_app, parts_app, program_app, remove_app, run_app, script_app, scripts_app, user_app, verify_app};
 
 use crate::arguments::{
-    any_file, depot_file, encoding_name, entry_number, message_file, out_file, program_file,
-    script_file, user_name,
+    any_file, depot_file, encoding_name, entry_number, listing_file, message_file, out_file,
+    program_file, script_file, user_name,
 };
 use crate::help;
 use clap::Command;
@@ -37,9 +37,17 @@ fn delivery_command<'a>(alloc: Global, names: &'a [&'a str]) -> Result<Command<'
     ensures app { IfOk result (λ c. app_of c ≡ delivery_app names.entry) }
     ensures local { IfOk result (λ c. (fields_of c).has_globals ≡ false) }
 {
-    filing_command(alloc, names)?
+    keeping_command(alloc, names)?
         .subcommand(deliver_command(alloc)?)?
         .subcommand(list_command(alloc)?)
+}
+
+// The program with the commands that need no depot, and those on filters.
+fn keeping_command<'a>(alloc: Global, names: &'a [&'a str]) -> Result<Command<'a>, AllocError>
+    ensures app { IfOk result (λ c. app_of c ≡ keeping_app names.entry) }
+    ensures local { IfOk result (λ c. (fields_of c).has_globals ≡ false) }
+{
+    filing_command(alloc, names)?.subcommand(program_command(alloc)?)
 }
 
 // The program with the commands that need no depot, and those that store filters.
@@ -67,9 +75,19 @@ fn mail_command<'a>(alloc: Global) -> Result<Command<'a>, AllocError>
     ensures app { IfOk result (λ c. app_of c ≡ mail_app) }
     ensures local { IfOk result (λ c. (fields_of c).has_globals ≡ false) }
 {
-    filters_command(alloc)?
+    listings_command(alloc)?
         .subcommand(eval_command(alloc)?)?
         .subcommand(parts_command(alloc)?)
+}
+
+// The program with the commands that take a script alone, a filter program, or its listing.
+fn listings_command<'a>(alloc: Global) -> Result<Command<'a>, AllocError>
+    ensures app { IfOk result (λ c. app_of c ≡ listings_app) }
+    ensures local { IfOk result (λ c. (fields_of c).has_globals ≡ false) }
+{
+    filters_command(alloc)?
+        .subcommand(disassemble_command(alloc)?)?
+        .subcommand(assemble_command(alloc)?)
 }
 
 // The program with the commands that take a script alone, or a filter program.
@@ -186,6 +204,31 @@ fn run_command<'a>(alloc: Global) -> Result<Command<'a>, AllocError>
         .arg(message_file(alloc))
 }
 
+// The command disassemble.
+fn disassemble_command<'a>(alloc: Global) -> Result<Command<'a>, AllocError>
+    ensures app { IfOk result (λ c. app_of c ≡ disassemble_app) }
+    ensures local { IfOk result (λ c. (fields_of c).has_globals ≡ false) }
+{
+    Command::new(alloc, "disassemble")
+        .about(
+            "Lists a filter program, an instruction a line, and says what the verifier says of it",
+        )
+        .after_help(help::DISASSEMBLE)
+        .arg(program_file(alloc))
+}
+
+// The command assemble.
+fn assemble_command<'a>(alloc: Global) -> Result<Command<'a>, AllocError>
+    ensures app { IfOk result (λ c. app_of c ≡ assemble_app) }
+    ensures local { IfOk result (λ c. (fields_of c).has_globals ≡ false) }
+{
+    Command::new(alloc, "assemble")
+        .about("Writes the filter program (bytecode) that a listing says")
+        .after_help(help::ASSEMBLE)
+        .arg(listing_file(alloc))?
+        .arg(out_file(alloc))
+}
+
 // The command encode.
 fn encode_command<'a>(alloc: Global, names: &'a [&'a str]) -> Result<Command<'a>, AllocError>
     ensures app { IfOk result (λ c. app_of c ≡ encode_app names.entry) }
@@ -251,6 +294,20 @@ fn code_command<'a>(alloc: Global) -> Result<Command<'a>, AllocError>
         help::CODE,
     )?
     .arg(program_file(alloc))
+}
+
+// The command program.
+fn program_command<'a>(alloc: Global) -> Result<Command<'a>, AllocError>
+    ensures app { IfOk result (λ c. app_of c ≡ program_app) }
+    ensures local { IfOk result (λ c. (fields_of c).has_globals ≡ false) }
+{
+    user_command(
+        alloc,
+        "program",
+        "Writes the filter program (bytecode) of a user to a file",
+        help::PROGRAM,
+    )?
+    .arg(out_file(alloc))
 }
 
 // The command deliver.

@@ -22,7 +22,7 @@ pub const ALL: &str = concat!(
     "With no words at all, a program that keeps every message runs on standard input.\n",
     "The help of a command has an example, and says with which refusals it may end.\n\n",
     // The version of the program; no other place of the code has it.
-    "depot 0.14.0"
+    "depot 0.15.0"
 );
 
 pub const CHECK: &str = ending!("depot check filter.sieve", "1, 2, 11 to 19, 45, 46");
@@ -37,6 +37,13 @@ pub const COMPILE: &str = ending!(
 pub const VERIFY: &str = ending!("depot verify filter.svbc", "1, 2, 20 to 27, 45, 46");
 
 pub const RUN: &str = ending!("depot run filter.svbc mail.eml", "1 to 3, 20 to 27, 45, 46");
+
+pub const DISASSEMBLE: &str = ending!(
+    "depot disassemble filter.svbc > filter.listing",
+    "1, 2, 20, 45, 46"
+);
+
+pub const ASSEMBLE: &str = ending!("depot assemble filter.listing filter.svbc", "1, 2, 28, 45, 46");
 
 pub const EVAL: &str = ending!(
     "depot eval filter.sieve mail.eml",
@@ -57,6 +64,11 @@ pub const SCRIPT: &str = ending!(
 pub const CODE: &str = ending!(
     "depot code mail.depot ann filter.svbc",
     "1, 2, 20 to 27, 43 to 46"
+);
+
+pub const PROGRAM: &str = ending!(
+    "depot program mail.depot ann filter.svbc",
+    "1, 40, 43 to 45"
 );
 
 pub const DELIVER: &str = ending!("depot deliver mail.depot ann mail.eml", "1 to 3, 41 to 46");

@@ -1,25 +1,29 @@
 // Jobs and their answers.
-ghost use Rattle.std.specs.Prelude.{◌≡◌, ◌≢◌, ◌<◌, ◌≤◌, ◌⊎◌, IfErr, IfOk, IsErrAnd, MatchOption, OnErr, OnOk, length, string_bytes};
+ghost use Rattle.std.specs.Prelude.{◌≡◌, ◌≢◌, ◌<◌, ◌≤◌, ◌⊎◌, ◌++◌, ℕ, List, None, IfErr, IfOk, IsErrAnd, MatchOption, OnErr, OnOk, length, string_bytes};
 ghost use Rattle.octets.specs.Limits.{max_program, max_script};
 ghost use Rattle.bytecode_cost.specs.Text.{budget_text};
 ghost use Rattle.bytecode_format.specs.Code.{Code};
 ghost use Rattle.bytecode_format.specs.Spelling.{spelling};
+ghost use Rattle.bytecode_listing.specs.Items.{FaultsAt, Lists};
+ghost use Rattle.bytecode_listing.specs.Listing.{listing_of};
 ghost use Rattle.bytecode_verifier.specs.Budget.{budget_of};
 ghost use Rattle.sieve_check.specs.Typed.{CommandForms};
 ghost use Rattle.sieve_engine.specs.Evaluation.{IsCompiled, IsScript, IsScriptRefusal};
 ghost use Rattle.sieve_explain.specs.Explaining.{Explains};
-ghost use Rattle.refusals.specs.declared.refusal.Refusal.TheVariants.{Memory, ScriptTooLong, Spelling};
-ghost use Rattle.sieve_engine.specs.Execution.{IsChecked, IsProgramRefusal};
+ghost use Rattle.refusals.specs.declared.refusal.Refusal.TheVariants.{Listing, Memory, ScriptTooLong, Spelling};
+ghost use Rattle.sieve_engine.specs.Execution.{IsChecked, IsProgramRefusal, Spells};
+ghost use Rattle.depot_cli.specs.Host.{HasMade, HasNotMade};
 ghost use Rattle.depot_actions.specs.Device.{HasBroken, HasTaken};
-ghost use Rattle.depot_cli.specs.Jobs.{HasAnswered, HasFound, HasLongProgram, HasLongScript, HasRefused, HasStopped, HasTold, IsJobRefusal, IsShown, world};
-ghost use Rattle.depot_cli.specs.Pieces.{lines_text, refusal_in};
-ghost use Rattle.depot_cli.specs.Printed.{line, ok_text};
+ghost use Rattle.depot_cli.specs.Jobs.{HasAnswered, HasFound, HasLongProgram, HasLongScript, HasRefused, HasStopped, HasTold, IsJobRefusal, IsShown, IsUnspelled, IsVerdict, commented, world};
+ghost use Rattle.depot_cli.specs.Pieces.{lines_text, refusal_in, verdict_line};
+ghost use Rattle.depot_cli.specs.Printed.{line, ok_text, wrote_text};
 
 use crate::host::Host;
 use crate::listing::parts_lines;
 use crate::making::make_file;
-use crate::piece::Piece;
-use crate::printing::{put_line, put_pieces, put_refusal, put_report};
+use crate::printing::{put_line, put_refusal, put_report, put_wrote};
+use bytecode_format::Program;
+use bytecode_listing::{ListingError, assemble, disassemble};
 use depot_actions::{DeviceFailed, Encoding, Sink, decode, encode, put};
 use refusals::Refusal;
 use sieve_engine::{Report, check_program, check_script, compile_script, evaluate, execute};
@@ -62,6 +66,18 @@ pub enum Job<'a> {
         program: &'a [u8],
         message: &'a [u8],
     },
+    /// The listing of a program, and what the verifier says of it.
+    Disassemble {
+        program: &'a [u8],
+    },
+    /// A listing as a program, into a file.
+    Assemble {
+        listing: &'a [u8],
+        /// The name of the listing's file.
+        name: &'a str,
+        /// The name of the program's file.
+        out: &'a str,
+    },
     /// What a script does with a message.
     Eval {
         script: &'a [u8],
@@ -83,17 +99,28 @@ pub enum Job<'a> {
     },
 }
 
+/// What the verifier says of a program.
+#[derive(Drop)]
+pub enum Verdict {
+    /// It is accepted, with a budget of this text.
+    Accepted(String),
+    /// It is refused.
+    Refused(Refusal),
+}
+
 /// What a job's answer is made of.
 #[derive(Drop)]
 pub enum Lines {
     /// A script has no fault.
     NoFault,
-    /// A script's fault, in words, and its refusal.
+    /// The fault of a script, or of a listing, in words, and its refusal.
     Fault(Vec<u8>, Refusal),
     /// So many octets were written to a file.
     Wrote(usize),
     /// The text of an accepted program's budget.
     Budget(String),
+    /// The listing of a program, and what the verifier says of it.
+    Listing(Vec<u8>, Verdict),
     /// The report of a run.
     Report(Report),
     /// Octets, as they are.
@@ -102,14 +129,14 @@ pub enum Lines {
 
 /// Carries out a job: writes its answer to `out` and gives 0, or writes the line of its refusal to `err` and gives 1.
 ///
-/// What is wrong with a script that is to be explained goes to `out`, and then the line of its refusal to `err`, with 1.
+/// What is wrong with a script that is to be explained, or with a listing, goes to `out`, and then the line of its refusal to `err`, with 1.
 ///
 /// Writing follows the job and takes no memory. Where `out` fails, a prefix of the answer is written there, what the job did stands,
 /// the line of `Write` is written to `err`, and the status is 1. Where `err` fails, a prefix of the line is written there.
 ///
 /// A script or a program above its limit is refused as such, without taking memory; but to explain a script takes memory.
 ///
-/// The job of compile is refused with `Write` only where a call on the file failed, and then no file is kept.
+/// The jobs of compile and assemble are refused with `Write` only where a call on the file failed, and then no file is kept.
 pub fn answer<H: Host, O: Sink, E: Sink>(
     alloc: Global,
     job: Job<'_>,
@@ -149,8 +176,12 @@ fn tell_found<E: Sink>(err: &mut E, lines: &Lines) -> u8
 {
     match lines {
         Lines::Fault(_, refusal) => tell(err, refusal),
-        Lines::NoFault | Lines::Wrote(_) | Lines::Budget(_) | Lines::Report(_) | Lines::Octets(_) =>
-            SUCCESS,
+        Lines::NoFault
+        | Lines::Wrote(_)
+        | Lines::Budget(_)
+        | Lines::Listing(..)
+        | Lines::Report(_)
+        | Lines::Octets(_) => SUCCESS,
     }
 }
 
@@ -183,6 +214,8 @@ fn carry_out<H: Host>(alloc: Global, job: Job<'_>, host: &mut H) -> Result<Lines
         }
         Job::Verify { program } => Ok(Lines::Budget(budget_line(alloc, program)?)),
         Job::Run { program, message } => Ok(Lines::Report(execute(alloc, program, message)?)),
+        Job::Disassemble { program } => list_program(alloc, program),
+        Job::Assemble { listing, name, out } => assemble_program(alloc, listing, name, out, host),
         Job::Eval { script, message } => Ok(Lines::Report(evaluate(alloc, script, message)?)),
         Job::Parts { message } => Ok(Lines::Octets(parts_lines(alloc, message)?)),
         Job::Encode { encoding, octets } => Ok(Lines::Octets(encode(alloc, encoding, octets)?)),
@@ -227,6 +260,62 @@ fn budget_line(alloc: Global, program: &[u8]) -> Result<String, Refusal>
     Ok(format!(in alloc; "{}", verified.budget())?)
 }
 
+// The listing of a program, and what the verifier says of it.
+fn list_program(alloc: Global, program: &[u8]) -> Result<Lines, Refusal>
+    ensures listed { IfOk result (λ lines. (refusal_in lines ≡ None) × (code : Code) × (verdict : List ℕ)
+        × Spells program.now code × IsVerdict program.now verdict × (lines_text lines ≡ listing_of code ++ commented verdict)) }
+    ensures refused { IfErr result (IsUnspelled program.now) }
+    ensures large { max_program < length program.now → IsErrAnd result (λ e. e ≡ Spelling) }
+{
+    let read = Program::read(alloc, program)?;
+    let listing = disassemble(alloc, &read)?;
+    let verdict = verdict_on(alloc, program)?;
+    Ok(Lines::Listing(listing, verdict))
+}
+
+// What the verifier says of a program.
+fn verdict_on(alloc: Global, program: &[u8]) -> Result<Verdict, Refusal>
+    ensures said { IfOk result (λ verdict. IsVerdict program.now (verdict_line verdict)) }
+    ensures refused { IfErr result (λ e. e ≡ Memory) }
+{
+    match budget_line(alloc, program) {
+        Ok(budget) => Ok(Verdict::Accepted(budget)),
+        Err(Refusal::Memory) => Err(Refusal::Memory),
+        Err(refusal) => Ok(Verdict::Refused(refusal)),
+    }
+}
+
+// Makes the file of the program that a listing says; or says in words what is wrong with the listing.
+fn assemble_program<H: Host>(
+    alloc: Global,
+    listing: &[u8],
+    name: &str,
+    out: &str,
+    host: &mut H,
+) -> Result<Lines, Refusal>
+    ensures shown { IfOk result (λ lines. MatchOption (refusal_in lines)
+        ((code : Code) × Lists listing.now code × (lines_text lines ≡ line (wrote_text (length (spelling code))))
+        × HasMade out.now name.now (spelling code) (H.state host.old) (H.state host.new))
+        (λ refusal. (place : ℕ) × (refusal ≡ Listing place) × FaultsAt listing.now place
+        × Explains name.now listing.now refusal (lines_text lines) × (H.state host.new ≡ H.state host.old))) }
+    ensures refused { IfErr result (λ e. ((e ≡ Memory) × (H.state host.new ≡ H.state host.old))
+        ⊎ ((code : Code) × Lists listing.now code × HasNotMade e out.now name.now (H.state host.old) (H.state host.new))) }
+{
+    match assemble(alloc, listing) {
+        Ok(program) => {
+            let octets = program.write(alloc)?;
+            make_file(alloc, host, out, name, &octets)?;
+            Ok(Lines::Wrote(octets.len()))
+        }
+        Err(ListingError::Memory) => Err(Refusal::Memory),
+        Err(ListingError::Fault { place }) => {
+            let refusal = Refusal::Listing { place };
+            let text = explanation(alloc, name, listing, &refusal)?;
+            Ok(Lines::Fault(text, refusal))
+        }
+    }
+}
+
 // Writes the lines.
 fn put_lines<O: Sink>(out: &mut O, lines: &Lines) -> Result<(), DeviceFailed>
     ensures ok { OnOk result (HasTaken (lines_text lines.now) (O.output out.old) (O.output out.new)) }
@@ -235,16 +324,31 @@ fn put_lines<O: Sink>(out: &mut O, lines: &Lines) -> Result<(), DeviceFailed>
     match lines {
         Lines::NoFault => put_line(out, "ok"),
         Lines::Fault(text, _) => put(out, text),
-        Lines::Wrote(octets) => put_pieces(
-            out,
-            &[
-                Piece::Text("wrote "),
-                Piece::Number(*octets as u128),
-                Piece::Text(" octets\n"),
-            ],
-        ),
+        Lines::Wrote(octets) => put_wrote(out, *octets),
         Lines::Budget(text) => put_line(out, text.as_str()),
+        Lines::Listing(listing, verdict) => put_listing(out, listing, verdict),
         Lines::Report(report) => put_report(out, report),
         Lines::Octets(octets) => put(out, octets),
+    }
+}
+
+// Writes a listing, and behind it as a comment what the verifier says of its program.
+fn put_listing<O: Sink>(out: &mut O, listing: &[u8], verdict: &Verdict) -> Result<(), DeviceFailed>
+    ensures ok { OnOk result (HasTaken (listing.now ++ commented (verdict_line verdict.now)) (O.output out.old) (O.output out.new)) }
+    ensures err { OnErr result (HasBroken (listing.now ++ commented (verdict_line verdict.now)) (O.output out.old) (O.output out.new)) }
+{
+    put(out, listing)?;
+    put(out, b"; ")?;
+    put_verdict(out, verdict)
+}
+
+// Writes the line of what the verifier says of a program.
+fn put_verdict<O: Sink>(out: &mut O, verdict: &Verdict) -> Result<(), DeviceFailed>
+    ensures ok { OnOk result (HasTaken (verdict_line verdict.now) (O.output out.old) (O.output out.new)) }
+    ensures err { OnErr result (HasBroken (verdict_line verdict.now) (O.output out.old) (O.output out.new)) }
+{
+    match verdict {
+        Verdict::Accepted(budget) => put_line(out, budget.as_str()),
+        Verdict::Refused(refusal) => put_refusal(out, refusal),
     }
 }

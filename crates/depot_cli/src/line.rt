@@ -36,6 +36,15 @@ pub enum CommandLine<'a> {
         program: &'a str,
         message: &'a str,
     },
+    /// The listing of a program.
+    Disassemble {
+        program: &'a str,
+    },
+    /// A listing as a program, into a file.
+    Assemble {
+        listing: &'a str,
+        out: &'a str,
+    },
     /// What a script does with a message.
     Eval {
         script: &'a str,
@@ -64,6 +73,12 @@ pub enum CommandLine<'a> {
         depot: &'a str,
         user: &'a str,
         program: &'a str,
+    },
+    /// A user's filter program, into a file.
+    Program {
+        depot: &'a str,
+        user: &'a str,
+        out: &'a str,
     },
     /// A message for a user, filed as his filter says.
     Deliver {
@@ -145,6 +160,13 @@ fn line_in<'a>(matches: &ArgMatches<'a>) -> CommandLine<'a>
             program: argument(found, "PROGRAM"),
             message: argument(found, "MESSAGE"),
         },
+        Some(("disassemble", found)) => CommandLine::Disassemble {
+            program: argument(found, "PROGRAM"),
+        },
+        Some(("assemble", found)) => CommandLine::Assemble {
+            listing: argument(found, "LISTING"),
+            out: argument(found, "OUT"),
+        },
         Some(("eval", found)) => CommandLine::Eval {
             script: argument(found, "SCRIPT"),
             message: argument(found, "MESSAGE"),
@@ -179,6 +201,11 @@ fn depot_line_in<'a>(name: &str, found: &ArgMatches<'a>) -> CommandLine<'a>
             depot,
             user,
             program: argument(found, "PROGRAM"),
+        },
+        "program" => CommandLine::Program {
+            depot,
+            user,
+            out: argument(found, "OUT"),
         },
         "deliver" => CommandLine::Deliver {
             depot,

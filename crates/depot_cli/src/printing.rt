@@ -5,7 +5,7 @@ ghost use Rattle.std.specs.Fmt.{decimal, digit_glyph};
 ghost use Rattle.depot_actions.specs.Device.{HasBroken, HasTaken};
 ghost use Rattle.depot_cli.specs.Gathering.{HasGathered, gathering};
 ghost use Rattle.depot_cli.specs.Pieces.{piece_text, pieces_text};
-ghost use Rattle.depot_cli.specs.Printed.{action_text, actions_text, charge_text, escaped, escaped_octet, line as line_of, quoted, refusal_line, report_text, shown};
+ghost use Rattle.depot_cli.specs.Printed.{action_text, actions_text, charge_text, escaped, escaped_octet, line as line_of, quoted, refusal_line, report_text, shown, wrote_text};
 ghost use Rattle.depot_cli.specs.Printed as Printed;
 
 use crate::gathering::{Line, gather, send};
@@ -205,6 +205,21 @@ pub fn put_line<O: Sink>(out: &mut O, text: &str) -> Result<(), DeviceFailed>
     ensures err { OnErr result (HasBroken (line_of text.now) (O.output out.old) (O.output out.new)) }
 {
     put_pieces(out, &[Piece::Text(text), Piece::Text("\n")])
+}
+
+/// Writes the line of so many octets that were written to a file.
+pub fn put_wrote<O: Sink>(out: &mut O, octets: usize) -> Result<(), DeviceFailed>
+    ensures ok { OnOk result (HasTaken (line_of (wrote_text octets)) (O.output out.old) (O.output out.new)) }
+    ensures err { OnErr result (HasBroken (line_of (wrote_text octets)) (O.output out.old) (O.output out.new)) }
+{
+    put_pieces(
+        out,
+        &[
+            Piece::Text("wrote "),
+            Piece::Number(octets as u128),
+            Piece::Text(" octets\n"),
+        ],
+    )
 }
 
 /// Writes the line of a refusal: its number, its name, and its place where it has one.

@@ -6,7 +6,7 @@ ghost use Rattle.bytecode_format.specs.Spelling.{spelling};
 ghost use Rattle.depot_cli.specs.Host.{HostState, origin_of};
 ghost use Rattle.depot_cli.specs.Jobs.{HasTold, world};
 ghost use Rattle.refusals.specs.declared.refusal.Refusal.TheVariants.{Memory};
-ghost use Rattle.depot_cli.specs.Running.{LeadsTo, HasNotRead, HasRead, HasRun, HasShown, HasToldUsage, HaveNotRead, HaveRead, IsDepotOf, IsInspected, IsJobOf, IsOrderOf, input, is_inspection, is_on_depot, keeping_code, origins_in, origins_of, refused, usage};
+ghost use Rattle.depot_cli.specs.Running.{LeadsTo, HasNotRead, HasRead, HasRun, HasShown, HasToldUsage, HaveNotRead, HaveRead, IsDepotOf, IsInspected, IsJobOf, IsOrderOf, IsSavingOf, input, is_inspection, is_on_depot, is_saving, keeping_code, origins_in, origins_of, refused, usage};
 
 use crate::errand::{Errand, Order};
 use crate::host::{Host, Input};
@@ -14,6 +14,7 @@ use crate::job::{Job, answer, tell};
 use crate::line::{CommandLine, line_of};
 use crate::printing::put_text;
 use crate::reading::read_limited;
+use crate::saving::Saving;
 use clap::Error;
 use clap::error::ErrorKind;
 use depot_actions::Sink;
@@ -53,10 +54,12 @@ pub enum Next<'a> {
     Perform(Errand<'a>),
     /// To say what the file of this name is, and what the depot in it holds. Nothing was done yet.
     Inspect(&'a str),
+    /// To save a user's program as a file. Nothing was done yet.
+    Save(Saving<'a>),
 }
 
 /// Carries out what the words say, of which the first is the program's name; but a command on a depot is handed back, for whoever opens
-/// the depot to perform, and so is one that inspects.
+/// the depot to perform, and so is one that inspects, or that saves a program.
 ///
 /// What the command reads is read in the order of its words, before anything is done with it; each at most one octet past the limit.
 /// Where it can't be read, the refusal is told, and nothing after it is opened. Then the job is answered, with these octets.
@@ -111,9 +114,10 @@ fn lead<'a, H: Host, O: Sink, E: Sink>(
     ensures { LeadsTo line.entry result
         (world (H.state host.old) (O.output out.old) (E.output err.old)) (world (H.state host.new) (O.output out.new) (E.output err.new)) }
 {
-    match inspected(line) {
-        Some(name) => Next::Inspect(name),
-        None => carry_out(alloc, line, host, out, err),
+    match (inspected(line), saved(line)) {
+        (Some(name), _) => Next::Inspect(name),
+        (None, Some(saving)) => Next::Save(saving),
+        (None, None) => carry_out(alloc, line, host, out, err),
     }
 }
 
@@ -127,6 +131,20 @@ fn inspected<'a>(line: CommandLine<'a>) -> Option<&'a str>
     }
 }
 
+// What a command saves, if it does.
+fn saved<'a>(line: CommandLine<'a>) -> Option<Saving<'a>>
+    ensures { MatchOption result (is_saving line.entry ≡ false) (λ saving. IsSavingOf line.entry saving) }
+{
+    match line {
+        CommandLine::Program { depot, user, out } => Some(Saving {
+            name: depot,
+            user,
+            out,
+        }),
+        _ => None,
+    }
+}
+
 // Reads what a command reads, and answers its job, or hands its order back.
 fn carry_out<'a, H: Host, O: Sink, E: Sink>(
     alloc: Global,
@@ -135,7 +153,8 @@ fn carry_out<'a, H: Host, O: Sink, E: Sink>(
     out: &mut O,
     err: &mut E,
 ) -> Next<'a>
-    requires { is_inspection line ≡ false }
+    requires inspects { is_inspection line ≡ false }
+    requires saves { is_saving line ≡ false }
     ensures { LeadsTo line.entry result
         (world (H.state host.old) (O.output out.old) (E.output err.old)) (world (H.state host.new) (O.output out.new) (E.output err.new)) }
 {
@@ -199,9 +218,10 @@ fn inputs_of<'a>(line: CommandLine<'a>) -> Inputs<'a>
         | CommandLine::Explain { script }
         | CommandLine::Compile { script, .. }
         | CommandLine::Script { script, .. } => Inputs::One(Input::File(script)),
-        CommandLine::Verify { program } | CommandLine::Code { program, .. } => {
-            Inputs::One(Input::File(program))
-        }
+        CommandLine::Verify { program }
+        | CommandLine::Disassemble { program }
+        | CommandLine::Code { program, .. } => Inputs::One(Input::File(program)),
+        CommandLine::Assemble { listing, .. } => Inputs::One(Input::File(listing)),
         CommandLine::Parts { message } | CommandLine::Deliver { message, .. } => {
             Inputs::One(Input::File(message))
         }
@@ -211,7 +231,8 @@ fn inputs_of<'a>(line: CommandLine<'a>) -> Inputs<'a>
         CommandLine::Eval { script, message } => {
             Inputs::Two(Input::File(script), Input::File(message))
         }
-        CommandLine::List { .. }
+        CommandLine::Program { .. }
+        | CommandLine::List { .. }
         | CommandLine::Export { .. }
         | CommandLine::Remove { .. }
         | CommandLine::Migrate { .. }
@@ -223,6 +244,7 @@ fn inputs_of<'a>(line: CommandLine<'a>) -> Inputs<'a>
 fn job_of<'a>(line: CommandLine<'a>, first: &'a [u8], second: &'a [u8]) -> Job<'a>
     requires elsewhere { is_on_depot line ≡ false }
     requires inspects { is_inspection line ≡ false }
+    requires saves { is_saving line ≡ false }
     ensures { (inputs : List (List ℕ)) → first.entry.now ≡ input inputs 0 → second.entry.now ≡ input inputs 1 → IsJobOf line.entry inputs result }
 {
     match line {
@@ -244,6 +266,12 @@ fn job_of<'a>(line: CommandLine<'a>, first: &'a [u8], second: &'a [u8]) -> Job<'
         CommandLine::Run { .. } => Job::Run {
             program: first,
             message: second,
+        },
+        CommandLine::Disassemble { .. } => Job::Disassemble { program: first },
+        CommandLine::Assemble { listing, out } => Job::Assemble {
+            listing: first,
+            name: listing,
+            out,
         },
         CommandLine::Eval { .. } => Job::Eval {
             script: first,

@@ -2,7 +2,7 @@
 use crate::depot::{MESSAGE, SCRIPT};
 use crate::held::{Held, held_in};
 use depot_actions::{Depot, OfWrite};
-use depot_cli::{Task, perform};
+use depot_cli::{Task, inspect, perform};
 use part_store::{PartStore, StoreError};
 use sqlite::{Connection, MemStore};
 use std::alloc::Global;
@@ -102,6 +102,22 @@ fn a_program_that_does_not_read(rt: HostRuntime) -> Result<(), Fail> {
         &["INSERT INTO users (user, last, program) VALUES ('ann', 0, X'00')"],
     )?;
     assert!(rt; is_refused(alloc, depot, "ann", b"", "refused 43 Database\n")?);
+    Ok(())
+}
+
+#[test]
+fn a_last_number_that_no_user_has(rt: HostRuntime) -> Result<(), Fail> {
+    let alloc = rt.alloc();
+    let mut depot = laid(
+        alloc,
+        &["INSERT INTO users (user, last, program) VALUES ('ann', -1, NULL)"],
+    )?;
+    let mut out = OfWrite::new(Vec::new(alloc));
+    let mut err = OfWrite::new(Vec::new(alloc));
+    let status = inspect(alloc, None, &mut depot, &mut out, &mut err);
+    assert_eq!(rt; status, 1);
+    assert!(rt; out.inner.is_empty());
+    assert!(rt; err.inner.as_slice() == b"refused 43 Database\n".as_slice());
     Ok(())
 }
 

@@ -2,7 +2,7 @@
 
 use crate::shelf::{Asked, Known, Shelf};
 use depot_actions::{Depot, OfWrite, Sink};
-use depot_cli::{Errand, Next, inspect, perform, run, tell};
+use depot_cli::{Errand, Host, Next, Saving, inspect, perform, run, save, tell};
 use std::alloc::Global;
 use std::io;
 
@@ -49,6 +49,21 @@ fn look<O: Sink, E: Sink>(alloc: Global, out: &mut O, err: &mut E) -> u8 {
     }
 }
 
+// Saves a program from a depot in memory, in which ann has that of the script, and gives the status.
+fn fetch<H: Host, O: Sink, E: Sink>(
+    alloc: Global,
+    saving: Saving<'_>,
+    host: &mut H,
+    out: &mut O,
+    err: &mut E,
+) -> u8 {
+    let mut opened = Depot::in_memory(alloc);
+    if let Ok(depot) = &mut opened {
+        let _ = depot.set_script(alloc, "ann", SCRIPT.octets);
+    }
+    save(alloc, saving, &mut opened, host, out, err)
+}
+
 // Runs words on a shelf with a script and a message.
 fn come(rt: &HostRuntime, words: &[&str], room: usize) -> Seen {
     let mut host = Shelf::new(rt.alloc(), SCRIPT, MESSAGE, b"MZXW6YTBOI======", room);
@@ -58,6 +73,7 @@ fn come(rt: &HostRuntime, words: &[&str], room: usize) -> Seen {
         Next::Exit(status) => status,
         Next::Perform(errand) => carry(rt.alloc(), &errand, &mut out, &mut err),
         Next::Inspect(_) => look(rt.alloc(), &mut out, &mut err),
+        Next::Save(saving) => fetch(rt.alloc(), saving, &mut host, &mut out, &mut err),
     };
     let Shelf {
         asked,
@@ -237,6 +253,60 @@ fn commands_on_a_depot(rt: HostRuntime) -> io::Result<()> {
         ),
     ] {
         let came = come(&rt, words, 0);
+        assert_eq!(rt; came.status, status, "{words:?}");
+        assert!(rt; came.out.as_slice() == out.as_bytes(), "{words:?}");
+        assert!(rt; came.err.as_slice() == err.as_bytes(), "{words:?}");
+        let list = format!(in rt.alloc(); "{:?}", came.asked)?;
+        assert!(rt; list.as_str() == asked, "{words:?}: {list}");
+    }
+    Ok(())
+}
+
+#[test]
+fn a_program_as_a_file(rt: HostRuntime) -> io::Result<()> {
+    for (words, room, status, out, err, asked) in [
+        (
+            ["depot", "program", "d", "ann", "o"].as_slice(),
+            55,
+            0,
+            "wrote 55 octets\n",
+            "",
+            "[Made(\"o\", \"d\"), Kept([83, 86, 66, 67, 2, 0, 0, 0, 1, 0, 0, 0, 0, 0, 4, 0, 0, 0, 0, 0, 0, 0, 3, 15, 0, 0, 0, 0, 0, 0, 0, 11, 0, 0, 0, 0, 0, 0, 3, 20, 0, 0, 0, 0, 0, 0, 0, 1, 0, 0, 0, 0, 0, 0, 0])]",
+        ),
+        (
+            ["depot", "program", "d", "ann", "o"].as_slice(),
+            54,
+            1,
+            "",
+            "refused 45 Write\n",
+            "[Made(\"o\", \"d\")]",
+        ),
+        (
+            ["depot", "program", "d", "ann", "d"].as_slice(),
+            100,
+            1,
+            "",
+            "refused 45 Write\n",
+            "[Made(\"d\", \"d\")]",
+        ),
+        (
+            ["depot", "program", "d", "bob", "o"].as_slice(),
+            100,
+            1,
+            "",
+            "refused 40 NoSuchEntry\n",
+            "[]",
+        ),
+        (
+            ["depot", "program", "d", "Bob", "o"].as_slice(),
+            100,
+            1,
+            "",
+            "refused 44 UserName\n",
+            "[]",
+        ),
+    ] {
+        let came = come(&rt, words, room);
         assert_eq!(rt; came.status, status, "{words:?}");
         assert!(rt; came.out.as_slice() == out.as_bytes(), "{words:?}");
         assert!(rt; came.err.as_slice() == err.as_bytes(), "{words:?}");
