@@ -4,3 +4,6 @@ mod Naming
 mod Numbers
 mod Shorter
 mod Loop
+mod Words
+mod Written
+mod Lines

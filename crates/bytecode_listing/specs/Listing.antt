@@ -1,5 +1,5 @@
 -- The listing of a program.
-use Rattle.std.specs.Prelude.{ℕ, suc, ◌/◌, ◌%◌, ◌==◌, ◌&&◌, ◌||◌, nat_le, not, Bool, false, List, [], ◌∷◌, ◌++◌, Option, Some, None, if◌then◌else◌, codes}
+use Rattle.std.specs.Prelude.{ℕ, suc, ◌/◌, ◌%◌, ◌^◌, ◌<◌, ◌==◌, ◌&&◌, ◌||◌, nat_le, not, Bool, false, List, [], ◌∷◌, ◌++◌, All, Option, Some, None, if◌then◌else◌, codes}
 use Rattle.std.specs.List.{flat_map}
 use Rattle.std.specs.Fmt.{decimal, digit_glyph}
 use Rattle.bytecode_format.specs.Code.{Code}
@@ -68,3 +68,7 @@ listing_of code =
     ++ flat_map number_line code.numbers
     ++ flat_map string_line code.strings
     ++ instruction_lines 0 code.instructions
+
+-- the strings of a program are of octets
+abbrev pub HoldsOctets : Code → Type 0
+HoldsOctets code = All (λ text. All (λ octet. octet < 2 ^ 8) text) code.strings

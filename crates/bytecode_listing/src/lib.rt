@@ -6,6 +6,7 @@ mod ample;
 mod assembling;
 mod error;
 mod items;
+pub mod laws;
 mod names;
 mod tokens;
 mod writing;
