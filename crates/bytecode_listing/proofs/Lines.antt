@@ -1,15 +1,17 @@
 -- Lines and lists of lines, read as they were written.
-use Rattle.std.proofs.Common.{◌≡◌, ℕ, zero, suc, ◌+◌, ◌-◌, ◌^◌, ◌<◌, ◌≤◌, ◌==◌, ◌&&◌, Bool, true, false, if◌then◌else◌, List, [], ◌∷◌, ◌++◌, length, Option, Some, None, Result, Ok, Err, refl, sym, ap, subst, ◌∙◌, append_assoc, arith, eqb-true, codes}
+use Rattle.std.proofs.Common.{◌≡◌, ℕ, zero, suc, ◌+◌, ◌-◌, ◌^◌, ◌<◌, ◌≤◌, ◌==◌, ◌&&◌, ◌||◌, Bool, true, false, if◌then◌else◌, List, [], ◌∷◌, ◌++◌, length, All, Option, Some, None, Result, Ok, Err, refl, sym, ap, subst, ◌∙◌, append_assoc, arith, eqb-true, codes}
 use Rattle.std.specs.Prelude.{bytes_eq, is_some, unwrap_or}
 use Rattle.std.specs.List.{flat_map, AllByRecursion}
 use Rattle.std.specs.Fmt.{decimal}
 use Rattle.std.specs.Char.{is_ascii_digit}
+use Rattle.std.proofs.lemmas.Bool.Decides.{nat_tests}
+use Rattle.std.proofs.lemmas.List.Elements.{recursion_from_All}
 use Rattle.bytecode_format.specs.Code.{Code}
-use Rattle.bytecode_format.specs.Spelling.{Fits}
+use Rattle.bytecode_format.specs.Spelling.{Fits, IsProgram}
 use Rattle.bytecode_format.specs.declared.instruction.Instruction.{Instruction}
-use Rattle.bytecode_listing.specs.Listing.{line, quoted, operation_text, field_text, fields_text, instruction_text, instruction_lines, number_line, string_line, listing_of}
+use Rattle.bytecode_listing.specs.Listing.{line, quoted, operation_text, field_text, fields_text, instruction_text, instruction_lines, number_line, string_line, listing_of, AreOctets}
 use Rattle.bytecode_listing.specs.Tokens.{is_word_octet, tokens_from, tokens_of}
-use Rattle.bytecode_listing.specs.Items.{Tokens, ◌>>=◌, is_word, is_left, word_at, text_at, begins_with, begins_number, left_at, keyword_at, number_at, operation_at, field_number, field_at, Fields, round_at, fields_at, place_at, instruction_at, number_item, string_item, many_at, all_at, items_at, said_by}
+use Rattle.bytecode_listing.specs.Items.{Tokens, ◌>>=◌, is_word, is_left, word_at, text_at, begins_with, begins_number, left_at, keyword_at, number_at, operation_at, field_number, field_at, Fields, round_at, fields_at, place_at, instruction_at, number_item, string_item, many_at, all_at, items_at, said_by, Lists}
 use Rattle.bytecode_listing.proofs.Lexing.{after_white}
 use Rattle.bytecode_listing.proofs.Loop.{IsItem, onto, from_place, unrolled, stops}
 use Rattle.bytecode_listing.proofs.Shorter.{instruction_leaves, number_item_leaves, string_item_leaves}
@@ -292,7 +294,7 @@ parts_of_listing version variables numbers strings instructions =
     ∙ ap (λ (t : List ℕ). codes "version" ++ 32 ∷ (version ++ 10 ∷ (codes "variables" ++ 32 ∷ t))) (append_assoc variables (10 ∷ []) tables)
 
 -- what has a listing that is read again
-pub record IsListed (code : Code) : Type 0 where
+record IsListed (code : Code) : Type 0 where
   pub low : 1 ≤ code.version
   pub high : code.version ≤ 2
   pub variables : code.variables ≤ 128
@@ -301,7 +303,7 @@ pub record IsListed (code : Code) : Type 0 where
   pub instructions : AllByRecursion Fits code.instructions
   pub places : length code.instructions < 2 ^ 64
 
-pub says_itself : (code : Code) → IsListed code → said_by (listing_of code) ≡ Ok code
+says_itself : (code : Code) → IsListed code → said_by (listing_of code) ≡ Ok code
 unfolding items_at
 says_itself code is =
     let at_instructions : List ℕ = instruction_lines 0 code.instructions in
@@ -320,3 +322,23 @@ says_itself code is =
     let all_strings : all_at (begins_with (codes "string")) string_item (tokens_of at_strings) ≡ Ok (code.strings, tokens_of at_instructions) = many_read (begins_with (codes "string")) string_item string_line IsText strings code.strings 0 at_instructions is.strings (lines_other 115 (codes "tring") refl code.instructions 0 (omega (arith, is.places))) in
     let all_instructions : all_at is_left instruction_at (tokens_of at_instructions) ≡ Ok (code.instructions, []) = instructions_read code.instructions 0 (omega (arith, is.places)) is.instructions in
     ap said_by regrouped ∙ rw (version_word, version, variables_word, variables, all_numbers, all_strings, all_instructions) refl
+
+low_version : (n : ℕ) → (n == 1) || (n == 2) ≡ true → 1 ≤ n
+low_version n h = grind (arith, nat_tests)
+
+high_version : (n : ℕ) → (n == 1) || (n == 2) ≡ true → n ≤ 2
+high_version n h = grind (arith, nat_tests)
+
+is_listed : (code : Code) → IsProgram code → All AreOctets code.strings → IsListed code
+is_listed code program octets = record {
+  low = low_version code.version program.version;
+  high = high_version code.version program.version;
+  variables = program.variables;
+  numbers = recursion_from_All (λ n. n < 2 ^ 64) code.numbers program.each_number;
+  strings = recursion_from_All IsText code.strings (λ k d h. (recursion_from_All (λ octet. octet < 256) _ (octets k d h), program.each_string k d h));
+  instructions = recursion_from_All Fits code.instructions program.each_instruction;
+  places = omega (arith, program.instructions);
+}
+
+pub lists_itself : (code : Code) → IsProgram code → All AreOctets code.strings → Lists (listing_of code) code
+lists_itself code program octets = record { says = says_itself code (is_listed code program octets); within = program }

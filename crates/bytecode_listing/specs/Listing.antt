@@ -69,6 +69,6 @@ listing_of code =
     ++ flat_map string_line code.strings
     ++ instruction_lines 0 code.instructions
 
--- the strings of a program are of octets
-abbrev pub HoldsOctets : Code → Type 0
-HoldsOctets code = All (λ text. All (λ octet. octet < 2 ^ 8) text) code.strings
+-- each is an octet
+abbrev pub AreOctets : List ℕ → Type 0
+AreOctets text = All (λ octet. octet < 2 ^ 8) text

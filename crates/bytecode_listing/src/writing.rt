@@ -1,8 +1,9 @@
 // Programs as listings.
-ghost use Rattle.std.specs.Prelude.{◌≡◌, ◌++◌, ◌<◌, false, IfOk, OnOk};
+ghost use Rattle.std.specs.Prelude.{◌≡◌, ◌++◌, ◌<◌, false, All, IfOk, OnOk};
 ghost use Rattle.std.specs.List.{flat_map};
 ghost use Rattle.std.specs.Fmt.{decimal, digit_glyph};
-ghost use Rattle.bytecode_listing.specs.Listing.{is_plain, two_digits, escaped_octet, quoted, operation_text, field_text, fields_text, instruction_text, instruction_lines, number_line, string_line, line, listing_of};
+ghost use Rattle.bytecode_listing.specs.Listing.{is_plain, two_digits, escaped_octet, quoted, operation_text, field_text, fields_text, instruction_text, instruction_lines, number_line, string_line, line, listing_of, AreOctets};
+ghost use Rattle.bytecode_listing.specs.Items.{Lists};
 
 use crate::names::name_of;
 use bytecode_format::{Instruction, Operation, Program};
@@ -151,7 +152,8 @@ fn put_numbers(out: &mut Vec<u8>, numbers: &[u64]) -> Result<(), AllocError>
 
 // Appends the line of a string.
 fn put_string(out: &mut Vec<u8>, text: &[u8]) -> Result<(), AllocError>
-    ensures { OnOk result (out.new.items ≡ out.old.items ++ string_line text.now) }
+    ensures line { OnOk result (out.new.items ≡ out.old.items ++ string_line text.now) }
+    ensures octets { AreOctets text.now }
 {
     out.extend_from_slice(b"string ")?;
     put_quoted(out, text)?;
@@ -160,7 +162,8 @@ fn put_string(out: &mut Vec<u8>, text: &[u8]) -> Result<(), AllocError>
 
 // Appends the lines of strings.
 fn put_strings(out: &mut Vec<u8>, strings: &[Octets]) -> Result<(), AllocError>
-    ensures { OnOk result (out.new.items ≡ out.old.items ++ flat_map string_line strings.now) }
+    ensures lines { OnOk result (out.new.items ≡ out.old.items ++ flat_map string_line strings.now) }
+    ensures octets { OnOk result (All AreOctets strings.now) }
 {
     'table: for text in strings {
         put_string(out, text.as_slice())?;
@@ -169,11 +172,12 @@ fn put_strings(out: &mut Vec<u8>, strings: &[Octets]) -> Result<(), AllocError>
 }
 
 /// The listing of a program: a line for its version, one for its number of variables, one for each
-/// number, string and instruction. LF ends each line.
+/// number, string and instruction. LF ends each line. `assemble` reads it as the same program.
 ///
 /// An error comes only where memory was refused.
 pub fn disassemble(alloc: Global, program: &Program) -> Result<Vec<u8>, AllocError>
-    ensures { IfOk result (λ v. v.items ≡ listing_of program.now) }
+    ensures text { IfOk result (λ v. v.items ≡ listing_of program.now) }
+    ensures listed { IfOk result (λ v. Lists v.items program.now) }
 {
     let mut out = Vec::new(alloc);
     put_count(&mut out, b"version ", u64::from(program.version()))?;
