@@ -6,4 +6,5 @@ mod Shorter
 mod Loop
 mod Words
 mod Written
+mod Skipped
 mod Lines

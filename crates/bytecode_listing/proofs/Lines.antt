@@ -9,13 +9,14 @@ use Rattle.std.proofs.lemmas.List.Elements.{recursion_from_All}
 use Rattle.bytecode_format.specs.Code.{Code}
 use Rattle.bytecode_format.specs.Spelling.{Fits, IsProgram}
 use Rattle.bytecode_format.specs.declared.instruction.Instruction.{Instruction}
-use Rattle.bytecode_listing.specs.Listing.{line, quoted, operation_text, field_text, fields_text, instruction_text, instruction_lines, number_line, string_line, listing_of, AreOctets}
+use Rattle.bytecode_listing.specs.Listing.{line, quoted, operation_text, field_text, fields_text, instruction_text, comment, meant, instruction_line, instruction_lines, number_line, string_line, listing_of, AreOctets}
 use Rattle.bytecode_listing.specs.Tokens.{is_word_octet, tokens_from, tokens_of}
 use Rattle.bytecode_listing.specs.Items.{Tokens, ◌>>=◌, is_word, is_left, word_at, text_at, begins_with, begins_number, left_at, keyword_at, number_at, operation_at, field_number, field_at, Fields, round_at, fields_at, place_at, instruction_at, number_item, string_item, many_at, all_at, items_at, said_by, Lists}
 use Rattle.bytecode_listing.proofs.Lexing.{after_white}
 use Rattle.bytecode_listing.proofs.Loop.{IsItem, onto, from_place, unrolled, stops}
 use Rattle.bytecode_listing.proofs.Shorter.{instruction_leaves, number_item_leaves, string_item_leaves}
 use Rattle.bytecode_listing.proofs.Words.{Stops, IsWord, word_reads, word_then, same_word, keyword_reads, number_word, number_reads, number_begins, number_is_other}
+use Rattle.bytecode_listing.proofs.Skipped.{comment_skipped, comment_stops}
 use Rattle.bytecode_listing.proofs.Written.{read_on, operation_reads, text_reads}
 
 -- ---- fields
@@ -237,47 +238,51 @@ instruction_here place i rest small =
     let regrouped : instruction_text place i ++ rest ≡ decimal place ++ 32 ∷ (operation_text i.op ++ (fields_text i ++ rest)) = simp append_assoc in
     ap (λ (t : List ℕ). word_at (tokens_of t)) regrouped ∙ word_then (decimal place) 32 (operation_text i.op ++ (fields_text i ++ rest)) (number_word place small) refl refl
 
-one_line : (place : ℕ) (i : Instruction) (rest : List ℕ) → line (instruction_text place i) ++ rest ≡ instruction_text place i ++ 10 ∷ rest
-one_line place i rest = append_assoc (instruction_text place i) (10 ∷ []) rest
+-- a line: its instruction, its comment and LF
+one_line : (code : Code) (place : ℕ) (i : Instruction) (rest : List ℕ) → instruction_line code place i ++ rest ≡ instruction_text place i ++ (comment (meant code i) ++ 10 ∷ rest)
+one_line code place i rest =
+    append_assoc (instruction_text place i ++ comment (meant code i)) (10 ∷ []) rest ∙ append_assoc (instruction_text place i) (comment (meant code i)) (10 ∷ rest)
 
 -- instructions begin with a number, if there are any
-lines_other : (x : ℕ) (name : List ℕ) → is_ascii_digit x ≡ false → (is : List Instruction) (place : ℕ) → place + length is < 2 ^ 64 → begins_with (x ∷ name) (tokens_of (instruction_lines place is)) ≡ false
+lines_other : (code : Code) (x : ℕ) (name : List ℕ) → is_ascii_digit x ≡ false → (is : List Instruction) (place : ℕ) → place + length is < 2 ^ 64 → begins_with (x ∷ name) (tokens_of (instruction_lines code place is)) ≡ false
 unfolding tokens_from
-lines_other x name other [] place small = refl
-lines_other x name other (i ∷ is) place small =
-    let more : List ℕ = 10 ∷ instruction_lines (suc place) is in
-    ap (λ (t : List ℕ). begins_with (x ∷ name) (tokens_of t)) (one_line place i (instruction_lines (suc place) is))
-    ∙ ap (is_word (x ∷ name)) (instruction_here place i more (omega arith))
+lines_other code x name other [] place small = refl
+lines_other code x name other (i ∷ is) place small =
+    let rest : List ℕ = instruction_lines code (suc place) is in
+    ap (λ (t : List ℕ). begins_with (x ∷ name) (tokens_of t)) (one_line code place i rest)
+    ∙ ap (is_word (x ∷ name)) (instruction_here place i (comment (meant code i) ++ 10 ∷ rest) (omega arith))
     ∙ number_is_other place x name (omega arith) other
 
-line_ends : (is : List Instruction) (place : ℕ) → place + length is < 2 ^ 64 → Ends (10 ∷ instruction_lines place is)
-line_ends is place small =
-    let rest : List ℕ = instruction_lines place is in
-    let other : (x : ℕ) → is_ascii_digit x ≡ false → begins_with (x ∷ []) (tokens_of (10 ∷ rest)) ≡ false = λ x h. ap (begins_with (x ∷ [])) (after_white 10 rest refl) ∙ lines_other x [] h is place small in
-    record { stops = refl; a = other 97 refl; b = other 98 refl; c = other 99 refl }
+line_ends : (code : Code) (i : Instruction) (is : List Instruction) (place : ℕ) → place + length is < 2 ^ 64 → Ends (comment (meant code i) ++ 10 ∷ instruction_lines code place is)
+line_ends code i is place small =
+    let rest : List ℕ = instruction_lines code place is in
+    let end : List ℕ = comment (meant code i) ++ 10 ∷ rest in
+    let other : (x : ℕ) → is_ascii_digit x ≡ false → begins_with (x ∷ []) (tokens_of end) ≡ false = λ x h. ap (begins_with (x ∷ [])) (comment_skipped code i rest) ∙ lines_other code x [] h is place small in
+    record { stops = comment_stops (meant code i) rest; a = other 97 refl; b = other 98 refl; c = other 99 refl }
 
-instructions_read : (is : List Instruction) (place : ℕ) → place + length is < 2 ^ 64 → AllByRecursion Fits is → from_place is_left instruction_at place (tokens_of (instruction_lines place is)) ≡ Ok (is, [])
+instructions_read : (code : Code) (is : List Instruction) (place : ℕ) → place + length is < 2 ^ 64 → AllByRecursion Fits is → from_place is_left instruction_at place (tokens_of (instruction_lines code place is)) ≡ Ok (is, [])
 unfolding tokens_from many_at
-instructions_read [] place small fits = refl
-instructions_read (i ∷ is) place small fits =
-    let rest : List ℕ = instruction_lines (suc place) is in
-    let text : List ℕ = instruction_text place i ++ 10 ∷ rest in
+instructions_read code [] place small fits = refl
+instructions_read code (i ∷ is) place small fits =
+    let rest : List ℕ = instruction_lines code (suc place) is in
+    let end : List ℕ = comment (meant code i) ++ 10 ∷ rest in
+    let text : List ℕ = instruction_text place i ++ end in
     let fewer : suc place + length is < 2 ^ 64 = omega arith in
-    ap (λ (t : List ℕ). from_place is_left instruction_at place (tokens_of t)) (one_line place i rest)
-    ∙ unrolled is_left instruction_at (record { none = refl; leaves = instruction_leaves }) place (tokens_of text) (tokens_of (10 ∷ rest)) i
-    (word_is_left (tokens_of text) _ (instruction_here place i (10 ∷ rest) (omega arith)))
-    (instruction_reads place i (10 ∷ rest) (omega arith) fits.0 (line_ends is (suc place) fewer))
-    ∙ ap (λ t. onto i (from_place is_left instruction_at (suc place) t)) (after_white 10 rest refl)
-    ∙ ap (onto i) (instructions_read is (suc place) fewer fits.1)
+    ap (λ (t : List ℕ). from_place is_left instruction_at place (tokens_of t)) (one_line code place i rest)
+    ∙ unrolled is_left instruction_at (record { none = refl; leaves = instruction_leaves }) place (tokens_of text) (tokens_of end) i
+    (word_is_left (tokens_of text) _ (instruction_here place i end (omega arith)))
+    (instruction_reads place i end (omega arith) fits.0 (line_ends code i is (suc place) fewer))
+    ∙ ap (λ t. onto i (from_place is_left instruction_at (suc place) t)) (comment_skipped code i rest)
+    ∙ ap (onto i) (instructions_read code is (suc place) fewer fits.1)
 
 -- ---- the whole
 
 -- strings begin with their word, or the instructions follow
-strings_other : (texts : List (List ℕ)) (is : List Instruction) → length is < 2 ^ 64 → begins_with (codes "number") (tokens_of (flat_map string_line texts ++ instruction_lines 0 is)) ≡ false
-strings_other [] is small = lines_other 110 (codes "umber") refl is 0 (omega arith)
-strings_other (text ∷ texts) is small =
-    let rest : List ℕ = flat_map string_line texts ++ instruction_lines 0 is in
-    ap (λ (t : List ℕ). begins_with (codes "number") (tokens_of t)) (append_assoc (string_line text) (flat_map string_line texts) (instruction_lines 0 is))
+strings_other : (code : Code) (texts : List (List ℕ)) (is : List Instruction) → length is < 2 ^ 64 → begins_with (codes "number") (tokens_of (flat_map string_line texts ++ instruction_lines code 0 is)) ≡ false
+strings_other code [] is small = lines_other code 110 (codes "umber") refl is 0 (omega arith)
+strings_other code (text ∷ texts) is small =
+    let rest : List ℕ = flat_map string_line texts ++ instruction_lines code 0 is in
+    ap (λ (t : List ℕ). begins_with (codes "number") (tokens_of t)) (append_assoc (string_line text) (flat_map string_line texts) (instruction_lines code 0 is))
     ∙ ap (is_word (codes "number")) (string_here text rest)
 
 -- the parts of a listing, each before the next
@@ -306,7 +311,7 @@ record IsListed (code : Code) : Type 0 where
 says_itself : (code : Code) → IsListed code → said_by (listing_of code) ≡ Ok code
 unfolding items_at
 says_itself code is =
-    let at_instructions : List ℕ = instruction_lines 0 code.instructions in
+    let at_instructions : List ℕ = instruction_lines code 0 code.instructions in
     let at_strings : List ℕ = flat_map string_line code.strings ++ at_instructions in
     let at_numbers : List ℕ = flat_map number_line code.numbers ++ at_strings in
     let at_count : List ℕ = decimal code.variables ++ 10 ∷ at_numbers in
@@ -318,9 +323,9 @@ says_itself code is =
     let version : number_at 1 2 (tokens_of at_version) ≡ Ok (code.version, tokens_of at_variables) = number_reads 1 2 code.version (tokens_of at_version) (tokens_of at_variables) is.low is.high (omega arith) (word_then (decimal code.version) 10 at_variables (number_word code.version (omega (arith, is.high))) refl refl) in
     let variables_word : keyword_at (codes "variables") (tokens_of at_variables) ≡ Ok (tokens_of at_count) = keyword_reads (codes "variables") (tokens_of at_variables) (tokens_of at_count) (word_then (codes "variables") 32 at_count (record { some = omega arith; octets = refl }) refl refl) in
     let variables : number_at 0 128 (tokens_of at_count) ≡ Ok (code.variables, tokens_of at_numbers) = number_reads 0 128 code.variables (tokens_of at_count) (tokens_of at_numbers) (omega arith) is.variables (omega arith) (word_then (decimal code.variables) 10 at_numbers (number_word code.variables (omega (arith, is.variables))) refl refl) in
-    let all_numbers : all_at (begins_with (codes "number")) number_item (tokens_of at_numbers) ≡ Ok (code.numbers, tokens_of at_strings) = many_read (begins_with (codes "number")) number_item number_line (λ n. n < 2 ^ 64) numbers code.numbers 0 at_strings is.numbers (strings_other code.strings code.instructions is.places) in
-    let all_strings : all_at (begins_with (codes "string")) string_item (tokens_of at_strings) ≡ Ok (code.strings, tokens_of at_instructions) = many_read (begins_with (codes "string")) string_item string_line IsText strings code.strings 0 at_instructions is.strings (lines_other 115 (codes "tring") refl code.instructions 0 (omega (arith, is.places))) in
-    let all_instructions : all_at is_left instruction_at (tokens_of at_instructions) ≡ Ok (code.instructions, []) = instructions_read code.instructions 0 (omega (arith, is.places)) is.instructions in
+    let all_numbers : all_at (begins_with (codes "number")) number_item (tokens_of at_numbers) ≡ Ok (code.numbers, tokens_of at_strings) = many_read (begins_with (codes "number")) number_item number_line (λ n. n < 2 ^ 64) numbers code.numbers 0 at_strings is.numbers (strings_other code code.strings code.instructions is.places) in
+    let all_strings : all_at (begins_with (codes "string")) string_item (tokens_of at_strings) ≡ Ok (code.strings, tokens_of at_instructions) = many_read (begins_with (codes "string")) string_item string_line IsText strings code.strings 0 at_instructions is.strings (lines_other code 115 (codes "tring") refl code.instructions 0 (omega (arith, is.places))) in
+    let all_instructions : all_at is_left instruction_at (tokens_of at_instructions) ≡ Ok (code.instructions, []) = instructions_read code code.instructions 0 (omega (arith, is.places)) is.instructions in
     ap said_by regrouped ∙ rw (version_word, version, variables_word, variables, all_numbers, all_strings, all_instructions) refl
 
 low_version : (n : ℕ) → (n == 1) || (n == 2) ≡ true → 1 ≤ n

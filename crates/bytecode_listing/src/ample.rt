@@ -10,7 +10,7 @@ const MOST_INSTRUCTIONS: usize = 65_536;
 
 /// The listing of the small program.
 const SMALL: &[u8] =
-    b"version 2\nvariables 1\nnumber 1048576\nstring \"a\\00a\\22b\"\n0 LIT\n1 HEADER a 1 b 2 c 3\n2 OP ff\n";
+    b"version 2\nvariables 1\nnumber 1048576\nstring \"a\\00a\\22b\"\n0 LIT ; \"a\\00a\\22b\"\n1 HEADER a 1 b 2 c 3\n2 OP ff\n";
 
 // The program of these strings and instructions, with a variable and a number.
 fn program_of(

@@ -4,6 +4,7 @@
 #[cfg(test)]
 mod ample;
 mod assembling;
+mod comments;
 mod error;
 mod items;
 pub mod laws;
