@@ -11,9 +11,9 @@ use Rattle.bytecode_format.specs.Spelling.{Fits, IsProgram}
 use Rattle.bytecode_format.specs.declared.instruction.Instruction.{Instruction}
 use Rattle.bytecode_listing.specs.Listing.{line, quoted, operation_text, field_text, fields_text, instruction_text, comment, meant, instruction_line, instruction_lines, number_line, string_line, listing_of, AreOctets}
 use Rattle.bytecode_listing.specs.Tokens.{is_word_octet, tokens_from, tokens_of}
-use Rattle.bytecode_listing.specs.Items.{Tokens, ◌>>=◌, is_word, is_left, word_at, text_at, begins_with, begins_number, left_at, keyword_at, number_at, operation_at, field_number, field_at, Fields, round_at, fields_at, place_at, instruction_at, number_item, string_item, many_at, all_at, items_at, said_by, Lists}
+use Rattle.bytecode_listing.specs.Items.{Tokens, ◌>>=◌, is_word, is_left, word_at, text_at, begins_with, begins_number, left_at, keyword_at, number_at, operation_at, field_number, field_at, Fields, round_at, fields_at, place_at, instruction_at, number_item, string_item, onto, many_at, all_at, items_at, said_by, Lists}
 use Rattle.bytecode_listing.proofs.Lexing.{after_white}
-use Rattle.bytecode_listing.proofs.Loop.{IsItem, onto, from_place, unrolled, stops}
+use Rattle.bytecode_listing.proofs.Loop.{IsItem, from_place, unrolled, stops}
 use Rattle.bytecode_listing.proofs.Shorter.{instruction_leaves, number_item_leaves, string_item_leaves}
 use Rattle.bytecode_listing.proofs.Words.{Stops, IsWord, word_reads, word_then, same_word, keyword_reads, number_word, number_reads, number_begins, number_is_other}
 use Rattle.bytecode_listing.proofs.Skipped.{comment_skipped, comment_stops}

@@ -3,7 +3,7 @@ use Rattle.std.proofs.Common.{◌≡◌, ℕ, zero, suc, ◌<◌, ◌≤◌, Boo
 use Rattle.std.proofs.lemmas.List.{append-nil, length-append}
 use Rattle.bytecode_listing.specs.declared.error.ReadError.{ReadError}
 use Rattle.bytecode_listing.specs.declared.error.ReadError.TheVariants.{Memory, At}
-use Rattle.bytecode_listing.specs.Items.{Tokens, ◌>>=◌, many_at}
+use Rattle.bytecode_listing.specs.Items.{Tokens, ◌>>=◌, onto, many_at}
 use Rattle.bytecode_listing.specs.Readers.{Fails}
 use Rattle.bytecode_listing.proofs.Shorter.{Leaves}
 
@@ -11,10 +11,6 @@ use Rattle.bytecode_listing.proofs.Shorter.{Leaves}
 pub record IsItem {A : Type 0} (begins : Tokens → Bool) (item : ℕ → Tokens → Result (A × Tokens) ℕ) : Type 0 where
   pub none : begins [] ≡ false
   pub leaves : (place : ℕ) (tokens : Tokens) → Leaves (length tokens) (item place tokens)
-
--- an item onto those that are read after it
-abbrev pub onto : {A : Type 0} → A → Result (List A × Tokens) ℕ → Result (List A × Tokens) ℕ
-onto x read = read >>= λ others. Ok (x ∷ others.0, others.1)
 
 -- any number that is no less than that of the tokens gives the same
 enough : {A : Type 0} (begins : Tokens → Bool) (item : ℕ → Tokens → Result (A × Tokens) ℕ) → IsItem begins item → (m n place : ℕ) (tokens : Tokens) → length tokens ≤ m → length tokens ≤ n → many_at begins item m place tokens ≡ many_at begins item n place tokens

@@ -45,7 +45,8 @@ field_text name n = if n == 0 then [] else codes " " ++ name ++ codes " " ++ dec
 
 -- the fields of an instruction
 abbrev pub fields_text : Instruction → List ℕ
-fields_text i = field_text (codes "a") i.a ++ field_text (codes "b") i.b ++ field_text (codes "c") i.c
+fields_text i =
+    field_text (codes "a") i.a ++ field_text (codes "b") i.b ++ field_text (codes "c") i.c
 
 -- an instruction at its place
 abbrev pub instruction_text : ℕ → Instruction → List ℕ
@@ -70,13 +71,18 @@ max_shown = 40
 
 -- a string in a comment: between quotes; of a longer one the first octets, and dots
 abbrev pub shown : List ℕ → List ℕ
-shown text = if nat_le (length text) max_shown then quoted text else quoted (take max_shown text) ++ codes "..."
+shown text =
+    if nat_le (length text) max_shown
+    then quoted text
+    else quoted (take max_shown text) ++ codes "..."
 
--- what a place in a table refers to: the string, the number in decimal digits, or the place of the instruction; None outside of the table
+-- what a place in a table refers to: the string, the number in decimal digits, or the place of the
+-- instruction; None outside of the table
 abbrev pub entry_text : Code → ℕ → Table → Option (List ℕ)
 entry_text code place Strings = option_map shown (slice_get code.strings place)
 entry_text code place Numbers = option_map decimal (slice_get code.numbers place)
-entry_text code place Instructions = if nat_lt place (length code.instructions) then Some (codes "to " ++ decimal place) else None
+entry_text code place Instructions =
+    if nat_lt place (length code.instructions) then Some (codes "to " ++ decimal place) else None
 
 -- what an instruction refers to
 abbrev pub meant : Code → Instruction → Option (List ℕ)
@@ -96,7 +102,8 @@ instruction_line code place i = line (instruction_text place i ++ comment (meant
 -- some instructions of a program, a line each, of which the first has this place
 abbrev pub instruction_lines : Code → ℕ → List Instruction → List ℕ
 instruction_lines code place [] = []
-instruction_lines code place (i ∷ others) = instruction_line code place i ++ instruction_lines code (suc place) others
+instruction_lines code place (i ∷ others) =
+    instruction_line code place i ++ instruction_lines code (suc place) others
 
 abbrev pub number_line : ℕ → List ℕ
 number_line n = line (codes "number " ++ decimal n)
@@ -104,7 +111,8 @@ number_line n = line (codes "number " ++ decimal n)
 abbrev pub string_line : List ℕ → List ℕ
 string_line text = line (codes "string " ++ quoted text)
 
--- the listing of a program: its version, its number of variables, its numbers, its strings and its instructions
+-- the listing of a program: its version, its number of variables, its numbers, its strings and its
+-- instructions
 abbrev pub listing_of : Code → List ℕ
 listing_of code =
     line (codes "version " ++ decimal code.version)

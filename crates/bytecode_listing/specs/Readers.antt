@@ -26,15 +26,12 @@ abbrev pub led : List ℕ → List ℕ → Result (List ℕ × Tokens) ℕ
 led [] rest = Err (length rest)
 led (octet ∷ octets) rest = Ok (octet ∷ octets, tokens_of rest)
 
--- the octet of two hexadecimal digits
-abbrev pub octet_from : ℕ → ℕ → Option ℕ
-octet_from high low = if is_hex high && is_hex low then Some (16 * digit_value high + digit_value low) else None
-
 -- the octet that stands first as two hexadecimal digits, and what is left after them
 abbrev pub escape_at : List ℕ → Option (ℕ × List ℕ)
 escape_at [] = None
 escape_at (high ∷ []) = None
-escape_at (high ∷ low ∷ rest) = if is_hex high && is_hex low then Some (16 * digit_value high + digit_value low, rest) else None
+escape_at (high ∷ low ∷ rest) =
+    if is_hex high && is_hex low then Some (16 * digit_value high + digit_value low, rest) else None
 
 -- what an octet of a string says with those after it, and what is left
 abbrev pub said_at : ℕ → List ℕ → Option (ℕ × List ℕ)
@@ -42,4 +39,7 @@ said_at octet rest = if octet == 92 then escape_at rest else Some (octet, rest)
 
 -- the number that digits spell after those of n, where 64 bits hold it
 abbrev pub decimal_on : ℕ → List ℕ → Option ℕ
-decimal_on n digits = if all_ascii_digits digits && nat_lt (value_from n digits) (2 ^ 64) then Some (value_from n digits) else None
+decimal_on n digits =
+    if all_ascii_digits digits && nat_lt (value_from n digits) (2 ^ 64)
+    then Some (value_from n digits)
+    else None

@@ -2,8 +2,8 @@
 ghost use Rattle.std.specs.Prelude.{◌≡◌, ◌∷◌, ◌≤◌, ◌<◌, [], length, MatchOption, MatchResult, option_map, IfSome, Some, None, if◌then◌else◌};
 ghost use Rattle.std.specs.List.{take_while};
 ghost use Rattle.bytecode_listing.specs.Tokens.{Comment, InText, Text, is_white, is_hex, is_word_octet, tokens_of, tokens_from};
-ghost use Rattle.bytecode_listing.specs.Items.{word_at, text_in, text_at, left_at, is_left, begins_with, begins_number};
-ghost use Rattle.bytecode_listing.specs.Readers.{Fails, Gives, IsStart, escape_at, led, octet_from, said_at};
+ghost use Rattle.bytecode_listing.specs.Items.{word_at, text_in, text_at, left_at, is_left, begins_with, begins_number, octet_from};
+ghost use Rattle.bytecode_listing.specs.Readers.{Fails, Gives, IsStart, escape_at, led, said_at};
 ghost use Rattle.std.specs.Char.{digit_value};
 
 use crate::error::ReadError;
