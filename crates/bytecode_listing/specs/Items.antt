@@ -206,6 +206,17 @@ abbrev pub is_left : Tokens → Bool
 is_left [] = false
 is_left (token ∷ rest) = true
 
+-- the table of numbers, and that of strings
+abbrev pub numbers_at : Tokens → Read (List ℕ)
+numbers_at tokens = all_at (begins_with (codes "number")) number_item tokens
+
+abbrev pub strings_at : Tokens → Read (List (List ℕ))
+strings_at tokens = all_at (begins_with (codes "string")) string_item tokens
+
+-- the instructions, up to the listing's end
+abbrev pub instructions_at : Tokens → Read (List Instruction)
+instructions_at tokens = all_at is_left instruction_at tokens
+
 -- a listing's tokens: version, variables, numbers, strings and instructions
 unfoldable pub items_at : Tokens → Result Code ℕ
 items_at tokens = do
@@ -213,9 +224,9 @@ items_at tokens = do
   version ← number_at 1 2 after_version
   after_variables ← keyword_at (codes "variables") version.1
   variables ← number_at 0 max_variables after_variables
-  numbers ← all_at (begins_with (codes "number")) number_item variables.1
-  strings ← all_at (begins_with (codes "string")) string_item numbers.1
-  instructions ← all_at is_left instruction_at strings.1
+  numbers ← numbers_at variables.1
+  strings ← strings_at numbers.1
+  instructions ← instructions_at strings.1
   Ok (record {
     version = version.0;
     variables = variables.0;
