@@ -1,22 +1,20 @@
 -- Fields, operations, strings and lines, read as they were written.
-use Rattle.std.proofs.Common.{◌≡◌, ℕ, zero, suc, ◌+◌, ◌-◌, ◌*◌, ◌/◌, ◌%◌, ◌^◌, ◌<◌, ◌≤◌, ◌==◌, ◌&&◌, Bool, true, false, if◌then◌else◌, List, [], ◌∷◌, ◌++◌, length, Option, Some, None, Result, Ok, Err, refl, sym, ap, subst, ◌∙◌, append_assoc, append-nil, arith, eqb-true, le-leb, codes}
-use Rattle.std.specs.Prelude.{not, nat_lt, nat_le, bytes_eq, is_some, unwrap_or}
+use Rattle.std.proofs.Common.{◌≡◌, ℕ, ◌+◌, ◌*◌, ◌/◌, ◌%◌, ◌<◌, ◌≤◌, ◌==◌, ◌&&◌, Bool, true, false, if◌then◌else◌, List, [], ◌∷◌, ◌++◌, length, Option, Some, None, Result, Ok, Err, refl, sym, ap, subst, ◌∙◌, append_assoc, append-nil, arith, eqb-true, le-leb, codes}
+use Rattle.std.specs.Prelude.{not, bytes_eq}
 use Rattle.std.specs.List.{flat_map, list_all, AllByRecursion}
-use Rattle.std.specs.Fmt.{decimal, digit_glyph}
+use Rattle.std.specs.Fmt.{digit_glyph}
 use Rattle.std.specs.Char.{digit_value}
-use Rattle.std.proofs.lemmas.Bool.{and_parts, agree_below, agree_below_at}
+use Rattle.std.proofs.lemmas.Bool.{and_parts, agree_below_at}
 use Rattle.std.proofs.lemmas.Bool.Decides.{nat_tests}
 use Rattle.bytecode_format.specs.Operations.{operation_of}
-use Rattle.bytecode_format.specs.Spelling.{Fits}
-use Rattle.bytecode_format.specs.declared.instruction.Instruction.{Instruction}
 use Rattle.bytecode_format.specs.declared.operation.Operation.{Operation}
 use Rattle.bytecode_listing.specs.Names.{name_of, named_among, octet_named}
-use Rattle.bytecode_listing.specs.Listing.{line, two_digits, is_plain, escaped_octet, quoted, title, operation_text, field_text, fields_text, instruction_text, number_line, string_line}
-use Rattle.bytecode_listing.specs.Tokens.{InText, Text, is_hex, is_word_octet, tokens_from, tokens_of}
-use Rattle.bytecode_listing.specs.Items.{Tokens, ◌>>=◌, is_word, word_at, text_in, text_at, begins_with, begins_number, left_at, keyword_at, number_at, octet_in, octet_at, found, operation_at, field_number, field_at, Fields, round_at, fields_at, place_at, instruction_at, number_item, string_item}
-use Rattle.bytecode_listing.specs.Readers.{escape_at, said_at}
-use Rattle.bytecode_listing.proofs.Lexing.{after_white, quote_first, said_goes_on, text_ends, unequal}
-use Rattle.bytecode_listing.proofs.Words.{Stops, IsWord, word_reads, word_then, same_word, keyword_reads, number_word, number_reads, number_begins, number_is_other}
+use Rattle.bytecode_listing.specs.Listing.{two_digits, is_plain, escaped_octet, quoted, title, operation_text}
+use Rattle.bytecode_listing.specs.Tokens.{InText, is_hex, is_word_octet, tokens_from, tokens_of}
+use Rattle.bytecode_listing.specs.Items.{Tokens, ◌>>=◌, word_at, text_at, left_at, octet_in, octet_at, found, operation_at}
+use Rattle.bytecode_listing.specs.Readers.{escape_at}
+use Rattle.bytecode_listing.proofs.Lexing.{quote_first, said_goes_on, text_ends}
+use Rattle.bytecode_listing.proofs.Words.{Stops, IsWord, word_reads, word_then}
 
 -- a reading that goes on after a first one
 pub read_on : {A B : Type 0} (r : Result A ℕ) (x : A) (f : A → Result B ℕ) (y : Result B ℕ) → r ≡ Ok x → f x ≡ y → (r >>= f) ≡ y

@@ -27,9 +27,9 @@ with_rest view x = (view x.0, tokens_of x.1.now)
 abbrev pub and_rest : {X : Type 0} → X × Bor (List ℕ) → X × Tokens
 and_rest x = with_rest (λ y. y) x
 
--- the fields that have been given, and a whole listing, as the code has them
-abbrev pub fields_of : items.Fields → Fields
-fields_of given = record { a = given.a; b = given.b; c = given.c }
+-- the fields that have been given, and what a listing says, as the code has them
+abbrev pub read_fields : items.Fields → Fields
+read_fields given = record { a = given.a; b = given.b; c = given.c }
 
 abbrev pub code_of : Parts → Code
 code_of parts = record {

@@ -26,8 +26,8 @@ abbrev pub is_hex : ℕ → Bool
 is_hex octet = nat_lt (digit_value octet) 16
 
 -- Where the reading of a listing stands: between tokens; in a comment; in a word; in a string;
--- after a backslash in a string; after that and a digit; after what is no token. Within a token: how many
--- octets were left where it began, and what it says so far.
+-- after a backslash in a string; after that and a digit; after what is no token. Within a token: how
+-- many octets were left where it began, and what it says so far.
 pub data Stand : Type 0 where
   Between : Stand
   Comment : Stand

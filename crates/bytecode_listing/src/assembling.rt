@@ -96,13 +96,14 @@ fn parts_of(alloc: Global, octets: &[u8]) -> Result<Parts, ReadError>
 
 /// The program that a listing says.
 ///
-/// `Fault` comes exactly where it says none: with the place of the first token that can't stand where it
-/// stands; or, where all can, with the listing's end, where the program exceeds the limits of programs.
-/// `Memory` comes only where an allocation was refused. What is allocated grows with the listing, whose
-/// length is for the caller to limit; the listing is gone through once.
+/// `Fault` comes exactly where it says none: with the place of the first token that can't stand
+/// where it stands; or, where all can, with the listing's end, where the program exceeds the limits
+/// of programs. `Memory` comes only where an allocation was refused. What is allocated grows with
+/// the listing, whose length is for the caller to limit; the listing is gone through once.
 pub fn assemble(alloc: Global, listing: &[u8]) -> Result<Program, ListingError>
     ensures listed { IfOk result (λ p. Lists listing.now p) }
-    ensures fault { IfErr result (λ e. (place : ℕ) → e ≡ Fault place → FaultsAt listing.now place) }
+    ensures fault { IfErr result
+        (λ e. (place : ℕ) → e ≡ Fault place → FaultsAt listing.now place) }
 {
     let parts = match parts_of(alloc, listing) {
         Ok(parts) => parts,

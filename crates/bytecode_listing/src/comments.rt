@@ -61,7 +61,8 @@ fn put_entry(
     place: usize,
     table: Table,
 ) -> Result<(), AllocError>
-    ensures { OnOk result (out.new.items ≡ out.old.items ++ comment (entry_text program.now place table)) }
+    ensures { OnOk result
+        (out.new.items ≡ out.old.items ++ comment (entry_text program.now place table)) }
 {
     match table {
         Table::Strings => match program.strings().get(place) {
@@ -88,7 +89,8 @@ pub fn put_comment(
     program: &Program,
     instruction: Instruction,
 ) -> Result<(), AllocError>
-    ensures { OnOk result (out.new.items ≡ out.old.items ++ comment (meant program.now instruction)) }
+    ensures { OnOk result
+        (out.new.items ≡ out.old.items ++ comment (meant program.now instruction)) }
 {
     match Operation::of(instruction.op).and_then(table_of) {
         Some(table) => put_entry(out, program, instruction.c as usize, table),

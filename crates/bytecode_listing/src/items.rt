@@ -3,7 +3,7 @@ ghost use Rattle.std.specs.Prelude.{◌≡◌, ℕ, ◌+◌, ◌*◌, ◌-◌, �
 ghost use Rattle.std.specs.Char.{is_ascii_digit};
 ghost use Rattle.bytecode_listing.specs.Tokens.{tokens_of};
 ghost use Rattle.bytecode_listing.specs.Items.{keyword_at, field_number, number_at, is_within, value_from, octet_in, octet_at, operation_at, field_at, round_at, fields_at, place_at, instruction_at, number_item, string_item};
-ghost use Rattle.bytecode_listing.specs.Readers.{Gives, and_rest, with_rest, fields_of, one_more, decimal_on};
+ghost use Rattle.bytecode_listing.specs.Readers.{Gives, and_rest, with_rest, read_fields, one_more, decimal_on};
 
 use crate::error::ReadError;
 use crate::names::octet_named;
@@ -50,7 +50,8 @@ fn decimal_of(word: &[u8]) -> Option<u64>
 
 // The number from `low` to `high` that a word is.
 fn value_within(word: &[u8], low: u64, high: u64) -> Option<u64>
-    ensures { result ≡ (if is_within low high word.now then Some (value_from 0 word.now) else None) }
+    ensures { result ≡
+        (if is_within low high word.now then Some (value_from 0 word.now) else None) }
 {
     let value = decimal_of(word)?;
     if low <= value && value <= high {
@@ -130,7 +131,8 @@ fn field_of<'a>(octets: &'a [u8], name: &[u8], highest: u64) -> Result<(u64, &'a
 // Reads the field a, where it stands first.
 #[tactic(auto, unfolding(crate::specs::Items::field_at))]
 fn a_of(octets: &[u8], given: Option<u8>) -> Result<(Option<u8>, &[u8]), ReadError>
-    ensures { Gives and_rest result (field_at (codes "a") (2 ^ 8 - 1) given (tokens_of octets.now)) }
+    ensures { Gives and_rest result
+        (field_at (codes "a") (2 ^ 8 - 1) given (tokens_of octets.now)) }
 {
     if !begins_with(octets, b"a") {
         return Ok((given, octets));
@@ -145,7 +147,8 @@ fn a_of(octets: &[u8], given: Option<u8>) -> Result<(Option<u8>, &[u8]), ReadErr
 // Reads the field b, where it stands first.
 #[tactic(auto, unfolding(crate::specs::Items::field_at))]
 fn b_of(octets: &[u8], given: Option<u16>) -> Result<(Option<u16>, &[u8]), ReadError>
-    ensures { Gives and_rest result (field_at (codes "b") (2 ^ 16 - 1) given (tokens_of octets.now)) }
+    ensures { Gives and_rest result
+        (field_at (codes "b") (2 ^ 16 - 1) given (tokens_of octets.now)) }
 {
     if !begins_with(octets, b"b") {
         return Ok((given, octets));
@@ -160,7 +163,8 @@ fn b_of(octets: &[u8], given: Option<u16>) -> Result<(Option<u16>, &[u8]), ReadE
 // Reads the field c, where it stands first.
 #[tactic(auto, unfolding(crate::specs::Items::field_at))]
 fn c_of(octets: &[u8], given: Option<u32>) -> Result<(Option<u32>, &[u8]), ReadError>
-    ensures { Gives and_rest result (field_at (codes "c") (2 ^ 32 - 1) given (tokens_of octets.now)) }
+    ensures { Gives and_rest result
+        (field_at (codes "c") (2 ^ 32 - 1) given (tokens_of octets.now)) }
 {
     if !begins_with(octets, b"c") {
         return Ok((given, octets));
@@ -175,7 +179,8 @@ fn c_of(octets: &[u8], given: Option<u32>) -> Result<(Option<u32>, &[u8]), ReadE
 // Reads each field that stands there, in the order a, b, c.
 #[tactic(auto, unfolding(crate::specs::Items::round_at))]
 fn round_of(octets: &[u8], given: Fields) -> Result<(Fields, &[u8]), ReadError>
-    ensures { Gives (with_rest fields_of) result (round_at (fields_of given) (tokens_of octets.now)) }
+    ensures { Gives (with_rest read_fields) result
+        (round_at (read_fields given) (tokens_of octets.now)) }
 {
     let (a, rest) = a_of(octets, given.a)?;
     let (b, rest) = b_of(rest, given.b)?;
@@ -186,7 +191,7 @@ fn round_of(octets: &[u8], given: Fields) -> Result<(Fields, &[u8]), ReadError>
 // Reads the fields of an instruction, in any order.
 #[tactic(auto, unfolding(crate::specs::Items::fields_at))]
 fn fields_of(octets: &[u8]) -> Result<(Fields, &[u8]), ReadError>
-    ensures { Gives (with_rest fields_of) result (fields_at (tokens_of octets.now)) }
+    ensures { Gives (with_rest read_fields) result (fields_at (tokens_of octets.now)) }
 {
     let none = Fields {
         a: None,

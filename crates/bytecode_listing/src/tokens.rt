@@ -80,8 +80,8 @@ fn word_len(octets: &[u8]) -> usize
         .count()
 }
 
-/// The word that the tokens begin with, and what is left after it; an empty one where they begin with no
-/// word, and what is left then begins where the first token does.
+/// The word that the tokens begin with, and what is left after it; an empty one where they begin
+/// with no word, and what is left then begins where the first token does.
 pub fn leading_word(octets: &[u8]) -> (&[u8], &[u8])
     ensures { word_at (tokens_of octets.now) ≡ led result.0.now result.1.now }
 {
@@ -181,7 +181,8 @@ fn said_of(octet: u8, rest: &[u8]) -> Option<(u8, &[u8])>
     }
 }
 
-// What is left after the quote that the tokens begin with, and how many octets are left where it stands.
+// What is left after the quote that the tokens begin with, and how many octets are left where it
+// stands.
 #[tactic(auto, unfolding(crate::specs::Tokens::tokens_from), using(crate::proofs::Lexing::quote_first, crate::proofs::Lexing::no_text))]
 fn quote_of(octets: &[u8]) -> Result<(usize, &[u8]), ReadError>
     ensures { MatchResult result

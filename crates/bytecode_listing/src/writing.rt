@@ -139,7 +139,8 @@ fn put_line(
 // Appends the lines of a program's instructions.
 fn put_instructions(out: &mut Vec<u8>, program: &Program) -> Result<(), AllocError>
     ensures { OnOk result
-        (out.new.items ≡ out.old.items ++ instruction_lines program.now 0 program.now.instructions) }
+        (out.new.items ≡
+        out.old.items ++ instruction_lines program.now 0 program.now.instructions) }
 {
     let instructions = program.instructions();
     'table: for place in 0..instructions.len() {
@@ -179,7 +180,8 @@ fn put_string(out: &mut Vec<u8>, text: &[u8]) -> Result<(), AllocError>
 
 // Appends the lines of strings.
 fn put_strings(out: &mut Vec<u8>, strings: &[Octets]) -> Result<(), AllocError>
-    ensures lines { OnOk result (out.new.items ≡ out.old.items ++ flat_map string_line strings.now) }
+    ensures lines { OnOk result
+        (out.new.items ≡ out.old.items ++ flat_map string_line strings.now) }
     ensures octets { OnOk result (All AreOctets strings.now) }
 {
     'table: for text in strings {
@@ -191,12 +193,13 @@ fn put_strings(out: &mut Vec<u8>, strings: &[Octets]) -> Result<(), AllocError>
 /// The listing of a program: a line for its version, one for its number of variables, one for each
 /// number, string and instruction. LF ends each line. `assemble` reads it as the same program.
 ///
-/// A comment after an instruction tells the string or the number that its c refers to, or the place that
-/// it jumps to: LIT has a string, SIZE and PARTSIZE a number, JMP, JT and JF a place. Of a string it has
-/// at most 40 octets, and dots where there are more. There is none where c is outside of the tables.
+/// A comment after an instruction tells the string or the number that its c refers to, or the place
+/// that it jumps to: LIT has a string, SIZE and PARTSIZE a number, JMP, JT and JF a place. Of a
+/// string it has at most 40 octets, and dots where there are more. There is none where c is outside
+/// of the tables.
 ///
-/// An error comes only where memory was refused. A listing takes time and memory in proportion to the
-/// program, whatever its strings are.
+/// An error comes only where memory was refused. A listing takes time and memory in proportion to
+/// the program, whatever its strings are.
 pub fn disassemble(alloc: Global, program: &Program) -> Result<Vec<u8>, AllocError>
     ensures text { IfOk result (λ v. v.items ≡ listing_of program.now) }
     ensures listed { IfOk result (λ v. Lists v.items program.now) }
