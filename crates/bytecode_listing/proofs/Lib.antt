@@ -4,3 +4,7 @@ mod Naming
 mod Numbers
 mod Shorter
 mod Loop
+mod Words
+mod Written
+mod Skipped
+mod Lines

@@ -3,7 +3,7 @@ use Rattle.std.proofs.Common.{◌≡◌, ℕ, zero, suc, ◌<◌, ◌≤◌, Boo
 use Rattle.std.proofs.lemmas.List.{append-nil, length-append}
 use Rattle.bytecode_listing.specs.declared.error.ReadError.{ReadError}
 use Rattle.bytecode_listing.specs.declared.error.ReadError.TheVariants.{Memory, At}
-use Rattle.bytecode_listing.specs.Items.{Tokens, ◌>>=◌, many_at}
+use Rattle.bytecode_listing.specs.Items.{Tokens, ◌>>=◌, onto, many_at}
 use Rattle.bytecode_listing.specs.Readers.{Fails}
 use Rattle.bytecode_listing.proofs.Shorter.{Leaves}
 
@@ -11,10 +11,6 @@ use Rattle.bytecode_listing.proofs.Shorter.{Leaves}
 pub record IsItem {A : Type 0} (begins : Tokens → Bool) (item : ℕ → Tokens → Result (A × Tokens) ℕ) : Type 0 where
   pub none : begins [] ≡ false
   pub leaves : (place : ℕ) (tokens : Tokens) → Leaves (length tokens) (item place tokens)
-
--- an item onto those that are read after it
-abbrev onto : {A : Type 0} → A → Result (List A × Tokens) ℕ → Result (List A × Tokens) ℕ
-onto x read = read >>= λ others. Ok (x ∷ others.0, others.1)
 
 -- any number that is no less than that of the tokens gives the same
 enough : {A : Type 0} (begins : Tokens → Bool) (item : ℕ → Tokens → Result (A × Tokens) ℕ) → IsItem begins item → (m n place : ℕ) (tokens : Tokens) → length tokens ≤ m → length tokens ≤ n → many_at begins item m place tokens ≡ many_at begins item n place tokens
@@ -77,7 +73,8 @@ ends {A} begins item is (At left) prefix (t ∷ tokens) total b h so_far =
     ∙ ap (λ b. with_prefix prefix (let r : Result (List A × Tokens) ℕ = if b then (item (length prefix) (t ∷ tokens) >>= λ first. onto first.0 (many_at begins item (length tokens) (suc (length prefix)) first.1)) else Ok ([], t ∷ tokens) in r)) b
     ∙ ap (λ r. with_prefix prefix (r >>= λ first. onto first.0 (many_at begins item (length tokens) (suc (length prefix)) first.1))) h
 
-stops : {A : Type 0} (begins : Tokens → Bool) (item : ℕ → Tokens → Result (A × Tokens) ℕ) (n place : ℕ) (tokens : Tokens) → begins tokens ≡ false → many_at begins item n place tokens ≡ Ok ([], tokens)
+-- no item begins
+pub stops : {A : Type 0} (begins : Tokens → Bool) (item : ℕ → Tokens → Result (A × Tokens) ℕ) (n place : ℕ) (tokens : Tokens) → begins tokens ≡ false → many_at begins item n place tokens ≡ Ok ([], tokens)
 unfolding many_at
 stops begins item zero place tokens b = refl
 stops {A} begins item (suc n) place tokens b = ap (λ b. let r : Result (List A × Tokens) ℕ = if b then (item place tokens >>= λ first. onto first.0 (many_at begins item n (suc place) first.1)) else Ok ([], tokens) in r) b

@@ -1,14 +1,10 @@
 -- Numbers, one digit at a time.
-use Rattle.std.proofs.Common.{◌≡◌, ℕ, ◌+◌, ◌-◌, ◌*◌, ◌^◌, ◌<◌, ◌≤◌, ◌&&◌, nat_lt, Bool, true, false, if◌then◌else◌, List, [], ◌∷◌, Option, Some, None, refl, ap, ◌∙◌, arith}
+use Rattle.std.proofs.Common.{◌≡◌, ℕ, ◌+◌, ◌-◌, ◌*◌, ◌^◌, ◌<◌, ◌≤◌, ◌&&◌, nat_lt, Bool, true, false, if◌then◌else◌, List, [], ◌∷◌, Some, None, refl, ap, ◌∙◌, arith}
 use Rattle.std.specs.Str.{all_ascii_digits}
 use Rattle.std.specs.Char.{is_ascii_digit}
 use Rattle.std.proofs.lemmas.Bool.{le-ltb, lt-ltb, ltb-false}
 use Rattle.bytecode_listing.specs.Items.{value_from}
-use Rattle.bytecode_listing.specs.Readers.{decimal_on}
-
--- one digit more
-abbrev pub one_more : ℕ → ℕ → Option ℕ
-one_more value digit = if is_ascii_digit digit && nat_lt (10 * value + (digit - 48)) (2 ^ 64) then Some (10 * value + (digit - 48)) else None
+use Rattle.bytecode_listing.specs.Readers.{one_more, decimal_on}
 
 value_grows : (n : ℕ) (digits : List ℕ) → n ≤ value_from n digits
 value_grows n [] = omega arith

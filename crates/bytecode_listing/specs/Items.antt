@@ -1,5 +1,4 @@
 -- What a listing says: the items that its tokens are, in their order.
--- Reading gives a value and the tokens after it, or how many octets are left where the first token begins that can't stand there.
 use Rattle.std.specs.Prelude.{◌≡◌, ℕ, zero, suc, ◌+◌, ◌-◌, ◌*◌, ◌^◌, ◌&&◌, nat_le, Bool, true, false, List, [], ◌∷◌, length, Option, Some, None, is_some, unwrap_or, Result, Ok, Err, MatchResult, bytes_eq, codes, if◌then◌else◌}
 use Rattle.std.specs.Str.{all_ascii_digits}
 use Rattle.std.specs.Char.{digit_value, is_ascii_digit}
@@ -18,33 +17,39 @@ abbrev pub ◌>>=◌ : {A B : Type 0} → Result A ℕ → (A → Result B ℕ) 
 abbrev pub Tokens : Type 0
 Tokens = List Placed
 
+-- what was read and the tokens after it, or how many octets are left where the first token begins
+-- that can't stand there
+abbrev pub Read : Type 0 → Type 0
+Read A = Result (A × Tokens) ℕ
+
 -- how many octets are left where the first token begins
 abbrev pub left_at : Tokens → ℕ
 left_at [] = 0
 left_at (token ∷ rest) = token.left
 
 -- a word
-abbrev pub word_in : Token → ℕ → Tokens → Result (List ℕ × Tokens) ℕ
+abbrev pub word_in : Token → ℕ → Tokens → Read (List ℕ)
 word_in (Word word) left rest = Ok (word, rest)
 word_in (Text text) left rest = Err left
 word_in Wrong left rest = Err left
 
-abbrev pub word_at : Tokens → Result (List ℕ × Tokens) ℕ
+abbrev pub word_at : Tokens → Read (List ℕ)
 word_at [] = Err 0
 word_at (first ∷ rest) = word_in first.token first.left rest
 
 -- a string within the limit of strings
-abbrev pub text_in : Token → ℕ → Tokens → Result (List ℕ × Tokens) ℕ
+abbrev pub text_in : Token → ℕ → Tokens → Read (List ℕ)
 text_in (Word word) left rest = Err left
-text_in (Text text) left rest = if nat_le (length text) max_string then Ok (text, rest) else Err left
+text_in (Text text) left rest =
+    if nat_le (length text) max_string then Ok (text, rest) else Err left
 text_in Wrong left rest = Err left
 
-abbrev pub text_at : Tokens → Result (List ℕ × Tokens) ℕ
+abbrev pub text_at : Tokens → Read (List ℕ)
 text_at [] = Err 0
 text_at (first ∷ rest) = text_in first.token first.left rest
 
 -- whether the first token is this word
-abbrev pub is_word : List ℕ → Result (List ℕ × Tokens) ℕ → Bool
+abbrev pub is_word : List ℕ → Read (List ℕ) → Bool
 is_word word (Ok read) = bytes_eq read.0 word
 is_word word (Err left) = false
 
@@ -52,7 +57,7 @@ abbrev pub begins_with : List ℕ → Tokens → Bool
 begins_with word tokens = is_word word (word_at tokens)
 
 -- whether the first token is a word whose first octet is a digit
-abbrev pub begins_number : Result (List ℕ × Tokens) ℕ → Bool
+abbrev pub begins_number : Read (List ℕ) → Bool
 begins_number (Ok ([], rest)) = false
 begins_number (Ok (octet ∷ octets, rest)) = is_ascii_digit octet
 begins_number (Err left) = false
@@ -70,43 +75,59 @@ value_from n (digit ∷ digits) = value_from (10 * n + (digit - 48)) digits
 
 -- whether a word is a number from low to high
 abbrev pub is_within : ℕ → ℕ → List ℕ → Bool
-is_within low high word = all_ascii_digits word && nat_le low (value_from 0 word) && nat_le (value_from 0 word) high
+is_within low high word =
+    all_ascii_digits word
+    && nat_le low (value_from 0 word)
+    && nat_le (value_from 0 word) high
 
 -- a number from low to high
-unfoldable pub number_at : ℕ → ℕ → Tokens → Result (ℕ × Tokens) ℕ
+unfoldable pub number_at : ℕ → ℕ → Tokens → Read ℕ
 number_at low high tokens = do
   read ← word_at tokens
   if is_within low high read.0 then Ok (value_from 0 read.0, read.1) else Err (left_at tokens)
 
--- two hexadecimal digits
+-- the octet of two hexadecimal digits
+abbrev pub octet_from : ℕ → ℕ → Option ℕ
+octet_from high low =
+    if is_hex high && is_hex low then Some (16 * digit_value high + digit_value low) else None
+
 abbrev pub octet_in : List ℕ → Option ℕ
-octet_in (high ∷ low ∷ []) = if is_hex high && is_hex low then Some (16 * digit_value high + digit_value low) else None
+octet_in (high ∷ low ∷ []) = octet_from high low
 octet_in _ = None
 
-abbrev pub found : {A : Type 0} → Option A → ℕ → Tokens → Result (A × Tokens) ℕ
+abbrev pub found : {A : Type 0} → Option A → ℕ → Tokens → Read A
 found None left rest = Err left
 found (Some x) left rest = Ok (x, rest)
 
-unfoldable pub octet_at : Tokens → Result (ℕ × Tokens) ℕ
+unfoldable pub octet_at : Tokens → Read ℕ
 octet_at tokens = do
   read ← word_at tokens
   found (octet_in read.0) (left_at tokens) read.1
 
 -- an operation: its name, or OP and the octet
-unfoldable pub operation_at : Tokens → Result (ℕ × Tokens) ℕ
+unfoldable pub operation_at : Tokens → Read ℕ
 operation_at tokens = do
   read ← word_at tokens
-  if bytes_eq read.0 (codes "OP") then octet_at read.1 else found (octet_named read.0) (left_at tokens) read.1
+  if bytes_eq read.0 (codes "OP")
+      then octet_at read.1
+      else found (octet_named read.0) (left_at tokens) read.1
 
 -- a field's name and its number
-unfoldable pub field_number : List ℕ → ℕ → Tokens → Result (ℕ × Tokens) ℕ
+unfoldable pub field_number : List ℕ → ℕ → Tokens → Read ℕ
 field_number name highest tokens = keyword_at name tokens >>= λ rest. number_at 0 highest rest
 
--- a field where its name stands, which must not have been given before; otherwise nothing is read
-unfoldable pub field_at : List ℕ → ℕ → Option ℕ → Tokens → Result (Option ℕ × Tokens) ℕ
+-- a field whose name stands there: it must not have been given before
+abbrev pub named_field : List ℕ → ℕ → Option ℕ → Tokens → Read (Option ℕ)
+named_field name highest given tokens =
+    if is_some given
+    then Err (left_at tokens)
+    else (field_number name highest tokens >>= λ n. Ok (Some n.0, n.1))
+
+-- a field where its name stands; otherwise nothing is read
+unfoldable pub field_at : List ℕ → ℕ → Option ℕ → Tokens → Read (Option ℕ)
 field_at name highest given tokens =
     if begins_with name tokens
-    then (if is_some given then Err (left_at tokens) else (field_number name highest tokens >>= λ n. Ok (Some n.0, n.1)))
+    then named_field name highest given tokens
     else Ok (given, tokens)
 
 -- the fields of an instruction, of which each may have been given
@@ -116,7 +137,7 @@ pub record Fields : Type 0 where
   pub c : Option ℕ
 
 -- each field that stands there, in this order
-unfoldable pub round_at : Fields → Tokens → Result (Fields × Tokens) ℕ
+unfoldable pub round_at : Fields → Tokens → Read Fields
 round_at given tokens = do
   a ← field_at (codes "a") (2 ^ 8 - 1) given.a tokens
   b ← field_at (codes "b") (2 ^ 16 - 1) given.b a.1
@@ -124,7 +145,7 @@ round_at given tokens = do
   Ok (record { a = a.0; b = b.0; c = c.0 }, c.1)
 
 -- the fields in any order, each at most once: three rounds read them all
-unfoldable pub fields_at : Tokens → Result (Fields × Tokens) ℕ
+unfoldable pub fields_at : Tokens → Read Fields
 fields_at tokens = do
   first ← round_at (record { a = None; b = None; c = None }) tokens
   second ← round_at first.0 first.1
@@ -132,38 +153,69 @@ fields_at tokens = do
 
 -- the place of an instruction, which may be missing
 unfoldable pub place_at : ℕ → Tokens → Result Tokens ℕ
-place_at place tokens = if begins_number (word_at tokens) then (number_at place place tokens >>= λ n. Ok n.1) else Ok tokens
+place_at place tokens =
+    if begins_number (word_at tokens)
+    then (number_at place place tokens >>= λ n. Ok n.1)
+    else Ok tokens
+
+-- an operation with its fields, of which one that isn't given is 0
+abbrev pub with_fields : ℕ → Fields → Instruction
+with_fields octet given = record {
+  op = octet;
+  a = unwrap_or given.a 0;
+  b = unwrap_or given.b 0;
+  c = unwrap_or given.c 0;
+}
 
 -- an instruction at its place
-unfoldable pub instruction_at : ℕ → Tokens → Result (Instruction × Tokens) ℕ
+unfoldable pub instruction_at : ℕ → Tokens → Read Instruction
 instruction_at place tokens = do
   rest ← place_at place tokens
   operation ← operation_at rest
   fields ← fields_at operation.1
-  Ok (record { op = operation.0; a = unwrap_or fields.0.a 0; b = unwrap_or fields.0.b 0; c = unwrap_or fields.0.c 0 }, fields.1)
+  Ok (with_fields operation.0 fields.0, fields.1)
 
 -- a number and a string of the tables, after their words
-unfoldable pub number_item : ℕ → Tokens → Result (ℕ × Tokens) ℕ
-number_item place tokens = keyword_at (codes "number") tokens >>= λ rest. number_at 0 (2 ^ 64 - 1) rest
+unfoldable pub number_item : ℕ → Tokens → Read ℕ
+number_item place tokens =
+    keyword_at (codes "number") tokens >>= λ rest. number_at 0 (2 ^ 64 - 1) rest
 
-unfoldable pub string_item : ℕ → Tokens → Result (List ℕ × Tokens) ℕ
+unfoldable pub string_item : ℕ → Tokens → Read (List ℕ)
 string_item place tokens = keyword_at (codes "string") tokens >>= λ rest. text_at rest
 
--- items as long as they begin so, the first of which has this place; there are at most as many as tokens
-unfoldable pub many_at : {A : Type 0} → (Tokens → Bool) → (ℕ → Tokens → Result (A × Tokens) ℕ) → ℕ → ℕ → Tokens → Result (List A × Tokens) ℕ
+-- an item before those that are read after it
+abbrev pub onto : {A : Type 0} → A → Read (List A) → Read (List A)
+onto x others = others >>= λ rest. Ok (x ∷ rest.0, rest.1)
+
+-- at most so many items as long as they begin so, the first of which has this place
+unfoldable pub many_at : {A : Type 0} → (Tokens → Bool) → (ℕ → Tokens → Read A)
+    → ℕ → ℕ → Tokens → Read (List A)
 many_at begins item zero place tokens = Ok ([], tokens)
 many_at begins item (suc most) place tokens =
     if begins tokens
-    then (item place tokens >>= λ first. many_at begins item most (suc place) first.1 >>= λ others. Ok (first.0 ∷ others.0, others.1))
+    then (item place tokens >>= λ x. onto x.0 (many_at begins item most (suc place) x.1))
     else Ok ([], tokens)
 
-abbrev pub all_at : {A : Type 0} → (Tokens → Bool) → (ℕ → Tokens → Result (A × Tokens) ℕ) → Tokens → Result (List A × Tokens) ℕ
+-- all items; there are at most as many as tokens
+abbrev pub all_at : {A : Type 0} → (Tokens → Bool) → (ℕ → Tokens → Read A)
+    → Tokens → Read (List A)
 all_at begins item tokens = many_at begins item (length tokens) 0 tokens
 
 -- whether a token is left
 abbrev pub is_left : Tokens → Bool
 is_left [] = false
 is_left (token ∷ rest) = true
+
+-- the table of numbers, and that of strings
+abbrev pub numbers_at : Tokens → Read (List ℕ)
+numbers_at tokens = all_at (begins_with (codes "number")) number_item tokens
+
+abbrev pub strings_at : Tokens → Read (List (List ℕ))
+strings_at tokens = all_at (begins_with (codes "string")) string_item tokens
+
+-- the instructions, up to the listing's end
+abbrev pub instructions_at : Tokens → Read (List Instruction)
+instructions_at tokens = all_at is_left instruction_at tokens
 
 -- a listing's tokens: version, variables, numbers, strings and instructions
 unfoldable pub items_at : Tokens → Result Code ℕ
@@ -172,10 +224,16 @@ items_at tokens = do
   version ← number_at 1 2 after_version
   after_variables ← keyword_at (codes "variables") version.1
   variables ← number_at 0 max_variables after_variables
-  numbers ← all_at (begins_with (codes "number")) number_item variables.1
-  strings ← all_at (begins_with (codes "string")) string_item numbers.1
-  instructions ← all_at is_left instruction_at strings.1
-  Ok (record { version = version.0; variables = variables.0; numbers = numbers.0; strings = strings.0; instructions = instructions.0 })
+  numbers ← numbers_at variables.1
+  strings ← strings_at numbers.1
+  instructions ← instructions_at strings.1
+  Ok (record {
+    version = version.0;
+    variables = variables.0;
+    numbers = numbers.0;
+    strings = strings.0;
+    instructions = instructions.0;
+  })
 
 -- what a listing says
 abbrev pub said_by : List ℕ → Result Code ℕ
@@ -186,7 +244,13 @@ pub record Lists (listing : List ℕ) (code : Code) : Type 0 where
   pub says : said_by listing ≡ Ok code
   pub within : IsProgram code
 
--- The first fault of a listing, after so many octets: the token that can't stand there, or the listing's end where all can, and what is
--- said exceeds the limits of a program.
+-- where all tokens can stand: the fault is at the listing's end, and what is said exceeds the
+-- limits of a program
+abbrev pub ExceedsAt : List ℕ → ℕ → Code → Type 0
+ExceedsAt listing place code = (place ≡ length listing) × ¬ IsProgram code
+
+-- the first fault of a listing, after so many octets: the first token that can't stand there, if
+-- there is one
 abbrev pub FaultsAt : List ℕ → ℕ → Type 0
-FaultsAt listing place = MatchResult (said_by listing) (λ code. (place ≡ length listing) × ¬ IsProgram code) (λ left. place ≡ length listing - left)
+FaultsAt listing place =
+    MatchResult (said_by listing) (ExceedsAt listing place) (λ left. place ≡ length listing - left)

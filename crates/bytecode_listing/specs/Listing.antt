@@ -1,12 +1,15 @@
 -- The listing of a program.
-use Rattle.std.specs.Prelude.{ℕ, suc, ◌/◌, ◌%◌, ◌==◌, ◌&&◌, ◌||◌, nat_le, not, Bool, false, List, [], ◌∷◌, ◌++◌, Option, Some, None, if◌then◌else◌, codes}
+use Rattle.std.specs.Prelude.{ℕ, suc, ◌/◌, ◌%◌, ◌^◌, ◌<◌, ◌==◌, ◌&&◌, ◌||◌, nat_le, nat_lt, not, Bool, false, List, [], ◌∷◌, ◌++◌, length, take, All, Option, Some, None, slice_get, option_map, option_and_then, if◌then◌else◌, codes}
 use Rattle.std.specs.List.{flat_map}
 use Rattle.std.specs.Fmt.{decimal, digit_glyph}
 use Rattle.bytecode_format.specs.Code.{Code}
 use Rattle.bytecode_format.specs.Operations.{operation_of}
 use Rattle.bytecode_format.specs.declared.instruction.Instruction.{Instruction}
 use Rattle.bytecode_format.specs.declared.operation.Operation.{Operation}
+use Rattle.bytecode_format.specs.declared.operation.Operation.TheVariants.{Literal, Jump, JumpIfTrue, JumpIfFalse, Size, PartSize}
 use Rattle.bytecode_listing.specs.Names.{name_of}
+use Rattle.bytecode_listing.specs.declared.comments.Table.{Table}
+use Rattle.bytecode_listing.specs.declared.comments.Table.TheVariants.{Strings, Numbers, Instructions}
 
 -- a line: its text and LF
 abbrev pub line : List ℕ → List ℕ
@@ -42,17 +45,65 @@ field_text name n = if n == 0 then [] else codes " " ++ name ++ codes " " ++ dec
 
 -- the fields of an instruction
 abbrev pub fields_text : Instruction → List ℕ
-fields_text i = field_text (codes "a") i.a ++ field_text (codes "b") i.b ++ field_text (codes "c") i.c
+fields_text i =
+    field_text (codes "a") i.a ++ field_text (codes "b") i.b ++ field_text (codes "c") i.c
 
 -- an instruction at its place
 abbrev pub instruction_text : ℕ → Instruction → List ℕ
 instruction_text place i =
     decimal place ++ codes " " ++ operation_text i.op ++ fields_text i
 
--- instructions, a line each, of which the first has this place
-abbrev pub instruction_lines : ℕ → List Instruction → List ℕ
-instruction_lines place [] = []
-instruction_lines place (i ∷ others) = line (instruction_text place i) ++ instruction_lines (suc place) others
+-- ---- comments
+
+-- the table that c of an operation is a place in, where it is one of these
+abbrev pub table_of : Operation → Option Table
+table_of Literal = Some Strings
+table_of Size = Some Numbers
+table_of PartSize = Some Numbers
+table_of Jump = Some Instructions
+table_of JumpIfTrue = Some Instructions
+table_of JumpIfFalse = Some Instructions
+table_of _ = None
+
+-- the most octets of a string that a comment has
+abbrev pub max_shown : ℕ
+max_shown = 40
+
+-- a string in a comment: between quotes; of a longer one the first octets, and dots
+abbrev pub shown : List ℕ → List ℕ
+shown text =
+    if nat_le (length text) max_shown
+    then quoted text
+    else quoted (take max_shown text) ++ codes "..."
+
+-- what a place in a table refers to: the string, the number in decimal digits, or the place of the
+-- instruction; None outside of the table
+abbrev pub entry_text : Code → ℕ → Table → Option (List ℕ)
+entry_text code place Strings = option_map shown (slice_get code.strings place)
+entry_text code place Numbers = option_map decimal (slice_get code.numbers place)
+entry_text code place Instructions =
+    if nat_lt place (length code.instructions) then Some (codes "to " ++ decimal place) else None
+
+-- what an instruction refers to
+abbrev pub meant : Code → Instruction → Option (List ℕ)
+meant code i = option_and_then (entry_text code i.c) (option_and_then table_of (operation_of i.op))
+
+-- a comment, where there is something to say
+abbrev pub comment : Option (List ℕ) → List ℕ
+comment None = []
+comment (Some text) = codes " ; " ++ text
+
+-- ---- lines
+
+-- the line of an instruction: what it refers to is told in a comment
+abbrev pub instruction_line : Code → ℕ → Instruction → List ℕ
+instruction_line code place i = line (instruction_text place i ++ comment (meant code i))
+
+-- some instructions of a program, a line each, of which the first has this place
+abbrev pub instruction_lines : Code → ℕ → List Instruction → List ℕ
+instruction_lines code place [] = []
+instruction_lines code place (i ∷ others) =
+    instruction_line code place i ++ instruction_lines code (suc place) others
 
 abbrev pub number_line : ℕ → List ℕ
 number_line n = line (codes "number " ++ decimal n)
@@ -60,11 +111,16 @@ number_line n = line (codes "number " ++ decimal n)
 abbrev pub string_line : List ℕ → List ℕ
 string_line text = line (codes "string " ++ quoted text)
 
--- the listing of a program: its version, its number of variables, its numbers, its strings and its instructions
+-- the listing of a program: its version, its number of variables, its numbers, its strings and its
+-- instructions
 abbrev pub listing_of : Code → List ℕ
 listing_of code =
     line (codes "version " ++ decimal code.version)
     ++ line (codes "variables " ++ decimal code.variables)
     ++ flat_map number_line code.numbers
     ++ flat_map string_line code.strings
-    ++ instruction_lines 0 code.instructions
+    ++ instruction_lines code 0 code.instructions
+
+-- each is an octet
+abbrev pub AreOctets : List ℕ → Type 0
+AreOctets text = All (λ octet. octet < 2 ^ 8) text

@@ -33,10 +33,12 @@ name_of Next = codes "NEXT"
 name_of Break = codes "BREAK"
 name_of Take = codes "TAKE"
 
--- the octet of the first of some operations that has this name, where they are numbered from this octet on
+-- the octet of the first of some operations that has this name, where they are numbered from this
+-- octet on
 unfoldable pub named_among : ℕ → List Operation → List ℕ → Option ℕ
 named_among octet [] name = None
-named_among octet (operation ∷ others) name = if bytes_eq (name_of operation) name then Some octet else named_among (suc octet) others name
+named_among octet (operation ∷ others) name =
+    if bytes_eq (name_of operation) name then Some octet else named_among (suc octet) others name
 
 -- the octet of the operation of this name
 abbrev pub octet_named : List ℕ → Option ℕ

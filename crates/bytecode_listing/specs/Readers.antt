@@ -1,11 +1,15 @@
 -- How the private readers go; nothing public rests on it.
-use Rattle.std.specs.Prelude.{◌≡◌, ℕ, ◌+◌, ◌*◌, ◌^◌, ◌&&◌, nat_lt, if◌then◌else◌, false, List, [], ◌∷◌, length, Option, Some, None, Result, Ok, Err, ◌==◌}
-use Rattle.std.specs.Char.{digit_value}
+use Rattle.std.specs.Prelude.{◌≡◌, ℕ, ◌+◌, ◌-◌, ◌*◌, ◌^◌, ◌&&◌, nat_lt, if◌then◌else◌, false, List, [], ◌∷◌, length, Option, Some, None, Result, Ok, Err, ◌==◌}
+use Rattle.std.specs.Char.{digit_value, is_ascii_digit}
+use Rattle.std.specs.Borrow.{Bor}
 use Rattle.std.specs.Str.{all_ascii_digits}
 use Rattle.bytecode_listing.specs.declared.error.ReadError.{ReadError}
 use Rattle.bytecode_listing.specs.declared.error.ReadError.TheVariants.{Memory, At}
 use Rattle.bytecode_listing.specs.Tokens.{is_white, is_hex, tokens_of}
-use Rattle.bytecode_listing.specs.Items.{Tokens, value_from}
+use Rattle.bytecode_listing.specs.Items.{Tokens, Fields, value_from}
+use Rattle.bytecode_listing.specs.declared.assembling.Parts.{Parts}
+use Rattle.bytecode_listing.specs.declared.items.Fields as items
+use Rattle.bytecode_format.specs.Code.{Code}
 
 -- what a function returned, seen by view, is what reading gives, unless memory ran out
 abbrev pub Fails : {Y : Type 0} → ReadError → Result Y ℕ → Type 0
@@ -15,6 +19,33 @@ Fails (At left) read = read ≡ Err left
 abbrev pub Gives : {X Y : Type 0} → (X → Y) → Result X ReadError → Result Y ℕ → Type 0
 Gives view (Ok x) read = read ≡ Ok (view x)
 Gives view (Err e) read = Fails e read
+
+-- what was read, seen by view, and the tokens of the octets after it
+abbrev pub with_rest : {X Y : Type 0} → (X → Y) → X × Bor (List ℕ) → Y × Tokens
+with_rest view x = (view x.0, tokens_of x.1.now)
+
+abbrev pub and_rest : {X : Type 0} → X × Bor (List ℕ) → X × Tokens
+and_rest x = with_rest (λ y. y) x
+
+-- the fields that have been given, and what a listing says, as the code has them
+abbrev pub read_fields : items.Fields → Fields
+read_fields given = record { a = given.a; b = given.b; c = given.c }
+
+abbrev pub code_of : Parts → Code
+code_of parts = record {
+  version = parts.version;
+  variables = parts.variables;
+  numbers = parts.numbers.items;
+  strings = parts.strings.items;
+  instructions = parts.instructions.items;
+}
+
+-- a number and one more digit, where 64 bits hold it
+abbrev pub one_more : ℕ → ℕ → Option ℕ
+one_more value digit =
+    if is_ascii_digit digit && nat_lt (10 * value + (digit - 48)) (2 ^ 64)
+    then Some (10 * value + (digit - 48))
+    else None
 
 -- an octet that is neither blank nor begins a comment, or none
 abbrev pub IsStart : List ℕ → Type 0
@@ -26,15 +57,12 @@ abbrev pub led : List ℕ → List ℕ → Result (List ℕ × Tokens) ℕ
 led [] rest = Err (length rest)
 led (octet ∷ octets) rest = Ok (octet ∷ octets, tokens_of rest)
 
--- the octet of two hexadecimal digits
-abbrev pub octet_from : ℕ → ℕ → Option ℕ
-octet_from high low = if is_hex high && is_hex low then Some (16 * digit_value high + digit_value low) else None
-
 -- the octet that stands first as two hexadecimal digits, and what is left after them
 abbrev pub escape_at : List ℕ → Option (ℕ × List ℕ)
 escape_at [] = None
 escape_at (high ∷ []) = None
-escape_at (high ∷ low ∷ rest) = if is_hex high && is_hex low then Some (16 * digit_value high + digit_value low, rest) else None
+escape_at (high ∷ low ∷ rest) =
+    if is_hex high && is_hex low then Some (16 * digit_value high + digit_value low, rest) else None
 
 -- what an octet of a string says with those after it, and what is left
 abbrev pub said_at : ℕ → List ℕ → Option (ℕ × List ℕ)
@@ -42,4 +70,7 @@ said_at octet rest = if octet == 92 then escape_at rest else Some (octet, rest)
 
 -- the number that digits spell after those of n, where 64 bits hold it
 abbrev pub decimal_on : ℕ → List ℕ → Option ℕ
-decimal_on n digits = if all_ascii_digits digits && nat_lt (value_from n digits) (2 ^ 64) then Some (value_from n digits) else None
+decimal_on n digits =
+    if all_ascii_digits digits && nat_lt (value_from n digits) (2 ^ 64)
+    then Some (value_from n digits)
+    else None

@@ -25,8 +25,9 @@ is_word_octet octet = is_ascii_alphanumeric octet || (octet == 95)
 abbrev pub is_hex : ℕ → Bool
 is_hex octet = nat_lt (digit_value octet) 16
 
--- Where the reading of a listing stands: between tokens; in a comment; in a word; in a string; after a backslash in a string; after that
--- and a digit; after what is no token. Within a token: how many octets were left where it began, and what it says so far.
+-- Where the reading of a listing stands: between tokens; in a comment; in a word; in a string;
+-- after a backslash in a string; after that and a digit; after what is no token. Within a token: how
+-- many octets were left where it began, and what it says so far.
 pub data Stand : Type 0 where
   Between : Stand
   Comment : Stand
@@ -49,32 +50,45 @@ begun left octet =
 abbrev pub after : Stand → ℕ → ℕ → Stand
 after Between left octet = begun left octet
 after Comment left octet = if octet == 10 then Between else Comment
-after (InWord start said) left octet = if is_word_octet octet then InWord start (said ++ octet ∷ []) else begun left octet
-after (InText start said) left octet = if octet == 34 then Between else (if octet == 92 then Escape start said else InText start (said ++ octet ∷ []))
-after (Escape start said) left octet = if is_hex octet then Digit start said (digit_value octet) else Stopped start
-after (Digit start said high) left octet = if is_hex octet then InText start (said ++ (16 * high + digit_value octet) ∷ []) else Stopped start
+after (InWord start said) left octet =
+    if is_word_octet octet then InWord start (said ++ octet ∷ []) else begun left octet
+after (InText start said) left octet =
+    if octet == 34 then Between else
+    if octet == 92 then Escape start said else
+    InText start (said ++ octet ∷ [])
+after (Escape start said) left octet =
+    if is_hex octet then Digit start said (digit_value octet) else Stopped start
+after (Digit start said high) left octet =
+    if is_hex octet
+    then InText start (said ++ (16 * high + digit_value octet) ∷ [])
+    else Stopped start
 after (Stopped start) left octet = Stopped start
+
+-- a token that begins where so many octets are left, alone
+abbrev pub one : Token → ℕ → List Placed
+one token left = (record { token = token; left = left }) ∷ []
 
 -- the token that an octet ends: of a word it is the first octet after it, of a string its quote
 abbrev pub ended : Stand → ℕ → List Placed
-ended (InWord start said) octet = if is_word_octet octet then [] else (record { token = Word said; left = start }) ∷ []
-ended (InText start said) octet = if octet == 34 then (record { token = Text said; left = start }) ∷ [] else []
+ended (InWord start said) octet = if is_word_octet octet then [] else one (Word said) start
+ended (InText start said) octet = if octet == 34 then one (Text said) start else []
 ended _ octet = []
 
 -- the token that the end of the listing ends
 abbrev pub ended_last : Stand → List Placed
 ended_last Between = []
 ended_last Comment = []
-ended_last (InWord start said) = (record { token = Word said; left = start }) ∷ []
-ended_last (InText start said) = (record { token = Wrong; left = start }) ∷ []
-ended_last (Escape start said) = (record { token = Wrong; left = start }) ∷ []
-ended_last (Digit start said high) = (record { token = Wrong; left = start }) ∷ []
-ended_last (Stopped start) = (record { token = Wrong; left = start }) ∷ []
+ended_last (InWord start said) = one (Word said) start
+ended_last (InText start said) = one Wrong start
+ended_last (Escape start said) = one Wrong start
+ended_last (Digit start said high) = one Wrong start
+ended_last (Stopped start) = one Wrong start
 
 -- the tokens of what is left
 unfoldable pub tokens_from : Stand → List ℕ → List Placed
 tokens_from stand [] = ended_last stand
-tokens_from stand (octet ∷ rest) = ended stand octet ++ tokens_from (after stand (suc (length rest)) octet) rest
+tokens_from stand (octet ∷ rest) =
+    ended stand octet ++ tokens_from (after stand (suc (length rest)) octet) rest
 
 -- the tokens of a listing; a Wrong one is the last
 abbrev pub tokens_of : List ℕ → List Placed

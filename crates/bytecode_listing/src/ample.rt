@@ -9,8 +9,8 @@ use std::test::Fail;
 const MOST_INSTRUCTIONS: usize = 65_536;
 
 /// The listing of the small program.
-const SMALL: &[u8] =
-    b"version 2\nvariables 1\nnumber 1048576\nstring \"a\\00a\\22b\"\n0 LIT\n1 HEADER a 1 b 2 c 3\n2 OP ff\n";
+const SMALL: &[u8] = b"version 2\nvariables 1\nnumber 1048576\nstring \"a\\00a\\22b\"\n\
+    0 LIT ; \"a\\00a\\22b\"\n1 HEADER a 1 b 2 c 3\n2 OP ff\n";
 
 // The program of these strings and instructions, with a variable and a number.
 fn program_of(
@@ -62,9 +62,11 @@ fn as_many_instructions_as_there_may_be(rt: HostRuntime) -> Result<(), Fail> {
     Ok(())
 }
 
-// A listing that says the small program otherwise: blanks, comments, zeros, no places, fields in another order.
+// A listing that says the small program otherwise: blanks, comments, zeros, no places, fields in
+// another order.
 const OTHERWISE: &[u8] =
-    b"version 02 ; of two\n variables\t1 number 1048576 string\n\"a\\00a\\22b\" LIT a 0\r\n1 HEADER c 003 a 1 b 2 OP FF";
+    b"version 02 ; of two\n variables\t1 number 1048576 string\n\"a\\00a\\22b\" LIT a 0\r\n\
+    1 HEADER c 003 a 1 b 2 OP FF";
 
 #[test]
 fn reads_what_it_writes(rt: HostRuntime) -> Result<(), Fail> {

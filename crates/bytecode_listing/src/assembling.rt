@@ -1,8 +1,8 @@
 // Programs from listings.
 ghost use Rattle.std.specs.Prelude.{◌≡◌, ℕ, IfOk, IfErr, codes};
 ghost use Rattle.bytecode_listing.specs.Tokens.{tokens_of};
-ghost use Rattle.bytecode_listing.specs.Items.{begins_with, is_left, instruction_at, number_item, string_item, all_at, items_at, Lists, FaultsAt};
-ghost use Rattle.bytecode_listing.specs.Readers.{Gives};
+ghost use Rattle.bytecode_listing.specs.Items.{numbers_at, strings_at, instructions_at, items_at, Lists, FaultsAt};
+ghost use Rattle.bytecode_listing.specs.Readers.{Gives, with_rest, code_of};
 ghost use Rattle.bytecode_listing.specs.declared.error.ListingError.TheVariants.{Fault};
 
 use crate::error::{ListingError, ReadError};
@@ -23,7 +23,7 @@ const MAX_VARIABLES: u64 = 128;
 
 // Reads the table of numbers.
 fn numbers_of(alloc: Global, octets: &[u8]) -> Result<(Vec<u64>, &[u8]), ReadError>
-    ensures { Gives (λ x. (x.0.items, tokens_of x.1.now)) result (all_at (begins_with (codes "number")) number_item (tokens_of octets.now)) }
+    ensures { Gives (with_rest (λ v. v.items)) result (numbers_at (tokens_of octets.now)) }
 {
     let mut numbers = Vec::new(alloc);
     let mut rest = octets;
@@ -37,7 +37,7 @@ fn numbers_of(alloc: Global, octets: &[u8]) -> Result<(Vec<u64>, &[u8]), ReadErr
 
 // Reads the table of strings.
 fn strings_of(alloc: Global, octets: &[u8]) -> Result<(Vec<Octets>, &[u8]), ReadError>
-    ensures { Gives (λ x. (x.0.items, tokens_of x.1.now)) result (all_at (begins_with (codes "string")) string_item (tokens_of octets.now)) }
+    ensures { Gives (with_rest (λ v. v.items)) result (strings_at (tokens_of octets.now)) }
 {
     let mut strings = Vec::new(alloc);
     let mut rest = octets;
@@ -51,7 +51,7 @@ fn strings_of(alloc: Global, octets: &[u8]) -> Result<(Vec<Octets>, &[u8]), Read
 
 // Reads the instructions, up to the listing's end.
 fn instructions_of(alloc: Global, octets: &[u8]) -> Result<(Vec<Instruction>, &[u8]), ReadError>
-    ensures { Gives (λ x. (x.0.items, tokens_of x.1.now)) result (all_at is_left instruction_at (tokens_of octets.now)) }
+    ensures { Gives (with_rest (λ v. v.items)) result (instructions_at (tokens_of octets.now)) }
 {
     let mut instructions = Vec::new(alloc);
     let mut rest = octets;
@@ -65,7 +65,7 @@ fn instructions_of(alloc: Global, octets: &[u8]) -> Result<(Vec<Instruction>, &[
 
 /// What a listing says.
 #[derive(Drop)]
-struct Parts {
+pub struct Parts {
     version: u8,
     variables: u16,
     numbers: Vec<u64>,
@@ -76,7 +76,7 @@ struct Parts {
 // Reads a listing.
 #[tactic(auto, unfolding(crate::specs::Items::items_at))]
 fn parts_of(alloc: Global, octets: &[u8]) -> Result<Parts, ReadError>
-    ensures { Gives (λ p. record { version = p.version; variables = p.variables; numbers = p.numbers.items; strings = p.strings.items; instructions = p.instructions.items }) result (items_at (tokens_of octets.now)) }
+    ensures { Gives code_of result (items_at (tokens_of octets.now)) }
 {
     let rest = keyword_of(octets, b"version")?;
     let (version, rest) = number_of(rest, LOWEST_VERSION, HIGHEST_VERSION)?;
@@ -96,13 +96,14 @@ fn parts_of(alloc: Global, octets: &[u8]) -> Result<Parts, ReadError>
 
 /// The program that a listing says.
 ///
-/// `Fault` comes exactly where it says none: with the place of the first token that can't stand where it
-/// stands; or, where all can, with the listing's end, where the program exceeds the limits of programs.
-/// `Memory` comes only where an allocation was refused. What is allocated grows with the listing, whose
-/// length is for the caller to limit; the listing is gone through once.
+/// `Fault` comes exactly where it says none: with the place of the first token that can't stand
+/// where it stands; or, where all can, with the listing's end, where the program exceeds the limits
+/// of programs. `Memory` comes only where an allocation was refused. What is allocated grows with
+/// the listing, whose length is for the caller to limit; the listing is gone through once.
 pub fn assemble(alloc: Global, listing: &[u8]) -> Result<Program, ListingError>
     ensures listed { IfOk result (λ p. Lists listing.now p) }
-    ensures fault { IfErr result (λ e. (place : ℕ) → e ≡ Fault place → FaultsAt listing.now place) }
+    ensures fault { IfErr result
+        (λ e. (place : ℕ) → e ≡ Fault place → FaultsAt listing.now place) }
 {
     let parts = match parts_of(alloc, listing) {
         Ok(parts) => parts,

@@ -11,8 +11,8 @@ pub enum ListingError {
     /// An allocation was refused.
     #[error("memory was refused")]
     Memory,
-    /// What stands at this place can't stand there, or the program that is listed exceeds the limits of
-    /// programs; then the place is the listing's end.
+    /// What stands at this place can't stand there, or the program that is listed exceeds the
+    /// limits of programs; then the place is the listing's end.
     #[error("fault at octet {place}")]
     Fault {
         /// How many octets of the listing stand before it.
@@ -20,7 +20,8 @@ pub enum ListingError {
     },
 }
 
-/// Why reading ends: memory was refused, or what begins where so many octets are left can't stand there.
+/// Why reading ends: memory was refused, or what begins where so many octets are left can't stand
+/// there.
 #[derive(Drop)]
 pub enum ReadError {
     Memory,

@@ -3,7 +3,7 @@ ghost use Rattle.std.specs.Prelude.{◌≡◌, ℕ, ◌+◌, ◌*◌, ◌-◌, �
 ghost use Rattle.std.specs.Char.{is_ascii_digit};
 ghost use Rattle.bytecode_listing.specs.Tokens.{tokens_of};
 ghost use Rattle.bytecode_listing.specs.Items.{keyword_at, field_number, number_at, is_within, value_from, octet_in, octet_at, operation_at, field_at, round_at, fields_at, place_at, instruction_at, number_item, string_item};
-ghost use Rattle.bytecode_listing.specs.Readers.{Gives, decimal_on};
+ghost use Rattle.bytecode_listing.specs.Readers.{Gives, and_rest, with_rest, read_fields, one_more, decimal_on};
 
 use crate::error::ReadError;
 use crate::names::octet_named;
@@ -27,7 +27,7 @@ pub fn keyword_of<'a>(octets: &'a [u8], word: &[u8]) -> Result<&'a [u8], ReadErr
 
 // The number that one more digit makes of a number, where 64 bits hold it.
 fn more(value: u64, digit: u8) -> Option<u64>
-    ensures { result ≡ (if is_ascii_digit digit && nat_lt (10 * value + (digit - 48)) (2 ^ 64) then Some (10 * value + (digit - 48)) else None) }
+    ensures { result ≡ one_more value digit }
 {
     if !digit.is_ascii_digit() {
         return None;
@@ -50,7 +50,8 @@ fn decimal_of(word: &[u8]) -> Option<u64>
 
 // The number from `low` to `high` that a word is.
 fn value_within(word: &[u8], low: u64, high: u64) -> Option<u64>
-    ensures { result ≡ (if is_within low high word.now then Some (value_from 0 word.now) else None) }
+    ensures { result ≡
+        (if is_within low high word.now then Some (value_from 0 word.now) else None) }
 {
     let value = decimal_of(word)?;
     if low <= value && value <= high {
@@ -63,7 +64,7 @@ fn value_within(word: &[u8], low: u64, high: u64) -> Option<u64>
 // Reads a number from `low` to `high`.
 #[tactic(auto, unfolding(crate::specs::Items::number_at))]
 pub fn number_of(octets: &[u8], low: u64, high: u64) -> Result<(u64, &[u8]), ReadError>
-    ensures number { Gives (λ x. (x.0, tokens_of x.1.now)) result (number_at low high (tokens_of octets.now)) }
+    ensures number { Gives and_rest result (number_at low high (tokens_of octets.now)) }
     ensures small { IfOk result (λ x. x.0 ≤ high) }
 {
     let (word, rest) = word_of(octets)?;
@@ -86,7 +87,7 @@ fn octet_of(word: &[u8]) -> Option<u8>
 // Reads an octet.
 #[tactic(auto, unfolding(crate::specs::Items::octet_at))]
 fn octet_word(octets: &[u8]) -> Result<(u8, &[u8]), ReadError>
-    ensures { Gives (λ x. (x.0, tokens_of x.1.now)) result (octet_at (tokens_of octets.now)) }
+    ensures { Gives and_rest result (octet_at (tokens_of octets.now)) }
 {
     let (word, rest) = word_of(octets)?;
     match octet_of(word) {
@@ -98,7 +99,7 @@ fn octet_word(octets: &[u8]) -> Result<(u8, &[u8]), ReadError>
 // Reads an operation: its name, or OP and the octet.
 #[tactic(auto, unfolding(crate::specs::Items::operation_at))]
 fn operation_of(octets: &[u8]) -> Result<(u8, &[u8]), ReadError>
-    ensures { Gives (λ x. (x.0, tokens_of x.1.now)) result (operation_at (tokens_of octets.now)) }
+    ensures { Gives and_rest result (operation_at (tokens_of octets.now)) }
 {
     let (word, rest) = word_of(octets)?;
     if word == b"OP".as_slice() {
@@ -112,7 +113,7 @@ fn operation_of(octets: &[u8]) -> Result<(u8, &[u8]), ReadError>
 
 /// The fields of an instruction that have been given.
 #[derive(Clone, Copy)]
-struct Fields {
+pub struct Fields {
     a: Option<u8>,
     b: Option<u16>,
     c: Option<u32>,
@@ -121,7 +122,7 @@ struct Fields {
 // Reads a field's name and its number.
 #[tactic(auto, unfolding(crate::specs::Items::field_number))]
 fn field_of<'a>(octets: &'a [u8], name: &[u8], highest: u64) -> Result<(u64, &'a [u8]), ReadError>
-    ensures number { Gives (λ x. (x.0, tokens_of x.1.now)) result (field_number name.now highest (tokens_of octets.now)) }
+    ensures number { Gives and_rest result (field_number name.now highest (tokens_of octets.now)) }
     ensures small { IfOk result (λ x. x.0 ≤ highest) }
 {
     number_of(keyword_of(octets, name)?, 0, highest)
@@ -130,7 +131,8 @@ fn field_of<'a>(octets: &'a [u8], name: &[u8], highest: u64) -> Result<(u64, &'a
 // Reads the field a, where it stands first.
 #[tactic(auto, unfolding(crate::specs::Items::field_at))]
 fn a_of(octets: &[u8], given: Option<u8>) -> Result<(Option<u8>, &[u8]), ReadError>
-    ensures { Gives (λ x. (x.0, tokens_of x.1.now)) result (field_at (codes "a") (2 ^ 8 - 1) given (tokens_of octets.now)) }
+    ensures { Gives and_rest result
+        (field_at (codes "a") (2 ^ 8 - 1) given (tokens_of octets.now)) }
 {
     if !begins_with(octets, b"a") {
         return Ok((given, octets));
@@ -145,7 +147,8 @@ fn a_of(octets: &[u8], given: Option<u8>) -> Result<(Option<u8>, &[u8]), ReadErr
 // Reads the field b, where it stands first.
 #[tactic(auto, unfolding(crate::specs::Items::field_at))]
 fn b_of(octets: &[u8], given: Option<u16>) -> Result<(Option<u16>, &[u8]), ReadError>
-    ensures { Gives (λ x. (x.0, tokens_of x.1.now)) result (field_at (codes "b") (2 ^ 16 - 1) given (tokens_of octets.now)) }
+    ensures { Gives and_rest result
+        (field_at (codes "b") (2 ^ 16 - 1) given (tokens_of octets.now)) }
 {
     if !begins_with(octets, b"b") {
         return Ok((given, octets));
@@ -160,7 +163,8 @@ fn b_of(octets: &[u8], given: Option<u16>) -> Result<(Option<u16>, &[u8]), ReadE
 // Reads the field c, where it stands first.
 #[tactic(auto, unfolding(crate::specs::Items::field_at))]
 fn c_of(octets: &[u8], given: Option<u32>) -> Result<(Option<u32>, &[u8]), ReadError>
-    ensures { Gives (λ x. (x.0, tokens_of x.1.now)) result (field_at (codes "c") (2 ^ 32 - 1) given (tokens_of octets.now)) }
+    ensures { Gives and_rest result
+        (field_at (codes "c") (2 ^ 32 - 1) given (tokens_of octets.now)) }
 {
     if !begins_with(octets, b"c") {
         return Ok((given, octets));
@@ -175,7 +179,8 @@ fn c_of(octets: &[u8], given: Option<u32>) -> Result<(Option<u32>, &[u8]), ReadE
 // Reads each field that stands there, in the order a, b, c.
 #[tactic(auto, unfolding(crate::specs::Items::round_at))]
 fn round_of(octets: &[u8], given: Fields) -> Result<(Fields, &[u8]), ReadError>
-    ensures { Gives (λ x. (record { a = x.0.a; b = x.0.b; c = x.0.c }, tokens_of x.1.now)) result (round_at (record { a = given.a; b = given.b; c = given.c }) (tokens_of octets.now)) }
+    ensures { Gives (with_rest read_fields) result
+        (round_at (read_fields given) (tokens_of octets.now)) }
 {
     let (a, rest) = a_of(octets, given.a)?;
     let (b, rest) = b_of(rest, given.b)?;
@@ -186,7 +191,7 @@ fn round_of(octets: &[u8], given: Fields) -> Result<(Fields, &[u8]), ReadError>
 // Reads the fields of an instruction, in any order.
 #[tactic(auto, unfolding(crate::specs::Items::fields_at))]
 fn fields_of(octets: &[u8]) -> Result<(Fields, &[u8]), ReadError>
-    ensures { Gives (λ x. (record { a = x.0.a; b = x.0.b; c = x.0.c }, tokens_of x.1.now)) result (fields_at (tokens_of octets.now)) }
+    ensures { Gives (with_rest read_fields) result (fields_at (tokens_of octets.now)) }
 {
     let none = Fields {
         a: None,
@@ -213,7 +218,7 @@ fn place_of(octets: &[u8], place: usize) -> Result<&[u8], ReadError>
 /// Reads an instruction at its place.
 #[tactic(auto, unfolding(crate::specs::Items::instruction_at))]
 pub fn instruction_of(octets: &[u8], place: usize) -> Result<(Instruction, &[u8]), ReadError>
-    ensures { Gives (λ x. (x.0, tokens_of x.1.now)) result (instruction_at place (tokens_of octets.now)) }
+    ensures { Gives and_rest result (instruction_at place (tokens_of octets.now)) }
 {
     let rest = place_of(octets, place)?;
     let (op, rest) = operation_of(rest)?;
@@ -230,7 +235,7 @@ pub fn instruction_of(octets: &[u8], place: usize) -> Result<(Instruction, &[u8]
 /// Reads a number of the table.
 #[tactic(auto, unfolding(crate::specs::Items::number_item))]
 pub fn number_row(octets: &[u8]) -> Result<(u64, &[u8]), ReadError>
-    ensures { (place : ℕ) → Gives (λ x. (x.0, tokens_of x.1.now)) result (number_item place (tokens_of octets.now)) }
+    ensures { (place : ℕ) → Gives and_rest result (number_item place (tokens_of octets.now)) }
 {
     number_of(keyword_of(octets, b"number")?, 0, u64::MAX)
 }
@@ -238,7 +243,7 @@ pub fn number_row(octets: &[u8]) -> Result<(u64, &[u8]), ReadError>
 /// Reads a string of the table.
 #[tactic(auto, unfolding(crate::specs::Items::string_item))]
 pub fn string_row(alloc: Global, octets: &[u8]) -> Result<(Octets, &[u8]), ReadError>
-    ensures { (place : ℕ) → Gives (λ x. (x.0, tokens_of x.1.now)) result (string_item place (tokens_of octets.now)) }
+    ensures { (place : ℕ) → Gives and_rest result (string_item place (tokens_of octets.now)) }
 {
     text_of(alloc, keyword_of(octets, b"string")?)
 }

@@ -4,8 +4,10 @@
 #[cfg(test)]
 mod ample;
 mod assembling;
+mod comments;
 mod error;
 mod items;
+pub mod laws;
 mod names;
 mod tokens;
 mod writing;

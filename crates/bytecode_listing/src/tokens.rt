@@ -2,8 +2,8 @@
 ghost use Rattle.std.specs.Prelude.{◌≡◌, ◌∷◌, ◌≤◌, ◌<◌, [], length, MatchOption, MatchResult, option_map, IfSome, Some, None, if◌then◌else◌};
 ghost use Rattle.std.specs.List.{take_while};
 ghost use Rattle.bytecode_listing.specs.Tokens.{Comment, InText, Text, is_white, is_hex, is_word_octet, tokens_of, tokens_from};
-ghost use Rattle.bytecode_listing.specs.Items.{word_at, text_in, text_at, left_at, is_left, begins_with, begins_number};
-ghost use Rattle.bytecode_listing.specs.Readers.{Fails, Gives, IsStart, escape_at, led, octet_from, said_at};
+ghost use Rattle.bytecode_listing.specs.Items.{word_at, text_in, text_at, left_at, is_left, begins_with, begins_number, octet_from};
+ghost use Rattle.bytecode_listing.specs.Readers.{Fails, Gives, and_rest, IsStart, escape_at, led, said_at};
 ghost use Rattle.std.specs.Char.{digit_value};
 
 use crate::error::ReadError;
@@ -80,8 +80,8 @@ fn word_len(octets: &[u8]) -> usize
         .count()
 }
 
-/// The word that the tokens begin with, and what is left after it; an empty one where they begin with no
-/// word, and what is left then begins where the first token does.
+/// The word that the tokens begin with, and what is left after it; an empty one where they begin
+/// with no word, and what is left then begins where the first token does.
 pub fn leading_word(octets: &[u8]) -> (&[u8], &[u8])
     ensures { word_at (tokens_of octets.now) ≡ led result.0.now result.1.now }
 {
@@ -181,10 +181,13 @@ fn said_of(octet: u8, rest: &[u8]) -> Option<(u8, &[u8])>
     }
 }
 
-// What is left after the quote that the tokens begin with, and how many octets are left where it stands.
+// What is left after the quote that the tokens begin with, and how many octets are left where it
+// stands.
 #[tactic(auto, unfolding(crate::specs::Tokens::tokens_from), using(crate::proofs::Lexing::quote_first, crate::proofs::Lexing::no_text))]
 fn quote_of(octets: &[u8]) -> Result<(usize, &[u8]), ReadError>
-    ensures { MatchResult result (λ x. tokens_of octets.now ≡ tokens_from (InText x.0 []) x.1.now) (λ e. Fails e (text_at (tokens_of octets.now))) }
+    ensures { MatchResult result
+        (λ x. tokens_of octets.now ≡ tokens_from (InText x.0 []) x.1.now)
+        (λ e. Fails e (text_at (tokens_of octets.now))) }
 {
     let start = token_start(octets);
     match first(start) {
@@ -195,7 +198,7 @@ fn quote_of(octets: &[u8]) -> Result<(usize, &[u8]), ReadError>
 
 // A string that has ended, where it is within the limit of strings.
 fn whole(text: Vec<u8>, left: usize, rest: &[u8]) -> Result<(Octets, &[u8]), ReadError>
-    ensures { Gives (λ x. (x.0, tokens_of x.1.now)) result (text_in (Text text.items) left (tokens_of rest.now)) }
+    ensures { Gives and_rest result (text_in (Text text.items) left (tokens_of rest.now)) }
 {
     if text.len() > MAX_STRING {
         return Err(ReadError::At(left));
@@ -205,7 +208,7 @@ fn whole(text: Vec<u8>, left: usize, rest: &[u8]) -> Result<(Octets, &[u8]), Rea
 
 // The string whose octets stand first, up to its quote, which began where so many octets were left.
 fn text_after(alloc: Global, left: usize, octets: &[u8]) -> Result<(Octets, &[u8]), ReadError>
-    ensures { Gives (λ x. (x.0, tokens_of x.1.now)) result (text_at (tokens_from (InText left []) octets.now)) }
+    ensures { Gives and_rest result (text_at (tokens_from (InText left []) octets.now)) }
 {
     let mut text = Vec::new(alloc);
     let mut rest = octets;
@@ -224,7 +227,7 @@ fn text_after(alloc: Global, left: usize, octets: &[u8]) -> Result<(Octets, &[u8
 
 /// The string that the tokens begin with, where it is within the limit of strings.
 pub fn text_of(alloc: Global, octets: &[u8]) -> Result<(Octets, &[u8]), ReadError>
-    ensures { Gives (λ x. (x.0, tokens_of x.1.now)) result (text_at (tokens_of octets.now)) }
+    ensures { Gives and_rest result (text_at (tokens_of octets.now)) }
 {
     let (left, rest) = quote_of(octets)?;
     text_after(alloc, left, rest)

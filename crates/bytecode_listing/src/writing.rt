@@ -1,17 +1,19 @@
 // Programs as listings.
-ghost use Rattle.std.specs.Prelude.{◌≡◌, ◌++◌, ◌<◌, false, IfOk, OnOk};
+ghost use Rattle.std.specs.Prelude.{◌≡◌, ◌++◌, ◌<◌, false, All, IfOk, OnOk};
 ghost use Rattle.std.specs.List.{flat_map};
 ghost use Rattle.std.specs.Fmt.{decimal, digit_glyph};
-ghost use Rattle.bytecode_listing.specs.Listing.{is_plain, two_digits, escaped_octet, quoted, operation_text, field_text, fields_text, instruction_text, instruction_lines, number_line, string_line, line, listing_of};
+ghost use Rattle.bytecode_listing.specs.Listing.{is_plain, two_digits, escaped_octet, quoted, operation_text, field_text, fields_text, instruction_text, instruction_line, instruction_lines, number_line, string_line, line, listing_of, AreOctets};
+ghost use Rattle.bytecode_listing.specs.Items.{Lists};
 
+use crate::comments::put_comment;
 use crate::names::name_of;
 use bytecode_format::{Instruction, Operation, Program};
 use itoa::Buffer;
 use octets::Octets;
 use std::alloc::{AllocError, Global};
 
-// Appends a number in decimal digits.
-fn put_number(out: &mut Vec<u8>, number: u64) -> Result<(), AllocError>
+/// Appends a number in decimal digits.
+pub(crate) fn put_number(out: &mut Vec<u8>, number: u64) -> Result<(), AllocError>
     ensures { OnOk result (out.new.items ≡ out.old.items ++ decimal number) }
 {
     out.extend_from_slice(Buffer::new().format(number as u128).as_bytes())
@@ -61,8 +63,8 @@ fn put_escaped(out: &mut Vec<u8>, octets: &[u8]) -> Result<(), AllocError>
     Ok(())
 }
 
-// Appends octets between quotes.
-fn put_quoted(out: &mut Vec<u8>, octets: &[u8]) -> Result<(), AllocError>
+/// Appends octets between quotes.
+pub(crate) fn put_quoted(out: &mut Vec<u8>, octets: &[u8]) -> Result<(), AllocError>
     ensures { OnOk result (out.new.items ≡ out.old.items ++ quoted octets.now) }
 {
     out.push(b'"')?;
@@ -104,28 +106,45 @@ fn put_fields(out: &mut Vec<u8>, instruction: Instruction) -> Result<(), AllocEr
     put_field(out, b"c", u64::from(instruction.c))
 }
 
-// Appends the line of an instruction.
+// Appends an instruction at its place.
 fn put_instruction(
     out: &mut Vec<u8>,
     place: usize,
     instruction: Instruction,
 ) -> Result<(), AllocError>
     ensures { OnOk result
-        (out.new.items ≡ out.old.items ++ line (instruction_text place instruction)) }
+        (out.new.items ≡ out.old.items ++ instruction_text place instruction) }
 {
     put_number(out, place as u64)?;
     out.push(b' ')?;
     put_operation(out, instruction.op)?;
-    put_fields(out, instruction)?;
+    put_fields(out, instruction)
+}
+
+// Appends the line of an instruction of a program.
+fn put_line(
+    out: &mut Vec<u8>,
+    program: &Program,
+    place: usize,
+    instruction: Instruction,
+) -> Result<(), AllocError>
+    ensures { OnOk result
+        (out.new.items ≡ out.old.items ++ instruction_line program.now place instruction) }
+{
+    put_instruction(out, place, instruction)?;
+    put_comment(out, program, instruction)?;
     Ok(out.push(b'\n')?)
 }
 
-// Appends the lines of instructions.
-fn put_instructions(out: &mut Vec<u8>, instructions: &[Instruction]) -> Result<(), AllocError>
-    ensures { OnOk result (out.new.items ≡ out.old.items ++ instruction_lines 0 instructions.now) }
+// Appends the lines of a program's instructions.
+fn put_instructions(out: &mut Vec<u8>, program: &Program) -> Result<(), AllocError>
+    ensures { OnOk result
+        (out.new.items ≡
+        out.old.items ++ instruction_lines program.now 0 program.now.instructions) }
 {
+    let instructions = program.instructions();
     'table: for place in 0..instructions.len() {
-        put_instruction(out, place, instructions[place])?;
+        put_line(out, program, place, instructions[place])?;
     }
     Ok(())
 }
@@ -151,7 +170,8 @@ fn put_numbers(out: &mut Vec<u8>, numbers: &[u64]) -> Result<(), AllocError>
 
 // Appends the line of a string.
 fn put_string(out: &mut Vec<u8>, text: &[u8]) -> Result<(), AllocError>
-    ensures { OnOk result (out.new.items ≡ out.old.items ++ string_line text.now) }
+    ensures line { OnOk result (out.new.items ≡ out.old.items ++ string_line text.now) }
+    ensures octets { AreOctets text.now }
 {
     out.extend_from_slice(b"string ")?;
     put_quoted(out, text)?;
@@ -160,7 +180,9 @@ fn put_string(out: &mut Vec<u8>, text: &[u8]) -> Result<(), AllocError>
 
 // Appends the lines of strings.
 fn put_strings(out: &mut Vec<u8>, strings: &[Octets]) -> Result<(), AllocError>
-    ensures { OnOk result (out.new.items ≡ out.old.items ++ flat_map string_line strings.now) }
+    ensures lines { OnOk result
+        (out.new.items ≡ out.old.items ++ flat_map string_line strings.now) }
+    ensures octets { OnOk result (All AreOctets strings.now) }
 {
     'table: for text in strings {
         put_string(out, text.as_slice())?;
@@ -169,17 +191,24 @@ fn put_strings(out: &mut Vec<u8>, strings: &[Octets]) -> Result<(), AllocError>
 }
 
 /// The listing of a program: a line for its version, one for its number of variables, one for each
-/// number, string and instruction. LF ends each line.
+/// number, string and instruction. LF ends each line. `assemble` reads it as the same program.
 ///
-/// An error comes only where memory was refused.
+/// A comment after an instruction tells the string or the number that its c refers to, or the place
+/// that it jumps to: LIT has a string, SIZE and PARTSIZE a number, JMP, JT and JF a place. Of a
+/// string it has at most 40 octets, and dots where there are more. There is none where c is outside
+/// of the tables.
+///
+/// An error comes only where memory was refused. A listing takes time and memory in proportion to
+/// the program, whatever its strings are.
 pub fn disassemble(alloc: Global, program: &Program) -> Result<Vec<u8>, AllocError>
-    ensures { IfOk result (λ v. v.items ≡ listing_of program.now) }
+    ensures text { IfOk result (λ v. v.items ≡ listing_of program.now) }
+    ensures listed { IfOk result (λ v. Lists v.items program.now) }
 {
     let mut out = Vec::new(alloc);
     put_count(&mut out, b"version ", u64::from(program.version()))?;
     put_count(&mut out, b"variables ", u64::from(program.variables()))?;
     put_numbers(&mut out, program.numbers())?;
     put_strings(&mut out, program.strings())?;
-    put_instructions(&mut out, program.instructions())?;
+    put_instructions(&mut out, program)?;
     Ok(out)
 }

@@ -3,4 +3,4 @@ use Rattle.bytecode_listing.specs.Listing.{instruction_lines}
 use Rattle.bytecode_listing.proofs.writing.put_instructions.Given as goal
 
 abbrev pub invariant-table : goal.invariant-table
-invariant-table l = l.out.items ++ instruction_lines l.place (drop l.place l.instructions) ≡ l.initial.out.items ++ instruction_lines 0 l.instructions
+invariant-table l = l.out.items ++ instruction_lines l.program l.place (drop l.place l.instructions) ≡ l.initial.out.items ++ instruction_lines l.program 0 l.instructions

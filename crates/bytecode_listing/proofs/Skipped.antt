@@ -1,0 +1,128 @@
+-- Comments are skipped: what they say stands on one line.
+use Rattle.std.proofs.Common.{◌≡◌, ℕ, zero, suc, ◌/◌, ◌%◌, ◌+◌, ◌==◌, ◌&&◌, ◌<◌, Bool, true, false, if◌then◌else◌, List, [], ◌∷◌, ◌++◌, length, take, Option, Some, None, refl, ap, ◌∙◌, arith, codes}
+use Rattle.std.specs.Prelude.{not, nat_lt, nat_le, slice_get, option_map, option_and_then}
+use Rattle.std.specs.List.{flat_map, list_all}
+use Rattle.std.specs.Fmt.{decimal, digit_glyph, digits, digits_onto}
+use Rattle.std.proofs.lemmas.Bool.{and_parts}
+use Rattle.std.proofs.lemmas.Bool.Decides.{nat_tests}
+use Rattle.std.proofs.lemmas.List.Folds.{list_all-append}
+use Rattle.bytecode_format.specs.Code.{Code}
+use Rattle.bytecode_format.specs.Operations.{operation_of}
+use Rattle.bytecode_format.specs.declared.instruction.Instruction.{Instruction}
+use Rattle.bytecode_listing.specs.declared.comments.Table.{Table}
+use Rattle.bytecode_listing.specs.declared.comments.Table.TheVariants.{Strings, Numbers, Instructions}
+use Rattle.bytecode_listing.specs.Listing.{is_plain, two_digits, escaped_octet, quoted, max_shown, shown, table_of, entry_text, meant, comment}
+use Rattle.bytecode_listing.specs.Tokens.{Comment, tokens_from, tokens_of}
+use Rattle.bytecode_listing.proofs.Lexing.{after_white, after_semicolon, comment_ends, comment_goes_on}
+use Rattle.bytecode_listing.proofs.Words.{Stops}
+
+-- no LF
+abbrev goes_on : ℕ → Bool
+goes_on octet = not (octet == 10)
+
+abbrev IsLine : List ℕ → Type 0
+IsLine text = list_all goes_on text ≡ true
+
+abbrev AreLines : Option (List ℕ) → Type 0
+AreLines None = Unit {0}
+AreLines (Some text) = IsLine text
+
+appended : (x y : List ℕ) → IsLine x → IsLine y → IsLine (x ++ y)
+appended x y h k = list_all-append goes_on x y ∙ ap (λ b. b && list_all goes_on y) h ∙ k
+
+glyph : (d : ℕ) → goes_on (digit_glyph false d) ≡ true
+glyph d = by_size (nat_lt d 10)
+  where
+    high : (n : ℕ) → 10 < n → goes_on n ≡ true
+    high n h = grind (arith, nat_tests)
+
+    by_size : (b : Bool) → goes_on (if b then 48 + d else 87 + d) ≡ true
+    by_size true = high (48 + d) (omega arith)
+    by_size false = high (87 + d) (omega arith)
+
+escaped : (octet : ℕ) → IsLine (escaped_octet octet)
+escaped octet = by_class (is_plain octet) refl
+  where
+    plain : is_plain octet ≡ true → goes_on octet ≡ true
+    plain h = grind (arith, nat_tests)
+
+    by_class : (b : Bool) → is_plain octet ≡ b → IsLine (if b then octet ∷ [] else 92 ∷ two_digits octet)
+    by_class true e = ap (λ b. b && true) (plain e)
+    by_class false e = ap (λ b. b && (goes_on (digit_glyph false (octet % 16)) && true)) (glyph (octet / 16)) ∙ ap (λ b. b && true) (glyph (octet % 16))
+
+all_escaped : (octets : List ℕ) → IsLine (flat_map escaped_octet octets)
+all_escaped [] = refl
+all_escaped (octet ∷ octets) = appended (escaped_octet octet) (flat_map escaped_octet octets) (escaped octet) (all_escaped octets)
+
+quoted_line : (octets : List ℕ) → IsLine (quoted octets)
+quoted_line octets = appended (flat_map escaped_octet octets) (34 ∷ []) (all_escaped octets) refl
+
+shown_line : (text : List ℕ) → IsLine (shown text)
+shown_line text = by_size (nat_le (length text) max_shown)
+  where
+    by_size : (b : Bool) → IsLine (if b then quoted text else quoted (take max_shown text) ++ codes "...")
+    by_size true = quoted_line text
+    by_size false = appended (quoted (take max_shown text)) (codes "...") (quoted_line (take max_shown text)) refl
+
+digits_line : (k n : ℕ) (text : List ℕ) → IsLine text → IsLine (digits_onto k 10 false n text)
+digits_line zero n text h = h
+digits_line (suc k) n text h =
+    let more : IsLine (digit_glyph false (n % 10) ∷ text) = ap (λ b. b && list_all goes_on text) (glyph (n % 10)) ∙ h in
+    by_rest (n / 10 == 0) more (digits_line k (n / 10) (digit_glyph false (n % 10) ∷ text) more)
+  where
+    by_rest : (b : Bool) → IsLine (digit_glyph false (n % 10) ∷ text) → IsLine (digits_onto k 10 false (n / 10) (digit_glyph false (n % 10) ∷ text))
+        → IsLine (if b then digit_glyph false (n % 10) ∷ text else digits_onto k 10 false (n / 10) (digit_glyph false (n % 10) ∷ text))
+    by_rest true h k = h
+    by_rest false h k = k
+
+decimal_line : (n : ℕ) → IsLine (decimal n)
+unfolding digits
+decimal_line n = digits_line 64 n [] refl
+
+entry_line : (code : Code) (place : ℕ) (table : Table) → AreLines (entry_text code place table)
+entry_line code place Strings = found (slice_get code.strings place)
+  where
+    found : (o : Option (List ℕ)) → AreLines (option_map shown o)
+    found None = tt
+    found (Some text) = shown_line text
+entry_line code place Numbers = found (slice_get code.numbers place)
+  where
+    found : (o : Option ℕ) → AreLines (option_map decimal o)
+    found None = tt
+    found (Some n) = decimal_line n
+entry_line code place Instructions = found (nat_lt place (length code.instructions))
+  where
+    found : (b : Bool) → AreLines (if b then Some (codes "to " ++ decimal place) else None)
+    found true = decimal_line place
+    found false = tt
+
+meant_line : (code : Code) (i : Instruction) → AreLines (meant code i)
+meant_line code i = by_table (option_and_then table_of (operation_of i.op))
+  where
+    by_table : (table : Option Table) → AreLines (option_and_then (entry_text code i.c) table)
+    by_table None = tt
+    by_table (Some table) = entry_line code i.c table
+
+-- what follows a comment's LF
+in_comment : (text rest : List ℕ) → IsLine text → tokens_from Comment (text ++ 10 ∷ rest) ≡ tokens_of rest
+in_comment [] rest h = comment_ends rest
+in_comment (x ∷ text) rest h =
+    let parts = and_parts (goes_on x) (list_all goes_on text) h in
+    comment_goes_on x (text ++ 10 ∷ rest) (other (x == 10) parts.0) ∙ in_comment text rest parts.1
+  where
+    other : (b : Bool) → not b ≡ true → b ≡ false
+    other true h = absurd cc
+    other false h = refl
+
+skipped : (text : Option (List ℕ)) (rest : List ℕ) → AreLines text → tokens_of (comment text ++ 10 ∷ rest) ≡ tokens_of rest
+skipped None rest h = after_white 10 rest refl
+skipped (Some text) rest h =
+    let said : List ℕ = 32 ∷ (text ++ 10 ∷ rest) in
+    after_white 32 (59 ∷ said) refl ∙ after_semicolon said ∙ in_comment (32 ∷ text) rest h
+
+pub comment_skipped : (code : Code) (i : Instruction) (rest : List ℕ) → tokens_of (comment (meant code i) ++ 10 ∷ rest) ≡ tokens_of rest
+comment_skipped code i rest = skipped (meant code i) rest (meant_line code i)
+
+pub comment_stops : (text : Option (List ℕ)) (rest : List ℕ) → Stops (comment text ++ 10 ∷ rest)
+comment_stops None rest = refl
+comment_stops (Some text) rest = refl
