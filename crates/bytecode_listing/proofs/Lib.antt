@@ -7,4 +7,6 @@ mod Loop
 mod Words
 mod Written
 mod Skipped
+mod Short
+mod Faultless
 mod Lines

@@ -1,4 +1,5 @@
 // Listings with ample memory: none is refused.
+use crate::laws::read_again;
 use crate::{ListingError, assemble, disassemble};
 use bytecode_format::{Instruction, Operation, Program};
 use octets::Octets;
@@ -47,8 +48,13 @@ fn small_program(rt: HostRuntime) -> Result<(), Fail> {
     };
     let instructions = [plain(Operation::Literal.octet()), header, plain(0xFF)].to_vec(alloc)?;
     let program = program_of(strings, instructions, alloc)?;
-    let listing = disassemble(alloc, &program)?;
-    assert!(rt; listing.as_slice() == SMALL);
+    let Ok(again) = read_again(alloc, &program) else {
+        return Err(Fail::from("not read"));
+    };
+    for same in [&program, &again] {
+        let listing = disassemble(alloc, same)?;
+        assert!(rt; listing.as_slice() == SMALL);
+    }
     Ok(())
 }
 

@@ -1,10 +1,18 @@
 //! What holds of every program and its listing, over the definitions that `disassemble` and
 //! `assemble` cite.
-ghost use Rattle.std.specs.Prelude.{◌≡◌, ℕ, List, All};
+ghost use Rattle.std.specs.Prelude.{◌≡◌, ◌≤◌, ℕ, List, All, length, IfOk, IfErr};
 ghost use Rattle.bytecode_format.specs.Code.{Code};
 ghost use Rattle.bytecode_format.specs.Spelling.{IsProgram};
-ghost use Rattle.bytecode_listing.specs.Listing.{AreOctets, listing_of};
-ghost use Rattle.bytecode_listing.specs.Items.{Lists};
+ghost use Rattle.bytecode_format.specs.declared.instruction.Instruction.{Instruction};
+ghost use Rattle.bytecode_listing.specs.Listing.{AreOctets, comment, listing_of, meant};
+ghost use Rattle.bytecode_listing.specs.Items.{FaultsAt, Lists};
+ghost use Rattle.bytecode_listing.specs.declared.error.ListingError.TheVariants.{Memory};
+
+use crate::assembling::assemble;
+use crate::error::ListingError;
+use crate::writing::disassemble;
+use bytecode_format::Program;
+use std::alloc::Global;
 
 /// What is disassembled is assembled as the same program, each octet of its strings included.
 pub fn listings_say_their_programs()
@@ -16,3 +24,26 @@ pub fn listings_say_their_programs()
 pub fn one_program_for_a_listing()
     ensures { (listing : List ℕ) (p q : Code) → Lists listing p → Lists listing q → p ≡ q }
 {}
+
+/// What is disassembled has no fault.
+pub fn listings_have_no_fault()
+    ensures { (listing : List ℕ) (code : Code) → Lists listing code
+        → (place : ℕ) → FaultsAt listing place → ⊥ }
+{}
+
+/// A comment has at most 128 octets. So a listing grows with its program, whichever strings the
+/// instructions refer to, and however often.
+pub fn comments_are_short()
+    ensures { (code : Code) (i : Instruction) → length (comment (meant code i)) ≤ 128 }
+{}
+
+/// The same program, by both calls: nothing but a refused allocation keeps it from being read.
+pub fn read_again(alloc: Global, program: &Program) -> Result<Program, ListingError>
+    ensures same { IfOk result (λ p. p ≡ program.now) }
+    ensures memory { IfErr result (λ e. e ≡ Memory) }
+{
+    let Ok(listing) = disassemble(alloc, program) else {
+        return Err(ListingError::Memory);
+    };
+    assemble(alloc, listing.as_slice())
+}
