@@ -3,6 +3,8 @@ use Rattle.base64.specs.declared.decode.DecodeAllocError.{DecodeAllocError}
 use Rattle.base64.specs.declared.decode.DecodeAllocError.TheVariants as base64
 use Rattle.bytecode_format.specs.declared.error.FormatError.{FormatError}
 use Rattle.bytecode_format.specs.declared.error.FormatError.TheVariants as format
+use Rattle.bytecode_listing.specs.declared.error.ListingError.{ListingError}
+use Rattle.bytecode_listing.specs.declared.error.ListingError.TheVariants as listing
 use Rattle.bytecode_verifier.specs.declared.error.Refusal.{Refusal as BrokenRule}
 use Rattle.bytecode_verifier.specs.declared.error.Refusal.TheVariants as verifier
 use Rattle.hex.specs.declared.error.FromHexError.{FromHexError}
@@ -16,7 +18,7 @@ use Rattle.sieve_check.specs.declared.error.CheckError.TheVariants as checker
 use Rattle.sieve_parser.specs.declared.error.ParseError.{ParseError}
 use Rattle.sieve_parser.specs.declared.error.ParseError.TheVariants as parser
 use Rattle.refusals.specs.declared.refusal.Refusal.{Refusal}
-use Rattle.refusals.specs.declared.refusal.Refusal.TheVariants.{Memory, MessageTooLarge, TooManyParts, NotCanonical, Lexical, ScriptTooLong, Syntax, TooDeep, UnknownCommand, MissingCapability, UnknownCapability, BadArguments, Limit, Spelling, Index, Form, End, Loop, Jump, NoPart, Stack}
+use Rattle.refusals.specs.declared.refusal.Refusal.TheVariants.{Memory, MessageTooLarge, TooManyParts, NotCanonical, Lexical, ScriptTooLong, Syntax, TooDeep, UnknownCommand, MissingCapability, UnknownCapability, BadArguments, Limit, Spelling, Index, Form, End, Loop, Jump, NoPart, Stack, Listing}
 
 -- an error of the parser
 abbrev pub of_parser : ParseError → Refusal
@@ -50,6 +52,11 @@ of_verifier (verifier.Loop place) = Loop place
 of_verifier (verifier.Jump place) = Jump place
 of_verifier (verifier.NoPart place) = NoPart place
 of_verifier (verifier.Stack place) = Stack place
+
+-- of reading a listing
+abbrev pub of_listing : ListingError → Refusal
+of_listing listing.Memory = Memory
+of_listing (listing.Fault place) = Listing place
 
 -- of reading a message
 abbrev pub of_message : MessageError → Refusal

@@ -2,7 +2,7 @@
 use Rattle.std.specs.Prelude.{ℕ, List, [], ◌++◌, Option, None, Some, codes}
 use Rattle.std.specs.Fmt.{decimal}
 use Rattle.refusals.specs.declared.refusal.Refusal.{Refusal}
-use Rattle.refusals.specs.declared.refusal.Refusal.TheVariants.{Memory, MessageTooLarge, TooManyParts, NotCanonical, Lexical, ScriptTooLong, Syntax, TooDeep, UnknownCommand, MissingCapability, UnknownCapability, BadArguments, Limit, Spelling, Index, Form, End, Loop, Jump, NoPart, Stack, NoSuchEntry, NumberFull, Collision, Database, UserName, Write, Read}
+use Rattle.refusals.specs.declared.refusal.Refusal.TheVariants.{Memory, MessageTooLarge, TooManyParts, NotCanonical, Lexical, ScriptTooLong, Syntax, TooDeep, UnknownCommand, MissingCapability, UnknownCapability, BadArguments, Limit, Spelling, Index, Form, End, Loop, Jump, NoPart, Stack, Listing, NoSuchEntry, NumberFull, Collision, Database, UserName, Write, Read}
 
 -- the number of a refusal
 abbrev pub number_of : Refusal → ℕ
@@ -27,6 +27,7 @@ number_of (Loop place) = 24
 number_of (Jump place) = 25
 number_of (NoPart place) = 26
 number_of (Stack place) = 27
+number_of (Listing place) = 28
 number_of NoSuchEntry = 40
 number_of NumberFull = 41
 number_of Collision = 42
@@ -58,6 +59,7 @@ name_of (Loop place) = codes "Loop"
 name_of (Jump place) = codes "Jump"
 name_of (NoPart place) = codes "NoPart"
 name_of (Stack place) = codes "Stack"
+name_of (Listing place) = codes "Listing"
 name_of NoSuchEntry = codes "NoSuchEntry"
 name_of NumberFull = codes "NumberFull"
 name_of Collision = codes "Collision"
@@ -89,6 +91,7 @@ place_of (Loop place) = Some place
 place_of (Jump place) = Some place
 place_of (NoPart place) = Some place
 place_of (Stack place) = Some place
+place_of (Listing place) = Some place
 place_of NoSuchEntry = None
 place_of NumberFull = None
 place_of Collision = None

@@ -2,6 +2,7 @@
 use crate::refusal::Refusal;
 use base64::DecodeAllocError;
 use bytecode_format::FormatError;
+use bytecode_listing::ListingError;
 use bytecode_verifier::Refusal as BrokenRule;
 use hex::FromHexError;
 use lanes_base32::Refusal as Base32Refusal;
@@ -74,6 +75,20 @@ impl From<BrokenRule> for Refusal {
             BrokenRule::Jump { place } => Refusal::Jump { place },
             BrokenRule::NoPart { place } => Refusal::NoPart { place },
             BrokenRule::Stack { place } => Refusal::Stack { place },
+        }
+    }
+}
+
+impl From<ListingError> for Refusal {
+    ghost use Rattle.std.specs.Prelude.{◌≡◌};
+    ghost use Rattle.refusals.specs.Causes.{of_listing};
+
+    ghost from_gives = { λ cause e. e ≡ of_listing cause };
+
+    fn from(cause: ListingError) -> Refusal {
+        match cause {
+            ListingError::Memory => Refusal::Memory,
+            ListingError::Fault { place } => Refusal::Listing { place },
         }
     }
 }

@@ -74,6 +74,9 @@ pub enum Refusal {
     /// An entry of the stack is missing, of the wrong kind, too many, or left where none may be.
     #[error("refused 27 Stack at {place}")]
     Stack { place: usize },
+    /// At this octet of a listing stands what can't stand there; or its end, where what it lists exceeds the limits of programs.
+    #[error("refused 28 Listing at {place}")]
+    Listing { place: usize },
     /// A user has no entry of that number.
     #[error("refused 40 NoSuchEntry")]
     NoSuchEntry,
@@ -127,6 +130,7 @@ impl Refusal {
             Refusal::Jump { .. } => 25,
             Refusal::NoPart { .. } => 26,
             Refusal::Stack { .. } => 27,
+            Refusal::Listing { .. } => 28,
             Refusal::NoSuchEntry => 40,
             Refusal::NumberFull => 41,
             Refusal::Collision => 42,
@@ -163,6 +167,7 @@ impl Refusal {
             Refusal::Jump { .. } => "Jump",
             Refusal::NoPart { .. } => "NoPart",
             Refusal::Stack { .. } => "Stack",
+            Refusal::Listing { .. } => "Listing",
             Refusal::NoSuchEntry => "NoSuchEntry",
             Refusal::NumberFull => "NumberFull",
             Refusal::Collision => "Collision",
@@ -192,7 +197,8 @@ impl Refusal {
             | Refusal::Loop { place }
             | Refusal::Jump { place }
             | Refusal::NoPart { place }
-            | Refusal::Stack { place } => Some(*place),
+            | Refusal::Stack { place }
+            | Refusal::Listing { place } => Some(*place),
             Refusal::Memory
             | Refusal::MessageTooLarge
             | Refusal::TooManyParts
