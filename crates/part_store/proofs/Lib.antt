@@ -28,3 +28,5 @@ mod Sums
 mod Replacing
 mod Showing
 mod Opened
+mod Stored
+mod Crashed
