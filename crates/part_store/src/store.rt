@@ -259,7 +259,7 @@ impl<S: Alter> PartStore<S> {
         ensures made { HasCleanDisk (state S.Store self.new) → OnOk result (Makes (with_program user.now program.now) (state S.Store self.old) (state S.Store self.new)) }
         ensures spared { HasCleanDisk (state S.Store self.new) → OnErr result (Spares (state S.Store self.old) (state S.Store self.new)) }
         ensures refused { IfErr result (λ e. (e ≡ Memory) ⊎ (e ≡ Database)) }
-        ensures survives { Survives (state S.Store self.old) (state S.Store self.new) (MayMake (with_program user.now program.now) (state S.Store self.old)) }
+        ensures survives { Survives (state S.Store self.old) (state S.Store self.new) (λ trees. MayMake (with_program user.now program.now) (state S.Store self.old) trees) }
     {
         let mut tx = begin(&mut self.conn);
         put_program(&mut tx, user, program)?;
