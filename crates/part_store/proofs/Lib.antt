@@ -28,5 +28,5 @@ mod Sums
 mod Replacing
 mod Showing
 mod Opened
-mod Stored
+pub mod Stored
 mod Crashed

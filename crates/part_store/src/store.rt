@@ -528,6 +528,7 @@ impl PartStore<FileStore<File>> {
     pub fn open(rt: &HostRuntime, path: &str) -> Result<PartStore<FileStore<File>>, StoreError>
         ensures ready { IfOk result IsReady }
         ensures refused { IfErr result (λ e. (e ≡ Memory) ⊎ (e ≡ Database)) }
+        ensures cause { (image : Image) × HasCause image result }
     {
         PartStore::open_from(rt, path, Unknown)
     }
