@@ -1,6 +1,6 @@
 -- What a crash leaves is found.
-use Rattle.std.proofs.Common.{◌≡◌, ◌⊎◌, inl, inr, refl, sym, ap, subst, ◌∙◌, IsTrue}
-use Rattle.std.proofs.Math.Logic.{∥∥₁_elim, ∥∥₁_map}
+use Rattle.std.proofs.Common.{◌≡◌, ◌⊎◌, inl, inr, refl, ap, ◌∙◌, IsTrue}
+use Rattle.std.proofs.Math.Logic.{∥∥₁_map}
 use Rattle.sqlite_disk.specs.declared.Disk.{Ghosts}
 use Rattle.sqlite_trees.specs.Tree.{Trees}
 use Rattle.sqlite.specs.declared.FileStore.{FileStore}
@@ -8,7 +8,7 @@ use Rattle.sqlite.specs.Effect.{Database}
 use Rattle.sqlite.specs.Files.{file_state, HoldsDatabase}
 use Rattle.sqlite.specs.Held.{Held}
 use Rattle.sqlite.specs.Recovery.{Image}
-use Rattle.sqlite.specs.State.{State, HasCleanDisk, Survives}
+use Rattle.sqlite.specs.State.{HasCleanDisk, Survives}
 use Rattle.sqlite.proofs.Theorems.{opens_again}
 use Rattle.part_store.specs.Tables.{store_schema}
 use Rattle.part_store.specs.Entries.{Entries}
