@@ -6,7 +6,7 @@ use Rattle.bytecode_format.specs.Code.{Code}
 use Rattle.bytecode_format.specs.Spelling.{spelling}
 use Rattle.sieve_engine.specs.Evaluation.{IsCompiled}
 use Rattle.part_store.specs.Entries.{Entries, Entry, with_program, without_entry}
-use Rattle.part_store.specs.Standing.{IsEntryAt, Makes, Spares, Stands, StandsFor}
+use Rattle.part_store.specs.Standing.{IsEntryAt, IsStored, Makes, MayMake, Spares, Stands}
 use Rattle.depot_actions.specs.DepotState.{Accepts, Command, Does, Done, Leaves, MayLeave, Remove, Reply, SetScript}
 use Rattle.depot_actions.specs.Users.{is_user_name}
 
@@ -57,7 +57,7 @@ module _ (old new : State) (user : List ℕ) (named : IsTrue (is_user_name user)
       (λ before stands. record { named = named; step = (code, compiled, refl, ap (λ p. with_program user p before) is) })
 
   pub script_left : (script octets : List ℕ) (code : Code) → IsCompiled script code → octets ≡ spelling code → (trees : Trees)
-      → ((before : Entries) → Stands old.now before → StandsFor trees (with_program user octets before)) → MayLeave (SetScript user script) old trees
+      → MayMake (with_program user octets) old trees → MayLeave (SetScript user script) old trees
   script_left script octets code compiled is trees left = λ before stands. (
     Done,
     with_program user octets before,
@@ -66,7 +66,7 @@ module _ (old new : State) (user : List ℕ) (named : IsTrue (is_user_name user)
   )
 
   pub removal_left : (number : ℕ) → (trees : Trees)
-      → ((before : Entries) → Stands old.now before → ((x : Entry) × IsEntryAt before user number x) × StandsFor trees (without_entry user number before)) → MayLeave (Remove user number) old trees
+      → ((before : Entries) → Stands old.now before → ((x : Entry) × IsEntryAt before user number x) × IsStored trees (without_entry user number before)) → MayLeave (Remove user number) old trees
   removal_left number trees left = λ before stands.
       let found = left before stands in (
         Done,

@@ -114,7 +114,7 @@ module _ (old mid new : State) (user message : List ℕ) (program : Option (List
             readable = readable;
             actions = actions;
             are = actions_are before stands;
-            room = room_left before trees after;
+            room = room_left before trees after.tables;
             listed = refl;
             filed = filed_some user drafts before more;
           };

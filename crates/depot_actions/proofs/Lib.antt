@@ -11,5 +11,7 @@ pub mod Folding
 pub mod NoCause
 pub mod Migrating
 pub mod SameRuns
+pub mod Crashing
+pub mod Opening
 pub mod Surveying
 mod Examples

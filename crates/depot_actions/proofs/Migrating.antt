@@ -18,7 +18,7 @@ use Rattle.bytecode_format.specs.Code.{Code}
 use Rattle.bytecode_format.specs.Spelling.{spelling}
 use Rattle.sieve_engine.specs.Execution.{IsChecked}
 use Rattle.part_store.specs.Entries.{AreProgramsOf, Entries, IsBefore, UserProgram, program_named, with_programs}
-use Rattle.part_store.specs.Standing.{Makes, Spares, Stands, StandsFor, pair_of}
+use Rattle.part_store.specs.Standing.{Makes, MayMake, Spares, Stands, pair_of}
 use Rattle.depot_actions.specs.DepotState.{Accepts, Does, IsRenewed, MayLeave, Migrate, Migrated, Migrates, is_latest, latest_version}
 use Rattle.depot_actions.specs.Renewing.{AreRenewals, renewal, renewals, renewed_octets, with_renewal}
 use Rattle.depot_actions.proofs.Commands.{left_alone, stands_still}
@@ -212,7 +212,7 @@ module _ (old mid new : State) (stored renewed : List UserProgram) (was_open : I
       nothing [] h = refl
       nothing (pair ∷ pairs) h = absurd (omega (arith, h))
 
-  pub may_be_migrated : (trees : Trees) → IsTrue mid.is_open → ((before : Entries) → Stands mid.now before → StandsFor trees (with_programs renewed before)) → MayLeave Migrate old trees
+  pub may_be_migrated : (trees : Trees) → IsTrue mid.is_open → MayMake (with_programs renewed) mid trees → MayLeave Migrate old trees
   may_be_migrated trees is_open left = λ before stands. (
     Migrated (length renewed),
     with_programs renewed before,

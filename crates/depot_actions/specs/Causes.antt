@@ -1,5 +1,9 @@
 -- Why a depot refuses a command. The user's name comes first, then the script, program or message, then the store.
-use Rattle.std.specs.Prelude.{◌≡◌, ◌⊎◌, List, length}
+use Rattle.std.specs.Prelude.{◌≡◌, ◌⊎◌, Err, List, Ok, Result, length, ⊤}
+use Rattle.sqlite_disk.specs.declared.Disk.{Ghosts}
+use Rattle.sqlite.specs.declared.FileStore.{FileStore}
+use Rattle.sqlite.specs.Held.{Held}
+use Rattle.sqlite.specs.Recovery.{Image}
 use Rattle.sqlite.specs.State.{State}
 use Rattle.sqlite_trees.specs.Tree.{Trees}
 use Rattle.bytecode_format.specs.Code.{Code}
@@ -9,6 +13,7 @@ use Rattle.sieve_engine.specs.Execution.{IsChecked, IsProgramRefusal, IsUnread}
 use Rattle.sieve_engine.specs.Evaluation.{IsCompiled, IsScriptRefusal}
 use Rattle.part_store.specs.Entries.{Entries}
 use Rattle.part_store.specs.Filing.{Collides, HasRoom}
+use Rattle.part_store.specs.Opening.{IsUnready}
 use Rattle.part_store.specs.Standing.{HasNone, Stands}
 use Rattle.part_store.specs.declared.error.StoreError.{StoreError}
 use Rattle.part_store.specs.declared.error.StoreError.TheVariants as store
@@ -96,6 +101,11 @@ HasCause Collision command state =
 HasCause Database command state = IsNamed command × IsSound command
 HasCause Write command state = IsNamed command × IsExport command
 HasCause refusal command state = IsNamed command × IsUnsound command refusal
+
+-- why files that held the image aren't opened as a depot, where that is refused `Database`
+abbrev pub HasOpenCause : {D : Type 0} {g : Ghosts D} → Image → Result (Held (FileStore D g)) Refusal → Type 0
+HasOpenCause image (Ok depot) = ⊤
+HasOpenCause {D} {g} image (Err refusal) = refusal ≡ Database → IsUnready g image
 
 -- ---- which refusals a command may get, whatever the disk does
 

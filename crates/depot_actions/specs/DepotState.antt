@@ -14,7 +14,7 @@ use Rattle.sieve_engine.specs.Execution.{IsChecked}
 use Rattle.sieve_engine.specs.Evaluation.{IsCompiled}
 use Rattle.part_store.specs.Entries.{AreProgramsOf, Draft, Entries, Entry, Listing, UserProgram, entries_of, listing_of, numbered, with_entries, with_program, without_entry}
 use Rattle.part_store.specs.Filing.{HasRoom}
-use Rattle.part_store.specs.Standing.{DiskFailed, IsEntryAt, Stands, StandsFor}
+use Rattle.part_store.specs.Standing.{DiskFailed, IsEntryAt, IsStored, Stands}
 use Rattle.depot_actions.specs.Drafts.{drafts_of}
 use Rattle.depot_actions.specs.Texts.{text_of}
 use Rattle.depot_actions.specs.Users.{is_user_name}
@@ -131,7 +131,7 @@ abbrev pub Does : Command → Reply → State → State → Type 0
 Does command reply old new =
     IsTrue old.is_open × ((before : Entries) → Stands old.now before → (after : Entries) × Accepts before command reply after × Leaves before after old new)
 
--- tables that stand for what the command leaves: with the step that the store itself makes, all that a crash may leave
+-- the store of what the command leaves: with the step that the store itself makes, all that a crash may leave
 abbrev pub MayLeave : Command → State → Trees → Type 0
 MayLeave command old trees =
-    (before : Entries) → Stands old.now before → (reply : Reply) × (after : Entries) × Accepts before command reply after × StandsFor trees after
+    (before : Entries) → Stands old.now before → (reply : Reply) × (after : Entries) × Accepts before command reply after × IsStored trees after

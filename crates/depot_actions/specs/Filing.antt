@@ -9,7 +9,7 @@ use Rattle.bytecode_format.specs.declared.action.Action.TheVariants.{Keep, File,
 use Rattle.mime_decode.specs.Mail.{Mail, Part}
 use Rattle.part_store.specs.Entries.{Draft, Entries, Listing, entry_of, listing_of, numbered, with_entries}
 use Rattle.part_store.specs.Filing.{Collides, HasRoom}
-use Rattle.part_store.specs.Standing.{Stands, StandsFor}
+use Rattle.part_store.specs.Standing.{MayMake, Stands}
 use Rattle.refusals.specs.declared.refusal.Refusal.{Refusal}
 use Rattle.refusals.specs.declared.refusal.Refusal.TheVariants.{Memory, NumberFull, Collision, Database}
 use Rattle.depot_actions.specs.Drafts.{media_text, name_of}
@@ -57,9 +57,9 @@ IsUnfiled Collision user drafts old =
     IsTrue old.is_open × ((before : Entries) → Stands old.now before → HasRoom before user (length drafts) × Collides old.now.trees drafts)
 IsUnfiled _ user drafts old = ⊥
 
--- tables that stand for what filing the drafts leaves
+-- the store of what filing the drafts leaves
 abbrev pub MayFile : List ℕ → List Draft → State → Trees → Type 0
-MayFile user drafts old trees = IsTrue old.is_open × ((before : Entries) → Stands old.now before → StandsFor trees (with_entries user drafts before))
+MayFile user drafts old trees = IsTrue old.is_open × MayMake (with_entries user drafts) old trees
 
 -- the refusals of filing, whatever the disk does
 abbrev pub MayUnfile : Refusal → Type 0

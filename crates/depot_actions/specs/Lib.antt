@@ -5,6 +5,7 @@ pub mod Drafts
 pub mod DepotState
 pub mod Causes
 pub mod History
+pub mod Runs
 pub mod Overviews
 -- how what actions ask for is filed; nothing public rests on this
 pub mod Filing

@@ -4,11 +4,12 @@ ghost use Rattle.sqlite.specs.Held.{state};
 ghost use Rattle.sqlite.specs.State.{HasCleanDisk, Survives};
 ghost use Rattle.sqlite.specs.Steps.{over_memory};
 ghost use Rattle.part_store.specs.Entries.{Entries, no_entries};
-ghost use Rattle.part_store.specs.Opening.{HoldsNoTables, HoldsStore, IsAt, IsReady, IsReadyFrom};
+ghost use Rattle.part_store.specs.Opening.{HoldsNoTables, HoldsStore, IsAt, IsReady, IsReadyFrom, TellsWhy};
+ghost use Rattle.sqlite.specs.Recovery.{Image};
 ghost use Rattle.sqlite.specs.WalFiles.{image_at};
 ghost use Rattle.part_store.specs.Standing.{Spares, Stands, listed};
 ghost use Rattle.refusals.specs.declared.refusal.Refusal.TheVariants.{Memory, Database, Write};
-ghost use Rattle.depot_actions.specs.Causes.{HasCause, MayRefuse};
+ghost use Rattle.depot_actions.specs.Causes.{HasCause, HasOpenCause, MayRefuse};
 ghost use Rattle.depot_actions.specs.DepotState.{Deliver, Does, Done, Export, ListAll, Listed, MayLeave, Migrate, Migrated, Program, ProgramOf, Remove, SetCode, SetScript, Text};
 ghost use Rattle.depot_actions.specs.Overviews.{IsOverview};
 ghost use Rattle.sqlite.specs.Files.{file_state, IsOpened};
@@ -308,6 +309,7 @@ impl<B: Start> Depot<FileStore<FileFrom<B>>> {
             → HoldsNoTables (image_at B.Start) → IsAt no_entries (file_state d)) }
         ensures settled { IfOk result (λ d. (file_state d).in_transaction ≡ false) }
         ensures refused { IfErr result (λ e. (e ≡ Memory) ⊎ (e ≡ Database)) }
+        ensures cause { HasOpenCause (image_at B.Start) result }
     {
         match PartStore::open_from(rt, path, start) {
             Ok(store) => Ok(Depot { store }),
@@ -330,6 +332,7 @@ impl<B: Start> Depot<FileStore<FileFrom<B>>> {
             → (held : Entries) → HoldsStore (image_at B.Start) held → IsAt held (file_state d)) }
         ensures tables { IfOk result (λ d. are_tables (file_state d).now.schema.tables ≡ true) }
         ensures settled { IfOk result (λ d. (file_state d).in_transaction ≡ false) }
+        ensures cause { TellsWhy (image_at B.Start) result }
     {
         match PartStore::look_from(rt, path, start) {
             Ok(store) => Ok(Depot { store }),
@@ -359,6 +362,7 @@ impl Depot<FileStore<File>> {
     pub fn look(rt: &HostRuntime, path: &str) -> Result<Depot<FileStore<File>>, Unopened>
         ensures opened { IfOk result (λ d. HasCleanDisk (file_state d) → IsOpened d) }
         ensures tables { IfOk result (λ d. are_tables (file_state d).now.schema.tables ≡ true) }
+        ensures cause { (image : Image) × TellsWhy image result }
     {
         Depot::look_from(rt, path, Unknown)
     }

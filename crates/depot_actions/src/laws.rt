@@ -1,20 +1,25 @@
 //! What holds of the definitions alone.
-ghost use Rattle.std.specs.Prelude.{◌≡◌, ◌++◌, ℕ, List, IsTrue};
+ghost use Rattle.std.specs.Prelude.{◌≡◌, ◌++◌, ◌∷◌, ℕ, List, IsTrue};
 ghost use Rattle.bytecode_format.specs.declared.action.Action.{Action};
 ghost use Rattle.mime_decode.specs.Mail.{Mail};
 ghost use Rattle.octet_lanes.specs.Encoding.{IsOctets};
 ghost use Rattle.sqlite.specs.Held.{Held, state};
+ghost use Rattle.sqlite.specs.Recovery.{Image};
 ghost use Rattle.sqlite.specs.State.{HasCleanDisk};
 ghost use Rattle.sqlite_trees.specs.Tree.{Trees};
-ghost use Rattle.part_store.specs.Entries.{Entries};
+ghost use Rattle.part_store.specs.Entries.{Entries, no_entries};
+ghost use Rattle.part_store.specs.Opening.{HoldsNoTables, HoldsStore};
 ghost use Rattle.part_store.specs.Standing.{Stands};
 ghost use Rattle.depot_actions.specs.Causes.{IsFull, NamesNone};
 ghost use Rattle.depot_actions.specs.DepotState.{Accepts, AreActions, Command, IsNamed, Migrate, Reply};
 ghost use Rattle.depot_actions.specs.History.{AreAnswered, AreSteps, Call};
+ghost use Rattle.depot_actions.specs.Runs.{AreRuns, HoldFold, Run};
 ghost use Rattle.depot_actions.specs.Texts.{IsPiece, Reads, text_of};
 ghost use Rattle.depot_actions.specs.declared.encoding.Encoding.{Encoding};
 
-use sqlite::Alter;
+use part_store::laws::each_image_holds_one_left;
+use sqlite::{Alter, FileStore};
+use sqlite_disk::Disk;
 
 /// Each text reads as one list of octets at most.
 pub fn reads_at_most_one()
@@ -44,6 +49,17 @@ pub fn open_stores_leave_what_is_committed<S: Alter>()
     ensures clean { (store : Held S) → IsTrue (state S.Store store).is_open → HasCleanDisk (state S.Store store) }
     ensures left { (store : Held S) (trees : Trees) → IsTrue (state S.Store store).is_open → (state S.Store store).may_leave trees → trees ≡ (state S.Store store).committed.trees }
 {}
+
+/// What one command left is what the next one finds. Commands over two files, each in a run that opens them, does one command, and ends by
+/// itself or in a crash, leave files that hold what the commands make of what was held, one after another. A run that ends with the depot open
+/// makes what its reply says; one that a crash or a failure of the disk met makes that, or nothing.
+pub fn runs_are_a_fold<D: Disk + Drop>()
+    ensures held { (runs : List (Run D.Disk)) (image : Image) (before : Entries) → HoldsStore image before → AreRuns image runs → ∥ HoldFold image runs before ∥₁ }
+    ensures new { (run : Run D.Disk) (runs : List (Run D.Disk)) (image : Image) → HoldsNoTables image → AreRuns image (run ∷ runs) → ∥ HoldFold image (run ∷ runs) no_entries ∥₁ }
+{
+    open_stores_leave_what_is_committed::<FileStore<D>>();
+    each_image_holds_one_left::<D>();
+}
 
 /// An accepted command has none of the causes that commands are refused for: its user is named, an entry that it names is
 /// there, and the numbers that a delivery needs suffice.

@@ -33,7 +33,7 @@ contents_listed old new rows h =
     ordered 2 1 [] (op1 Length (col 1 2) ∷ []) old.now.trees [] every sized rows a (λ r. refl) (λ r. refl))
 
 pub content_taken : (old new : State) (digest : List ℕ) (count : ℕ) → ExecutesInside 0 drop_content_text (Blob digest ∷ []) old new (Ok count) → Steps (IsTaken contents_tree (equals 1 (Blob digest))) old new
-content_taken old new digest count h = stepped drop_content_text (Blob digest ∷ []) old new count _ h (λ has.
+content_taken old new digest count h = stepped drop_content_text (Blob digest ∷ []) old new count _ h (λ has. (ran_as drop_content_text (Blob digest ∷ []) old new _ count drop_content_is h has).sound) (λ has.
     let it = deleted 1 2 (codes "contents") content_columns (1 ∷ []) [] refl old new (Blob digest ∷ []) _ count has (is_given 1 0 ∷ []) (ran_as drop_content_text (Blob digest ∷ []) old new _ count drop_content_is h has) in
     (it.0, taken_as contents_tree _ (equals 1 (Blob digest)) old.now.trees new.now.trees (λ r. and_true _) it.1))
 
@@ -41,6 +41,6 @@ pub content_added : (old new : State) (digest octets : List ℕ) (count : ℕ) �
     → Steps (IsAdded contents_tree (Blob digest ∷ Blob octets ∷ [])) old new
 content_added old new digest octets count h =
     let params : Row = Blob digest ∷ Blob octets ∷ [] in
-    stepped add_content_text params old new count _ h (λ has.
+    stepped add_content_text params old new count _ h (λ has. (ran_as add_content_text params old new _ count add_content_is h has).sound) (λ has.
     inserted 1 2 (codes "contents") content_columns (1 ∷ []) [] refl old new params _ count has (lit Null ∷ col 0 0 ∷ col 0 1 ∷ []) 3 (Null ∷ params) params refl
     (rw cast_null) (ran_as add_content_text params old new _ count add_content_is h has))

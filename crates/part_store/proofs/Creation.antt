@@ -36,6 +36,7 @@ module _ (text : List ℕ) (was : Schema) (table : Table) (means : Means was tex
       let now : new.now ≡ first.0 = ap (λ (p : Tally × Database). p.1) (same_value all.2) ∙ same_value (rw none at first.2) in
       record {
         schema = ap (λ (d : Database). d.schema) now ∙ schema;
+        listed = w.sound;
         empty = ap (λ (d : Database). d.trees (next_tree was)) now ∙ subst (λ s. first.0.trees (next_tree s) ≡ []) has made.empty;
         others = subst (λ (d : Database). AllByRecursion (λ t. d.trees t.tree ≡ old.now.trees t.tree) was.tables) (sym now) (subst (λ (s : Schema). AllByRecursion (λ t. first.0.trees t.tree ≡ old.now.trees t.tree) s.tables) has made.others);
       }

@@ -11,6 +11,7 @@ use Rattle.part_store.specs.Filing.{CanFile, Claims, Collides, Enters, FilesAll,
 use Rattle.part_store.specs.Standing.{HasContent, Stands, StandsFor, Stays}
 use Rattle.part_store.proofs.FiledAll.{has_left, has_right}
 use Rattle.part_store.proofs.Programs.{bytes_same}
+use Rattle.part_store.proofs.Stored.{still_listed}
 
 -- the numbers after the last one are free once they are claimed
 pub can_file : (d : Database) (before : Entries) (user : List ℕ) (last count : ℕ) → Stands d before → last ≡ before.lasts user → CanFile (with_last user (last + count) before) user last count
@@ -61,7 +62,7 @@ collides_before old mid drafts same h = record {
 pub stands_still : (old new : State) (before : Entries) → Stays old new → Stands old.now before → Stands new.now before
 stands_still old new before stays stands =
     let same = stays stands.schema in
-    record { schema = same.0; tables = subst (λ t. StandsFor t before) (sym same.1) stands.tables }
+    record { schema = same.0; listed = still_listed old.now new.now same.0 same.1 stands; tables = subst (λ t. StandsFor t before) (sym same.1) stands.tables }
 
 pub kept_then : (old mid new : State) → KeepsCommit old mid → KeepsCommit mid new → KeepsCommit old new
 kept_then old mid new first second = record { was_open = λ h. first.was_open (second.was_open h); committed = λ h. second.committed h ∙ first.committed (second.was_open h) }

@@ -31,7 +31,7 @@ pub entry_taken : (old new : State) (user : List ℕ) (number count : ℕ) → E
     → Steps (IsTaken entries_tree (is_entry user number)) old new
 entry_taken old new user number count h =
     let params : Row = Text user ∷ Int (pos number) ∷ [] in
-    stepped drop_entry_text params old new count _ h (λ has.
+    stepped drop_entry_text params old new count _ h (λ has. (ran_as drop_entry_text params old new _ count drop_entry_is h has).sound) (λ has.
     let it = deleted 2 4 (codes "entries") entry_columns (1 ∷ 2 ∷ []) entry_references refl old new params _ count has (is_given 1 0 ∷ is_given 2 1 ∷ []) (ran_as drop_entry_text params old new _ count drop_entry_is h has) in
     (it.0, taken_as entries_tree _ (is_entry user number) old.now.trees new.now.trees (λ r. ap (λ b. equals 1 (Text user) r && b) (and_true _)) it.1))
 
@@ -40,7 +40,7 @@ pub entry_added : (old new : State) (user : List ℕ) (number : ℕ) (folder : L
     → Steps (IsAdded entries_tree (Text user ∷ Int (pos number) ∷ Blob folder ∷ Int (pos kind) ∷ Blob name ∷ Blob media ∷ Blob digest ∷ [])) old new
 entry_added old new user number folder kind name media digest count h =
     let params : Row = Text user ∷ Int (pos number) ∷ Blob folder ∷ Int (pos kind) ∷ Blob name ∷ Blob media ∷ Blob digest ∷ [] in
-    stepped add_entry_text params old new count _ h (λ has.
+    stepped add_entry_text params old new count _ h (λ has. (ran_as add_entry_text params old new _ count add_entry_is h has).sound) (λ has.
     inserted 2 4 (codes "entries") entry_columns (1 ∷ 2 ∷ []) entry_references refl old new params _ count has
     (lit Null ∷ col 0 0 ∷ col 0 1 ∷ col 0 2 ∷ col 0 3 ∷ col 0 4 ∷ col 0 5 ∷ col 0 6 ∷ []) 8 (Null ∷ params) params refl
     (rw (cast_null, cast_int (pos number), cast_int (pos kind))) (ran_as add_entry_text params old new _ count add_entry_is h has))

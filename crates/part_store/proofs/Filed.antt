@@ -199,6 +199,7 @@ stocked_found old new digest octets row there reads shown same before stands =
     let held = subst (HasContent (old.now.trees contents_tree) digest) same (content_there old new digest row there reads shown before stands) in
     record {
       schema = step.schema;
+      listed = step.listed stands.listed;
       committed = step.committed;
       tables = subst (λ t. IsStocked old.now.trees t digest octets) (sym step.change.0) (stocked_already old.now.trees before digest octets stands.tables held);
     }
@@ -215,6 +216,7 @@ stocked_none old mid new digest octets reads adds before stands =
     let added = subst (λ t. IsAdded contents_tree (Blob digest ∷ Blob octets ∷ []) t new.now.trees) one.change.0 two.change in
     record {
       schema = two.schema;
+      listed = two.listed (one.listed stands.listed);
       committed = two.committed ∙ one.committed;
       tables = stocked_anew old.now.trees new.now.trees before digest octets stands.tables one.change.1 added;
     }
@@ -226,7 +228,7 @@ files old mid new x digest before stands next stocks adds =
     let same : new.now.trees contents_tree ≡ mid.now.trees contents_tree = step.change.others.1.0 (λ h. absurd (omega (arith, h))) in
     let held = stocks.tables in
     record {
-      stands = record { schema = step.schema; tables = filed old.now.trees mid.now.trees new.now.trees before x digest stands.tables next held step.change };
+      stands = record { schema = step.schema; listed = step.listed stocks.listed; tables = filed old.now.trees mid.now.trees new.now.trees before x digest stands.tables next held step.change };
       committed = step.committed ∙ stocks.committed;
       has = subst (λ rows. HasContent rows digest x.octets) (sym same) held.has;
       kept = λ d o h. subst (λ rows. HasContent rows d o) (sym same) (held.kept d o h);

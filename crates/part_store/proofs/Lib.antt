@@ -28,3 +28,5 @@ mod Sums
 mod Replacing
 mod Showing
 mod Opened
+pub mod Stored
+mod Crashed

@@ -111,7 +111,7 @@ number_claimed old mid new user n items program fits takes adds before stands sa
     let added = subst (λ v. IsAdded users_tree (Text user ∷ Int (pos n) ∷ v ∷ []) mid.now.trees new.now.trees) (or_null_map items program) two.change in
     record {
       was_open = one.was_open;
-      stands = record { schema = two.schema; tables = number_put old.now.trees mid.now.trees new.now.trees before stands.tables user n (option_map items program) same more fits one.change added };
+      stands = record { schema = two.schema; listed = two.listed (one.listed stands.listed); tables = number_put old.now.trees mid.now.trees new.now.trees before stands.tables user n (option_map items program) same more fits one.change added };
       committed = two.committed ∙ one.committed;
       contents = contents_stay old.now.trees mid.now.trees new.now.trees before stands.tables user n (option_map items program) same more fits one.change added;
     }

@@ -111,7 +111,7 @@ program_brought old one two new user program n found reads last takes adds befor
     let c = adds b.schema in
     let number = last_read old.now.trees before stands.tables user found n a.change.1 last in
     let taken = subst (λ t. IsTaken users_tree (equals 1 (Text user)) t two.now.trees) a.change.0 b.change in
-    (record { schema = c.schema; tables = program_put old.now.trees two.now.trees new.now.trees before stands.tables user program n number taken c.change }, c.committed ∙ b.committed ∙ a.committed)
+    (record { schema = c.schema; listed = c.listed (b.listed (a.listed stands.listed)); tables = program_put old.now.trees two.now.trees new.now.trees before stands.tables user program n number taken c.change }, c.committed ∙ b.committed ∙ a.committed)
 
 -- a program that was read
 no_program : (program : Option (List ℕ)) → or_null Blob program ≡ Null → program ≡ None

@@ -1,15 +1,12 @@
 -- The octets of an entry are those under its digest.
-use Rattle.std.proofs.Common.{◌≡◌, ℕ, List, sym, subst}
+use Rattle.std.proofs.Common.{◌≡◌, ℕ, List, subst}
 use Rattle.sqlite_trees.specs.Tree.{Trees}
 use Rattle.sqlite.specs.State.{State}
 use Rattle.part_store.specs.Changes.{contents_tree}
 use Rattle.part_store.specs.Entries.{Entry, Entries}
-use Rattle.part_store.specs.Standing.{HasContent, StandsFor, Stands, IsEntryAt, NamesDigest, Stays}
+use Rattle.part_store.specs.Standing.{HasContent, Stands, IsEntryAt, NamesDigest, Stays}
+use Rattle.part_store.proofs.Entering.{stands_still}
 use Rattle.part_store.proofs.Finding.{entry_there}
-
--- what the tables stand for, where they were only read
-pub stands_still : (old new : State) (before : Entries) → Stays old new → Stands old.now before → Stands new.now before
-stands_still old new before stays stands = let same = stays stands.schema in record { schema = same.0; tables = subst (λ t. StandsFor t before) (sym same.1) stands.tables }
 
 pub bytes_read : (old mid : State) (user : List ℕ) (number : ℕ) (digest octets : List ℕ)
     → ((before : Entries) → Stands old.now before → NamesDigest old.now.trees user number digest) → Stays old mid

@@ -19,6 +19,7 @@ use Rattle.part_store.proofs.Equals.{equal_blobs}
 use Rattle.part_store.proofs.Finding.{zip_found, row_test, content_test, same_blob}
 use Rattle.part_store.proofs.Filed.{zip_weaker, entry_keys}
 use Rattle.part_store.proofs.Programs.{same_bytes, bytes_same}
+use Rattle.part_store.proofs.Stored.{still_listed}
 
 zip_filtered : {X Y : Type 0} (R : X → Y → Type 0) (p : X → Bool) (q : Y → Bool) (xs : List X) (ys : List Y) → ((x : X) (y : Y) → R x y → p x ≡ q y) → AllZip R xs ys → AllZip R (filter p xs) (filter q ys)
 zip_filtered R p q [] [] same all = tt
@@ -159,4 +160,4 @@ entry_taken_out old one two new user number digest told stays commits takes tidi
           named_blob old.now.trees before digest shared.0 stands.tables was.0 shared.2))
       | inr alone ↦ alone_left old.now.trees two.now.trees before user number digest stands.tables names gone new.now.trees alone.0 alone.1
     ] in
-    (record { schema = tidied.schema; tables = tables }, tidied.committed ∙ step.committed ∙ (commits stands.schema).committed step.was_open)
+    (record { schema = tidied.schema; listed = tidied.listed (step.listed (still_listed old.now one.now same.0 same.1 stands)); tables = tables }, tidied.committed ∙ step.committed ∙ (commits stands.schema).committed step.was_open)

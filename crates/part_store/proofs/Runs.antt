@@ -15,7 +15,7 @@ use Rattle.sqlite_resolve.specs.declared.compiled.Compiled.{Compiled}
 use Rattle.sqlite.specs.declared.error.Error.{Error}
 use Rattle.sqlite.specs.declared.error.Error.TheVariants.{SqliteFailure}
 use Rattle.sqlite.specs.declared.error.ErrorCode.TheVariants.{TransactionState}
-use Rattle.sqlite.specs.Effect.{Database}
+use Rattle.sqlite.specs.Effect.{Database, IsDatabase}
 use Rattle.sqlite.specs.Listing.{understood}
 use Rattle.sqlite.specs.Held.{Held, state}
 use Rattle.sqlite.specs.State.{State, HasCleanDisk, KeepsCommit, IsUnchanged, IsRolledBack, IsNotRun, ExecutesInside, FailsToQuery, FailsToShow, IsTooLate, Shown, ShowsRows, Runs}
@@ -92,9 +92,10 @@ pub ran_as : (sql : List ℕ) (params : Row) (old new : State) (command : Comman
 ran_as sql params old new command count means h has = runs_as sql params old new store_schema has command means.0 means.1 count h.0
 
 pub stepped : (sql : List ℕ) (params : Row) (old new : State) (count : ℕ) (Change : Trees → Trees → Type 0) → ExecutesInside 0 sql params old new (Ok count)
-    → (old.now.schema ≡ store_schema → (new.now.schema ≡ store_schema) × Change old.now.trees new.now.trees) → Steps Change old new
-stepped sql params old new count Change h change has =
-    let made = change has in record { was_open = h.1.was_open; is_open = h.1.is_open; committed = h.1.committed_is; inside = λ _. h.1.mode; schema = made.0; change = made.1 }
+    → (old.now.schema ≡ store_schema → IsDatabase new.now) → (old.now.schema ≡ store_schema → (new.now.schema ≡ store_schema) × Change old.now.trees new.now.trees) → Steps Change old new
+stepped sql params old new count Change h sound change has =
+    let made = change has in
+    record { was_open = h.1.was_open; is_open = h.1.is_open; committed = h.1.committed_is; inside = λ _. h.1.mode; schema = made.0; listed = λ _. sound has; change = made.1 }
 
 -- ---- what is read
 
@@ -119,6 +120,7 @@ module _ (sql : List ℕ) (params : Row) (old new : State) (query : Query) (name
         committed = same.0.committed_is;
         inside = λ h. same.0.mode ∙ h;
         schema = ap (λ (d : Database). d.schema) same.0.now_is ∙ has;
+        listed = subst IsDatabase (sym same.0.now_is);
         change = (ap (λ (d : Database). d.trees) same.0.now_is, find (shown_answer has));
       }
 

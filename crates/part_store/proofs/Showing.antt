@@ -160,7 +160,7 @@ pub all_read : (old mid new : State) (user : List ℕ) (rows : List Row) (place 
 all_read old mid new user rows place out reads whole clean reading before stands =
     let step = reads stands.schema in
     let same = step.change.0 in
-    let there : Stands mid.now before = record { schema = step.schema; tables = subst (λ t. StandsFor t before) (sym same) stands.tables } in
+    let there : Stands mid.now before = record { schema = step.schema; listed = step.listed stands.listed; tables = subst (λ t. StandsFor t before) (sym same) stands.tables } in
     let shows = answer_shows old mid user rows reads before stands in
     let zipped = subst (λ t. AllZip (Shows t) rows (entries_of user before)) (sym same) shows in
     reading.read clean before there (entries_of user before) zipped

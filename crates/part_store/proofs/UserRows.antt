@@ -60,7 +60,7 @@ users_listed old new rows h =
     ordered 0 1 [] (col 1 2 ∷ col 1 3 ∷ []) old.now.trees [] every (columns (1 ∷ 2 ∷ 3 ∷ [])) rows a (λ r. refl) (λ r. refl))
 
 pub user_taken : (old new : State) (user : List ℕ) (count : ℕ) → ExecutesInside 0 drop_user_text (Text user ∷ []) old new (Ok count) → Steps (IsTaken users_tree (equals 1 (Text user))) old new
-user_taken old new user count h = stepped drop_user_text (Text user ∷ []) old new count _ h (λ has.
+user_taken old new user count h = stepped drop_user_text (Text user ∷ []) old new count _ h (λ has. (ran_as drop_user_text (Text user ∷ []) old new _ count drop_user_is h has).sound) (λ has.
     let it = deleted 0 0 (codes "users") user_columns (1 ∷ []) [] refl old new (Text user ∷ []) _ count has (is_given 1 0 ∷ []) (ran_as drop_user_text (Text user ∷ []) old new _ count drop_user_is h has) in
     (it.0, taken_as users_tree _ (equals 1 (Text user)) old.now.trees new.now.trees (λ r. and_true _) it.1))
 
@@ -69,7 +69,7 @@ pub user_added : (old new : State) (user : List ℕ) (last : ℕ) (program : Opt
     → Steps (IsAdded users_tree (Text user ∷ Int (pos last) ∷ or_null (λ octets. Blob octets.now) program ∷ [])) old new
 user_added old new user last program count h =
     let params : Row = Text user ∷ Int (pos last) ∷ or_null (λ octets. Blob octets.now) program ∷ [] in
-    stepped add_user_text params old new count _ h (λ has.
+    stepped add_user_text params old new count _ h (λ has. (ran_as add_user_text params old new _ count add_user_is h has).sound) (λ has.
     inserted 0 0 (codes "users") user_columns (1 ∷ []) [] refl old new params _ count has (lit Null ∷ col 0 0 ∷ col 0 1 ∷ col 0 2 ∷ []) 4 (Null ∷ params) params refl
     (rw (cast_null, cast_int)) (ran_as add_user_text params old new _ count add_user_is h has))
 

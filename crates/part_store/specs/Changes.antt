@@ -13,6 +13,7 @@ use Rattle.sqlite_trees.specs.View.{is_int}
 use Rattle.sqlite_schema.specs.Rules.{equal}
 use Rattle.sqlite_rules.specs.Lists.{Has}
 use Rattle.sqlite_rules.specs.Edit.{next_rowid, is_taken}
+use Rattle.sqlite.specs.Effect.{IsDatabase}
 use Rattle.sqlite.specs.State.{State}
 use Rattle.part_store.specs.Tables.{store_schema}
 
@@ -90,6 +91,7 @@ pub record IsStep (Change : Trees → Trees → Type 0) (old new : State) : Type
   pub committed : new.committed ≡ old.committed
   pub inside : IsTrue old.in_transaction → IsTrue new.in_transaction
   pub schema : new.now.schema ≡ store_schema
+  pub listed : IsDatabase old.now → IsDatabase new.now
   pub change : Change old.now.trees new.now.trees
 
 -- where the tables are those of the store

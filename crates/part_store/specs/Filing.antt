@@ -5,6 +5,7 @@ use Rattle.sqlite_value.specs.declared.value.Value.TheVariants.{Int, Text, Blob}
 use Rattle.sqlite_value.specs.Order.{Row}
 use Rattle.sqlite_trees.specs.Tree.{Trees, IsTable}
 use Rattle.sqlite_rules.specs.Lists.{Has}
+use Rattle.sqlite.specs.Effect.{IsDatabase}
 use Rattle.sqlite.specs.State.{State}
 use Rattle.part_store.specs.Tables.{store_schema}
 use Rattle.part_store.specs.Changes.{users_tree, contents_tree, entries_tree}
@@ -41,6 +42,7 @@ pub record IsNext (e : Entries) (x : Entry) : Type 0 where
 -- in a transaction: the octets are stocked
 pub record Stocks (digest octets : List ℕ) (old new : State) : Type 0 where
   pub schema : new.now.schema ≡ store_schema
+  pub listed : IsDatabase new.now
   pub committed : new.committed ≡ old.committed
   pub tables : IsStocked old.now.trees new.now.trees digest octets
 

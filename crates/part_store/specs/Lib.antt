@@ -5,6 +5,7 @@ pub mod Entries
 pub mod Standing
 pub mod Refusals
 pub mod Opening
+pub mod Crashes
 pub mod Filing
 pub mod UserLines
 pub mod Looking

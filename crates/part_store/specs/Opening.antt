@@ -17,10 +17,17 @@ use Rattle.sqlite.specs.WalFiles.{outcomes}
 use Rattle.sqlite_trees.specs.Tree.{Trees}
 use Rattle.part_store.specs.Tables.{no_schema}
 use Rattle.part_store.specs.Entries.{Entries, no_entries}
-use Rattle.part_store.specs.Standing.{Stands, StandsFor}
+use Rattle.part_store.specs.Standing.{IsStored, Stands}
+use Rattle.part_store.specs.Looking.{are_tables, unopened_of}
 use Rattle.part_store.specs.Refusals.{refusal_of}
+use Rattle.part_store.specs.declared.looking.Unopened.{Unopened}
+use Rattle.part_store.specs.declared.looking.Unopened.TheVariants.{OtherTables}
 use Rattle.part_store.specs.declared.error.StoreError.{StoreError}
 use Rattle.part_store.specs.declared.error.StoreError.TheVariants.{Database as refused}
+
+-- the tables aren't those of a store
+abbrev pub HasOtherTables : State → Type 0
+HasOtherTables s = are_tables s.now.schema.tables ≡ false
 
 -- a database has no table, index or view
 abbrev pub IsBare : State → Type 0
@@ -36,7 +43,7 @@ IsKept old new = (new.now ≡ old.now) × (new.committed ≡ old.committed)
 
 -- what an open may commit: the tables of the empty state, in a database that had none
 abbrev pub MakesEmpty : State → Trees → Type 0
-MakesEmpty found trees = IsBare found × StandsFor trees no_entries
+MakesEmpty found trees = IsBare found × IsStored trees no_entries
 
 -- the files were opened, and a database without tables has those of the empty state now; any other is as it was
 pub record IsReady {D : Type 0} {g : Ghosts D} (now : Held (FileStore D g)) : Type 0 where
@@ -80,13 +87,26 @@ abbrev pub OpensOrTells : {D : Type 0} {g : Ghosts D} → Image → Result (Held
 OpensOrTells image (Ok found) = HasCleanDisk (file_state found) → FindsIn image (file_state found)
 OpensOrTells {D} {g} image (Err e) = (left : Option (Leftover D g)) × IsUnopened image left e
 
--- An open that is refused `Database` has one of two causes: the files weren't opened, or they had no tables and got none.
+-- why files that held the image aren't ready: they weren't opened, or they had no tables and got none
+abbrev pub IsUnready : {D : Type 0} → Ghosts D → Image → Type 0
+IsUnready {D} g image =
+    ((left : Option (Leftover D g)) × (error : Error) × (refusal_of error ≡ refused) × IsUnopened image left error)
+    ⊎ ((found : Held (FileStore D g)) × OpensOrTells image (Ok found) × IsBare (file_state found))
+
+-- an open that is refused `Database` has one of these causes
 abbrev pub HasCause : {D : Type 0} {g : Ghosts D} → Image → Result (Held (FileStore D g)) StoreError → Type 0
 HasCause image (Ok s) = ⊤
-HasCause {D} {g} image (Err e) =
-    e ≡ refused
-    → ((left : Option (Leftover D g)) × (error : Error) × (refusal_of error ≡ refused) × IsUnopened image left error)
-    ⊎ ((found : Held (FileStore D g)) × OpensOrTells image (Ok found) × IsBare (file_state found))
+HasCause {D} {g} image (Err e) = e ≡ refused → IsUnready g image
+
+-- Why an open of files as they are is refused: they weren't opened, and the error is told; or they were, and their tables are others.
+abbrev pub IsUnseen : {D : Type 0} → Ghosts D → Image → Unopened → Type 0
+IsUnseen {D} g image why =
+    ((left : Option (Leftover D g)) × (error : Error) × IsUnopened image left error × (why ≡ unopened_of error))
+    ⊎ ((why ≡ OtherTables) × (found : Held (FileStore D g)) × OpensOrTells image (Ok found) × HasOtherTables (file_state found))
+
+abbrev pub TellsWhy : {D : Type 0} {g : Ghosts D} → Image → Result (Held (FileStore D g)) Unopened → Type 0
+TellsWhy image (Ok s) = ⊤
+TellsWhy {D} {g} image (Err why) = IsUnseen g image why
 
 -- the two files hold the store of this state, as they read now and as a crash may leave them
 pub record KeepsStore {D : Type 0} (g : Ghosts D) (files : Files D) (e : Entries) : Type 0 where

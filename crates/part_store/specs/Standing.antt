@@ -8,7 +8,7 @@ use Rattle.sqlite_value.specs.Order.{Row, column}
 use Rattle.sqlite_trees.specs.Tree.{Trees, IsTable, IsAscending}
 use Rattle.sqlite_rules.specs.Lists.{Has}
 use Rattle.sqlite.specs.Values.{or_null}
-use Rattle.sqlite.specs.Effect.{Database}
+use Rattle.sqlite.specs.Effect.{Database, IsDatabase}
 use Rattle.sqlite.specs.State.{State}
 use Rattle.octets.specs.Limits.{max_entry_number}
 use Rattle.part_store.specs.Tables.{store_schema}
@@ -74,10 +74,20 @@ pub record StandsFor (db : Trees) (e : Entries) : Type 0 where
   pub named : (digest octets : List ℕ) → HasContent (db contents_tree) digest octets → (r : Row) × Has (db entries_tree) r × (column r 7 ≡ Blob digest)
   pub numbers : IsNumbered e
 
--- the database has the three tables, and they stand for the state
+-- the database has the three tables, lists them, and they stand for the state
 pub record Stands (d : Database) (e : Entries) : Type 0 where
   pub schema : d.schema ≡ store_schema
+  pub listed : IsDatabase d
   pub tables : StandsFor d.trees e
+
+-- trees that are the store of a state: they list the three tables and obey them, and the tables stand for it
+pub record IsStored (trees : Trees) (e : Entries) : Type 0 where
+  pub listed : IsDatabase (record { schema = store_schema; trees = trees })
+  pub tables : StandsFor trees e
+
+-- what may be committed of a change: the store of what it makes of the state that was
+abbrev pub MayMake : (Entries → Entries) → State → Trees → Type 0
+MayMake change old trees = (before : Entries) → Stands old.now before → IsStored trees (change before)
 
 -- within a transaction: what the tables stand for has changed so, and nothing is committed
 abbrev pub Brings : (Entries → Entries) → State → State → Type 0
@@ -138,6 +148,7 @@ pub record IsTidied (digest : List ℕ) (old new : State) : Type 0 where
   pub schema : new.now.schema ≡ store_schema
   pub committed : new.committed ≡ old.committed
   pub inside : IsTrue old.in_transaction → IsTrue new.in_transaction
+  pub listed : IsDatabase old.now → IsDatabase new.now
   pub change :
       ((r : Row) × Has (old.now.trees entries_tree) r × (equals 7 (Blob digest) r ≡ true) × (new.now.trees ≡ old.now.trees))
       ⊎ (((r : Row) → Has (old.now.trees entries_tree) r → equals 7 (Blob digest) r ≡ false) × IsTaken contents_tree (equals 1 (Blob digest)) old.now.trees new.now.trees)

@@ -1,7 +1,7 @@
 -- The three tables, and the texts that make them.
 use Rattle.std.specs.Prelude.{◌≡◌, ℕ, true, false, List, [], ◌∷◌, None, codes}
 use Rattle.std.specs.List.{AllByRecursion}
-use Rattle.sqlite.specs.Effect.{Database}
+use Rattle.sqlite.specs.Effect.{Database, IsDatabase}
 use Rattle.sqlite_value.specs.declared.keys.Collation.TheVariants.{Binary}
 use Rattle.sqlite_value.specs.declared.value.Value.TheVariants.{Null}
 use Rattle.sqlite_value.specs.Keys.{plain as unordered}
@@ -84,9 +84,10 @@ contents_text = codes "CREATE TABLE contents (digest BLOB PRIMARY KEY, octets BL
 abbrev pub entries_text : List ℕ
 entries_text = codes "CREATE TABLE entries (user TEXT NOT NULL, number INTEGER NOT NULL, folder BLOB NOT NULL, kind INTEGER NOT NULL, name BLOB NOT NULL, media BLOB NOT NULL, digest BLOB NOT NULL REFERENCES contents, PRIMARY KEY (user, number)) STRICT"
 
--- A table is made in a database that has the schema before: it is empty, and the other tables are as they were.
+-- A table is made in a database that has the schema before: it is listed and empty, and the other tables are as they were.
 pub record IsMadeTable (was is : Schema) (tree : ℕ) (old new : Database) : Type 0 where
   pub schema : new.schema ≡ is
+  pub listed : IsDatabase new
   pub empty : new.trees tree ≡ []
   pub others : AllByRecursion (λ t. new.trees t.tree ≡ old.trees t.tree) was.tables
 

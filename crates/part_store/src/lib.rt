@@ -14,6 +14,7 @@ mod entries;
 mod entry;
 mod error;
 mod filing;
+pub mod laws;
 mod listing;
 mod looking;
 mod store;

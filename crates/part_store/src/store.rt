@@ -4,7 +4,7 @@ ghost use Rattle.sqlite.specs.Held.{state};
 ghost use Rattle.sqlite.specs.State.{HasCleanDisk, KeepsCommit, Survives};
 ghost use Rattle.part_store.specs.Tables.{no_schema, store_schema};
 ghost use Rattle.part_store.specs.Entries.{AreProgramsOf, entries_of, listing_of, no_entries, with_entries, with_program, with_programs, without_entry};
-ghost use Rattle.part_store.specs.Standing.{Brings, Makes, Spares, Stays, Stands, StandsFor, HasContent, IsEntryAt, HasNone, NamesDigest, IsTidied, draft_of, listed, pair_of};
+ghost use Rattle.part_store.specs.Standing.{Brings, IsStored, Makes, MayMake, Spares, Stays, Stands, HasContent, IsEntryAt, HasNone, NamesDigest, IsTidied, draft_of, listed, pair_of};
 ghost use Rattle.part_store.specs.declared.error.StoreError.TheVariants.{Memory, NoSuchEntry, NumberFull, Collision, Database};
 ghost use Rattle.part_store.specs.Changes.{contents_tree, users_tree};
 ghost use Rattle.part_store.specs.Looking.{are_tables};
@@ -14,8 +14,9 @@ ghost use Rattle.sqlite.specs.Files.{file_state, IsClosed, IsOpened};
 ghost use Rattle.sqlite.specs.WalReads.{AreClean};
 ghost use Rattle.part_store.specs.Filing.{Collides, HasRoom};
 ghost use Rattle.sqlite.specs.Steps.{over_memory};
-ghost use Rattle.part_store.specs.Opening.{HasCause, HoldsNoTables, HoldsStore, IsAt, IsBare, IsEmptied, IsKept, IsReady, IsReadyFrom, KeepsStore, MakesEmpty, OpensOrTells};
+ghost use Rattle.part_store.specs.Opening.{HasCause, HasOtherTables, HoldsNoTables, HoldsStore, IsAt, IsBare, IsEmptied, IsKept, IsReady, IsReadyFrom, KeepsStore, MakesEmpty, OpensOrTells, TellsWhy};
 ghost use Rattle.sqlite.specs.WalFiles.{image_at};
+ghost use Rattle.sqlite.specs.Recovery.{Image};
 
 use crate::adding::{Adding, put_entries};
 use crate::all_users::list_users;
@@ -235,6 +236,7 @@ impl<S: Alter> PartStore<S> {
         ensures settled { IfOk result (λ s. (state S.Store s).in_transaction ≡ false) }
         ensures returned { IfErr result (λ c. c ≡ conn) }
         ensures others { IfErr result (λ c. (state S.Store c).in_transaction ≡ false → (state S.Store c).now.schema ≢ store_schema) }
+        ensures apart { IfErr result (λ c. (state S.Store c).in_transaction ≡ false → HasOtherTables (state S.Store c)) }
     {
         if conn.is_autocommit() && has_tables(conn.schema()) {
             Ok(PartStore { conn })
@@ -257,7 +259,7 @@ impl<S: Alter> PartStore<S> {
         ensures made { HasCleanDisk (state S.Store self.new) → OnOk result (Makes (with_program user.now program.now) (state S.Store self.old) (state S.Store self.new)) }
         ensures spared { HasCleanDisk (state S.Store self.new) → OnErr result (Spares (state S.Store self.old) (state S.Store self.new)) }
         ensures refused { IfErr result (λ e. (e ≡ Memory) ⊎ (e ≡ Database)) }
-        ensures survives { Survives (state S.Store self.old) (state S.Store self.new) (λ trees. (before : _) → Stands (state S.Store self.old).now before → StandsFor trees (with_program user.now program.now before)) }
+        ensures survives { Survives (state S.Store self.old) (state S.Store self.new) (λ trees. MayMake (with_program user.now program.now) (state S.Store self.old) trees) }
     {
         let mut tx = begin(&mut self.conn);
         put_program(&mut tx, user, program)?;
@@ -333,7 +335,7 @@ impl<S: Alter> PartStore<S> {
         ensures refused { IfErr result (λ e. (e ≡ Memory) ⊎ (e ≡ Database)) }
         ensures survives { Survives (state S.Store self.old) (state S.Store self.new) (λ trees.
             (0 < length programs.now → IsTrue (state S.Store self.old).is_open)
-            × ((before : _) → Stands (state S.Store self.old).now before → StandsFor trees (with_programs (map pair_of programs.now) before))) }
+            × MayMake (with_programs (map pair_of programs.now)) (state S.Store self.old) trees) }
     {
         let mut tx = begin(&mut self.conn);
         replace_all(&mut tx, programs)?;
@@ -359,7 +361,7 @@ impl<S: Alter> PartStore<S> {
         ensures shut { HasCleanDisk (state S.Store self.new) → IsTrue (state S.Store self.new).is_open → IsTrue (state S.Store self.old).is_open }
         ensures spared { HasCleanDisk (state S.Store self.new) → OnErr result (Spares (state S.Store self.old) (state S.Store self.new)) }
         ensures refused { IfErr result (λ e. (e ≡ Memory) ⊎ ((e ≡ NumberFull) ⊎ ((e ≡ Collision) ⊎ (e ≡ Database)))) }
-        ensures survives { Survives (state S.Store self.old) (state S.Store self.new) (λ trees. IsTrue (state S.Store self.old).is_open × ((before : _) → Stands (state S.Store self.old).now before → StandsFor trees (with_entries user.now (map draft_of entries.now) before))) }
+        ensures survives { Survives (state S.Store self.old) (state S.Store self.new) (λ trees. IsTrue (state S.Store self.old).is_open × MayMake (with_entries user.now (map draft_of entries.now)) (state S.Store self.old) trees) }
     {
         let mut tx = begin(&mut self.conn);
         match put_entries(&mut tx, user, entries)? {
@@ -411,7 +413,7 @@ impl<S: Alter> PartStore<S> {
         ensures absent { HasCleanDisk (state S.Store self.new) → IfErr result (λ e. e ≡ NoSuchEntry → (before : _) → Stands (state S.Store self.old).now before → HasNone before user.now number) }
         ensures spared { HasCleanDisk (state S.Store self.new) → OnErr result (Spares (state S.Store self.old) (state S.Store self.new)) }
         ensures refused { IfErr result (λ e. (e ≡ Memory) ⊎ ((e ≡ NoSuchEntry) ⊎ (e ≡ Database))) }
-        ensures survives { Survives (state S.Store self.old) (state S.Store self.new) (λ trees. (before : _) → Stands (state S.Store self.old).now before → ((x : _) × IsEntryAt before user.now number x) × StandsFor trees (without_entry user.now number before)) }
+        ensures survives { Survives (state S.Store self.old) (state S.Store self.new) (λ trees. (before : _) → Stands (state S.Store self.old).now before → ((x : _) × IsEntryAt before user.now number x) × IsStored trees (without_entry user.now number before)) }
     {
         let mut tx = begin(&mut self.conn);
         if !take_entry(&mut tx, user, number)? {
@@ -498,7 +500,8 @@ impl<B: Start> PartStore<FileStore<FileFrom<B>>> {
         Ok(PartStore { conn })
     }
 
-    /// The same as `look`, where `B` stands for what the file and its log held. No clause ties `B` to the path.
+    /// The same as `look`, where `B` stands for what the file and its log held. No clause ties `B` to the path. It is refused
+    /// `OtherTables` exactly where the file was opened and its tables are others, and else what the database's open tells.
     pub fn look_from(
         rt: &HostRuntime,
         path: &str,
@@ -509,6 +512,7 @@ impl<B: Start> PartStore<FileStore<FileFrom<B>>> {
             → (held : _) → HoldsStore (image_at B.Start) held → IsAt held (file_state s)) }
         ensures tables { IfOk result (λ s. are_tables (file_state s).now.schema.tables ≡ true) }
         ensures settled { IfOk result (λ s. (file_state s).in_transaction ≡ false) }
+        ensures cause { TellsWhy (image_at B.Start) result }
     {
         let conn = connect(rt, path, start)?;
         match PartStore::adopt_as_is(conn) {
@@ -524,6 +528,7 @@ impl PartStore<FileStore<File>> {
     pub fn open(rt: &HostRuntime, path: &str) -> Result<PartStore<FileStore<File>>, StoreError>
         ensures ready { IfOk result IsReady }
         ensures refused { IfErr result (λ e. (e ≡ Memory) ⊎ (e ≡ Database)) }
+        ensures cause { (image : Image) × HasCause image result }
     {
         PartStore::open_from(rt, path, Unknown)
     }
@@ -537,6 +542,7 @@ impl PartStore<FileStore<File>> {
         ensures opened { IfOk result (λ s. HasCleanDisk (file_state s) → IsOpened s) }
         ensures tables { IfOk result (λ s. are_tables (file_state s).now.schema.tables ≡ true) }
         ensures settled { IfOk result (λ s. (file_state s).in_transaction ≡ false) }
+        ensures cause { (image : Image) × TellsWhy image result }
     {
         PartStore::look_from(rt, path, Unknown)
     }

@@ -1,0 +1,52 @@
+-- What a crash leaves is found.
+use Rattle.std.proofs.Common.{◌≡◌, ◌⊎◌, inl, inr, refl, ap, ◌∙◌, IsTrue}
+use Rattle.std.proofs.Math.Logic.{∥∥₁_map}
+use Rattle.sqlite_disk.specs.declared.Disk.{Ghosts}
+use Rattle.sqlite_trees.specs.Tree.{Trees}
+use Rattle.sqlite.specs.declared.FileStore.{FileStore}
+use Rattle.sqlite.specs.Effect.{Database}
+use Rattle.sqlite.specs.Files.{file_state, HoldsDatabase}
+use Rattle.sqlite.specs.Held.{Held}
+use Rattle.sqlite.specs.Recovery.{Image}
+use Rattle.sqlite.specs.State.{HasCleanDisk, Survives}
+use Rattle.sqlite.proofs.Theorems.{opens_again}
+use Rattle.part_store.specs.Tables.{store_schema}
+use Rattle.part_store.specs.Entries.{Entries}
+use Rattle.part_store.specs.Standing.{IsStored, MayMake}
+use Rattle.part_store.specs.Opening.{HoldsStore, IsAt}
+use Rattle.part_store.specs.Crashes.{HasNumberedTrees, HoldsOneLeft, LeavesStores, MayLeaveFiles}
+use Rattle.part_store.proofs.Stored.{stored_as}
+
+-- files that hold the trees of a store hold the store
+holds_stored : (image : Image) (trees : Trees) (e : Entries) → HoldsDatabase image trees → IsStored trees e → HoldsStore image e
+holds_stored image trees e held stored = (
+  record { schema = store_schema; trees = trees },
+  record { trees = ∣ held ∣₁; listed = stored.listed },
+  record { schema = refl; listed = stored.listed; tables = stored.tables },
+)
+
+some_state : (trees : Trees) (one other : Entries) → IsStored trees one ⊎ IsStored trees other → (e : Entries) × IsStored trees e
+some_state trees one other (inl is) = (one, is)
+some_state trees one other (inr is) = (other, is)
+
+module _ {D : Type 0} {g : Ghosts D} where
+  pub holds_one : (c : Held (FileStore D g)) → HasNumberedTrees c → LeavesStores (file_state c) → (image : Image) → MayLeaveFiles c image → ∥ HoldsOneLeft c image ∥₁
+  holds_one c numbered stores image may =
+      ∥∥₁_map (opens_again c.store numbered (λ trees left. (store_schema, (stores trees left).1.listed)) image may)
+      (λ found. record { trees = found.0; may = found.1; holds = λ e. holds_stored image found.0 e found.2 })
+
+  -- a crash leaves what was committed, or what the call may commit
+  pub was_or_is : (change : Entries → Entries) (before : Entries) (old new : Held (FileStore D g))
+      → ((trees : Trees) → IsTrue (file_state old).is_open → (file_state old).may_leave trees → trees ≡ (file_state old).committed.trees)
+      → IsAt before (file_state old) → HasCleanDisk (file_state new) → Survives (file_state old) (file_state new) (MayMake change (file_state old))
+      → (trees : Trees) → (file_state new).may_leave trees → IsStored trees before ⊎ IsStored trees (change before)
+  was_or_is change before old new settled at clean survives trees may = elim (survives.crash clean trees may) [
+    | inl was ↦ inl (stored_as trees (file_state old).now before (settled trees at.2 was ∙ ap (λ (d : Database). d.trees) at.1) at.0)
+    | inr is ↦ inr (is before at.0)
+  ]
+
+  pub holds_either : (image : Image) (c : Held (FileStore D g)) (one other : Entries) → ((trees : Trees) → (file_state c).may_leave trees → IsStored trees one ⊎ IsStored trees other)
+      → HasNumberedTrees c → MayLeaveFiles c image → ∥ HoldsStore image one ⊎ HoldsStore image other ∥₁
+  holds_either image c one other either numbered may =
+      ∥∥₁_map (holds_one c numbered (λ trees left. some_state trees one other (either trees left)) image may)
+      (λ it. let r : HoldsStore image one ⊎ HoldsStore image other = elim (either it.trees it.may) [ inl is ↦ inl (it.holds one is) | inr is ↦ inr (it.holds other is) ] in r)

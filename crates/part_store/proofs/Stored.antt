@@ -1,0 +1,44 @@
+-- Trees that are the store of a state.
+use Rattle.std.proofs.Common.{◌≡◌, IsTrue, List, ℕ, sym, subst, subst₂, ◌∙◌, arith, true}
+use Rattle.sqlite_schema.specs.declared.schema.Schema.{Schema}
+use Rattle.sqlite_trees.specs.Tree.{Trees}
+use Rattle.sqlite_trees.specs.declared.store.Store as store
+use Rattle.sqlite.specs.Effect.{Database, IsDatabase}
+use Rattle.sqlite.specs.Held.{Held, state}
+use Rattle.sqlite.specs.State.{State, HasCleanDisk, Survives}
+use Rattle.sqlite.proofs.Callers.{survives_begin}
+use Rattle.sqlite.proofs.StateLemmas.{survives_then}
+use Rattle.part_store.specs.Tables.{store_schema}
+use Rattle.part_store.specs.Entries.{Draft, Entries, with_entries}
+use Rattle.part_store.specs.Filing.{Adds}
+use Rattle.part_store.specs.declared.adding.Adding.TheVariants.{From}
+use Rattle.part_store.specs.Standing.{Brings, IsStored, MayMake, Stands}
+
+-- the same trees list the same tables
+pub still_listed : {e : Entries} (old new : Database) → new.schema ≡ store_schema → new.trees ≡ old.trees → Stands old e → IsDatabase new
+still_listed old new schema trees stands = subst₂ (λ (s : Schema) (t : Trees). IsDatabase (record { schema = s; trees = t })) (stands.schema ∙ sym schema) (sym trees) stands.listed
+
+-- a database that stands for a state has the trees of its store
+pub stored_as : (trees : Trees) (d : Database) (e : Entries) → trees ≡ d.trees → Stands d e → IsStored trees e
+stored_as trees d e same stands = subst (λ (t : Trees). IsStored t e) (sym same)
+    (record { listed = subst (λ (s : Schema). IsDatabase (record { schema = s; trees = d.trees })) stands.schema stands.listed; tables = stands.tables })
+
+-- what a transaction brings is all that its commit may leave beside what was
+pub committed_change : {S : Type 0} (g : store.Ghosts S) (old : Held S) (mid new : State) (change : Entries → Entries) → Survives (state g (record old { in_transaction = true })) mid (λ _. ⊥)
+    → (HasCleanDisk mid → Brings change (state g (record old { in_transaction = true })) mid) → Survives mid new (λ trees. trees ≡ mid.now.trees)
+    → Survives (state g old) new (λ trees. MayMake change (state g old) trees)
+committed_change g old mid new change first brings commits =
+    survives_begin g old new _ (survives_then (state g (record old { in_transaction = true })) mid new (λ _. ⊥) (λ trees. trees ≡ mid.now.trees) (λ trees. MayMake change (state g old) trees) (λ clean trees none. absurd none)
+    (λ clean trees is before stands. let early : HasCleanDisk mid = omega (arith, commits.clean) in stored_as trees mid.now (change before) is (brings early before stands).0) first commits)
+
+-- so too of entries, which only an open store is given
+pub committed_entries : {S : Type 0} (g : store.Ghosts S) (old : Held S) (mid new : State) (user : List ℕ) (drafts : List Draft) (first : ℕ)
+    → Survives (state g (record old { in_transaction = true })) mid (λ _. ⊥) → (HasCleanDisk mid → IsTrue (state g (record old { in_transaction = true })).is_open)
+    → (HasCleanDisk mid → Adds user drafts (state g (record old { in_transaction = true })) mid (From first)) → Survives mid new (λ trees. trees ≡ mid.now.trees)
+    → Survives (state g old) new (λ trees. IsTrue (state g old).is_open × MayMake (with_entries user drafts) (state g old) trees)
+committed_entries g old mid new user drafts first reads is_open adds commits =
+    survives_begin g old new _ (survives_then (state g (record old { in_transaction = true })) mid new (λ _. ⊥) (λ trees. trees ≡ mid.now.trees)
+    (λ trees. IsTrue (state g old).is_open × MayMake (with_entries user drafts) (state g old) trees) (λ clean trees none. absurd none)
+    (λ clean trees is.
+    let early : HasCleanDisk mid = omega (arith, commits.clean) in
+    (is_open early, λ before stands. stored_as trees mid.now (with_entries user drafts before) is (adds early before stands).3)) reads commits)

@@ -1,0 +1,49 @@
+//! What a crash leaves is what the next open finds.
+//!
+//! A crash is a disk that fails from some call on, so what it may leave in the midst of a call is what it may leave once that
+//! call has ended. Each call says by `survives` which stores these are, and `open_from` opens files by what they hold.
+ghost use Rattle.std.specs.Prelude.{◌≡◌, ◌⊎◌, IsTrue};
+ghost use Rattle.sqlite.specs.Files.{file_state};
+ghost use Rattle.sqlite.specs.FileStore.{view};
+ghost use Rattle.sqlite.specs.Held.{Held, state};
+ghost use Rattle.sqlite.specs.Recovery.{Image};
+ghost use Rattle.sqlite.specs.State.{HasCleanDisk, Survives};
+ghost use Rattle.sqlite_trees.specs.Tree.{Trees};
+ghost use Rattle.sqlite_trees.specs.View.{IsClean};
+ghost use Rattle.part_store.specs.Crashes.{HasNumberedTrees, HoldsOneLeft, LeavesStores, MayLeaveFiles};
+ghost use Rattle.part_store.specs.Entries.{Entries};
+ghost use Rattle.part_store.specs.Opening.{HoldsStore, IsAt};
+ghost use Rattle.part_store.specs.Standing.{MayMake};
+
+use crate::store::PartStore;
+use sqlite::{Alter, FileStore};
+use sqlite_disk::Disk;
+
+/// While a store is open a crash leaves what is committed, and nothing else.
+fn open_stores_leave_what_is_committed<S: Alter>()
+    ensures { (c : Held S) (trees : Trees) → IsTrue (state S.Store c).is_open → (state S.Store c).may_leave trees
+        → trees ≡ (state S.Store c).committed.trees }
+{}
+
+/// Where all that a crash may leave are stores, the two files hold one of them after it, however far a call got.
+pub fn each_image_holds_one_left<D: Disk + Drop>()
+    ensures { (c : Held (FileStore D D.Disk)) → HasNumberedTrees c → LeavesStores (file_state c) → (image : Image) → MayLeaveFiles c image
+        → ∥ HoldsOneLeft c image ∥₁ }
+{}
+
+/// A crash in a call that may commit one change leaves the two files with the store of what was, or of what the change makes of it.
+pub fn calls_leave_what_was_or_is<D: Disk + Drop>()
+    ensures { (change : Entries → Entries) (before : Entries) (old new : Held (FileStore D D.Disk)) → IsAt before (file_state old)
+        → HasCleanDisk (file_state new) → HasNumberedTrees new
+        → Survives (file_state old) (file_state new) (MayMake change (file_state old))
+        → (image : Image) → MayLeaveFiles new image → ∥ HoldsStore image before ⊎ HoldsStore image (change before) ∥₁ }
+{
+    open_stores_leave_what_is_committed::<FileStore<D>>();
+}
+
+/// A store over files whose disk is clean has numbered trees. Gives what the store stands on, with what isn't committed rolled back.
+pub fn trees_are_numbered<D: Disk + Drop>(store: PartStore<FileStore<D>>) -> FileStore<D>
+    ensures { IsClean (view result) → HasNumberedTrees store }
+{
+    store.release().into_store()
+}
