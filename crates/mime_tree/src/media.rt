@@ -1,13 +1,15 @@
 // The media type and the encoding of a part, by its header.
-ghost use Rattle.std.specs.Prelude.{◌≡◌, [], IfOk, IfErr, codes};
+ghost use Rattle.std.specs.Prelude.{◌≡◌, IfOk, IfErr, codes};
 ghost use Rattle.std.specs.Option.{option_map};
 ghost use Rattle.std.specs.Cow.{cow_slice_items};
 ghost use Rattle.mime_tree.specs.PartTree.{first_value, is_plain, is_word, media_or, encoding_or_7bit};
 ghost use Rattle.mime_tree.specs.Reading.{default_media};
+ghost use Rattle.mime_tree.specs.declared.media.DefaultType.{DefaultType};
+ghost use Rattle.mime_params.specs.MediaValue.{names_of, value_named};
 
 use crate::error::TreeError;
 use header_fields::{Field, HeaderError, name_is, unfold};
-use mime_params::{MediaType, Params, TransferEncoding, read_type};
+use mime_params::{MediaType, Params, TransferEncoding, read_type, type_names, type_param};
 use octets::{Octets, equal_ignoring_case};
 use std::alloc::{AllocError, Global};
 use std::borrow::CowSlice;
@@ -22,26 +24,35 @@ pub(crate) enum DefaultType {
 }
 
 impl DefaultType {
+    // Its type and its subtype.
+    fn names(self) -> (&'static [u8], &'static [u8])
+        ensures { (result.0.now, result.1.now) ≡ names_of (default_media self) }
+    {
+        match self {
+            DefaultType::Text => (b"text", b"plain"),
+            DefaultType::Message => (b"message", b"rfc822"),
+        }
+    }
+
+    // They, copied.
+    fn copied(self, alloc: Global) -> Result<(Octets, Octets), AllocError>
+        ensures { IfOk result (λ names. names ≡ names_of (default_media self)) }
+    {
+        let (main, sub) = self.names();
+        copied(alloc, main, sub)
+    }
+
     // The media type.
     fn media(self, alloc: Global) -> Result<MediaType, AllocError>
         ensures { IfOk result (λ media. media ≡ default_media self) }
     {
-        match self {
-            DefaultType::Text => without_params(alloc, b"text", b"plain"),
-            DefaultType::Message => without_params(alloc, b"message", b"rfc822"),
-        }
+        let (main, sub) = self.names();
+        Ok(MediaType {
+            main: Octets::from_vec(main.to_vec(alloc)?),
+            sub: Octets::from_vec(sub.to_vec(alloc)?),
+            params: Params::none(alloc),
+        })
     }
-}
-
-// A media type without parameters.
-fn without_params(alloc: Global, main: &[u8], sub: &[u8]) -> Result<MediaType, AllocError>
-    ensures { IfOk result (λ media. media ≡ record { main = main.now; sub = sub.now; params = [] }) }
-{
-    Ok(MediaType {
-        main: Octets::from_vec(main.to_vec(alloc)?),
-        sub: Octets::from_vec(sub.to_vec(alloc)?),
-        params: Params::none(alloc),
-    })
 }
 
 /// The media type that the fields of a header give: that of the first Content-Type, which is `text/plain` where it has no
@@ -50,16 +61,55 @@ pub(crate) fn media_of(
     alloc: Global,
     fields: &[Field],
     default: DefaultType,
-) -> Result<MediaType, TreeError>
-    ensures media { IfOk result (λ media. media ≡ media_or (default_media default) (first_value (codes "Content-Type") fields.now)) }
-    ensures refused { IfErr result (λ e. e ≡ TreeError.Memory) }
+) -> Result<MediaType, AllocError>
+    ensures { IfOk result (λ media. media ≡ media_or (default_media default) (first_value (codes "Content-Type") fields.now)) }
 {
     let Some(value) = first_value(alloc, fields, b"Content-Type")? else {
-        return Ok(default.media(alloc)?);
+        return default.media(alloc);
     };
     match read_type(alloc, value.as_slice())? {
         Some(media) => Ok(media),
-        None => Ok(DefaultType::Text.media(alloc)?),
+        None => DefaultType::Text.media(alloc),
+    }
+}
+
+/// The type and the subtype of that media type. Its parameters aren't read.
+pub(crate) fn names_of(
+    alloc: Global,
+    fields: &[Field],
+    default: DefaultType,
+) -> Result<(Octets, Octets), AllocError>
+    ensures { IfOk result (λ names. names ≡ names_of (media_or (default_media default) (first_value (codes "Content-Type") fields.now))) }
+{
+    let Some(value) = first_value(alloc, fields, b"Content-Type")? else {
+        return default.copied(alloc);
+    };
+    match type_names(value.as_slice()) {
+        Some((main, sub)) => copied(alloc, main, sub),
+        None => DefaultType::Text.copied(alloc),
+    }
+}
+
+// A type and a subtype, copied.
+fn copied(alloc: Global, main: &[u8], sub: &[u8]) -> Result<(Octets, Octets), AllocError>
+    ensures { IfOk result (λ copies. copies ≡ (main.now, sub.now)) }
+{
+    let main = Octets::from_vec(main.to_vec(alloc)?);
+    let sub = Octets::from_vec(sub.to_vec(alloc)?);
+    Ok((main, sub))
+}
+
+/// The value of the first parameter of this name that the first Content-Type has. No other is kept; a default has none.
+pub(crate) fn media_param(
+    alloc: Global,
+    fields: &[Field],
+    name: &[u8],
+) -> Result<Option<Octets>, AllocError>
+    ensures { IfOk result (λ value. (default : DefaultType) → value ≡ value_named name.now (media_or (default_media default) (first_value (codes "Content-Type") fields.now)).params) }
+{
+    match first_value(alloc, fields, b"Content-Type")? {
+        Some(value) => Ok(type_param(alloc, value.as_slice(), name)?),
+        None => Ok(None),
     }
 }
 
