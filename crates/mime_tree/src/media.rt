@@ -1,11 +1,11 @@
 // The media type and the encoding of a part, by its header.
-ghost use Rattle.std.specs.Prelude.{◌≡◌, IfOk, IfErr, codes};
+ghost use Rattle.std.specs.Prelude.{◌≡◌, [], IfOk, IfErr, codes};
 ghost use Rattle.std.specs.Option.{option_map};
 ghost use Rattle.std.specs.Cow.{cow_slice_items};
-ghost use Rattle.mime_tree.specs.PartTree.{first_value, is_plain, is_word, media_or, encoding_or_7bit};
+ghost use Rattle.mime_tree.specs.PartTree.{first_value, is_plain, is_word, media_or, encoding_or_7bit, without_params};
 ghost use Rattle.mime_tree.specs.Reading.{default_media};
 ghost use Rattle.mime_tree.specs.declared.media.DefaultType.{DefaultType};
-ghost use Rattle.mime_params.specs.MediaValue.{names_of, value_named};
+ghost use Rattle.mime_params.specs.MediaValue.{value_named};
 
 use crate::error::TreeError;
 use header_fields::{Field, HeaderError, name_is, unfold};
@@ -24,35 +24,26 @@ pub(crate) enum DefaultType {
 }
 
 impl DefaultType {
-    // Its type and its subtype.
-    fn names(self) -> (&'static [u8], &'static [u8])
-        ensures { (result.0.now, result.1.now) ≡ names_of (default_media self) }
-    {
-        match self {
-            DefaultType::Text => (b"text", b"plain"),
-            DefaultType::Message => (b"message", b"rfc822"),
-        }
-    }
-
-    // They, copied.
-    fn copied(self, alloc: Global) -> Result<(Octets, Octets), AllocError>
-        ensures { IfOk result (λ names. names ≡ names_of (default_media self)) }
-    {
-        let (main, sub) = self.names();
-        copied(alloc, main, sub)
-    }
-
     // The media type.
     fn media(self, alloc: Global) -> Result<MediaType, AllocError>
         ensures { IfOk result (λ media. media ≡ default_media self) }
     {
-        let (main, sub) = self.names();
-        Ok(MediaType {
-            main: Octets::from_vec(main.to_vec(alloc)?),
-            sub: Octets::from_vec(sub.to_vec(alloc)?),
-            params: Params::none(alloc),
-        })
+        match self {
+            DefaultType::Text => without_params(alloc, b"text", b"plain"),
+            DefaultType::Message => without_params(alloc, b"message", b"rfc822"),
+        }
     }
+}
+
+// A media type without parameters.
+fn without_params(alloc: Global, main: &[u8], sub: &[u8]) -> Result<MediaType, AllocError>
+    ensures { IfOk result (λ media. media ≡ record { main = main.now; sub = sub.now; params = [] }) }
+{
+    Ok(MediaType {
+        main: Octets::from_vec(main.to_vec(alloc)?),
+        sub: Octets::from_vec(sub.to_vec(alloc)?),
+        params: Params::none(alloc),
+    })
 }
 
 /// The media type that the fields of a header give: that of the first Content-Type, which is `text/plain` where it has no
@@ -73,30 +64,21 @@ pub(crate) fn media_of(
     }
 }
 
-/// The type and the subtype of that media type. Its parameters aren't read.
-pub(crate) fn names_of(
+/// That media type without its parameters, which aren't read.
+pub(crate) fn media_without_params(
     alloc: Global,
     fields: &[Field],
     default: DefaultType,
-) -> Result<(Octets, Octets), AllocError>
-    ensures { IfOk result (λ names. names ≡ names_of (media_or (default_media default) (first_value (codes "Content-Type") fields.now))) }
+) -> Result<MediaType, AllocError>
+    ensures { IfOk result (λ media. media ≡ without_params (media_or (default_media default) (first_value (codes "Content-Type") fields.now))) }
 {
     let Some(value) = first_value(alloc, fields, b"Content-Type")? else {
-        return default.copied(alloc);
+        return default.media(alloc);
     };
     match type_names(value.as_slice()) {
-        Some((main, sub)) => copied(alloc, main, sub),
-        None => DefaultType::Text.copied(alloc),
+        Some((main, sub)) => without_params(alloc, main, sub),
+        None => DefaultType::Text.media(alloc),
     }
-}
-
-// A type and a subtype, copied.
-fn copied(alloc: Global, main: &[u8], sub: &[u8]) -> Result<(Octets, Octets), AllocError>
-    ensures { IfOk result (λ copies. copies ≡ (main.now, sub.now)) }
-{
-    let main = Octets::from_vec(main.to_vec(alloc)?);
-    let sub = Octets::from_vec(sub.to_vec(alloc)?);
-    Ok((main, sub))
 }
 
 /// The value of the first parameter of this name that the first Content-Type has. No other is kept; a default has none.

@@ -2,12 +2,14 @@
 ghost use Rattle.std.specs.Prelude.{◌≡◌, ◌-◌, ◌≤◌, length, take, IfOk, IfErr};
 ghost use Rattle.std.specs.Option.{option_map};
 ghost use Rattle.mime_params.specs.MediaValue.{value_named};
-ghost use Rattle.mime_tree.specs.PartTree.{body_of, default_below};
+ghost use Rattle.mime_tree.specs.PartTree.{body_of, default_below, without_params};
 ghost use Rattle.mime_tree.specs.OpenParts.{boundary_inside, holds_message, part_read};
 ghost use Rattle.mime_tree.specs.Reading.{default_media};
 
 use crate::error::TreeError;
-use crate::media::{DefaultType, encoding_of, is_plain, is_word, media_of, media_param, names_of};
+use crate::media::{
+    DefaultType, encoding_of, is_plain, is_word, media_of, media_param, media_without_params,
+};
 use header_fields::Header;
 use mime_params::{MediaType, TransferEncoding};
 use octets::{Octets, trim_trailing_blanks};
@@ -27,8 +29,7 @@ pub(crate) struct Part<'a> {
     // The type that it has without a Content-Type.
     default: DefaultType,
     // Its media type without the parameters, which may be millions and are read where they are asked for.
-    main: Octets,
-    sub: Octets,
+    names: MediaType,
     encoding: TransferEncoding,
 }
 
@@ -41,9 +42,9 @@ impl<'a> Model for Part<'a> {
 
     ghost view = { λ p. record { depth = p.depth; below = p.below; place = p.place; raw = p.raw.now; header = p.header; media = media_or (default_media p.default) (first_value (codes "Content-Type") p.header.fields); encoding = p.encoding } };
 
-    ghost use Rattle.mime_params.specs.MediaValue.{names_of};
+    ghost use Rattle.mime_tree.specs.PartTree.{without_params};
 
-    ghost invariant = { λ p. (p.main, p.sub) ≡ names_of (media_or (default_media p.default) (first_value (codes "Content-Type") p.header.fields)) };
+    ghost invariant = { λ p. p.names ≡ without_params (media_or (default_media p.default) (first_value (codes "Content-Type") p.header.fields)) };
 }
 
 impl<'a> Part<'a> {
@@ -64,7 +65,7 @@ impl<'a> Part<'a> {
         ensures refused { IfErr result (λ e. e ≡ TreeError.Memory) }
     {
         let header = Header::read(alloc, &rest[..header])?;
-        let (main, sub) = names_of(alloc, header.fields(), default)?;
+        let names = media_without_params(alloc, header.fields(), default)?;
         let encoding = encoding_of(alloc, header.fields())?;
         Ok(Part {
             depth,
@@ -73,8 +74,7 @@ impl<'a> Part<'a> {
             raw: rest,
             header,
             default,
-            main,
-            sub,
+            names,
             encoding,
         })
     }
@@ -106,7 +106,7 @@ impl<'a> Part<'a> {
     pub(crate) fn boundary(&self, alloc: Global) -> Result<Option<Vec<u8>>, AllocError>
         ensures { IfOk result (λ boundary. option_map (λ v. v.items) boundary ≡ boundary_inside self.now) }
     {
-        if !is_plain(self.encoding) || !is_word(self.main_type(), b"multipart") {
+        if !is_plain(self.encoding) || !is_word(self.names.main.as_slice(), b"multipart") {
             return Ok(None);
         }
         let Some(value) = self.media_param(alloc, b"boundary")? else {
@@ -124,15 +124,17 @@ impl<'a> Part<'a> {
         ensures { result ≡ holds_message self.now }
     {
         is_plain(self.encoding)
-            && is_word(self.main_type(), b"message")
-            && is_word(self.subtype(), b"rfc822")
+            && is_word(self.names.main.as_slice(), b"message")
+            && is_word(self.names.sub.as_slice(), b"rfc822")
     }
 
     /// The media type of a child of it that has no Content-Type.
     pub(crate) fn default_below(&self) -> DefaultType
         ensures { default_media result ≡ default_below self.now.media }
     {
-        if is_word(self.main_type(), b"multipart") && is_word(self.subtype(), b"digest") {
+        if is_word(self.names.main.as_slice(), b"multipart")
+            && is_word(self.names.sub.as_slice(), b"digest")
+        {
             DefaultType::Message
         } else {
             DefaultType::Text
@@ -161,18 +163,11 @@ impl<'a> Part<'a> {
         &self.header
     }
 
-    /// Its media type without the subtype.
-    pub(crate) fn main_type(&self) -> &[u8]
-        ensures { result.now ≡ self.now.media.main }
+    /// Its media type without the parameters.
+    pub(crate) fn media_without_params(&self) -> &MediaType
+        ensures { result.now ≡ without_params self.now.media }
     {
-        self.main.as_slice()
-    }
-
-    /// The subtype of its media type.
-    pub(crate) fn subtype(&self) -> &[u8]
-        ensures { result.now ≡ self.now.media.sub }
-    {
-        self.sub.as_slice()
+        &self.names
     }
 
     /// Its media type.

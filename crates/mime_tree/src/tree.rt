@@ -3,7 +3,7 @@ ghost use Rattle.std.specs.Prelude.{◌≡◌, ◌<◌, length, IfOk, IfErr, IsE
 ghost use Rattle.std.specs.List.{HoldsAt};
 ghost use Rattle.octets.specs.Limits.{max_message};
 ghost use Rattle.mime_params.specs.MediaValue.{value_named};
-ghost use Rattle.mime_tree.specs.PartTree.{tree_of, body_of};
+ghost use Rattle.mime_tree.specs.PartTree.{tree_of, body_of, without_params};
 ghost use Rattle.mime_tree.specs.Readable.{IsReadable, IsTree};
 ghost use Rattle.mime_tree.specs.Refusals.{IsTreeRefusal};
 ghost use Rattle.mime_tree.specs.declared.error.TreeError.TheVariants.{MessageTooLarge};
@@ -117,20 +117,12 @@ impl<'a> Tree<'a> {
         self.parts[part].media(alloc)
     }
 
-    /// The media type of a part, without the subtype and the parameters.
-    pub fn main_type(&self, part: usize) -> &[u8]
+    /// The media type of a part without its parameters, which aren't read for it.
+    pub fn media_without_params(&self, part: usize) -> &MediaType
         requires { part < length self.now }
-        ensures { HoldsAt (λ p. result.now ≡ p.media.main) self.now part }
+        ensures { HoldsAt (λ p. result.now ≡ without_params p.media) self.now part }
     {
-        self.parts[part].main_type()
-    }
-
-    /// The subtype of a part's media type.
-    pub fn subtype(&self, part: usize) -> &[u8]
-        requires { part < length self.now }
-        ensures { HoldsAt (λ p. result.now ≡ p.media.sub) self.now part }
-    {
-        self.parts[part].subtype()
+        self.parts[part].media_without_params()
     }
 
     /// The value of the first parameter of this name, without ASCII case, that a part's media type has. No other is kept.
