@@ -1,10 +1,10 @@
-use Rattle.std.specs.Prelude.{◌≡◌, ℕ, ◌+◌, ◌-◌, ◌≤◌, List, [], ◌++◌, ◌||◌, length, drop, slice_range, true, false, Option, MatchOption}
+use Rattle.std.specs.Prelude.{◌≡◌, ℕ, ◌+◌, ◌-◌, ◌≤◌, Bool, List, [], ◌∷◌, ◌++◌, ◌||◌, length, drop, slice_range, true, false, Option, MatchOption}
 use Rattle.octets.specs.Blank.{without_outer_blanks}
 use Rattle.text_lines.specs.Unread.{Unread}
 use Rattle.text_lines.specs.Lines.{lines_left, IsFirstLine}
 use Rattle.text_lines.specs.declared.line.Line.{Line}
 use Rattle.header_fields.specs.Fields.{Field}
-use Rattle.header_fields.specs.Header.{begins_blank, is_field_line, name_of, after_colon, fields_in, header_lines, header_length, continuation, has_feed, is_continued, without_breaks}
+use Rattle.header_fields.specs.Header.{begins_blank, is_field_line, is_name_octet, name_of, after_colon, fields_in, header_lines, header_length, continuation, has_feed, is_continued, without_breaks}
 
 -- the fields of the header's lines that weren't given yet
 abbrev pub fields_left : Unread → List Field
@@ -57,3 +57,8 @@ IsFieldAt text line end answer =
       value = without_outer_blanks (without_breaks after);
       folded = has_feed after;
     }))
+
+-- a text begins with an octet of a name
+abbrev pub begins_with_name : List ℕ → Bool
+begins_with_name [] = false
+begins_with_name (octet ∷ rest) = is_name_octet octet

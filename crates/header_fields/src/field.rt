@@ -3,9 +3,10 @@ ghost use Rattle.std.specs.Prelude.{◌≡◌, ◌↔◌, false, IsTrue, IfOk, I
 ghost use Rattle.std.specs.Cow.{cow_slice_items, IsBorrowedSlice};
 ghost use Rattle.octets.specs.Ascii.{EqualIgnoringCase};
 ghost use Rattle.octets.specs.Blank.{without_outer_blanks};
-ghost use Rattle.header_fields.specs.Header.{has_feed, without_breaks};
+ghost use Rattle.header_fields.specs.Header.{after_colon, has_feed, name_of, without_breaks};
 
 use crate::error::HeaderError;
+use crate::field_line::{after_colon, name_length, name_of_length};
 use crate::unfolding::joined_length;
 use octets::{equal_ignoring_case, trim_blanks, trim_leading_blanks, trim_trailing_blanks};
 use std::alloc::Global;
@@ -18,34 +19,33 @@ use text_lines::Lines;
 /// A contract sees the record of its name, its value, and whether that is folded.
 #[derive(Drop)]
 pub struct Field<'a> {
-    name: &'a [u8],
-    // What follows the colon, with the breaks of its lines but the last.
-    text: &'a [u8],
+    // Its lines with their breaks but the last. Where its name ends isn't kept: a message may have millions of fields.
+    lines: &'a [u8],
 }
 
 impl<'a> Model for Field<'a> {
     ghost use Rattle.octets.specs.Blank.{without_outer_blanks};
     ghost use Rattle.header_fields.specs.Fields.{Field};
-    ghost use Rattle.header_fields.specs.Header.{has_feed, without_breaks};
+    ghost use Rattle.header_fields.specs.Header.{after_colon, has_feed, name_of, without_breaks};
 
     ghost Value = { Field };
 
-    ghost view = { λ f. record { name = f.name.now; value = without_outer_blanks (without_breaks f.text.now); folded = has_feed f.text.now } };
+    ghost view = { λ f. record { name = name_of f.lines.now; value = without_outer_blanks (without_breaks (after_colon f.lines.now)); folded = has_feed (after_colon f.lines.now) } };
 }
 
 impl<'a> Field<'a> {
-    // The field of a name, and of what follows its colon up to the end of its last line.
-    pub(crate) fn new(name: &'a [u8], text: &'a [u8]) -> Field<'a>
-        ensures { result ≡ record { name = name.now; value = without_outer_blanks (without_breaks text.now); folded = has_feed text.now } }
+    // The field of its lines, with their breaks but the last.
+    pub(crate) fn new(lines: &'a [u8]) -> Field<'a>
+        ensures { result ≡ record { name = name_of lines.now; value = without_outer_blanks (without_breaks (after_colon lines.now)); folded = has_feed (after_colon lines.now) } }
     {
-        Field { name, text }
+        Field { lines }
     }
 
     /// Its name, as it was written: octets from 33 to 126 without a colon, at least one.
     pub fn name(&self) -> &'a [u8]
         ensures { result.now ≡ self.now.name }
     {
-        self.name
+        self.lines.split_at(name_length(self.lines)).0
     }
 }
 
@@ -53,7 +53,10 @@ impl<'a> Field<'a> {
 pub fn name_is(field: &Field, name: &[u8]) -> bool
     ensures { IsTrue result ↔ EqualIgnoringCase field.now.name name.now }
 {
-    equal_ignoring_case(field.name(), name)
+    match name_of_length(field.lines, name.len()) {
+        Some(own) => equal_ignoring_case(own, name),
+        None => false,
+    }
 }
 
 /// The field's value: what follows its colon, unfolded, without outer SP and TAB (RFC 5322, section 2.2.3).
@@ -65,7 +68,7 @@ pub fn unfold<'a>(alloc: Global, field: &Field<'a>) -> Result<CowSlice<'a, u8>, 
     ensures lent { field.now.folded ≡ false → IfOk result (λ value. IsBorrowedSlice value) }
     ensures told { field.now.folded ≡ false → IsOk result }
 {
-    let text = field.text;
+    let text = after_colon(field.lines);
     match Lines::new(text).next() {
         Some(line) if line.stop < text.len() => Ok(CowSlice::Owned(joined(alloc, text)?)),
         Some(line) => Ok(CowSlice::Borrowed(trim_blanks(&text[..line.end]))),
@@ -77,7 +80,7 @@ pub fn unfold<'a>(alloc: Global, field: &Field<'a>) -> Result<CowSlice<'a, u8>, 
 pub fn unfolded_length(field: &Field) -> usize
     ensures { result ≡ length field.now.value }
 {
-    joined_length(field.text)
+    joined_length(after_colon(field.lines))
 }
 
 // The text without its line breaks, and then without outer blanks.

@@ -1,6 +1,7 @@
 // The line that begins a field.
-ghost use Rattle.std.specs.Prelude.{◌≡◌, false, true, length, MatchOption};
-ghost use Rattle.header_fields.specs.Header.{is_name_octet, is_field_line, name_of, after_colon};
+ghost use Rattle.std.specs.Prelude.{◌≡◌, ◌≢◌, length, MatchOption};
+ghost use Rattle.header_fields.specs.Header.{after_colon, begins_with_colon, is_field_line, is_name_octet, name_of};
+ghost use Rattle.header_fields.specs.Reading.{begins_with_name};
 
 use octets::trim_leading_blanks;
 
@@ -11,8 +12,8 @@ fn is_name_octet(octet: u8) -> bool
     octet.is_ascii_graphic() && octet != b':'
 }
 
-// How many octets the name has that the line begins with.
-fn name_length(line: &[u8]) -> usize
+/// How many octets the name has that the line begins with.
+pub(crate) fn name_length(line: &[u8]) -> usize
     ensures { result ≡ length (name_of line.now) }
 {
     line.iter()
@@ -20,14 +21,55 @@ fn name_length(line: &[u8]) -> usize
         .count()
 }
 
-// The name of a field line and what follows its colon, or nothing where the line is no field line.
-pub(crate) fn split_field(line: &[u8]) -> Option<(&[u8], &[u8])>
-    ensures { MatchOption result (is_field_line line.now ≡ false)
-        (λ parts. (is_field_line line.now ≡ true) × (parts.0.now ≡ name_of line.now) × (parts.1.now ≡ after_colon line.now)) }
+/// The name that the line begins with, if it has this length. No more octets are looked at than one beyond it.
+pub(crate) fn name_of_length(line: &[u8], most: usize) -> Option<&[u8]>
+    ensures { MatchOption result (length (name_of line.now) ≢ most) (λ name. (name.now ≡ name_of line.now) × (length name.now ≡ most)) }
+{
+    if line.len() < most {
+        return None;
+    }
+    let (start, after) = line.split_at(most);
+    if begins_with_name(after) {
+        return None;
+    }
+    if name_length(start) < most {
+        return None;
+    }
+    Some(start)
+}
+
+// Whether the text begins with an octet that may stand in a field's name.
+fn begins_with_name(text: &[u8]) -> bool
+    ensures { result ≡ begins_with_name text.now }
+{
+    match text {
+        [octet, ..] => is_name_octet(*octet),
+        [] => false,
+    }
+}
+
+/// Whether the line is a field line.
+pub(crate) fn is_field_line(line: &[u8]) -> bool
+    ensures { result ≡ is_field_line line.now }
 {
     let (name, after) = line.split_at(name_length(line));
+    !name.is_empty() && begins_with_colon(trim_leading_blanks(after))
+}
+
+// Whether the text begins with a colon.
+fn begins_with_colon(text: &[u8]) -> bool
+    ensures { result ≡ begins_with_colon text.now }
+{
+    matches!(text, [b':', ..])
+}
+
+/// What follows the colon of the lines of a field.
+pub(crate) fn after_colon(lines: &[u8]) -> &[u8]
+    ensures { result.now ≡ after_colon lines.now }
+{
+    let (_name, after) = lines.split_at(name_length(lines));
     match trim_leading_blanks(after) {
-        [b':', text @ ..] if !name.is_empty() => Some((name, text)),
-        _ => None,
+        [_colon, text @ ..] => text,
+        [] => &lines[lines.len()..],
     }
 }

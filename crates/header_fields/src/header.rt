@@ -7,7 +7,7 @@ ghost use Rattle.header_fields.specs.Reading.{IsContinued, IsFieldAt, GivesConti
 
 use crate::error::HeaderError;
 use crate::field::Field;
-use crate::field_line::split_field;
+use crate::field_line::is_field_line;
 use std::alloc::Global;
 use std::marker::Model;
 use text_lines::{Line, Lines};
@@ -88,8 +88,11 @@ fn field_at<'a>(text: &'a [u8], line: Line, end: usize) -> Option<Field<'a>>
     requires ordered { (line.start ≤ line.end) × (line.end ≤ end) × (end ≤ length text.now) }
     ensures { IsFieldAt text.now line end result }
 {
-    let (name, after) = split_field(&text[line.start..line.end])?;
-    Some(Field::new(name, &text[line.end - after.len()..end]))
+    if is_field_line(&text[line.start..line.end]) {
+        Some(Field::new(&text[line.start..end]))
+    } else {
+        None
+    }
 }
 
 // Where the last of the lines ends that continue this one, which are taken.

@@ -7,7 +7,9 @@ use Rattle.std.proofs.lemmas.List.Sums.{sum_by-take-le}
 use Rattle.glob_match.specs.declared.match_type.Match.{Match}
 use Rattle.mail_matching.specs.Costs.{extent_of}
 use Rattle.mail_matching.specs.FirstMatch.{first_key, first_match}
-use Rattle.mail_matching.specs.Headers.{values_of_params}
+use Rattle.header_fields.specs.Fields.{Field}
+use Rattle.mime_decode.specs.Scope.{Selector}
+use Rattle.mail_matching.specs.Headers.{selected_among, values_of_params}
 use Rattle.mail_matching.specs.Outcomes.{GoesOn, after}
 use Rattle.mail_matching.specs.declared.progress.Progress.{Progress}
 use Rattle.mail_matching.proofs.Extents.{extent-append, extent_flat_map}
@@ -79,3 +81,9 @@ goes_on_all how keys f xs place first last le goes = subst (λ ys. GoesOn how (f
 pub values_of_none : (names : List (List ℕ)) → values_of_params [] names ≡ []
 values_of_none [] = refl
 values_of_none (name ∷ names) = values_of_none names
+
+-- nothing is selected where there are no fields
+pub selected_of_none : (selector : Selector) (names : List (List ℕ)) (fields : List Field) → length fields ≡ 0 → selected_among selector names fields ≡ []
+selected_of_none selector [] fields none = refl
+selected_of_none selector (name ∷ names) [] none = selected_of_none selector names [] none
+selected_of_none selector (name ∷ names) (field ∷ fields) none = absurd (omega (arith, none))

@@ -1,18 +1,9 @@
--- What the code's readings of a field stand for.
-use Rattle.std.specs.Prelude.{◌≡◌}
+-- The text that a field's type is read in.
+use Rattle.std.specs.Prelude.{◌≡◌, ℕ, true, List, codes}
 use Rattle.header_fields.specs.Fields.{Field}
-use Rattle.mime_decode.specs.Scope as scope
-use Rattle.mail_matching.specs.declared.reading.Reading.{Reading}
-use Rattle.mail_matching.specs.declared.reading.Reading.TheVariants.{Media, Disposed, Unreadable, Others}
+use Rattle.mime_tree.specs.PartTree.{is_word}
 
-abbrev pub reading : Reading → scope.Reading
-reading (Media media) = scope.Media media
-reading (Disposed disposition) = scope.Disposed disposition
-reading Unreadable = scope.Unreadable
-reading (Others params) = scope.Others params
-
--- it has the same type, subtype and content type as the field
-pub record HasTypeOf (field : Field) (read : scope.Reading) : Type 0 where
-  pub main : scope.main_of read ≡ scope.main_of (scope.reading_of field)
-  pub sub : scope.sub_of read ≡ scope.sub_of (scope.reading_of field)
-  pub content_type : scope.content_type_of read ≡ scope.content_type_of (scope.reading_of field)
+-- it is the value of the field, if that is one of the two that have a type; else it doesn't matter
+pub record IsTypeText (field : Field) (text : List ℕ) : Type 0 where
+  pub media : is_word field.name (codes "Content-Type") ≡ true → text ≡ field.value
+  pub disposition : is_word field.name (codes "Content-Disposition") ≡ true → text ≡ field.value

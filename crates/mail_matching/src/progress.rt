@@ -2,11 +2,10 @@
 ghost use Rattle.std.specs.Prelude.{◌≡◌, ◌+◌, ◌<◌, ◌≤◌, ◌^◌, ◌∷◌, [], false, All, IfSome, IsOk, OnOk, length};
 ghost use Rattle.std.specs.Cow.{cow_slice_items};
 ghost use Rattle.octets.specs.Limits.{max_message};
-ghost use Rattle.mime_params.specs.MediaValue.{value_named};
 ghost use Rattle.header_fields.specs.Extent.{fields_extent};
-ghost use Rattle.mime_decode.specs.Scope.{given, selected_of};
+ghost use Rattle.mime_decode.specs.Scope.{given, params_of, reading_of, selected_of};
 ghost use Rattle.mail_matching.specs.Costs.{extent_of};
-ghost use Rattle.mail_matching.specs.Headers.{AreUnfolded, AreWithin, IsUnfolded, selected_among, selected_named, values_of_params};
+ghost use Rattle.mail_matching.specs.Headers.{AreUnfolded, IsUnfolded, selected_among, selected_named, values_of_params};
 ghost use Rattle.mail_matching.specs.Outcomes.{GoesOn};
 ghost use Rattle.mail_matching.specs.Selection.{selector_of};
 ghost use Rattle.mail_matching.specs.Texts.{AreTexts};
@@ -15,12 +14,12 @@ ghost use Rattle.mail_matching.specs.declared.selection.Selector.TheVariants.{Va
 use crate::comparing::{first_key, first_key_of_lent};
 use crate::existence::is_named;
 use crate::outcome::Outcome;
-use crate::reading::{read, read_described};
+use crate::reading::{content_type_of, main_of, param_in, sub_of, type_text};
 use crate::selection::Selector;
 use crate::texts::Texts;
 use glob_match::Match;
 use header_fields::{Field, unfold, unfolded_length};
-use mime_params::{Params, param};
+use octets::Octets;
 use std::alloc::{AllocError, Global};
 use std::borrow::CowSlice;
 
@@ -56,6 +55,9 @@ impl<'m> Progress<'m> {
         ensures goes { OnOk result (GoesOn test.now.how (selected_among (selector_of test.now.selector (P.texts test.now.params.now)) (N.texts names.now) fields.now) (K.texts test.now.keys.now) self.old self.new) }
         ensures told { test.now.selector ≡ Value → AreUnfolded (N.texts names.now) fields.now → IsOk result }
     {
+        if fields.is_empty() {
+            return Ok(());
+        }
         for place in 0..names.count() {
             self.take_named(alloc, fields, names.text(place), test)?;
         }
@@ -121,24 +123,23 @@ impl<'m> Progress<'m> {
         match test.selector {
             Selector::Value => self.take_value(alloc, field, test.keys, test.how),
             Selector::Main => {
-                let main = read_described(alloc, field)?.into_main();
-                self.take(main, test.keys, test.how);
-                Ok(())
+                let text = type_text(alloc, field)?;
+                self.take_lent(alloc, main_of(field, text.as_slice()), test.keys, test.how)
             }
             Selector::Sub => {
-                let sub = read_described(alloc, field)?.into_sub();
-                self.take(sub, test.keys, test.how);
-                Ok(())
+                let text = type_text(alloc, field)?;
+                self.take_lent(alloc, sub_of(field, text.as_slice()), test.keys, test.how)
             }
             Selector::ContentType => {
-                let content_type = read_described(alloc, field)?.into_content_type()?;
+                let text = type_text(alloc, field)?;
+                let content_type = content_type_of(alloc, field, text.as_slice())?;
                 self.take(content_type, test.keys, test.how);
                 Ok(())
             }
-            Selector::Param => match read(alloc, field)?.params() {
-                Some(params) => self.take_params(alloc, params, test),
-                None => Ok(()),
-            },
+            Selector::Param => {
+                let text = unfold(alloc, field)?;
+                self.take_params(alloc, field, text.as_slice(), test)
+            }
         }
     }
 
@@ -165,42 +166,38 @@ impl<'m> Progress<'m> {
         Ok(())
     }
 
-    // Goes on with the values of the parameters of the given names.
+    // Goes on with the values of the parameters of the given names in the field's value.
     fn take_params<P: Texts, K: Texts>(
         &mut self,
         alloc: Global,
-        params: &Params,
+        field: &Field<'m>,
+        value: &[u8],
         test: &Comparison<'_, P, K>,
     ) -> Result<(), AllocError>
         requires keys { AreTexts (K.texts test.now.keys.now) }
-        requires short { AreWithin max_message params.now }
-        requires room { self.old.extent + extent_of (values_of_params params.now (P.texts test.now.params.now)) < 2 ^ 64 }
-        ensures { OnOk result (GoesOn test.now.how (values_of_params params.now (P.texts test.now.params.now)) (K.texts test.now.keys.now) self.old self.new) }
+        requires field { length field.now.value ≤ max_message }
+        requires value { value.now ≡ field.now.value }
+        requires room { self.old.extent + extent_of (values_of_params (params_of (reading_of field.now)) (P.texts test.now.params.now)) < 2 ^ 64 }
+        ensures { OnOk result (GoesOn test.now.how (values_of_params (params_of (reading_of field.now)) (P.texts test.now.params.now)) (K.texts test.now.keys.now) self.old self.new) }
     {
         for place in 0..test.params.count() {
             let name = test.params.text(place);
-            self.take_param(alloc, params, name, test)?;
+            let param = param_in(alloc, field, value, name)?;
+            self.take_param(param, test.keys, test.how);
         }
         Ok(())
     }
 
-    // Goes on with the value of the parameter of a name, if there is one.
-    fn take_param<P: Texts, K: Texts>(
-        &mut self,
-        alloc: Global,
-        params: &Params,
-        name: &[u8],
-        test: &Comparison<'_, P, K>,
-    ) -> Result<(), AllocError>
-        requires keys { AreTexts (K.texts test.now.keys.now) }
-        requires short { IfSome (value_named name.now params.now) (λ value. length value ≤ max_message) }
-        requires room { self.old.extent + extent_of (given (value_named name.now params.now)) < 2 ^ 64 }
-        ensures { OnOk result (GoesOn test.now.how (given (value_named name.now params.now)) (K.texts test.now.keys.now) self.old self.new) }
+    // Goes on with the value of a parameter, if there is one.
+    fn take_param<K: Texts>(&mut self, param: Option<Octets>, keys: &K, how: Match)
+        requires keys { AreTexts (K.texts keys.now) }
+        requires short { IfSome param (λ value. length value ≤ max_message) }
+        requires room { self.old.extent + extent_of (given param) < 2 ^ 64 }
+        ensures { GoesOn how (given param) (K.texts keys.now) self.old self.new }
     {
-        if let Some(value) = param(params, name) {
-            self.take_lent(alloc, value, test.keys, test.how)?;
+        if let Some(value) = param {
+            self.take(CowSlice::Owned(value.into_vec()), keys, how);
         }
-        Ok(())
     }
 
     // Goes on with a value.

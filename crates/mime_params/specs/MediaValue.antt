@@ -1,5 +1,5 @@
 -- Media types, dispositions and parameters (RFC 2045, section 5.1; RFC 2183, section 2).
-use Rattle.std.specs.Prelude.{ℕ, zero, suc, Bool, not, ◌==◌, List, [], ◌∷◌, Option, Some, None, length, drop, if◌then◌else◌}
+use Rattle.std.specs.Prelude.{ℕ, zero, suc, Bool, not, ◌==◌, List, [], ◌∷◌, Option, Some, None, option_map, length, drop, if◌then◌else◌}
 use Rattle.std.specs.List.{take_while, find}
 use Rattle.octets.specs.Ascii.{lowercase_of}
 use Rattle.mime_params.specs.declared.params.Parameter.{Parameter}
@@ -80,3 +80,24 @@ is_named name param = Rattle.std.specs.Prelude.bytes_eq (lowercase_of param.name
 abbrev pub value_named : List ℕ → List Parameter → Option (List ℕ)
 value_named name [] = None
 value_named name (param ∷ params) = if is_named name param then Some param.value else value_named name params
+
+-- ---- less than the whole of a value
+
+-- the type and the subtype
+abbrev pub names_of : MediaType → List ℕ × List ℕ
+names_of media = (media.main, media.sub)
+
+abbrev pub type_names : List ℕ → Option (List ℕ × List ℕ)
+type_names text = option_map names_of (media_type_of text)
+
+-- the disposition, without its parameters
+abbrev pub disposition_name : List ℕ → Option (List ℕ)
+disposition_name text = option_map (λ (disposition : Disposition). disposition.main) (disposition_of text)
+
+-- the value of the first parameter of that name of a media type
+abbrev pub type_param : List ℕ → List ℕ → Option (List ℕ)
+type_param name text = media_type_of text >>= λ media. value_named name media.params
+
+-- that of a disposition
+abbrev pub disposition_param : List ℕ → List ℕ → Option (List ℕ)
+disposition_param name text = disposition_of text >>= λ disposition. value_named name disposition.params

@@ -1,7 +1,8 @@
 -- What the readers give.
-use Rattle.std.specs.Prelude.{◌≡◌, ℕ, List, [], ◌∷◌, ◌++◌, Option, Some, None, MatchOption, Bool, true, false, ◌==◌}
+use Rattle.std.specs.Prelude.{◌≡◌, ℕ, List, [], ◌∷◌, ◌++◌, Option, Some, None, MatchOption, option_map, Bool, true, false, ◌==◌}
 use Rattle.std.specs.Borrow.{Bor}
-use Rattle.mime_params.specs.Words.{Word}
+use Rattle.mime_params.specs.Words.{Word, value}
+use Rattle.mime_params.specs.MediaValue.{param_at}
 
 -- a word that was read with what follows it, or nothing where none begins
 abbrev pub GivesWord : Option Word → Option (List ℕ × Bor (List ℕ)) → Type 0
@@ -15,3 +16,19 @@ with_prefix octets word = record word { octets = octets ++ word.octets }
 abbrev pub is_empty_param : List ℕ → Bool
 is_empty_param [] = true
 is_empty_param (c ∷ rest) = c == 59
+
+-- what follows a word
+abbrev pub after_word : Option Word → Option (List ℕ)
+after_word word = option_map (λ w. w.rest) word
+
+-- a text begins with a parameter of this name, whose value this other text begins with; this follows it
+pub record IsPassed (text name given rest : List ℕ) : Type 0 where
+  pub octets : List ℕ
+  pub begins : value given ≡ Some (record { octets = octets; rest = rest })
+  pub param : param_at text ≡ Some (record { param = record { name = name; value = octets }; rest = rest })
+
+-- a text begins with this value
+pub record IsGiven (wanted : Option (List ℕ)) (given : List ℕ) : Type 0 where
+  pub word : Word
+  pub begins : value given ≡ Some word
+  pub same : wanted ≡ Some word.octets

@@ -1,5 +1,5 @@
 // Why a value wasn't read.
-ghost use Rattle.std.specs.Prelude.{◌≡◌};
+ghost use Rattle.std.specs.Prelude.{◌≡◌, alloc_error};
 ghost use Rattle.mime_params.specs.declared.error.ValueError.TheVariants.{Memory};
 
 use std::alloc::{AllocError, AllocFailed};
@@ -26,5 +26,15 @@ impl<T: Drop> From<AllocFailed<T>> for ValueError {
 
     fn from(_refused: AllocFailed<T>) -> ValueError {
         ValueError::Memory
+    }
+}
+
+impl From<ValueError> for AllocError {
+    ghost from_gives = { λ _ e. e ≡ alloc_error };
+
+    fn from(refused: ValueError) -> AllocError {
+        match refused {
+            ValueError::Memory => AllocError,
+        }
     }
 }

@@ -8,11 +8,15 @@
 mod encoding;
 mod error;
 mod gap;
+mod lookup;
 mod media;
 mod params;
 mod words;
 
 pub use encoding::TransferEncoding;
 pub use error::ValueError;
-pub use media::{Disposition, MediaType, read_disposition, read_type};
-pub use params::{Parameter, Params, param, parameters_of};
+pub use media::{
+    Disposition, MediaType, disposition_name, disposition_param, read_disposition, read_type,
+    type_names, type_param,
+};
+pub use params::{Parameter, Params, param, param_of, parameters_of};

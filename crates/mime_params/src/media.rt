@@ -1,9 +1,11 @@
 // Media types and dispositions.
-ghost use Rattle.std.specs.Prelude.{◌≡◌, IfOk};
-ghost use Rattle.mime_params.specs.MediaValue.{disposition_of, media_type_of};
+ghost use Rattle.std.specs.Prelude.{◌≡◌, IfOk, MatchOption, None, Some};
+ghost use Rattle.mime_params.specs.Gaps.{after_gap};
+ghost use Rattle.mime_params.specs.MediaValue.{disposition_name, disposition_of, disposition_param, media_type_of, params_in, type_names, type_param};
 
 use crate::error::ValueError;
 use crate::gap::{after_gap, first};
+use crate::lookup::first_named;
 use crate::params::{Params, read_params};
 use crate::words::token;
 use octets::Octets;
@@ -29,17 +31,10 @@ pub struct Disposition {
 /// The media type that the value of a Content-Type has, or nothing where it has no reading.
 ///
 /// [`ValueError::Memory`] comes only where memory was refused.
-#[tactic(auto, unfolding(crate::specs::MediaValue::media_type_of))]
 pub fn read_type(alloc: Global, text: &[u8]) -> Result<Option<MediaType>, ValueError>
     ensures { IfOk result (λ read. read ≡ media_type_of text.now) }
 {
-    let Some((main, after)) = token(after_gap(text)) else {
-        return Ok(None);
-    };
-    let Some((b'/', after)) = first(after_gap(after)) else {
-        return Ok(None);
-    };
-    let Some((sub, after)) = token(after_gap(after)) else {
+    let Some((main, sub, after)) = names_at(text) else {
         return Ok(None);
     };
     Ok(Some(MediaType {
@@ -49,18 +44,87 @@ pub fn read_type(alloc: Global, text: &[u8]) -> Result<Option<MediaType>, ValueE
     }))
 }
 
+/// The type and the subtype that the value of a Content-Type has, or nothing where it has no reading. Its parameters aren't
+/// read, since it has its type whatever they are. Takes no memory.
+pub fn type_names(text: &[u8]) -> Option<(&[u8], &[u8])>
+    ensures { MatchOption result (type_names text.now ≡ None) (λ names. type_names text.now ≡ Some (names.0.now, names.1.now)) }
+{
+    let (main, sub, _after) = names_at(text)?;
+    Some((main, sub))
+}
+
+/// The value of the first parameter of this name, without ASCII case, that the value of a Content-Type has. No other is kept.
+///
+/// [`ValueError::Memory`] comes only where memory was refused.
+pub fn type_param(alloc: Global, text: &[u8], name: &[u8]) -> Result<Option<Octets>, ValueError>
+    ensures { IfOk result (λ value. value ≡ type_param name.now text.now) }
+{
+    let Some((_main, _sub, after)) = names_at(text) else {
+        return Ok(None);
+    };
+    Ok(first_named(alloc, after_gap(after), name)?)
+}
+
+// The type and the subtype that the value of a Content-Type has, and what follows them.
+#[tactic(auto, unfolding(crate::specs::MediaValue::media_type_of))]
+fn names_at(text: &[u8]) -> Option<(&[u8], &[u8], &[u8])>
+    ensures { MatchOption result (media_type_of text.now ≡ None)
+        (λ read. media_type_of text.now ≡ Some (record { main = read.0.now; sub = read.1.now; params = params_in (after_gap read.2.now) })) }
+{
+    let (main, after) = token(after_gap(text))?;
+    let Some((b'/', after)) = first(after_gap(after)) else {
+        return None;
+    };
+    let (sub, after) = token(after_gap(after))?;
+    Some((main, sub, after))
+}
+
 /// The disposition that the value of a Content-Disposition has, or nothing where it has no reading.
 ///
 /// [`ValueError::Memory`] comes only where memory was refused.
-#[tactic(auto, unfolding(crate::specs::MediaValue::disposition_of))]
 pub fn read_disposition(alloc: Global, text: &[u8]) -> Result<Option<Disposition>, ValueError>
     ensures { IfOk result (λ read. read ≡ disposition_of text.now) }
 {
-    let Some((main, after)) = token(after_gap(text)) else {
+    let Some((main, after)) = disposition_at(text) else {
         return Ok(None);
     };
     Ok(Some(Disposition {
         main: Octets::from_vec(main.to_vec(alloc)?),
         params: read_params(alloc, after_gap(after))?,
     }))
+}
+
+/// The disposition that the value of a Content-Disposition has, without its parameters, which aren't read; or nothing where it
+/// has no reading. Takes no memory.
+pub fn disposition_name(text: &[u8]) -> Option<&[u8]>
+    ensures { MatchOption result (disposition_name text.now ≡ None) (λ name. disposition_name text.now ≡ Some name.now) }
+{
+    let (main, _after) = disposition_at(text)?;
+    Some(main)
+}
+
+/// The value of the first parameter of this name, without ASCII case, that the value of a Content-Disposition has. No other is
+/// kept.
+///
+/// [`ValueError::Memory`] comes only where memory was refused.
+pub fn disposition_param(
+    alloc: Global,
+    text: &[u8],
+    name: &[u8],
+) -> Result<Option<Octets>, ValueError>
+    ensures { IfOk result (λ value. value ≡ disposition_param name.now text.now) }
+{
+    let Some((_main, after)) = disposition_at(text) else {
+        return Ok(None);
+    };
+    Ok(first_named(alloc, after_gap(after), name)?)
+}
+
+// The disposition that a value has, and what follows it.
+#[tactic(auto, unfolding(crate::specs::MediaValue::disposition_of))]
+fn disposition_at(text: &[u8]) -> Option<(&[u8], &[u8])>
+    ensures { MatchOption result (disposition_of text.now ≡ None)
+        (λ read. disposition_of text.now ≡ Some (record { main = read.0.now; params = params_in (after_gap read.1.now) })) }
+{
+    token(after_gap(text))
 }

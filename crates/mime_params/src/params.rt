@@ -6,6 +6,7 @@ ghost use Rattle.mime_params.specs.MediaValue.{param_at, params_in, parameters_o
 
 use crate::error::ValueError;
 use crate::gap::{after_gap, first};
+use crate::lookup::first_named;
 use crate::words::{token, value};
 use octets::{Octets, equal_ignoring_case};
 use std::alloc::{AllocError, Global};
@@ -76,6 +77,16 @@ pub fn param<'a>(params: &'a Params, name: &[u8]) -> Option<&'a [u8]>
     None
 }
 
+/// The value of the first parameter of this name, without ASCII case, of those of a field's value, from its first semicolon on.
+/// No other is kept.
+///
+/// [`ValueError::Memory`] comes only where memory was refused.
+pub fn param_of(alloc: Global, text: &[u8], name: &[u8]) -> Result<Option<Octets>, ValueError>
+    ensures { IfOk result (λ value. value ≡ value_named name.now (parameters_of text.now)) }
+{
+    Ok(first_named(alloc, &text[semicolon_at(text)..], name)?)
+}
+
 // Where the first semicolon stands, or the text ends.
 fn semicolon_at(text: &[u8]) -> usize
     ensures { result ≡ length (take_while (λ c. not (c == 59)) text.now) }
@@ -107,8 +118,8 @@ pub(crate) fn read_params(alloc: Global, text: &[u8]) -> Result<Params, AllocErr
     Ok(Params { items })
 }
 
-// Whether there is no parameter before the next semicolon or the end.
-fn is_empty_param(body: &[u8]) -> bool
+/// Whether there is no parameter before the next semicolon or the end.
+pub(crate) fn is_empty_param(body: &[u8]) -> bool
     ensures { result ≡ is_empty_param body.now }
 {
     matches!(body, [] | [b';', ..])

@@ -1,7 +1,7 @@
 // The words of a value.
 ghost use Rattle.std.specs.Prelude.{◌≡◌, length, IfOk, MatchOption, None, Some};
 ghost use Rattle.std.specs.List.{take_while};
-ghost use Rattle.mime_params.specs.Reading.{GivesWord};
+ghost use Rattle.mime_params.specs.Reading.{GivesWord, after_word};
 ghost use Rattle.mime_params.specs.Words.{is_special, is_token_octet, is_value_octet, quoted, value, word};
 ghost use Rattle.mime_params.specs.MediaValue.{token};
 
@@ -92,6 +92,36 @@ fn quoted(alloc: Global, text: &[u8]) -> Result<Option<(Octets, &[u8])>, AllocEr
         }
     }
     Ok(None)
+}
+
+// What follows a quoted string, after its opening quote; nothing where it isn't closed.
+fn after_quoted(text: &[u8]) -> Option<&[u8]>
+    ensures { MatchOption result (after_word (quoted text.now) ≡ None) (λ after. after_word (quoted text.now) ≡ Some after.now) }
+{
+    let mut rest = text;
+    'quoted: while let Some((octet, more)) = first(rest) {
+        if octet == b'"' {
+            return Some(more);
+        }
+        if octet == b'\\' {
+            let (_escaped, after) = first(more)?;
+            rest = after;
+        } else {
+            rest = more;
+        }
+    }
+    None
+}
+
+/// What follows the value that the text begins with. Takes no memory.
+pub fn after_value(text: &[u8]) -> Option<&[u8]>
+    ensures { MatchOption result (after_word (value text.now) ≡ None) (λ after. after_word (value text.now) ≡ Some after.now) }
+{
+    if let Some((b'"', rest)) = first(text) {
+        return after_quoted(rest);
+    }
+    let (_octets, rest) = plain(text)?;
+    Some(rest)
 }
 
 /// The value that the text begins with, and what follows it.

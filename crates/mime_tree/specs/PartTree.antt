@@ -52,6 +52,10 @@ abbrev pub or_text_plain : Option MediaType → MediaType
 or_text_plain None = text_plain
 or_text_plain (Some media) = media
 
+-- a media type without its parameters
+abbrev pub without_params : MediaType → MediaType
+without_params media = record media { params = [] }
+
 -- the media type of a Content-Type's value; without that field there is a default
 abbrev pub media_or : MediaType → Option (List ℕ) → MediaType
 media_or default None = default

@@ -3,7 +3,6 @@ ghost use Rattle.std.specs.Prelude.{◌≡◌};
 ghost use Rattle.mime_tree.specs.declared.error.TreeError.TheVariants.{Memory};
 
 use header_fields::HeaderError;
-use mime_params::ValueError;
 use std::alloc::{AllocError, AllocFailed};
 use thiserror::Error;
 
@@ -41,14 +40,6 @@ impl From<HeaderError> for TreeError {
     ghost from_gives = { λ _ e. e ≡ Memory };
 
     fn from(_refused: HeaderError) -> TreeError {
-        TreeError::Memory
-    }
-}
-
-impl From<ValueError> for TreeError {
-    ghost from_gives = { λ _ e. e ≡ Memory };
-
-    fn from(_refused: ValueError) -> TreeError {
         TreeError::Memory
     }
 }

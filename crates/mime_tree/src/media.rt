@@ -2,12 +2,14 @@
 ghost use Rattle.std.specs.Prelude.{◌≡◌, [], IfOk, IfErr, codes};
 ghost use Rattle.std.specs.Option.{option_map};
 ghost use Rattle.std.specs.Cow.{cow_slice_items};
-ghost use Rattle.mime_tree.specs.PartTree.{first_value, is_plain, is_word, media_or, encoding_or_7bit};
+ghost use Rattle.mime_tree.specs.PartTree.{first_value, is_plain, is_word, media_or, encoding_or_7bit, without_params};
 ghost use Rattle.mime_tree.specs.Reading.{default_media};
+ghost use Rattle.mime_tree.specs.declared.media.DefaultType.{DefaultType};
+ghost use Rattle.mime_params.specs.MediaValue.{value_named};
 
 use crate::error::TreeError;
 use header_fields::{Field, HeaderError, name_is, unfold};
-use mime_params::{MediaType, Params, TransferEncoding, read_type};
+use mime_params::{MediaType, Params, TransferEncoding, read_type, type_names, type_param};
 use octets::{Octets, equal_ignoring_case};
 use std::alloc::{AllocError, Global};
 use std::borrow::CowSlice;
@@ -50,16 +52,46 @@ pub(crate) fn media_of(
     alloc: Global,
     fields: &[Field],
     default: DefaultType,
-) -> Result<MediaType, TreeError>
-    ensures media { IfOk result (λ media. media ≡ media_or (default_media default) (first_value (codes "Content-Type") fields.now)) }
-    ensures refused { IfErr result (λ e. e ≡ TreeError.Memory) }
+) -> Result<MediaType, AllocError>
+    ensures { IfOk result (λ media. media ≡ media_or (default_media default) (first_value (codes "Content-Type") fields.now)) }
 {
     let Some(value) = first_value(alloc, fields, b"Content-Type")? else {
-        return Ok(default.media(alloc)?);
+        return default.media(alloc);
     };
     match read_type(alloc, value.as_slice())? {
         Some(media) => Ok(media),
-        None => Ok(DefaultType::Text.media(alloc)?),
+        None => DefaultType::Text.media(alloc),
+    }
+}
+
+/// That media type without its parameters, which aren't read.
+pub(crate) fn media_without_params(
+    alloc: Global,
+    fields: &[Field],
+    default: DefaultType,
+) -> Result<MediaType, AllocError>
+    ensures { IfOk result (λ media. media ≡ without_params (media_or (default_media default) (first_value (codes "Content-Type") fields.now))) }
+{
+    let Some(value) = first_value(alloc, fields, b"Content-Type")? else {
+        return default.media(alloc);
+    };
+    match type_names(value.as_slice()) {
+        Some((main, sub)) => without_params(alloc, main, sub),
+        None => DefaultType::Text.media(alloc),
+    }
+}
+
+/// The value of the first parameter of this name that the first Content-Type has. No other is kept; a default has none.
+pub(crate) fn media_param(
+    alloc: Global,
+    fields: &[Field],
+    name: &[u8],
+) -> Result<Option<Octets>, AllocError>
+    ensures { IfOk result (λ value. (default : DefaultType) → value ≡ value_named name.now (media_or (default_media default) (first_value (codes "Content-Type") fields.now)).params) }
+{
+    match first_value(alloc, fields, b"Content-Type")? {
+        Some(value) => Ok(type_param(alloc, value.as_slice(), name)?),
+        None => Ok(None),
     }
 }
 

@@ -1,15 +1,18 @@
 // A part of a message.
 ghost use Rattle.std.specs.Prelude.{◌≡◌, ◌-◌, ◌≤◌, length, take, IfOk, IfErr};
 ghost use Rattle.std.specs.Option.{option_map};
-ghost use Rattle.mime_tree.specs.PartTree.{body_of, default_below};
+ghost use Rattle.mime_params.specs.MediaValue.{value_named};
+ghost use Rattle.mime_tree.specs.PartTree.{body_of, default_below, without_params};
 ghost use Rattle.mime_tree.specs.OpenParts.{boundary_inside, holds_message, part_read};
 ghost use Rattle.mime_tree.specs.Reading.{default_media};
 
 use crate::error::TreeError;
-use crate::media::{DefaultType, encoding_of, is_plain, is_word, media_of};
+use crate::media::{
+    DefaultType, encoding_of, is_plain, is_word, media_of, media_param, media_without_params,
+};
 use header_fields::Header;
-use mime_params::{MediaType, TransferEncoding, param};
-use octets::trim_trailing_blanks;
+use mime_params::{MediaType, TransferEncoding};
+use octets::{Octets, trim_trailing_blanks};
 use std::alloc::{AllocError, Global};
 use std::marker::Model;
 
@@ -23,16 +26,25 @@ pub(crate) struct Part<'a> {
     place: usize,
     raw: &'a [u8],
     header: Header<'a>,
-    media: MediaType,
+    // The type that it has without a Content-Type.
+    default: DefaultType,
+    // Its media type without the parameters, which may be millions and are read where they are asked for.
+    names: MediaType,
     encoding: TransferEncoding,
 }
 
 impl<'a> Model for Part<'a> {
-    ghost use Rattle.mime_tree.specs.PartTree.{Part};
+    ghost use Rattle.std.specs.Prelude.{◌≡◌, codes};
+    ghost use Rattle.mime_tree.specs.PartTree.{Part, first_value, media_or};
+    ghost use Rattle.mime_tree.specs.Reading.{default_media};
 
     ghost Value = { Part };
 
-    ghost view = { λ p. record { depth = p.depth; below = p.below; place = p.place; raw = p.raw.now; header = p.header; media = p.media; encoding = p.encoding } };
+    ghost view = { λ p. record { depth = p.depth; below = p.below; place = p.place; raw = p.raw.now; header = p.header; media = media_or (default_media p.default) (first_value (codes "Content-Type") p.header.fields); encoding = p.encoding } };
+
+    ghost use Rattle.mime_tree.specs.PartTree.{without_params};
+
+    ghost invariant = { λ p. p.names ≡ without_params (media_or (default_media p.default) (first_value (codes "Content-Type") p.header.fields)) };
 }
 
 impl<'a> Part<'a> {
@@ -53,7 +65,7 @@ impl<'a> Part<'a> {
         ensures refused { IfErr result (λ e. e ≡ TreeError.Memory) }
     {
         let header = Header::read(alloc, &rest[..header])?;
-        let media = media_of(alloc, header.fields(), default)?;
+        let names = media_without_params(alloc, header.fields(), default)?;
         let encoding = encoding_of(alloc, header.fields())?;
         Ok(Part {
             depth,
@@ -61,7 +73,8 @@ impl<'a> Part<'a> {
             place,
             raw: rest,
             header,
-            media,
+            default,
+            names,
             encoding,
         })
     }
@@ -93,13 +106,13 @@ impl<'a> Part<'a> {
     pub(crate) fn boundary(&self, alloc: Global) -> Result<Option<Vec<u8>>, AllocError>
         ensures { IfOk result (λ boundary. option_map (λ v. v.items) boundary ≡ boundary_inside self.now) }
     {
-        if !is_plain(self.encoding) || !is_word(self.media.main.as_slice(), b"multipart") {
+        if !is_plain(self.encoding) || !is_word(self.names.main.as_slice(), b"multipart") {
             return Ok(None);
         }
-        let Some(value) = param(&self.media.params, b"boundary") else {
+        let Some(value) = self.media_param(alloc, b"boundary")? else {
             return Ok(None);
         };
-        let boundary = trim_trailing_blanks(value);
+        let boundary = trim_trailing_blanks(value.as_slice());
         if boundary.is_empty() {
             return Ok(None);
         }
@@ -111,16 +124,16 @@ impl<'a> Part<'a> {
         ensures { result ≡ holds_message self.now }
     {
         is_plain(self.encoding)
-            && is_word(self.media.main.as_slice(), b"message")
-            && is_word(self.media.sub.as_slice(), b"rfc822")
+            && is_word(self.names.main.as_slice(), b"message")
+            && is_word(self.names.sub.as_slice(), b"rfc822")
     }
 
     /// The media type of a child of it that has no Content-Type.
     pub(crate) fn default_below(&self) -> DefaultType
         ensures { default_media result ≡ default_below self.now.media }
     {
-        if is_word(self.media.main.as_slice(), b"multipart")
-            && is_word(self.media.sub.as_slice(), b"digest")
+        if is_word(self.names.main.as_slice(), b"multipart")
+            && is_word(self.names.sub.as_slice(), b"digest")
         {
             DefaultType::Message
         } else {
@@ -150,11 +163,29 @@ impl<'a> Part<'a> {
         &self.header
     }
 
-    /// Its media type.
-    pub(crate) fn media(&self) -> &MediaType
-        ensures { result.now ≡ self.now.media }
+    /// Its media type without the parameters.
+    pub(crate) fn media_without_params(&self) -> &MediaType
+        ensures { result.now ≡ without_params self.now.media }
     {
-        &self.media
+        &self.names
+    }
+
+    /// Its media type.
+    pub(crate) fn media(&self, alloc: Global) -> Result<MediaType, AllocError>
+        ensures { IfOk result (λ media. media ≡ self.now.media) }
+    {
+        media_of(alloc, self.header.fields(), self.default)
+    }
+
+    /// The value of the first parameter of this name that its media type has.
+    pub(crate) fn media_param(
+        &self,
+        alloc: Global,
+        name: &[u8],
+    ) -> Result<Option<Octets>, AllocError>
+        ensures { IfOk result (λ value. value ≡ value_named name.now self.now.media.params) }
+    {
+        media_param(alloc, self.header.fields(), name)
     }
 
     /// How its body is encoded.

@@ -2,7 +2,8 @@
 ghost use Rattle.std.specs.Prelude.{◌≡◌, ◌<◌, length, IfOk, IfErr, IsErrAnd};
 ghost use Rattle.std.specs.List.{HoldsAt};
 ghost use Rattle.octets.specs.Limits.{max_message};
-ghost use Rattle.mime_tree.specs.PartTree.{tree_of, body_of};
+ghost use Rattle.mime_params.specs.MediaValue.{value_named};
+ghost use Rattle.mime_tree.specs.PartTree.{tree_of, body_of, without_params};
 ghost use Rattle.mime_tree.specs.Readable.{IsReadable, IsTree};
 ghost use Rattle.mime_tree.specs.Refusals.{IsTreeRefusal};
 ghost use Rattle.mime_tree.specs.declared.error.TreeError.TheVariants.{MessageTooLarge};
@@ -13,11 +14,12 @@ use crate::part::Part;
 use crate::reader::message_parts;
 use header_fields::Header;
 use mime_params::{MediaType, TransferEncoding};
-use std::alloc::Global;
+use octets::Octets;
+use std::alloc::{AllocError, Global};
 use std::marker::Model;
 
 /// The tree of a message's parts (RFC 2046, section 5), over octets that are lent: headers and
-/// bodies aren't copied, media types and boundaries are.
+/// bodies aren't copied, types, subtypes and boundaries are. Parameters aren't kept.
 ///
 /// Parts are numbered from 0, each before those below it. A contract sees the list of the definition's parts.
 #[derive(Drop)]
@@ -102,12 +104,42 @@ impl<'a> Tree<'a> {
         self.parts[part].body()
     }
 
-    /// The media type of a part: that of its first Content-Type, or its default (RFC 2045, section 5.2).
-    pub fn media(&self, part: usize) -> &MediaType
+    /// The media type of a part: that of its first Content-Type, or its default (RFC 2045, section 5.2). Each call reads it anew,
+    /// with all of its parameters, which may be millions.
+    ///
+    /// # Errors
+    ///
+    /// An allocation was refused.
+    pub fn media(&self, alloc: Global, part: usize) -> Result<MediaType, AllocError>
         requires { part < length self.now }
-        ensures { HoldsAt (λ p. result.now ≡ p.media) self.now part }
+        ensures { HoldsAt (λ p. IfOk result (λ media. media ≡ p.media)) self.now part }
     {
-        self.parts[part].media()
+        self.parts[part].media(alloc)
+    }
+
+    /// The media type of a part without its parameters, which aren't read for it.
+    pub fn media_without_params(&self, part: usize) -> &MediaType
+        requires { part < length self.now }
+        ensures { HoldsAt (λ p. result.now ≡ without_params p.media) self.now part }
+    {
+        self.parts[part].media_without_params()
+    }
+
+    /// The value of the first parameter of this name, without ASCII case, that a part's media type has. No other is kept.
+    ///
+    /// # Errors
+    ///
+    /// An allocation was refused.
+    pub fn media_param(
+        &self,
+        alloc: Global,
+        part: usize,
+        name: &[u8],
+    ) -> Result<Option<Octets>, AllocError>
+        requires { part < length self.now }
+        ensures { HoldsAt (λ p. IfOk result (λ value. value ≡ value_named name.now p.media.params)) self.now part }
+    {
+        self.parts[part].media_param(alloc, name)
     }
 
     /// How the body of a part is encoded: by its first Content-Transfer-Encoding, or 7bit (RFC 2045, section 6.1).

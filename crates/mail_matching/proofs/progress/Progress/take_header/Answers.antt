@@ -1,8 +1,9 @@
-use Rattle.std.proofs.Common.{◌<◌, [], All, arith, length, subst, sym}
-use Rattle.std.proofs.lemmas.Bool.{false≢true}
+use Rattle.std.proofs.Common.{◌<◌, ◌∙◌, [], All, arith, length, subst, sym}
+use Rattle.std.proofs.lemmas.Bool.{eqb-true, false≢true}
 use Rattle.mail_matching.specs.Headers.{IsUnfolded, selected_named}
+use Rattle.mail_matching.specs.Outcomes.{GoesOn}
 use Rattle.mail_matching.specs.Selection.{selector_of}
-use Rattle.mail_matching.proofs.Onward.{goes_on_more, values_room}
+use Rattle.mail_matching.proofs.Onward.{goes_on_more, goes_on_none, selected_of_none, values_room}
 use Rattle.mail_matching.proofs.progress.Progress.take_header.Goals as goal
 
 pub take_named-requires-clause-room : goal.take_named-requires-clause-room
@@ -30,3 +31,12 @@ returns-in_err-take_named-clause-told g c = λ value plain.
     let lt : c.loop-place.place < length names = omega (arith, c.loop-place-test.true, c.count-place-end.ensures) in
     absurd (false≢true (c.in_err-take_named.ensures.told value
     (subst (λ name. All (IsUnfolded name) c.args.fields.now) (sym c.text.ensures) (plain c.loop-place.place [] lt))))
+
+pub returns-then-is_empty-clause-goes : goal.returns-then-is_empty-clause-goes
+returns-then-is_empty-clause-goes g c =
+    let selector = selector_of c.args.test.now.selector (g.P.Texts.texts c.args.test.now.params.now) in
+    let names = g.N.Texts.texts c.args.names.now in
+    let how = c.args.test.now.how in
+    let keys = g.K.Texts.texts c.args.test.now.keys.now in
+    let none = selected_of_none selector names c.args.fields.now (eqb-true _ _ (sym c.is_empty.ensures ∙ c.if-is_empty.true)) in
+    subst (λ values. GoesOn how values keys c.args.self.now c.args.self.now) (sym none) (goes_on_none how keys c.args.self.now)
