@@ -1,27 +1,26 @@
 // The names and media types of parts (RFC 2183, section 2.3; RFC 2045, section 5.1).
-ghost use Rattle.std.specs.Prelude.{◌≡◌, IfOk, MatchOption, None, Some, codes, option_map};
+ghost use Rattle.std.specs.Prelude.{◌≡◌, ◌<◌, IfOk, MatchOption, None, Some, codes, length, option_map};
+ghost use Rattle.std.specs.List.{HoldsAt};
 ghost use Rattle.mime_tree.specs.PartTree.{first_value};
-ghost use Rattle.mime_decode.specs.Mail.{Part};
+ghost use Rattle.mime_decode.specs.Mail.{part_of};
 ghost use Rattle.depot_actions.specs.Drafts.{file_name_in, media_text, name_of};
 
 use header_fields::{Field, name_is, unfold};
-use mime_params::{MediaType, ValueError, param, read_disposition};
+use mime_params::{MediaType, ValueError, disposition_param};
+use mime_tree::Tree;
 use octets::to_lowercase;
 use std::alloc::{AllocError, Global};
 
-/// The name of a part with these fields and this media type. An error comes only where an allocation was refused.
-pub(crate) fn part_name(
-    alloc: Global,
-    fields: &[Field],
-    media: &MediaType,
-) -> Result<Vec<u8>, AllocError>
-    ensures { (part : Part) → part.fields ≡ fields.now → part.media ≡ media.now → IfOk result (λ name. name.items ≡ name_of part) }
+/// The name of a part. An error comes only where an allocation was refused.
+pub(crate) fn part_name(alloc: Global, tree: &Tree<'_>, part: usize) -> Result<Vec<u8>, AllocError>
+    requires { part < length tree.now }
+    ensures { HoldsAt (λ p. IfOk result (λ name. name.items ≡ name_of (part_of p))) tree.now part }
 {
-    if let Some(name) = file_name(alloc, fields)? {
+    if let Some(name) = file_name(alloc, tree.header(part).fields())? {
         return Ok(name);
     }
-    match param(&media.params, b"name") {
-        Some(name) => name.to_vec(alloc),
+    match tree.media_param(alloc, part, b"name")? {
+        Some(name) => Ok(name.into_vec()),
         None => Ok(Vec::new(alloc)),
     }
 }
@@ -50,11 +49,8 @@ fn file_name(alloc: Global, fields: &[Field]) -> Result<Option<Vec<u8>>, AllocEr
 fn file_name_of(alloc: Global, value: &[u8]) -> Result<Option<Vec<u8>>, AllocError>
     ensures { IfOk result (λ name. option_map (λ v. v.items) name ≡ file_name_in (Some value.now)) }
 {
-    let Some(disposition) = read_disposition(alloc, value).map_err(refused)? else {
-        return Ok(None);
-    };
-    match param(&disposition.params, b"filename") {
-        Some(name) => Ok(Some(name.to_vec(alloc)?)),
+    match disposition_param(alloc, value, b"filename").map_err(refused)? {
+        Some(name) => Ok(Some(name.into_vec())),
         None => Ok(None),
     }
 }

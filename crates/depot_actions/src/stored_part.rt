@@ -34,10 +34,9 @@ impl<'m> StoredPart<'m> {
         ensures { HoldsAt (λ p. IfOk result (λ stored. IsStored stored p)) message.now.parts part }
     {
         let tree = message.tree();
-        let media = tree.media(part);
         Ok(StoredPart {
-            name: part_name(alloc, tree.header(part).fields(), media)?,
-            media: media_text(alloc, media)?,
+            name: part_name(alloc, tree, part)?,
+            media: media_text(alloc, tree.media_without_params(part))?,
             content: message.content(alloc, part)?,
         })
     }

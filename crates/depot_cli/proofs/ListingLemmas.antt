@@ -30,9 +30,10 @@ holds_at {mail} octets P place is lt at =
 -- a line was added of what is known of a part: it is the part's line
 pub line_added : {T E : Type 0} (r : Result T E) (old new : List ℕ) (parts : List Part) (place depth : ℕ) (media : MediaType) (content : List ℕ)
     → OnOk r (new ≡ old ++ line (part_text place depth media content))
-    → HoldsAt (λ p. depth ≡ p.depth) parts place → HoldsAt (λ p. media ≡ p.media) parts place → HoldsAt (λ p. content ≡ p.content) parts place
+    → HoldsAt (λ p. depth ≡ p.depth) parts place → HoldsAt (λ p. media ≡ tree.without_params p.media) parts place → HoldsAt (λ p. content ≡ p.content) parts place
     → OnOk r (HoldsAt (λ p. new ≡ old ++ line (part_text place p.depth p.media p.content)) parts place)
-line_added (Ok x) old new parts place depth media content h is_depth is_media is_content = λ p. rw (sym (is_depth p), sym (is_media p), sym (is_content p)) h
+line_added (Ok x) old new parts place depth media content h is_depth is_media is_content = λ p.
+    rw (sym (is_depth p), sym (is_content p)) (subst (λ m. new ≡ old ++ line (part_text place depth m content)) (is_media p) h)
 line_added (Err e) old new parts place depth media content h is_depth is_media is_content = tt
 
 -- the line of the next part was added: with the lines of those after it the text is the same whole

@@ -43,7 +43,10 @@ pub const DISASSEMBLE: &str = ending!(
     "1, 2, 20, 45, 46"
 );
 
-pub const ASSEMBLE: &str = ending!("depot assemble filter.listing filter.svbc", "1, 2, 28, 45, 46");
+pub const ASSEMBLE: &str = ending!(
+    "depot assemble filter.listing filter.svbc",
+    "1, 2, 28, 45, 46"
+);
 
 pub const EVAL: &str = ending!(
     "depot eval filter.sieve mail.eml",

@@ -51,7 +51,7 @@ fn add_part(
         text,
         part,
         tree.depth(part),
-        tree.media(part),
+        tree.media_without_params(part),
         content.as_slice(),
     )
 }

@@ -263,8 +263,9 @@ fn print_types(alloc: Global, text: &[u8], answer: &mut Printed) -> Result<(), A
     };
     for part in 0..tree.parts() {
         print_size(tree.depth(part), answer)?;
-        answer.text(tree.media(part).main.as_slice())?;
-        answer.text(tree.media(part).sub.as_slice())?;
+        let media = tree.media_without_params(part);
+        answer.text(media.main.as_slice())?;
+        answer.text(media.sub.as_slice())?;
         answer.word(name_of(tree.encoding(part)))?;
     }
     Ok(())
@@ -306,7 +307,7 @@ fn print_part(
     print_size(tree.header(part).body_start(), answer)?;
     answer.text(tree.raw(part))?;
     answer.text(tree.body(part))?;
-    let media = tree.media(part);
+    let media = tree.media(alloc, part)?;
     answer.text(media.main.as_slice())?;
     answer.text(media.sub.as_slice())?;
     print_params(&media.params, answer)

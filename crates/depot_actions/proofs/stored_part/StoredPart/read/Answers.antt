@@ -1,26 +1,23 @@
-use Rattle.std.proofs.Common.{◌≡◌, sym, ap, refl, arith, length, get_or}
+use Rattle.std.proofs.Common.{◌≡◌, ap, arith, length}
 use Rattle.mime_decode.specs.Mail.{Part}
+use Rattle.mime_tree.specs.PartTree.{without_params}
+use Rattle.depot_actions.specs.Drafts.{name_of}
 use Rattle.depot_actions.proofs.Keeping.{at_part, tree_number}
 use Rattle.depot_actions.proofs.stored_part.StoredPart.read.Goals as goal
 
-pub media-media-requires : goal.media-media-requires
-media-media-requires c = omega (arith, c.requires, tree_number c.args.message.now c.tree-tree.ensures.mail, ap length c.tree-tree.ensures.tree)
+pub part_name-requires : goal.part_name-requires
+part_name-requires c = omega (arith, c.requires, tree_number c.args.message.now c.tree-tree.ensures.mail, ap length c.tree-tree.ensures.tree)
 
-pub header-requires : goal.header-requires
-header-requires c = omega (arith, c.requires, tree_number c.args.message.now c.tree-tree.ensures.mail, ap length c.tree-tree.ensures.tree)
+pub media_without_params-requires : goal.media_without_params-requires
+media_without_params-requires c = omega (arith, c.requires, tree_number c.args.message.now c.tree-tree.ensures.mail, ap length c.tree-tree.ensures.tree)
 
 pub returns : goal.returns
 returns c = λ d.
     let mail = c.args.message.now in
-    let part = get_or mail.parts c.args.part d in
-    let fields : part.fields ≡ c.fields.result.now =
-    sym (at_part mail c.tree-tree.ensures.mail (λ (p : Part). c.fields.result.now ≡ p.fields) c.args.part c.requires
-    (λ e. let here = rw c.tree-tree.ensures.tree at (c.header.ensures e) in rw (c.fields.ensures.fields, here) refl) d) in
-    let media : part.media ≡ c.media-media.result.now =
-    sym (at_part mail c.tree-tree.ensures.mail (λ (p : Part). c.media-media.result.now ≡ p.media) c.args.part c.requires
-    (λ e. rw c.tree-tree.ensures.tree at (c.media-media.ensures e)) d) in
     record {
-      name = c.in_ok-part_name.ensures part fields media;
-      media = rw media c.in_ok-media_text.ensures;
+      name = at_part mail c.tree-tree.ensures.mail (λ (p : Part). c.in_ok-part_name.name.items ≡ name_of p) c.args.part c.requires
+          (λ e. rw c.tree-tree.ensures.tree at (c.in_ok-part_name.ensures e)) d;
+      media = at_part mail c.tree-tree.ensures.mail (λ (p : Part). c.media_without_params.result.now ≡ without_params p.media) c.args.part c.requires
+          (λ e. rw c.tree-tree.ensures.tree at (c.media_without_params.ensures e)) d;
       content = c.in_ok-content.ensures.content d;
     }
