@@ -1,5 +1,5 @@
 -- A listing of a program has no fault.
-use Rattle.std.proofs.Common.{◌≡◌, ℕ, List, ◌-◌, length, Result, Ok, MatchResult, refl, subst}
+use Rattle.std.proofs.Common.{◌≡◌, ℕ, List, ◌-◌, length, Result, MatchResult, refl, subst}
 use Rattle.bytecode_format.specs.Code.{Code}
 use Rattle.bytecode_listing.specs.declared.error.ListingError.{ListingError}
 use Rattle.bytecode_listing.specs.declared.error.ListingError.TheVariants.{Memory, Fault}
