@@ -14,3 +14,4 @@ pub mod Files
 pub mod Inspecting
 pub mod NoDepots
 pub mod Carrying
+pub mod Saving
