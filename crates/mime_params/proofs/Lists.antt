@@ -4,13 +4,13 @@ use Rattle.std.specs.Prelude.{MatchOption, bytes_eq}
 use Rattle.std.proofs.lemmas.Slice.Eq.{bytes_eq-Decides}
 use Rattle.std.proofs.lemmas.Bool.{cases_eq, cases_Bool, ne_eqb}
 use Rattle.std.specs.List.{take_while}
-use Rattle.std.proofs.lemmas.List.{append_assoc, append-nil, length-drop, drop_more}
+use Rattle.std.proofs.lemmas.List.{append_assoc, length-drop, drop_more}
 use Rattle.octets.specs.Ascii.{lowercase_of}
 use Rattle.mime_params.specs.declared.params.Parameter.{Parameter}
 use Rattle.mime_params.specs.Gaps.{after_gap}
 use Rattle.mime_params.specs.Words.{Word, with_octet, quoted, word, value, is_value_octet, is_token_octet}
-use Rattle.mime_params.specs.Reading.{IsGiven, IsPassed, after_word, with_prefix, is_empty_param}
-use Rattle.mime_params.specs.MediaValue.{◌>>=◌, ReadParam, after_octet, token, param_at, before_others, after_semicolon, params_of, params_in, is_named, value_named}
+use Rattle.mime_params.specs.Reading.{IsPassed, after_word, with_prefix, is_empty_param}
+use Rattle.mime_params.specs.MediaValue.{◌>>=◌, ReadParam, after_octet, token, param_at, before_others, after_semicolon, params_of, params_in, value_named}
 use Rattle.mime_params.proofs.Gaps.{gap_shorter}
 
 -- one more octet of a word
@@ -232,17 +232,6 @@ pub passes : (text : List ℕ) (name : Word) (after rest : List ℕ) → token t
 passes text name after rest named sign ends =
     let read = word_after (value (after_gap after)) rest ends in
     record { octets = read.0; begins = read.1; param = param_from text name after (record { octets = read.0; rest = rest }) named sign read.1 }
-
--- the value of a parameter of this name is the first
-pub given_here : (name more named given after : List ℕ) → is_empty_param (after_gap more) ≡ false → IsPassed (after_gap more) named given after → lowercase_of named ≡ lowercase_of name
-    → IsGiven (value_named name (params_in (59 ∷ more))) given
-given_here name more named given after some passed same = record {
-  word = record { octets = passed.octets; rest = after };
-  begins = passed.begins;
-  same =
-      ap (value_named name) (params_one more (record { param = record { name = named; value = passed.octets }; rest = after }) some passed.param)
-      ∙ named_here name (record { name = named; value = passed.octets }) (params_in (after_gap after)) same;
-}
 
 -- one of another name isn't
 pub given_later : (name more named given after : List ℕ) → is_empty_param (after_gap more) ≡ false → IsPassed (after_gap more) named given after → (lowercase_of named ≡ lowercase_of name → ⊥)

@@ -1,5 +1,5 @@
 -- What the readers give.
-use Rattle.std.specs.Prelude.{◌≡◌, ℕ, List, [], ◌∷◌, ◌++◌, Option, Some, None, MatchOption, option_map, Bool, true, false, ◌==◌}
+use Rattle.std.specs.Prelude.{◌≡◌, ℕ, List, [], ◌∷◌, ◌++◌, Option, Some, None, MatchOption, option_map, Bool, true, ◌==◌}
 use Rattle.std.specs.Borrow.{Bor}
 use Rattle.mime_params.specs.Words.{Word, value}
 use Rattle.mime_params.specs.MediaValue.{param_at}

@@ -3,6 +3,9 @@
 //! [`read_type`] and [`read_disposition`] read a value as `specs/MediaValue` says it, or find that it has no reading;
 //! reading stops at the first parameter that is malformed, and keeps those before it. [`parameters_of`] gives the parameters
 //! of any field's value, [`param`] the value of one. Comments may be nested to any depth.
+//!
+//! A value may have millions of parameters. [`type_names`] and [`disposition_name`] read none of them, and [`type_param`],
+//! [`disposition_param`] and [`param_of`] keep one alone.
 #![tactic(auto)]
 
 mod encoding;

@@ -5,7 +5,7 @@ use Rattle.mime_params.specs.Gaps.{after_gap}
 use Rattle.mime_params.specs.MediaValue.{params_in, value_named}
 use Rattle.mime_params.specs.Reading.{IsPassed, is_empty_param}
 use Rattle.mime_params.proofs.Gaps.{gap_shorter}
-use Rattle.mime_params.proofs.Lists.{given_here, given_later, params_empty, passed_shorter}
+use Rattle.mime_params.proofs.Lists.{given_later, params_empty, passed_shorter}
 use Rattle.mime_params.proofs.lookup.given_to.Goals as goal
 
 pub params-smaller-then-is_empty_param : goal.params-smaller-then-is_empty_param

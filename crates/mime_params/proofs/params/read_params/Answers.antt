@@ -1,11 +1,9 @@
-use Rattle.std.proofs.Common.{◌≡◌, ◌∙◌, ◌∷◌, ◌++◌, [], Some, length, refl, sym, ap, subst, arith}
-use Rattle.std.specs.Prelude.{MatchOption, None}
+use Rattle.std.proofs.Common.{◌∙◌, ◌∷◌, ◌++◌, [], length, sym, ap, arith}
 use Rattle.std.proofs.lemmas.List.{append_assoc}
-use Rattle.mime_params.specs.Gaps.{after_gap}
 use Rattle.mime_params.specs.MediaValue.{ReadParam, param_at, params_in}
 use Rattle.mime_params.specs.Reading.{is_empty_param}
 use Rattle.mime_params.proofs.Gaps.{gap_shorter}
-use Rattle.mime_params.proofs.Lists.{params_empty, params_one, params_malformed, params_other, param_shorter}
+use Rattle.mime_params.proofs.Lists.{params_empty, params_one, param_shorter}
 use Rattle.mime_params.proofs.params.read_params.Goals as goal
 
 pub params-smaller-then-is_empty_param : goal.params-smaller-then-is_empty_param
