@@ -163,6 +163,7 @@ module _ (old mid new : State) (user message : List ℕ) (program : Option (List
   unfiled_cause refusal.UserName h = absurd h
   unfiled_cause refusal.Write h = absurd h
   unfiled_cause refusal.Read h = absurd h
+  unfiled_cause (refusal.Listing place) h = absurd h
 
 -- what is spared twice is spared
 pub spared_twice : (old mid new : State) → old.faults ≤ mid.faults → mid.faults ≤ new.faults → Spares old mid → Spares mid new → Spares old new

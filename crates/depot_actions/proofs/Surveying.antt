@@ -1,17 +1,16 @@
 -- What looking a depot over comes to: each user is summarised in turn, and nothing changes.
-use Rattle.std.proofs.Common.{◌≡◌, inl, inr, ℕ, ◌+◌, ◌<◌, ◌≤◌, List, [], ◌∷◌, ◌++◌, IsTrue, length, map, take, get_or, sum_by, Option, refl, sym, ap, subst, ◌∙◌, string_bytes, arith}
+use Rattle.std.proofs.Common.{◌≡◌, inl, ℕ, ◌+◌, ◌<◌, ◌≤◌, List, [], ◌∷◌, ◌++◌, IsTrue, length, map, take, get_or, sum_by, refl, sym, ap, subst, ◌∙◌, string_bytes, arith}
 use Rattle.std.specs.List.{AllZip}
 use Rattle.std.proofs.lemmas.List.{map_more, take_all}
 use Rattle.std.proofs.lemmas.List.Sums.{sum_by-cons}
 use Rattle.sqlite.specs.Effect.{Database}
 use Rattle.sqlite.specs.State.{State, HasCleanDisk, Survives}
 use Rattle.sqlite.proofs.StateLemmas.{survives_then}
-use Rattle.sqlite_trees.specs.Tree.{Trees}
 use Rattle.part_store.specs.Changes.{contents_tree, users_tree}
 use Rattle.part_store.specs.Entries.{Entries, Listing, entries_of, listing_of}
 use Rattle.part_store.specs.Standing.{Spares, Stands, listed}
 use Rattle.part_store.specs.Totals.{IsTotalOf}
-use Rattle.part_store.specs.UserLines.{AreUsersOf, UserLine, line_of}
+use Rattle.part_store.specs.UserLines.{AreUsersOf, line_of}
 use Rattle.part_store.specs.declared.entry.EntryRow.{EntryRow}
 use Rattle.part_store.specs.declared.user_row.UserRow.{UserRow}
 use Rattle.depot_actions.specs.Overviews.{AreSummaries, IsOverview, Summarises}

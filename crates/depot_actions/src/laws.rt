@@ -50,9 +50,10 @@ pub fn open_stores_leave_what_is_committed<S: Alter>()
     ensures left { (store : Held S) (trees : Trees) → IsTrue (state S.Store store).is_open → (state S.Store store).may_leave trees → trees ≡ (state S.Store store).committed.trees }
 {}
 
-/// What one command left is what the next one finds. Commands over two files, each in a run that opens them, does one command, and ends by
-/// itself or in a crash, leave files that hold what the commands make of what was held, one after another. A run that ends with the depot open
-/// makes what its reply says; one that a crash or a failure of the disk met makes that, or nothing.
+/// What one command left is what the next one finds. Commands over two files, each in a run that
+/// opens them, does one command, and ends by itself or in a crash, leave files that hold what the
+/// commands make of what was held, one after another. A run that ends with the depot open makes
+/// what its reply says; one that a crash or a failure of the disk met makes that, or nothing.
 pub fn runs_are_a_fold<D: Disk + Drop>()
     ensures held { (runs : List (Run D.Disk)) (image : Image) (before : Entries) → HoldsStore image before → AreRuns image runs → ∥ HoldFold image runs before ∥₁ }
     ensures new { (run : Run D.Disk) (runs : List (Run D.Disk)) (image : Image) → HoldsNoTables image → AreRuns image (run ∷ runs) → ∥ HoldFold image (run ∷ runs) no_entries ∥₁ }

@@ -1,6 +1,7 @@
 -- What is opened stands for what the files held.
-use Rattle.std.proofs.Common.{◌≡◌, ◌⊎◌, Option, None, Some, IfSome, Result, Ok, Err, IfOk, IsTrue, inl, inr, List, [], length, refl, sym, ap, subst, ◌∙◌, arith}
+use Rattle.std.proofs.Common.{◌≡◌, ◌⊎◌, Option, None, Some, IfSome, Result, Ok, Err, IfOk, IsTrue, inl, inr, List, [], length, refl, sym, ap, subst, ◌∙◌, arith, true}
 use Rattle.std.proofs.Math.Logic.{∥∥₁_elim}
+use Rattle.std.proofs.lemmas.Bool.{true≢false}
 use Rattle.sqlite_disk.specs.declared.Disk.{Ghosts}
 use Rattle.sqlite_disk.specs.declared.Files.{Files}
 use Rattle.sqlite.specs.declared.file.Leftover.{Leftover}
@@ -26,8 +27,10 @@ use Rattle.sqlite_value.specs.Order.{Row}
 use Rattle.part_store.specs.Tables.{no_schema, store_schema}
 use Rattle.part_store.specs.Entries.{Entries, no_entries}
 use Rattle.part_store.specs.Standing.{Stands}
-use Rattle.part_store.specs.Opening.{HasCause, Holds, HoldsNoTables, HoldsStore, IsAt, IsBare, IsReady, IsReadyFrom, IsUnopened, KeepsStore, OpensOrTells}
+use Rattle.part_store.specs.Opening.{HasCause, HasOtherTables, Holds, HoldsNoTables, HoldsStore, IsAt, IsBare, IsFoundIn, IsReady, IsReadyFrom, IsUnopened, KeepsStore}
+use Rattle.part_store.specs.Looking.{are_tables}
 use Rattle.part_store.specs.declared.error.StoreError.{StoreError}
+use Rattle.part_store.proofs.Looks.{stores_pass}
 
 -- a database is its trees, which list one schema
 pub same_database : (a b : Database) → a.trees ≡ b.trees → IsDatabase a → IsDatabase b → a ≡ b
@@ -58,6 +61,15 @@ finds_nothing image s opens live finds none = elim finds.reads [
   | inl there ↦ absurd (omega (arith, ap length none, there.3.found.present))
   | inr empty ↦ lists_nothing _ s.now.schema (ap (λ (x : Database). x.trees catalog_tree) opens.clean ∙ empty.1.1) (live opens.is_open).0.lists
 ]
+
+-- a store in the files has the tables of one
+pub others_never : {D : Type 0} {g : Ghosts D} (image : Image) (e : Entries) (found : Held (FileStore D g)) → HoldsStore image e → IsFoundIn image found → HasCleanDisk (file_state found)
+    → HasOtherTables (file_state found) → ⊥
+others_never image e found holds there clean other =
+    let opened = there.opened clean in
+    let shown = shows_held image (file_state found) opened.0 opened.1 (there.finds clean) e holds in
+    let same : are_tables (file_state found).now.schema.tables ≡ true = ap (λ (x : Schema). are_tables x.tables) shown.0.schema ∙ stores_pass in
+    true≢false (sym same ∙ other)
 
 has_tables : (s : State) → s.now.schema ≡ store_schema → IsBare s → ⊥
 has_tables s is none = let more : 3 ≡ 0 = ap (λ (x : Schema). length x.tables) (sym is ∙ none) in omega (arith, more)
@@ -91,7 +103,7 @@ tells image P Q same None e system caused = system refl
 tells image P Q same (Some left) e system caused = (caused.0, same caused.0 caused.1 caused.2, caused.3)
 
 -- a refusal of files that had no tables
-pub unmade : {D : Type 0} {g : Ghosts D} (image : Image) (result : Result (Held (FileStore D g)) StoreError) (found : Held (FileStore D g)) → OpensOrTells {g = g} image (Ok found)
+pub unmade : {D : Type 0} {g : Ghosts D} (image : Image) (result : Result (Held (FileStore D g)) StoreError) (found : Held (FileStore D g)) → IsFoundIn image found
     → IsBare (file_state found) → HasCause image result
 unmade image (Ok s) found finds bare = tt
 unmade image (Err e) found finds bare = λ _. inr (found, finds, bare)

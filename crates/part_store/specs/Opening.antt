@@ -87,11 +87,16 @@ abbrev pub OpensOrTells : {D : Type 0} {g : Ghosts D} → Image → Result (Held
 OpensOrTells image (Ok found) = HasCleanDisk (file_state found) → FindsIn image (file_state found)
 OpensOrTells {D} {g} image (Err e) = (left : Option (Leftover D g)) × IsUnopened image left e
 
+-- what the database's open gave of files that held the image
+pub record IsFoundIn {D : Type 0} {g : Ghosts D} (image : Image) (found : Held (FileStore D g)) : Type 0 where
+  pub opened : HasCleanDisk (file_state found) → IsOpened found
+  pub finds : HasCleanDisk (file_state found) → FindsIn image (file_state found)
+
 -- why files that held the image aren't ready: they weren't opened, or they had no tables and got none
 abbrev pub IsUnready : {D : Type 0} → Ghosts D → Image → Type 0
 IsUnready {D} g image =
     ((left : Option (Leftover D g)) × (error : Error) × (refusal_of error ≡ refused) × IsUnopened image left error)
-    ⊎ ((found : Held (FileStore D g)) × OpensOrTells image (Ok found) × IsBare (file_state found))
+    ⊎ ((found : Held (FileStore D g)) × IsFoundIn image found × IsBare (file_state found))
 
 -- an open that is refused `Database` has one of these causes
 abbrev pub HasCause : {D : Type 0} {g : Ghosts D} → Image → Result (Held (FileStore D g)) StoreError → Type 0
@@ -102,7 +107,7 @@ HasCause {D} {g} image (Err e) = e ≡ refused → IsUnready g image
 abbrev pub IsUnseen : {D : Type 0} → Ghosts D → Image → Unopened → Type 0
 IsUnseen {D} g image why =
     ((left : Option (Leftover D g)) × (error : Error) × IsUnopened image left error × (why ≡ unopened_of error))
-    ⊎ ((why ≡ OtherTables) × (found : Held (FileStore D g)) × OpensOrTells image (Ok found) × HasOtherTables (file_state found))
+    ⊎ ((why ≡ OtherTables) × (found : Held (FileStore D g)) × IsFoundIn image found × HasOtherTables (file_state found))
 
 abbrev pub TellsWhy : {D : Type 0} {g : Ghosts D} → Image → Result (Held (FileStore D g)) Unopened → Type 0
 TellsWhy image (Ok s) = ⊤

@@ -1,7 +1,8 @@
 //! What a crash leaves is what the next open finds.
 //!
-//! A crash is a disk that fails from some call on, so what it may leave in the midst of a call is what it may leave once that
-//! call has ended. Each call says by `survives` which stores these are, and `open_from` opens files by what they hold.
+//! A crash is a disk that fails from some call on, so what it may leave in the midst of a call is
+//! what it may leave once that call has ended. Each call says by `survives` which stores these are,
+//! and `open_from` opens files by what they hold.
 ghost use Rattle.std.specs.Prelude.{◌≡◌, ◌⊎◌, IsTrue};
 ghost use Rattle.sqlite.specs.Files.{file_state};
 ghost use Rattle.sqlite.specs.FileStore.{view};
@@ -12,11 +13,12 @@ ghost use Rattle.sqlite_trees.specs.Tree.{Trees};
 ghost use Rattle.sqlite_trees.specs.View.{IsClean};
 ghost use Rattle.part_store.specs.Crashes.{HasNumberedTrees, HoldsOneLeft, LeavesStores, MayLeaveFiles};
 ghost use Rattle.part_store.specs.Entries.{Entries};
-ghost use Rattle.part_store.specs.Opening.{HoldsStore, IsAt};
-ghost use Rattle.part_store.specs.Standing.{MayMake};
+ghost use Rattle.part_store.specs.Opening.{HasOtherTables, HoldsStore, IsAt, IsFoundIn};
+ghost use Rattle.part_store.specs.Standing.{MayMake, Stands, StandsFor};
+ghost use Rattle.part_store.specs.Tables.{store_schema};
 
 use crate::store::PartStore;
-use sqlite::{Alter, FileStore};
+use sqlite::{Alter, Connection, FileStore};
 use sqlite_disk::Disk;
 
 /// While a store is open a crash leaves what is committed, and nothing else.
@@ -25,13 +27,28 @@ fn open_stores_leave_what_is_committed<S: Alter>()
         → trees ≡ (state S.Store c).committed.trees }
 {}
 
-/// Where all that a crash may leave are stores, the two files hold one of them after it, however far a call got.
+/// An open store lists its tables. So where it has the three tables, it holds each state that they
+/// stand for. Gives its connection.
+pub fn open_stores_list_their_tables<S: Alter>(store: PartStore<S>) -> Connection<S>
+    ensures same { result ≡ store }
+    ensures listed { (e : Entries) → IsTrue (state S.Store store).is_open → (state S.Store store).now.schema ≡ store_schema
+        → StandsFor (state S.Store store).now.trees e → Stands (state S.Store store).now e }
+{
+    let conn = store.release();
+    // What holds of every connection is known where it is asked.
+    let _live = conn.schema();
+    conn
+}
+
+/// Where all that a crash may leave are stores, the two files hold one of them after it, however
+/// far a call got.
 pub fn each_image_holds_one_left<D: Disk + Drop>()
     ensures { (c : Held (FileStore D D.Disk)) → HasNumberedTrees c → LeavesStores (file_state c) → (image : Image) → MayLeaveFiles c image
         → ∥ HoldsOneLeft c image ∥₁ }
 {}
 
-/// A crash in a call that may commit one change leaves the two files with the store of what was, or of what the change makes of it.
+/// A crash in a call that may commit one change leaves the two files with the store of what was, or
+/// of what the change makes of it.
 pub fn calls_leave_what_was_or_is<D: Disk + Drop>()
     ensures { (change : Entries → Entries) (before : Entries) (old new : Held (FileStore D D.Disk)) → IsAt before (file_state old)
         → HasCleanDisk (file_state new) → HasNumberedTrees new
@@ -41,7 +58,15 @@ pub fn calls_leave_what_was_or_is<D: Disk + Drop>()
     open_stores_leave_what_is_committed::<FileStore<D>>();
 }
 
-/// A store over files whose disk is clean has numbered trees. Gives what the store stands on, with what isn't committed rolled back.
+/// Files that hold a store aren't told to have other tables (`look_from`), where their disk is
+/// clean.
+pub fn stores_are_not_told_as_others<D: Disk + Drop>()
+    ensures { (image : Image) (held : Entries) (found : Held (FileStore D D.Disk)) → HoldsStore image held → IsFoundIn image found
+        → HasCleanDisk (file_state found) → HasOtherTables (file_state found) → ⊥ }
+{}
+
+/// A store over files whose disk is clean has numbered trees. Gives what the store stands on, with
+/// what isn't committed rolled back.
 pub fn trees_are_numbered<D: Disk + Drop>(store: PartStore<FileStore<D>>) -> FileStore<D>
     ensures { IsClean (view result) → HasNumberedTrees store }
 {

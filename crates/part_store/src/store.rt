@@ -500,8 +500,9 @@ impl<B: Start> PartStore<FileStore<FileFrom<B>>> {
         Ok(PartStore { conn })
     }
 
-    /// The same as `look`, where `B` stands for what the file and its log held. No clause ties `B` to the path. It is refused
-    /// `OtherTables` exactly where the file was opened and its tables are others, and else what the database's open tells.
+    /// The same as `look`, where `B` stands for what the file and its log held. No clause ties `B`
+    /// to the path. It is refused `OtherTables` exactly where the file was opened and its tables
+    /// are others, and else what the database's open tells.
     pub fn look_from(
         rt: &HostRuntime,
         path: &str,

@@ -19,4 +19,4 @@ returns-in-Ok-clause-found g c =
 pub returns-in-Err-clause-cause : goal.returns-in-Err-clause-cause
 returns-in-Err-clause-cause g c =
     let other = subst (λ h. (file_state h).in_transaction ≡ false → HasOtherTables (file_state h)) c.in-Err.ensures.returned c.in-Err.ensures.apart in
-    inr (refl, c.in_ok-conn.conn, c.in_ok-conn.ensures.found, other c.in_ok-conn.ensures.fresh)
+    inr (refl, c.in_ok-conn.conn, record { opened = c.in_ok-conn.ensures.opened; finds = c.in_ok-conn.ensures.found }, other c.in_ok-conn.ensures.fresh)

@@ -23,4 +23,4 @@ returns-clause-empty g c clean = opens_none _ _ (returns-clause-ready g c) clean
 
 pub returns-in_err-ready_tables-clause-cause : goal.returns-in_err-ready_tables-clause-cause
 returns-in_err-ready_tables-clause-cause g c =
-    unmade _ _ c.in_ok-conn.conn c.in_ok-conn.ensures.found (c.in_err-ready_tables.ensures.bare c.in_ok-conn.ensures.fresh)
+    unmade _ _ c.in_ok-conn.conn (record { opened = c.in_ok-conn.ensures.opened; finds = c.in_ok-conn.ensures.found }) (c.in_err-ready_tables.ensures.bare c.in_ok-conn.ensures.fresh)
