@@ -8,8 +8,8 @@ ghost use Rattle.sieve_explain.specs.Sentences.{blanks_of, filled};
 
 use crate::excerpt::push_excerpt;
 use crate::faults::{
-    lexical_sentence, listing_sentence, syntax_sentence, too_deep_sentence, too_long_sentence, unclosed_sentence,
-    unit_sentence,
+    lexical_sentence, listing_sentence, syntax_sentence, too_deep_sentence, too_long_sentence,
+    unclosed_sentence, unit_sentence,
 };
 use crate::marks::{has_unit, string_among, token_at, tokens_from, unclosed};
 use crate::places::{line_number, octets_before};
