@@ -6,7 +6,7 @@ ghost use Rattle.mime_decode.specs.Mail.{part_of};
 ghost use Rattle.depot_actions.specs.Drafts.{file_name_in, media_text, name_of};
 
 use header_fields::{Field, name_is, unfold};
-use mime_params::{MediaType, ValueError, disposition_param};
+use mime_params::{MediaType, disposition_param};
 use mime_tree::Tree;
 use octets::to_lowercase;
 use std::alloc::{AllocError, Global};
@@ -49,7 +49,7 @@ fn file_name(alloc: Global, fields: &[Field]) -> Result<Option<Vec<u8>>, AllocEr
 fn file_name_of(alloc: Global, value: &[u8]) -> Result<Option<Vec<u8>>, AllocError>
     ensures { IfOk result (λ name. option_map (λ v. v.items) name ≡ file_name_in (Some value.now)) }
 {
-    match disposition_param(alloc, value, b"filename").map_err(refused)? {
+    match disposition_param(alloc, value, b"filename")? {
         Some(name) => Ok(Some(name.into_vec())),
         None => Ok(None),
     }
@@ -65,11 +65,4 @@ fn first_named<'f, 'a>(fields: &'f [Field<'a>], name: &[u8]) -> Option<&'f Field
         }
     }
     None
-}
-
-// Nothing else keeps a value from being read.
-fn refused(error: ValueError) -> AllocError {
-    match error {
-        ValueError::Memory => AllocError,
-    }
 }
