@@ -1,5 +1,5 @@
 -- What is said of a script that isn't parsed.
-use Rattle.std.specs.Prelude.{ℕ, suc, ◌^◌, ◌-◌, ◌==◌, ◌&&◌, nat_lt, if◌then◌else◌, List, [], ◌∷◌, length, take, take_while, Option, Some, None, slice_index, slice_range, bytes_eq, codes}
+use Rattle.std.specs.Prelude.{ℕ, suc, ◌^◌, ◌-◌, ◌==◌, ◌&&◌, nat_lt, if◌then◌else◌, Bool, List, [], ◌∷◌, length, take, take_while, Option, Some, None, slice_index, slice_range, bytes_eq, codes}
 use Rattle.std.specs.Char.{is_ascii_digit}
 use Rattle.octets.specs.Limits.{max_nesting, max_script}
 use Rattle.sieve_lexer.specs.Classes.{begins_identifier}

@@ -1,6 +1,6 @@
 // What is said of a script that isn't parsed.
-ghost use Rattle.std.specs.Prelude.{◌≡◌, ◌≤◌, IfSome, bytes_eq, length, take};
-ghost use Rattle.sieve_explain.specs.Faults.{lexical_blanks, listing_blanks, misplaced_token, mistaken, mistaken_blanks, other_blanks, syntax_blanks, text_at, text_in, too_deep_blanks, too_long_blanks, unclosed_blanks, unit_blanks};
+ghost use Rattle.std.specs.Prelude.{◌≡◌, ◌≤◌, IfSome, bytes_eq, length, take, take_while};
+ghost use Rattle.sieve_explain.specs.Faults.{is_dark, lexical_blanks, listing_blanks, misplaced_token, mistaken, mistaken_blanks, other_blanks, syntax_blanks, text_at, text_in, too_deep_blanks, too_long_blanks, unclosed_blanks, unit_blanks};
 ghost use Rattle.sieve_explain.specs.Sentences.{blanks_of};
 
 use crate::places::around;
@@ -107,12 +107,20 @@ pub fn listing_sentence(rest: &[u8]) -> Sentence<'_>
             "no string can stand here, or this one is never closed, too long, or has a backslash without two hexadecimal digits",
         ),
         [_, others @ ..] => Sentence {
-            name: &rest[..1 + others.iter().take_while(|octet| **octet > b' ').count()],
+            name: &rest[..dark_length(others) + 1],
             ..plain(
                 "@ can't stand here: after version and variables stand numbers, strings, and then instructions with their fields",
             )
         },
     }
+}
+
+// How many octets there are up to the next blank.
+fn dark_length(octets: &[u8]) -> usize
+    ensures value { result ≡ length (take_while is_dark octets.now) }
+    ensures bound { result ≤ length octets.now }
+{
+    octets.iter().take_while(|octet| **octet > b' ').count()
 }
 
 // The sentence for other octets there.
