@@ -5,8 +5,10 @@
 mod ample;
 mod assembling;
 mod comments;
+mod drafts;
 mod error;
 mod items;
+mod labels;
 pub mod laws;
 mod names;
 mod tokens;

@@ -1,0 +1,84 @@
+-- Labels and names, a line at a time.
+use Rattle.std.proofs.Common.{◌≡◌, ℕ, suc, ◌+◌, Bool, true, false, if◌then◌else◌, List, [], ◌∷◌, ◌++◌, Option, Some, None, is_some, Result, Ok, Err, refl, sym, ap, ◌∙◌, append_assoc, arith}
+use Rattle.std.specs.Prelude.{bytes_eq}
+use Rattle.std.specs.Map.{update}
+use Rattle.std.proofs.lemmas.Cmp.{nat_list_eq_equiv}
+use Rattle.std.proofs.lemmas.List.{append-nil}
+use Rattle.bytecode_format.specs.declared.instruction.Instruction.{Instruction}
+use Rattle.bytecode_listing.specs.declared.error.ReadError.{ReadError}
+use Rattle.bytecode_listing.specs.declared.error.ReadError.TheVariants.{Memory, At}
+use Rattle.bytecode_listing.specs.declared.drafts.Draft.{Draft}
+use Rattle.bytecode_listing.specs.declared.drafts.Line.{Line}
+use Rattle.bytecode_listing.specs.declared.drafts.Line.TheVariants.{Label, Step}
+use Rattle.bytecode_listing.specs.Labels.{◌>>=◌, count, place_from, place_of, instruction_of, instructions_of}
+use Rattle.bytecode_listing.specs.Readers.{Fails}
+
+-- ---- one more line
+
+pub count_label : (before : List Line) (name : List ℕ) (left : ℕ) → count (before ++ Label name left ∷ []) ≡ count before
+count_label [] name left = refl
+count_label (Label other at ∷ before) name left = count_label before name left
+count_label (Step draft ∷ before) name left = ap suc (count_label before name left)
+
+pub count_step : (before : List Line) (draft : Draft) → count (before ++ Step draft ∷ []) ≡ suc (count before)
+count_step [] draft = refl
+count_step (Label name left ∷ before) draft = count_step before draft
+count_step (Step other ∷ before) draft = ap suc (count_step before draft)
+
+pub place_past_step : (place : ℕ) (before : List Line) (draft : Draft) (name : List ℕ) → place_from place (before ++ Step draft ∷ []) name ≡ place_from place before name
+place_past_step place [] draft name = refl
+place_past_step place (Label label left ∷ before) draft name = ap (λ o. if bytes_eq label name then Some place else o) (place_past_step place before draft name)
+place_past_step place (Step other ∷ before) draft name = place_past_step (suc place) before draft name
+
+-- a name that wasn't a label yet
+place_added : (place end : ℕ) (before : List Line) (label : List ℕ) (left : ℕ) (name : List ℕ) → end ≡ place + count before → is_some (place_from place before label) ≡ false
+    → place_from place (before ++ Label label left ∷ []) name ≡ (if bytes_eq label name then Some end else place_from place before name)
+place_added place end [] label left name e h = let same : place ≡ end = omega (arith, e) in ap (λ n. if bytes_eq label name then Some n else None) same
+place_added place end (Step draft ∷ before) label left name e h = place_added (suc place) end before label left name (omega (arith, e)) h
+place_added place end (Label other at ∷ before) label left name e h =
+    by_first (bytes_eq other label) refl h
+  where
+    choose : (a b : Bool) → (o : Option ℕ) → (a ≡ true → b ≡ false) → (if a then Some place else (if b then Some end else o)) ≡ (if b then Some end else (if a then Some place else o))
+    choose true true o apart = absurd (let no : (let t : Bool = true in t) ≡ false = apart refl in cc)
+    choose true false o apart = refl
+    choose false b o apart = refl
+
+    by_first : (first : Bool) → bytes_eq other label ≡ first → is_some (if first then Some place else place_from place before label) ≡ false
+        → (if bytes_eq other name then Some place else place_from place (before ++ Label label left ∷ []) name) ≡ (if bytes_eq label name then Some end else (if bytes_eq other name then Some place else place_from place before name))
+    by_first true f h = absurd cc
+    by_first false f h =
+        ap (λ o. if bytes_eq other name then Some place else o) (place_added place end before label left name e h)
+        ∙ choose (bytes_eq other name) (bytes_eq label name) (place_from place before name)
+        (λ same. nat_list_eq_equiv.symm label name ∙ sym (nat_list_eq_equiv.congr other name label same) ∙ f)
+
+-- the map's lookups with one more label
+pub place_more : (before : List Line) (label : List ℕ) (left end : ℕ) (lookup : List ℕ → Option ℕ) (name : List ℕ) → end ≡ count before → is_some (place_of before label) ≡ false → lookup name ≡ place_of before name
+    → update bytes_eq lookup label (Some end) name ≡ place_of (before ++ Label label left ∷ []) name
+place_more before label left end lookup name e h same =
+    ap (λ o. if bytes_eq label name then Some end else o) same
+    ∙ sym (place_added 0 end before label left name e h)
+
+-- ---- the instructions so far, and those of the lines that are left
+
+abbrev pub after : List Instruction → Result (List Instruction) ℕ → Result (List Instruction) ℕ
+after done read = read >>= λ others. Ok (done ++ others)
+
+pub step_on : (all rest : List Line) (draft : Draft) (i : Instruction) (done : List Instruction) (total : Result (List Instruction) ℕ) → instruction_of all draft ≡ Ok i
+    → after done (instructions_of all (Step draft ∷ rest)) ≡ total → after (done ++ i ∷ []) (instructions_of all rest) ≡ total
+step_on all rest draft i done total e so_far =
+    regroup (instructions_of all rest)
+    ∙ sym (ap (λ r. after done (r >>= λ first. instructions_of all rest >>= λ others. let s : Result (List Instruction) ℕ = Ok (first ∷ others) in s)) e)
+    ∙ so_far
+  where
+    regroup : (r : Result (List Instruction) ℕ) → after (done ++ i ∷ []) r ≡ after done (r >>= λ others. let s : Result (List Instruction) ℕ = Ok (i ∷ others) in s)
+    regroup (Ok others) = ap (λ (is : List Instruction). let r : Result (List Instruction) ℕ = Ok is in r) (append_assoc done (i ∷ []) others)
+    regroup (Err left) = refl
+
+pub step_fails : (e : ReadError) (all rest : List Line) (draft : Draft) (done : List Instruction) (total : Result (List Instruction) ℕ) → Fails e (instruction_of all draft)
+    → after done (instructions_of all (Step draft ∷ rest)) ≡ total → Fails e total
+step_fails Memory all rest draft done total h so_far = tt
+step_fails (At left) all rest draft done total h so_far =
+    sym so_far ∙ ap (λ r. after done (r >>= λ first. instructions_of all rest >>= λ others. let s : Result (List Instruction) ℕ = Ok (first ∷ others) in s)) h
+
+pub all_done : (done : List Instruction) (total : Result (List Instruction) ℕ) → after done (Ok []) ≡ total → total ≡ Ok done
+all_done done total so_far = sym so_far ∙ ap (λ (is : List Instruction). let r : Result (List Instruction) ℕ = Ok is in r) (append-nil done)

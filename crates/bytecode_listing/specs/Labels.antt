@@ -1,0 +1,75 @@
+-- Labels: names of the places of instructions.
+use Rattle.std.specs.Prelude.{ℕ, zero, suc, ◌+◌, ◌^◌, nat_lt, Bool, List, [], ◌∷◌, ◌++◌, Option, Some, None, is_some, Result, Ok, Err, bytes_eq, if◌then◌else◌}
+use Rattle.bytecode_format.specs.declared.instruction.Instruction.{Instruction}
+use Rattle.bytecode_listing.specs.declared.drafts.Target.{Target}
+use Rattle.bytecode_listing.specs.declared.drafts.Target.TheVariants.{Number, Name}
+use Rattle.bytecode_listing.specs.declared.drafts.Draft.{Draft}
+use Rattle.bytecode_listing.specs.declared.drafts.Line.{Line}
+use Rattle.bytecode_listing.specs.declared.drafts.Line.TheVariants.{Label, Step}
+
+infixl 10 ◌>>=◌
+abbrev pub ◌>>=◌ : {A B : Type 0} → Result A ℕ → (A → Result B ℕ) → Result B ℕ
+(Ok x) >>= f = f x
+(Err left) >>= f = Err left
+
+-- how many instructions are among lines
+abbrev pub count : List Line → ℕ
+count [] = 0
+count (Label name left ∷ lines) = count lines
+count (Step draft ∷ lines) = suc (count lines)
+
+-- the place of the instruction that stands after the first label with this name, or the place
+-- after the last instruction; so many instructions stand before these lines
+abbrev pub place_from : ℕ → List Line → List ℕ → Option ℕ
+place_from place [] name = None
+place_from place (Label label left ∷ lines) name =
+    if bytes_eq label name then Some place else place_from place lines name
+place_from place (Step draft ∷ lines) name = place_from (suc place) lines name
+
+abbrev pub place_of : List Line → List ℕ → Option ℕ
+place_of lines name = place_from 0 lines name
+
+-- how many octets are left where the first name stands that labels again, after these lines
+abbrev pub double_after : List Line → List Line → Option ℕ
+double_after before [] = None
+double_after before (Label name left ∷ lines) =
+    if is_some (place_of before name)
+    then Some left
+    else double_after (before ++ Label name left ∷ []) lines
+double_after before (Step draft ∷ lines) = double_after (before ++ Step draft ∷ []) lines
+
+-- a name's place, where it labels one that 32 bits hold
+abbrev pub looked_up : Option ℕ → ℕ → Result ℕ ℕ
+looked_up None left = Err left
+looked_up (Some place) left = if nat_lt place (2 ^ 32) then Ok place else Err left
+
+-- the number that c is
+abbrev pub c_of : List Line → Target → Result ℕ ℕ
+c_of lines (Number n) = Ok n
+c_of lines (Name name left) = looked_up (place_of lines name) left
+
+-- the instruction that a draft is, with c as a number
+abbrev pub with_c : Draft → ℕ → Instruction
+with_c draft c = record { op = draft.op; a = draft.a; b = draft.b; c = c }
+
+abbrev pub instruction_of : List Line → Draft → Result Instruction ℕ
+instruction_of lines draft = c_of lines draft.c >>= λ c. Ok (with_c draft c)
+
+-- some lines' instructions, whose names label among all lines
+abbrev pub instructions_of : List Line → List Line → Result (List Instruction) ℕ
+instructions_of all [] = Ok []
+instructions_of all (Label name left ∷ lines) = instructions_of all lines
+instructions_of all (Step draft ∷ lines) = do
+  first ← instruction_of all draft
+  others ← instructions_of all lines
+  Ok (first ∷ others)
+
+-- no name labels twice
+abbrev pub unless_double : {A : Type 0} → Option ℕ → Result A ℕ → Result A ℕ
+unless_double None read = read
+unless_double (Some left) read = Err left
+
+-- the instructions among lines; the first fault is the first name that labels twice, or where there
+-- is none the first that labels nothing
+abbrev pub instructions_in : List Line → Result (List Instruction) ℕ
+instructions_in lines = unless_double (double_after [] lines) (instructions_of lines lines)

@@ -1,0 +1,27 @@
+// Lines of a listing whose names aren't looked up yet.
+use octets::Octets;
+
+/// What stands for the number of c.
+#[derive(Drop)]
+pub enum Target {
+    Number(u32),
+    /// A name, and how many octets of the listing are left where it stands.
+    Name(Octets, usize),
+}
+
+/// An instruction whose c may be a name.
+#[derive(Drop)]
+pub struct Draft {
+    pub op: u8,
+    pub a: u8,
+    pub b: u16,
+    pub c: Target,
+}
+
+/// A label or an instruction.
+#[derive(Drop)]
+pub enum Line {
+    /// Its name, and how many octets of the listing are left where that stands.
+    Label(Octets, usize),
+    Step(Draft),
+}
