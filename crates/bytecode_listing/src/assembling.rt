@@ -1,7 +1,8 @@
 // Programs from listings.
-ghost use Rattle.std.specs.Prelude.{◌≡◌, ℕ, length, IfOk, IfErr, codes};
+ghost use Rattle.std.specs.Prelude.{◌≡◌, ℕ, [], ◌∷◌, length, IfOk, IfErr, codes};
 ghost use Rattle.bytecode_listing.specs.Tokens.{tokens_of};
 ghost use Rattle.bytecode_listing.specs.Items.{numbers_at, strings_at, lines_at, items_at, Lists, FaultsAt};
+ghost use Rattle.bytecode_listing.specs.Labels.{count};
 ghost use Rattle.bytecode_listing.specs.Readers.{Gives, with_rest, drafted, fault_in};
 ghost use Rattle.bytecode_listing.specs.declared.error.ListingError.TheVariants.{Fault};
 
@@ -51,6 +52,16 @@ fn strings_of(alloc: Global, octets: &[u8]) -> Result<(Vec<Octets>, &[u8]), Read
     Ok((strings, rest))
 }
 
+// How many instructions a line is.
+fn steps_in(line: &Line) -> usize
+    ensures { result ≡ count (line.now ∷ []) }
+{
+    match line {
+        Line::Label(..) => 0,
+        Line::Step(_) => 1,
+    }
+}
+
 // Reads the labels and the instructions, up to the listing's end.
 fn lines_of(alloc: Global, octets: &[u8]) -> Result<(Vec<Line>, &[u8]), ReadError>
     ensures { Gives (with_rest (λ v. v.items)) result (lines_at (tokens_of octets.now)) }
@@ -60,7 +71,7 @@ fn lines_of(alloc: Global, octets: &[u8]) -> Result<(Vec<Line>, &[u8]), ReadErro
     let mut place: usize = 0;
     'table: while is_left(rest) {
         let (line, after) = line_of(alloc, rest, place)?;
-        place += usize::from(matches!(line, Line::Step(_)));
+        place += steps_in(&line);
         lines.push(line)?;
         rest = after;
     }

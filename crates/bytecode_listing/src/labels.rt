@@ -30,10 +30,11 @@ fn places_of(alloc: Global, lines: &[Line]) -> Result<Places<'_>, ReadError>
     'lines: for line in lines {
         match line {
             Line::Label(name, left) => {
-                if places.contains_key(name.as_slice()) {
+                let name = name.as_slice();
+                if places.contains_key(name) {
                     return Err(ReadError::At(*left));
                 }
-                places.insert(name.as_slice(), place)?;
+                places.insert(name, place)?;
             }
             Line::Step(_) => place += 1,
         }
