@@ -1,6 +1,6 @@
 -- Reading items one after the other, as a loop does.
 use Rattle.std.proofs.Common.{◌≡◌, ℕ, zero, suc, ◌<◌, ◌≤◌, Bool, true, false, if◌then◌else◌, List, [], ◌∷◌, ◌++◌, length, Result, Ok, Err, refl, sym, ap, subst, ◌∙◌, append_assoc, arith}
-use Rattle.std.proofs.lemmas.List.{append-nil, length-append}
+use Rattle.std.proofs.lemmas.List.{append-nil}
 use Rattle.bytecode_listing.specs.declared.error.ReadError.{ReadError}
 use Rattle.bytecode_listing.specs.declared.error.ReadError.TheVariants.{Memory, At}
 use Rattle.bytecode_listing.specs.Labels.{◌>>=◌}

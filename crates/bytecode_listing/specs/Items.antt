@@ -5,7 +5,6 @@ use Rattle.std.specs.Char.{digit_value, is_ascii_digit}
 use Rattle.octets.specs.Limits.{max_variables, max_string}
 use Rattle.bytecode_format.specs.Code.{Code}
 use Rattle.bytecode_format.specs.Spelling.{IsProgram}
-use Rattle.bytecode_format.specs.declared.instruction.Instruction.{Instruction}
 use Rattle.bytecode_listing.specs.Names.{octet_named}
 use Rattle.bytecode_listing.specs.declared.drafts.Target.{Target}
 use Rattle.bytecode_listing.specs.declared.drafts.Target.TheVariants.{Number, Name}
@@ -239,7 +238,7 @@ many_at begins item zero before tokens = Ok ([], tokens)
 many_at begins item (suc most) before tokens =
     if begins tokens
     then (item before tokens >>= λ x.
-        onto x.0 (many_at begins item most (before ++ x.0 ∷ []) x.1))
+    onto x.0 (many_at begins item most (before ++ x.0 ∷ []) x.1))
     else Ok ([], tokens)
 
 -- all items; there are at most as many as tokens

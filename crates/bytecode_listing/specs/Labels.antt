@@ -1,5 +1,5 @@
 -- Labels: names of the places of instructions.
-use Rattle.std.specs.Prelude.{ℕ, zero, suc, ◌+◌, ◌^◌, nat_lt, Bool, List, [], ◌∷◌, ◌++◌, Option, Some, None, is_some, Result, Ok, Err, bytes_eq, if◌then◌else◌}
+use Rattle.std.specs.Prelude.{ℕ, suc, ◌^◌, nat_lt, List, [], ◌∷◌, ◌++◌, Option, Some, None, is_some, Result, Ok, Err, bytes_eq, if◌then◌else◌}
 use Rattle.bytecode_format.specs.declared.instruction.Instruction.{Instruction}
 use Rattle.bytecode_listing.specs.declared.drafts.Target.{Target}
 use Rattle.bytecode_listing.specs.declared.drafts.Target.TheVariants.{Number, Name}

@@ -6,10 +6,10 @@ ghost use Rattle.bytecode_listing.specs.Labels.{count};
 ghost use Rattle.bytecode_listing.specs.Readers.{Gives, with_rest, drafted, fault_in};
 ghost use Rattle.bytecode_listing.specs.declared.error.ListingError.TheVariants.{Fault};
 
+use crate::drafts::Line;
 use crate::error::{ListingError, ReadError};
 use crate::items::{keyword_of, line_of, number_of, number_row, string_row};
 use crate::labels::instructions_in;
-use crate::drafts::Line;
 use crate::tokens::{begins_with, is_left};
 use bytecode_format::Program;
 use octets::Octets;

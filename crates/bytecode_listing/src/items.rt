@@ -7,8 +7,8 @@ ghost use Rattle.bytecode_listing.specs.Labels.{count};
 ghost use Rattle.bytecode_listing.specs.declared.drafts.Line.{Line};
 ghost use Rattle.bytecode_listing.specs.Readers.{Gives, and_rest, with_rest, read_fields, one_more, decimal_on};
 
-use crate::error::ReadError;
 use crate::drafts::{Draft, Line, Target};
+use crate::error::ReadError;
 use crate::names::octet_named;
 use crate::tokens::{begins_number, begins_with, first, left_at, octet_from, text_of, word_of};
 use octets::Octets;

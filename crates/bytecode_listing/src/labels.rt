@@ -10,8 +10,8 @@ ghost use Rattle.bytecode_listing.specs.declared.drafts.Target.TheVariants.{Name
 ghost use Rattle.bytecode_listing.specs.declared.error.ReadError.TheVariants.{At};
 ghost use Rattle.bytecode_listing.specs.Readers.{Gives, IsPlaces};
 
-use crate::error::ReadError;
 use crate::drafts::{Draft, Line, Target};
+use crate::error::ReadError;
 use bytecode_format::Instruction;
 use std::alloc::Global;
 use std::collections::BTreeMap;

@@ -1,5 +1,5 @@
-use Rattle.std.proofs.Common.{◌≡◌, ◌+◌, ◌≤◌, ◌<◌, ◌^◌, length, []}
-use Rattle.std.proofs.Common.{refl, sym, ap, subst, ℕ, rules, ◌∷◌, ◌++◌, ◌∙◌, arith}
+use Rattle.std.proofs.Common.{◌+◌, ◌≤◌, length, []}
+use Rattle.std.proofs.Common.{refl, sym, ap, subst, ℕ, rules, ◌∷◌, ◌∙◌, arith}
 use Rattle.std.proofs.lemmas.Result.{err_from_is_err_and}
 use Rattle.std.proofs.lemmas.Grind.{common_steps}
 use Rattle.bytecode_listing.specs.Tokens.{tokens_of}
