@@ -1,6 +1,6 @@
 -- Lines and lists of lines, read as they were written.
 use Rattle.std.proofs.Common.{◌≡◌, ℕ, suc, ◌+◌, ◌-◌, ◌^◌, ◌<◌, ◌≤◌, ◌==◌, ◌&&◌, ◌||◌, Bool, true, false, if◌then◌else◌, List, [], ◌∷◌, ◌++◌, length, All, Option, Some, None, Result, Ok, Err, refl, sym, ap, subst, ◌∙◌, append_assoc, arith, eqb-true, codes}
-use Rattle.std.specs.Prelude.{bytes_eq, is_some, unwrap_or}
+use Rattle.std.specs.Prelude.{bytes_eq, is_ok, is_some, unwrap_or}
 use Rattle.std.specs.List.{flat_map, AllByRecursion}
 use Rattle.std.specs.Fmt.{decimal}
 use Rattle.std.specs.Char.{is_ascii_digit}
@@ -11,9 +11,9 @@ use Rattle.bytecode_format.specs.Spelling.{Fits, IsProgram}
 use Rattle.bytecode_format.specs.declared.instruction.Instruction.{Instruction}
 use Rattle.bytecode_listing.specs.Listing.{line, quoted, operation_text, field_text, fields_text, instruction_text, comment, meant, instruction_line, instruction_lines, number_line, string_line, listing_of, AreOctets}
 use Rattle.bytecode_listing.specs.Tokens.{is_word_octet, tokens_from, tokens_of}
-use Rattle.bytecode_listing.specs.Labels.{◌>>=◌, count, double_after, instructions_of, unless_double, instructions_in}
+use Rattle.bytecode_listing.specs.Labels.{◌>>=◌, count, double_after, instructions_of, unless_double, instructions_in, strings_in}
 use Rattle.bytecode_listing.specs.declared.drafts.Target.{Target}
-use Rattle.bytecode_listing.specs.declared.drafts.Target.TheVariants.{Number, Name}
+use Rattle.bytecode_listing.specs.declared.drafts.Target.TheVariants.{Number, Name, Quoted}
 use Rattle.bytecode_listing.specs.declared.drafts.Draft.{Draft}
 use Rattle.bytecode_listing.specs.declared.drafts.Line.{Line}
 use Rattle.bytecode_listing.specs.declared.drafts.Line.TheVariants.{Label, Step}
@@ -94,7 +94,7 @@ c_found n tokens named rest within first second =
     let here : begins_with (codes "c") tokens ≡ true = ap (is_word (codes "c")) first ∙ same_word (codes "c") in
     let begun : begins_number (word_at named) ≡ true = ap begins_number second ∙ number_begins n rest (omega arith) in
     let read : target_at named ≡ Ok (Number n, rest) =
-    ap (λ b. let r : Result (Target × Tokens) ℕ = if b then (number_at 0 4294967295 named >>= number) else (name_at named >>= λ name. Ok (Name name.0 (left_at named), name.1)) in r) begun
+    ap (λ b. let r : Result (Target × Tokens) ℕ = if b then (number_at 0 4294967295 named >>= number) else if is_ok (word_at named) then (name_at named >>= λ name. Ok (Name name.0 (left_at named), name.1)) else (text_at named >>= λ text. Ok (Quoted text.0 (left_at named), text.1)) in r) begun
     ∙ ap (λ r. r >>= number) (number_reads 0 4294967295 n named rest (omega arith) within (omega arith) second) in
     ap (λ b. let r : Result (Option Target × Tokens) ℕ = if b then (target_field tokens >>= some) else Ok (None, tokens) in r) here
     ∙ ap (λ r. r >>= target_at >>= some) (keyword_reads (codes "c") tokens named first)
@@ -352,14 +352,18 @@ steps_single : (before : List Line) (is : List Instruction) → double_after bef
 steps_single before [] = refl
 steps_single before (i ∷ is) = steps_single (before ++ Step (draft_of i) ∷ []) is
 
-steps_found : (all : List Line) (is : List Instruction) → instructions_of all (steps_of is) ≡ Ok is
-steps_found all [] = refl
-steps_found all (i ∷ is) = ap (λ r. r >>= λ others. let s : Result (List Instruction) ℕ = Ok (i ∷ others) in s) (steps_found all is)
+steps_found : (strings : List (List ℕ)) (all : List Line) (is : List Instruction) → instructions_of strings all (steps_of is) ≡ Ok is
+steps_found strings all [] = refl
+steps_found strings all (i ∷ is) = ap (λ r. r >>= λ others. let s : Result (List Instruction) ℕ = Ok (i ∷ others) in s) (steps_found strings all is)
 
-steps_read : (is : List Instruction) → instructions_in (steps_of is) ≡ Ok is
-steps_read is =
-    ap (λ o. unless_double o (instructions_of (steps_of is) (steps_of is))) (steps_single [] is)
-    ∙ steps_found (steps_of is) is
+steps_read : (strings : List (List ℕ)) (is : List Instruction) → instructions_in strings (steps_of is) ≡ Ok is
+steps_read strings is =
+    ap (λ o. unless_double o (instructions_of strings (steps_of is) (steps_of is))) (steps_single [] is)
+    ∙ steps_found strings (steps_of is) is
+
+steps_strings : (strings : List (List ℕ)) (is : List Instruction) → strings_in strings (steps_of is) ≡ strings
+steps_strings strings [] = refl
+steps_strings strings (i ∷ is) = steps_strings strings is
 
 -- ---- the whole
 
@@ -414,7 +418,7 @@ says_itself code is =
     let all_lines : all_at is_left line_at (tokens_of at_instructions) ≡ Ok (steps_of code.instructions, []) = lines_read code code.instructions [] 0 refl (omega (arith, is.places)) is.instructions in
     let drafted : Drafted = record { version = code.version; variables = code.variables; numbers = code.numbers; strings = code.strings; lines = steps_of code.instructions } in
     let read : items_at (tokens_of whole) ≡ Ok drafted = rw (version_word, version, variables_word, variables, all_numbers, all_strings, all_lines) refl in
-    ap said_by regrouped ∙ ap (λ r. r >>= code_from) read ∙ rw (steps_read code.instructions) refl
+    ap said_by regrouped ∙ ap (λ r. r >>= code_from) read ∙ rw (steps_strings code.strings code.instructions, steps_read code.strings code.instructions) refl
 
 low_version : (n : ℕ) → (n == 1) || (n == 2) ≡ true → 1 ≤ n
 low_version n h = grind (arith, nat_tests)

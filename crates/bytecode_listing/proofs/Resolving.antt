@@ -1,16 +1,17 @@
 -- Labels and names, a line at a time.
-use Rattle.std.proofs.Common.{◌≡◌, ℕ, suc, ◌+◌, ◌<◌, ◌≤◌, length, take, drop, Bool, true, false, if◌then◌else◌, List, [], ◌∷◌, ◌++◌, Option, Some, None, is_some, Result, Ok, Err, refl, sym, ap, ◌∙◌, append_assoc, arith}
+use Rattle.std.proofs.Common.{◌≡◌, ℕ, suc, ◌+◌, ◌<◌, ◌≤◌, length, take, drop, Bool, true, false, if◌then◌else◌, List, [], ◌∷◌, ◌++◌, Option, Some, None, is_some, option_map, ◌||◌, Result, Ok, Err, refl, sym, ap, ◌∙◌, append_assoc, arith}
 use Rattle.std.specs.Prelude.{bytes_eq, get_or}
 use Rattle.std.specs.Map.{update}
 use Rattle.std.proofs.lemmas.Cmp.{nat_list_eq_equiv}
 use Rattle.std.proofs.lemmas.List.{append-nil, length-take, take_more, drop_more}
+use Rattle.octets.specs.Once.{is_listed}
 use Rattle.bytecode_format.specs.declared.instruction.Instruction.{Instruction}
 use Rattle.bytecode_listing.specs.declared.error.ReadError.{ReadError}
 use Rattle.bytecode_listing.specs.declared.error.ReadError.TheVariants.{Memory, At}
 use Rattle.bytecode_listing.specs.declared.drafts.Draft.{Draft}
 use Rattle.bytecode_listing.specs.declared.drafts.Line.{Line}
 use Rattle.bytecode_listing.specs.declared.drafts.Line.TheVariants.{Label, Step}
-use Rattle.bytecode_listing.specs.Labels.{◌>>=◌, count, place_from, place_of, double_after, instruction_of, instructions_of}
+use Rattle.bytecode_listing.specs.Labels.{◌>>=◌, count, place_from, place_of, double_after, string_in, instruction_of, instructions_of}
 use Rattle.bytecode_listing.specs.Readers.{Fails}
 
 -- ---- one more line
@@ -89,22 +90,44 @@ place_more before label left end lookup name e h same =
 abbrev pub after : List Instruction → Result (List Instruction) ℕ → Result (List Instruction) ℕ
 after done read = read >>= λ others. Ok (done ++ others)
 
-pub step_on : (all rest : List Line) (draft : Draft) (i : Instruction) (done : List Instruction) (total : Result (List Instruction) ℕ) → instruction_of all draft ≡ Ok i
-    → after done (instructions_of all (Step draft ∷ rest)) ≡ total → after (done ++ i ∷ []) (instructions_of all rest) ≡ total
-step_on all rest draft i done total e so_far =
-    regroup (instructions_of all rest)
-    ∙ sym (ap (λ r. after done (r >>= λ first. instructions_of all rest >>= λ others. let s : Result (List Instruction) ℕ = Ok (first ∷ others) in s)) e)
+pub step_on : (strings : List (List ℕ)) (all rest : List Line) (draft : Draft) (i : Instruction) (done : List Instruction) (total : Result (List Instruction) ℕ) → instruction_of strings all draft ≡ Ok i
+    → after done (instructions_of strings all (Step draft ∷ rest)) ≡ total → after (done ++ i ∷ []) (instructions_of strings all rest) ≡ total
+step_on strings all rest draft i done total e so_far =
+    regroup (instructions_of strings all rest)
+    ∙ sym (ap (λ r. after done (r >>= λ first. instructions_of strings all rest >>= λ others. let s : Result (List Instruction) ℕ = Ok (first ∷ others) in s)) e)
     ∙ so_far
   where
     regroup : (r : Result (List Instruction) ℕ) → after (done ++ i ∷ []) r ≡ after done (r >>= λ others. let s : Result (List Instruction) ℕ = Ok (i ∷ others) in s)
     regroup (Ok others) = ap (λ (is : List Instruction). let r : Result (List Instruction) ℕ = Ok is in r) (append_assoc done (i ∷ []) others)
     regroup (Err left) = refl
 
-pub step_fails : (e : ReadError) (all rest : List Line) (draft : Draft) (done : List Instruction) (total : Result (List Instruction) ℕ) → Fails e (instruction_of all draft)
-    → after done (instructions_of all (Step draft ∷ rest)) ≡ total → Fails e total
-step_fails Memory all rest draft done total h so_far = tt
-step_fails (At left) all rest draft done total h so_far =
-    sym so_far ∙ ap (λ r. after done (r >>= λ first. instructions_of all rest >>= λ others. let s : Result (List Instruction) ℕ = Ok (first ∷ others) in s)) h
+pub step_fails : (e : ReadError) (strings : List (List ℕ)) (all rest : List Line) (draft : Draft) (done : List Instruction) (total : Result (List Instruction) ℕ) → Fails e (instruction_of strings all draft)
+    → after done (instructions_of strings all (Step draft ∷ rest)) ≡ total → Fails e total
+step_fails Memory strings all rest draft done total h so_far = tt
+step_fails (At left) strings all rest draft done total h so_far =
+    sym so_far ∙ ap (λ r. after done (r >>= λ first. instructions_of strings all rest >>= λ others. let s : Result (List Instruction) ℕ = Ok (first ∷ others) in s)) h
 
 pub all_done : (done : List Instruction) (total : Result (List Instruction) ℕ) → after done (Ok []) ≡ total → total ≡ Ok done
 all_done done total so_far = sym so_far ∙ ap (λ (is : List Instruction). let r : Result (List Instruction) ℕ = Ok is in r) (append-nil done)
+
+-- ---- strings
+
+-- a string that is listed already is found where it was
+found_other : (listed : List (List ℕ)) (x q : List ℕ) → bytes_eq q x ≡ false → string_in (listed ++ x ∷ []) q ≡ string_in listed q
+found_other [] x q h = ap (λ b. if b then Some 0 else None) h
+found_other (y ∷ listed) x q h = ap (λ o. if bytes_eq q y then Some 0 else option_map suc o) (found_other listed x q h)
+
+pub found_again : (listed : List (List ℕ)) (x q : List ℕ) → is_listed bytes_eq x listed ≡ true → string_in (listed ++ x ∷ []) q ≡ string_in listed q
+found_again [] x q h = absurd cc
+found_again (y ∷ listed) x q h = by_first (bytes_eq x y) refl h (λ k. found_again listed x q k)
+  where
+    choose : (a b : Bool) (m n : Option ℕ) → (a ≡ false → b ≡ false) → (b ≡ false → m ≡ n) → (if a then Some 0 else option_map suc m) ≡ (if a then Some 0 else option_map suc n)
+    choose true b m n f g = refl
+    choose false b m n f g = ap (option_map suc) (g (f refl))
+
+    by_first : (first : Bool) → bytes_eq x y ≡ first → (first || is_listed bytes_eq x listed) ≡ true → (is_listed bytes_eq x listed ≡ true → string_in (listed ++ x ∷ []) q ≡ string_in listed q)
+        → (if bytes_eq q y then Some 0 else option_map suc (string_in (listed ++ x ∷ []) q)) ≡ (if bytes_eq q y then Some 0 else option_map suc (string_in listed q))
+    by_first true e h more = choose (bytes_eq q y) (bytes_eq q x) (string_in (listed ++ x ∷ []) q) (string_in listed q)
+        (λ k. nat_list_eq_equiv.symm q x ∙ nat_list_eq_equiv.congr x y q e ∙ nat_list_eq_equiv.symm y q ∙ k)
+        (λ k. found_other listed x q k)
+    by_first false e h more = ap (λ o. if bytes_eq q y then Some 0 else option_map suc o) (more h)

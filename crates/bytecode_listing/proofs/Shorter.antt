@@ -1,8 +1,8 @@
 -- What a reader leaves is shorter than what it was given.
 use Rattle.std.proofs.Common.{ℕ, suc, ◌^◌, ◌-◌, ◌<◌, ◌≤◌, Bool, true, false, if◌then◌else◌, List, [], ◌∷◌, length, Option, Some, None, is_some, Result, Ok, Err, codes, arith}
-use Rattle.std.specs.Prelude.{bytes_eq, nat_le, unwrap_or}
+use Rattle.std.specs.Prelude.{bytes_eq, is_ok, nat_le, unwrap_or}
 use Rattle.bytecode_listing.specs.declared.drafts.Target.{Target}
-use Rattle.bytecode_listing.specs.declared.drafts.Target.TheVariants.{Number, Name}
+use Rattle.bytecode_listing.specs.declared.drafts.Target.TheVariants.{Number, Name, Quoted}
 use Rattle.bytecode_listing.specs.declared.drafts.Draft.{Draft}
 use Rattle.bytecode_listing.specs.declared.drafts.Line.{Line}
 use Rattle.bytecode_listing.specs.declared.drafts.Line.TheVariants.{Label, Step}
@@ -115,9 +115,13 @@ target_leaves tokens =
     let n : ℕ = length tokens in
     let number : ℕ × Tokens → Result (Target × Tokens) ℕ = λ n. Ok (Number n.0, n.1) in
     let name : List ℕ × Tokens → Result (Target × Tokens) ℕ = λ name. Ok (Name name.0 (left_at tokens), name.1) in
-    if_leaves n (begins_number (word_at tokens)) (number_at 0 4294967295 tokens >>= number) (name_at tokens >>= name)
+    let text : List ℕ × Tokens → Result (Target × Tokens) ℕ = λ text. Ok (Quoted text.0 (left_at tokens), text.1) in
+    let other : Result (Target × Tokens) ℕ = if is_ok (word_at tokens) then (name_at tokens >>= name) else (text_at tokens >>= text) in
+    if_leaves n (begins_number (word_at tokens)) (number_at 0 4294967295 tokens >>= number) other
     (chain n n (number_at 0 4294967295 tokens) number (number_leaves 0 4294967295 tokens) (λ x h. h))
+    (if_leaves n (is_ok (word_at tokens)) (name_at tokens >>= name) (text_at tokens >>= text)
     (chain n n (name_at tokens) name (name_leaves tokens) (λ x h. h))
+    (chain n n (text_at tokens) text (text_leaves tokens) (λ x h. h)))
 
 target_field_leaves : (tokens : Tokens) → Leaves (length tokens) (target_field tokens)
 unfolding target_field

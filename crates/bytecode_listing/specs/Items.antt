@@ -1,5 +1,5 @@
 -- What a listing says: the items that its tokens are, in their order.
-use Rattle.std.specs.Prelude.{◌≡◌, ℕ, zero, suc, ◌+◌, ◌++◌, ◌-◌, ◌*◌, ◌^◌, ◌&&◌, nat_le, Bool, true, false, List, [], ◌∷◌, length, Option, Some, None, is_some, unwrap_or, Result, Ok, Err, MatchResult, bytes_eq, codes, if◌then◌else◌}
+use Rattle.std.specs.Prelude.{◌≡◌, ℕ, zero, suc, ◌+◌, ◌++◌, ◌-◌, ◌*◌, ◌^◌, ◌&&◌, nat_le, Bool, true, false, List, [], ◌∷◌, length, Option, Some, None, is_some, unwrap_or, Result, Ok, Err, is_ok, MatchResult, bytes_eq, codes, if◌then◌else◌}
 use Rattle.std.specs.Str.{all_ascii_digits}
 use Rattle.std.specs.Char.{digit_value, is_ascii_digit}
 use Rattle.octets.specs.Limits.{max_variables, max_string}
@@ -7,11 +7,11 @@ use Rattle.bytecode_format.specs.Code.{Code}
 use Rattle.bytecode_format.specs.Spelling.{IsProgram}
 use Rattle.bytecode_listing.specs.Names.{octet_named}
 use Rattle.bytecode_listing.specs.declared.drafts.Target.{Target}
-use Rattle.bytecode_listing.specs.declared.drafts.Target.TheVariants.{Number, Name}
+use Rattle.bytecode_listing.specs.declared.drafts.Target.TheVariants.{Number, Name, Quoted}
 use Rattle.bytecode_listing.specs.declared.drafts.Draft.{Draft}
 use Rattle.bytecode_listing.specs.declared.drafts.Line.{Line}
 use Rattle.bytecode_listing.specs.declared.drafts.Line.TheVariants.{Label, Step}
-use Rattle.bytecode_listing.specs.Labels.{◌>>=◌, count, instructions_in}
+use Rattle.bytecode_listing.specs.Labels.{◌>>=◌, count, resolved}
 use Rattle.bytecode_listing.specs.Tokens.{Token, Word, Text, Wrong, Placed, is_hex, tokens_of}
 
 abbrev pub Tokens : Type 0
@@ -137,12 +137,14 @@ name_at tokens =
     then Err (left_at tokens)
     else word_at tokens
 
--- what stands for the number of c: a number, or a name and where it stands
+-- what stands for the number of c: a number, a name or a string, of which it is told where they stand
 unfoldable pub target_at : Tokens → Read Target
 target_at tokens =
     if begins_number (word_at tokens)
     then (number_at 0 (2 ^ 32 - 1) tokens >>= λ n. Ok (Number n.0, n.1))
-    else (name_at tokens >>= λ name. Ok (Name name.0 (left_at tokens), name.1))
+    else if is_ok (word_at tokens)
+    then (name_at tokens >>= λ name. Ok (Name name.0 (left_at tokens), name.1))
+    else (text_at tokens >>= λ text. Ok (Quoted text.0 (left_at tokens), text.1))
 
 -- the field c where its name stands; otherwise nothing is read
 unfoldable pub target_field : Tokens → Read Target
@@ -288,17 +290,17 @@ items_at tokens = do
     lines = lines.0;
   })
 
--- with the place of each name; where a name labels twice, or none labels what is named, there is
--- none
+-- with the place of each name and string; where a name labels twice, or none labels what is named,
+-- there is none
 abbrev pub code_from : Drafted → Result Code ℕ
 code_from drafted = do
-  instructions ← instructions_in drafted.lines
+  parts ← resolved drafted.strings drafted.lines
   Ok (record {
     version = drafted.version;
     variables = drafted.variables;
     numbers = drafted.numbers;
-    strings = drafted.strings;
-    instructions = instructions;
+    strings = parts.0;
+    instructions = parts.1;
   })
 
 -- what a listing says: all of it is read, and then the names are looked up

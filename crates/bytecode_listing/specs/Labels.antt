@@ -1,8 +1,9 @@
 -- Labels: names of the places of instructions.
 use Rattle.std.specs.Prelude.{ℕ, suc, ◌^◌, nat_lt, List, [], ◌∷◌, ◌++◌, Option, Some, None, is_some, Result, Ok, Err, bytes_eq, if◌then◌else◌}
+use Rattle.octets.specs.Once.{found_in, with_one}
 use Rattle.bytecode_format.specs.declared.instruction.Instruction.{Instruction}
 use Rattle.bytecode_listing.specs.declared.drafts.Target.{Target}
-use Rattle.bytecode_listing.specs.declared.drafts.Target.TheVariants.{Number, Name}
+use Rattle.bytecode_listing.specs.declared.drafts.Target.TheVariants.{Number, Name, Quoted}
 use Rattle.bytecode_listing.specs.declared.drafts.Draft.{Draft}
 use Rattle.bytecode_listing.specs.declared.drafts.Line.{Line}
 use Rattle.bytecode_listing.specs.declared.drafts.Line.TheVariants.{Label, Step}
@@ -38,30 +39,54 @@ double_after before (Label name left ∷ lines) =
     else double_after (before ++ Label name left ∷ []) lines
 double_after before (Step draft ∷ lines) = double_after (before ++ Step draft ∷ []) lines
 
--- a name's place, where it labels one that 32 bits hold
+-- where the string stands in the table first, if it does
+abbrev pub string_in : List (List ℕ) → List ℕ → Option ℕ
+string_in table text = found_in bytes_eq table text
+
+-- the table with one more string, which is left out where the table has it
+abbrev pub with_string : List (List ℕ) → List ℕ → List (List ℕ)
+with_string table text = with_one bytes_eq table text
+
+abbrev pub with_target : List (List ℕ) → Target → List (List ℕ)
+with_target table (Number n) = table
+with_target table (Name name left) = table
+with_target table (Quoted text left) = with_string table text
+
+-- with the string that stands in a line
+abbrev pub with_line : List (List ℕ) → Line → List (List ℕ)
+with_line table (Label name left) = table
+with_line table (Step draft) = with_target table draft.c
+
+-- a program's strings: those of its table, and then those of its lines that it doesn't have yet
+abbrev pub strings_in : List (List ℕ) → List Line → List (List ℕ)
+strings_in table [] = table
+strings_in table (line ∷ lines) = strings_in (with_line table line) lines
+
+-- a place that there is and that 32 bits hold
 abbrev pub looked_up : Option ℕ → ℕ → Result ℕ ℕ
 looked_up None left = Err left
 looked_up (Some place) left = if nat_lt place (2 ^ 32) then Ok place else Err left
 
 -- the number that c is
-abbrev pub c_of : List Line → Target → Result ℕ ℕ
-c_of lines (Number n) = Ok n
-c_of lines (Name name left) = looked_up (place_of lines name) left
+abbrev pub c_of : List (List ℕ) → List Line → Target → Result ℕ ℕ
+c_of strings lines (Number n) = Ok n
+c_of strings lines (Name name left) = looked_up (place_of lines name) left
+c_of strings lines (Quoted text left) = looked_up (string_in strings text) left
 
 -- the instruction that a draft is, with c as a number
 abbrev pub with_c : Draft → ℕ → Instruction
 with_c draft c = record { op = draft.op; a = draft.a; b = draft.b; c = c }
 
-abbrev pub instruction_of : List Line → Draft → Result Instruction ℕ
-instruction_of lines draft = c_of lines draft.c >>= λ c. Ok (with_c draft c)
+abbrev pub instruction_of : List (List ℕ) → List Line → Draft → Result Instruction ℕ
+instruction_of strings lines draft = c_of strings lines draft.c >>= λ c. Ok (with_c draft c)
 
 -- some lines' instructions, whose names label among all lines
-abbrev pub instructions_of : List Line → List Line → Result (List Instruction) ℕ
-instructions_of all [] = Ok []
-instructions_of all (Label name left ∷ lines) = instructions_of all lines
-instructions_of all (Step draft ∷ lines) = do
-  first ← instruction_of all draft
-  others ← instructions_of all lines
+abbrev pub instructions_of : List (List ℕ) → List Line → List Line → Result (List Instruction) ℕ
+instructions_of strings all [] = Ok []
+instructions_of strings all (Label name left ∷ lines) = instructions_of strings all lines
+instructions_of strings all (Step draft ∷ lines) = do
+  first ← instruction_of strings all draft
+  others ← instructions_of strings all lines
   Ok (first ∷ others)
 
 -- no name labels twice
@@ -71,5 +96,11 @@ unless_double (Some left) read = Err left
 
 -- the instructions among lines; the first fault is the first name that labels twice, or where there
 -- is none the first that labels nothing
-abbrev pub instructions_in : List Line → Result (List Instruction) ℕ
-instructions_in lines = unless_double (double_after [] lines) (instructions_of lines lines)
+abbrev pub instructions_in : List (List ℕ) → List Line → Result (List Instruction) ℕ
+instructions_in strings lines = unless_double (double_after [] lines) (instructions_of strings lines lines)
+
+-- the strings and the instructions of a program
+abbrev pub resolved : List (List ℕ) → List Line → Result (List (List ℕ) × List Instruction) ℕ
+resolved table lines =
+    instructions_in (strings_in table lines) lines >>= λ instructions.
+    Ok (strings_in table lines, instructions)

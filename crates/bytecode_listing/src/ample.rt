@@ -152,6 +152,25 @@ fn faults_of_labels_are_placed(rt: HostRuntime) -> Result<(), Fail> {
     Ok(())
 }
 
+// Strings in the places of numbers: listed ones, one of them twice, and new ones.
+const IN_LINE: &[u8] = b"version 1 variables 0 string \"a\" string \"b\" string \"a\" LIT c \"b\"\n\
+    LIT c \"new\" LIT c \"a\" LIT c \"new\" LIT c \"\\4e\"";
+
+const IN_TABLE: &[u8] = b"version 1\nvariables 0\nstring \"a\"\nstring \"b\"\nstring \"a\"\n\
+    string \"new\"\nstring \"N\"\n0 LIT c 1 ; \"b\"\n1 LIT c 3 ; \"new\"\n2 LIT ; \"a\"\n\
+    3 LIT c 3 ; \"new\"\n4 LIT c 4 ; \"N\"\n";
+
+#[test]
+fn strings_stand_in_lines(rt: HostRuntime) -> Result<(), Fail> {
+    let alloc = rt.alloc();
+    let Ok(program) = assemble(alloc, IN_LINE) else {
+        return Err(Fail::from("not read"));
+    };
+    let listing = disassemble(alloc, &program)?;
+    assert!(rt; listing.as_slice() == IN_TABLE);
+    Ok(())
+}
+
 // A name of five digits after an `n`.
 fn put_name(out: &mut Vec<u8>, number: usize) -> Result<(), AllocError> {
     out.push(b'n')?;

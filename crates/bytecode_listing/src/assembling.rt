@@ -9,7 +9,7 @@ ghost use Rattle.bytecode_listing.specs.declared.error.ListingError.TheVariants.
 use crate::drafts::Line;
 use crate::error::{ListingError, ReadError};
 use crate::items::{keyword_of, line_of, number_of, number_row, string_row};
-use crate::labels::instructions_in;
+use crate::labels::resolved;
 use crate::tokens::{begins_with, is_left};
 use bytecode_format::Program;
 use octets::Octets;
@@ -136,15 +136,16 @@ pub fn assemble(alloc: Global, listing: &[u8]) -> Result<Program, ListingError>
         Ok(parts) => parts,
         Err(e) => return Err(fault_of(listing, e)),
     };
-    let instructions = match instructions_in(alloc, parts.lines.as_slice()) {
-        Ok(instructions) => instructions,
+    let resolved = resolved(alloc, parts.strings.as_slice(), parts.lines.as_slice());
+    let (strings, instructions) = match resolved {
+        Ok(resolved) => resolved,
         Err(e) => return Err(fault_of(listing, e)),
     };
     match Program::build(
         parts.version,
         parts.variables,
         parts.numbers,
-        parts.strings,
+        strings,
         instructions,
     ) {
         Ok(program) => Ok(program),

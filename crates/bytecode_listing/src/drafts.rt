@@ -7,6 +7,8 @@ pub enum Target {
     Number(u32),
     /// A name, and how many octets of the listing are left where it stands.
     Name(Octets, usize),
+    /// A string, and how many octets of the listing are left where it stands.
+    Quoted(Octets, usize),
 }
 
 /// An instruction whose c may be a name.

@@ -10,7 +10,9 @@ ghost use Rattle.bytecode_listing.specs.Readers.{Gives, and_rest, with_rest, rea
 use crate::drafts::{Draft, Line, Target};
 use crate::error::ReadError;
 use crate::names::octet_named;
-use crate::tokens::{begins_number, begins_with, first, left_at, octet_from, text_of, word_of};
+use crate::tokens::{
+    begins_number, begins_with, begins_word, first, left_at, octet_from, text_of, word_of,
+};
 use octets::Octets;
 use std::alloc::Global;
 
@@ -182,6 +184,10 @@ fn target_of(alloc: Global, octets: &[u8]) -> Result<(Target, &[u8]), ReadError>
     if begins_number(octets) {
         let (number, rest) = number_of(octets, 0, u64::from(u32::MAX))?;
         return Ok((Target::Number(number as u32), rest));
+    }
+    if !begins_word(octets) {
+        let (text, rest) = text_of(alloc, octets)?;
+        return Ok((Target::Quoted(text, left_at(octets)), rest));
     }
     let (name, rest) = given_name(alloc, octets)?;
     Ok((Target::Name(name, left_at(octets)), rest))

@@ -11,6 +11,7 @@ mod items;
 mod labels;
 pub mod laws;
 mod names;
+mod strings;
 mod tokens;
 mod writing;
 

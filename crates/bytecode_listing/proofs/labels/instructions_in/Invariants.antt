@@ -4,4 +4,4 @@ use Rattle.bytecode_listing.proofs.Resolving.{after}
 use Rattle.bytecode_listing.proofs.labels.instructions_in.Given as goal
 
 abbrev pub invariant-lines : goal.invariant-lines
-invariant-lines l = after l.instructions.items (instructions_of l.lines (drop l.line-index l.lines)) ≡ instructions_of l.lines l.lines
+invariant-lines l = after l.instructions.items (instructions_of l.strings l.lines (drop l.line-index l.lines)) ≡ instructions_of l.strings l.lines l.lines
