@@ -352,18 +352,18 @@ steps_single : (before : List Line) (is : List Instruction) → double_after bef
 steps_single before [] = refl
 steps_single before (i ∷ is) = steps_single (before ++ Step (draft_of i) ∷ []) is
 
-steps_found : (strings : List (List ℕ)) (all : List Line) (is : List Instruction) → instructions_of strings all (steps_of is) ≡ Ok is
-steps_found strings all [] = refl
-steps_found strings all (i ∷ is) = ap (λ r. r >>= λ others. let s : Result (List Instruction) ℕ = Ok (i ∷ others) in s) (steps_found strings all is)
+steps_found : (table : List (List ℕ)) (all : List Line) (is : List Instruction) → instructions_of table all (steps_of is) ≡ Ok is
+steps_found table all [] = refl
+steps_found table all (i ∷ is) = ap (λ r. r >>= λ others. let s : Result (List Instruction) ℕ = Ok (i ∷ others) in s) (steps_found table all is)
 
-steps_read : (strings : List (List ℕ)) (is : List Instruction) → instructions_in strings (steps_of is) ≡ Ok is
-steps_read strings is =
-    ap (λ o. unless_double o (instructions_of strings (steps_of is) (steps_of is))) (steps_single [] is)
-    ∙ steps_found strings (steps_of is) is
+steps_read : (table : List (List ℕ)) (is : List Instruction) → instructions_in table (steps_of is) ≡ Ok is
+steps_read table is =
+    ap (λ o. unless_double o (instructions_of table (steps_of is) (steps_of is))) (steps_single [] is)
+    ∙ steps_found table (steps_of is) is
 
-steps_strings : (strings : List (List ℕ)) (is : List Instruction) → strings_in strings (steps_of is) ≡ strings
-steps_strings strings [] = refl
-steps_strings strings (i ∷ is) = steps_strings strings is
+steps_strings : (table : List (List ℕ)) (is : List Instruction) → strings_in table (steps_of is) ≡ table
+steps_strings table [] = refl
+steps_strings table (i ∷ is) = steps_strings table is
 
 -- ---- the whole
 
