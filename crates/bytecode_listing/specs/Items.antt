@@ -137,7 +137,7 @@ name_at tokens =
     then Err (left_at tokens)
     else word_at tokens
 
--- what stands for the number of c: a number, a name or a string, of which it is told where they stand
+-- what stands for the number of c: a number, or a name or a string and where it stands
 unfoldable pub target_at : Tokens → Read Target
 target_at tokens =
     if begins_number (word_at tokens)
@@ -146,16 +146,18 @@ target_at tokens =
     then (name_at tokens >>= λ name. Ok (Name name.0 (left_at tokens), name.1))
     else (text_at tokens >>= λ text. Ok (Quoted text.0 (left_at tokens), text.1))
 
--- the field c where its name stands; otherwise nothing is read
+-- the field's name c and what stands for its number
 unfoldable pub target_field : Tokens → Read Target
 target_field tokens = keyword_at (codes "c") tokens >>= λ rest. target_at rest
 
+-- the field c whose name stands there: it must not have been given before
 abbrev pub named_c : Option Target → Tokens → Read (Option Target)
 named_c given tokens =
     if is_some given
     then Err (left_at tokens)
     else (target_field tokens >>= λ c. Ok (Some c.0, c.1))
 
+-- the field c where its name stands; otherwise nothing is read
 unfoldable pub c_at : Option Target → Tokens → Read (Option Target)
 c_at given tokens =
     if begins_with (codes "c") tokens
@@ -264,7 +266,7 @@ strings_at tokens = all_at (begins_with (codes "string")) string_item tokens
 abbrev pub lines_at : Tokens → Read (List Line)
 lines_at tokens = all_at is_left line_at tokens
 
--- what a listing says before its names are looked up
+-- what a listing says before names and strings are looked up
 pub record Drafted : Type 0 where
   pub version : ℕ
   pub variables : ℕ
@@ -290,8 +292,7 @@ items_at tokens = do
     lines = lines.0;
   })
 
--- with the place of each name and string; where a name labels twice, or none labels what is named,
--- there is none
+-- the program of it: each name and each string in a line is looked up
 abbrev pub code_from : Drafted → Result Code ℕ
 code_from drafted = do
   parts ← resolved drafted.strings drafted.lines
@@ -303,7 +304,7 @@ code_from drafted = do
     instructions = parts.1;
   })
 
--- what a listing says: all of it is read, and then the names are looked up
+-- what a listing says: all of it is read, and then names and strings are looked up
 abbrev pub said_by : List ℕ → Result Code ℕ
 said_by listing = items_at (tokens_of listing) >>= code_from
 
@@ -317,8 +318,8 @@ pub record Lists (listing : List ℕ) (code : Code) : Type 0 where
 abbrev pub ExceedsAt : List ℕ → ℕ → Code → Type 0
 ExceedsAt listing place code = (place ≡ length listing) × ¬ IsProgram code
 
--- the first fault of a listing, after so many octets: the first token that can't stand there, if
--- there is one
+-- the fault of a listing, after so many octets: the first token that can't stand there; where all
+-- can, the first label that is there again; where none is, the first name that is no label
 abbrev pub FaultsAt : List ℕ → ℕ → Type 0
 FaultsAt listing place =
     MatchResult (said_by listing) (ExceedsAt listing place) (λ left. place ≡ length listing - left)

@@ -78,7 +78,7 @@ fn lines_of(alloc: Global, octets: &[u8]) -> Result<(Vec<Line>, &[u8]), ReadErro
     Ok((lines, rest))
 }
 
-/// What a listing says before its names are looked up.
+/// What a listing says before names and strings are looked up.
 #[derive(Drop)]
 pub struct Parts {
     version: u8,
@@ -124,9 +124,12 @@ fn fault_of(listing: &[u8], error: ReadError) -> ListingError
 /// The program that a listing says.
 ///
 /// `Fault` comes exactly where it says none: with the place of the first token that can't stand
-/// where it stands; or, where all can, with the listing's end, where the program exceeds the limits
-/// of programs. `Memory` comes only where an allocation was refused. What is allocated grows with
-/// the listing, whose length is for the caller to limit; the listing is gone through once.
+/// where it stands; where all can, with that of the first label that is there a second time; where
+/// none is, with that of the first name that is no label; and where all names are, with the
+/// listing's end, where the program exceeds the limits of programs. `Memory` comes only where an
+/// allocation was refused. What is allocated grows with the listing, whose length is for the caller
+/// to limit; the listing is gone through once, and a name or a string is looked up in the logarithm
+/// of their number.
 pub fn assemble(alloc: Global, listing: &[u8]) -> Result<Program, ListingError>
     ensures listed { IfOk result (λ p. Lists listing.now p) }
     ensures fault { IfErr result

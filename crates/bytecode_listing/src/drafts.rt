@@ -1,4 +1,4 @@
-// Lines of a listing whose names aren't looked up yet.
+// Lines of a listing before names and strings are looked up.
 use octets::Octets;
 
 /// What stands for the number of c.
@@ -11,7 +11,7 @@ pub enum Target {
     Quoted(Octets, usize),
 }
 
-/// An instruction whose c may be a name.
+/// An instruction whose c may be a name or a string.
 #[derive(Drop)]
 pub struct Draft {
     pub op: u8,

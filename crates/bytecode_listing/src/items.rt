@@ -303,7 +303,8 @@ pub fn line_of(alloc: Global, octets: &[u8], place: usize) -> Result<(Line, &[u8
 /// Reads a number of the table.
 #[tactic(auto, unfolding(crate::specs::Items::number_item))]
 pub fn number_row(octets: &[u8]) -> Result<(u64, &[u8]), ReadError>
-    ensures { (before : List ℕ) → Gives and_rest result (number_item before (tokens_of octets.now)) }
+    ensures { (before : List ℕ)
+        → Gives and_rest result (number_item before (tokens_of octets.now)) }
 {
     number_of(keyword_of(octets, b"number")?, 0, u64::MAX)
 }
@@ -311,7 +312,8 @@ pub fn number_row(octets: &[u8]) -> Result<(u64, &[u8]), ReadError>
 /// Reads a string of the table.
 #[tactic(auto, unfolding(crate::specs::Items::string_item))]
 pub fn string_row(alloc: Global, octets: &[u8]) -> Result<(Octets, &[u8]), ReadError>
-    ensures { (before : List (List ℕ)) → Gives and_rest result (string_item before (tokens_of octets.now)) }
+    ensures { (before : List (List ℕ))
+        → Gives and_rest result (string_item before (tokens_of octets.now)) }
 {
     text_of(alloc, keyword_of(octets, b"string")?)
 }

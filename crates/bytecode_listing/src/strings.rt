@@ -13,7 +13,7 @@ use std::marker::Model;
 #[derive(Drop)]
 pub struct Strings<'a> {
     listed: Vec<&'a [u8]>,
-    // Where each of them stands in the list.
+    // Where each of them stands in the list first.
     places: BTreeMap<&'a [u8], usize>,
 }
 
@@ -29,7 +29,9 @@ impl<'a> Model for Strings<'a> {
 
     ghost view = { λ s. map (λ (text : Bor (List ℕ)). text.now) s.listed.items };
 
-    ghost invariant = { λ s. (text : List ℕ) → get_by (λ (key : Bor (List ℕ)). slice_cmp nat_cmp text key.now) s.places ≡ string_in (map (λ (text : Bor (List ℕ)). text.now) s.listed.items) text };
+    ghost invariant = { λ s. (text : List ℕ)
+        → get_by (λ (key : Bor (List ℕ)). slice_cmp nat_cmp text key.now) s.places
+        ≡ string_in (map (λ (text : Bor (List ℕ)). text.now) s.listed.items) text };
 }
 
 impl<'a> Strings<'a> {
@@ -109,7 +111,7 @@ impl<'a> Strings<'a> {
         self.places.get(text).copied()
     }
 
-    /// Copies of them.
+    /// Copies of the strings in their order.
     ///
     /// An error comes only where memory was refused.
     pub fn to_list(&self, alloc: Global) -> Result<Vec<Octets>, AllocError>
