@@ -1,4 +1,4 @@
-use Rattle.std.proofs.Common.{◌≡◌, ℕ, bytes_eq, OnOk, List, [], ◌∷◌, ◌++◌, map, true, false, is_some, sym, ap, subst, ◌∙◌}
+use Rattle.std.proofs.Common.{◌≡◌, ℕ, bytes_eq, OnOk, List, [], ◌∷◌, map, false, is_some, sym, ap, subst, ◌∙◌}
 use Rattle.std.specs.Borrow.{Bor}
 use Rattle.std.proofs.lemmas.List.{map-append}
 use Rattle.octets.specs.Once.{is_listed}
