@@ -1,7 +1,13 @@
 -- Listings, by computation.
-use Rattle.std.proofs.Common.{◌≡◌, [], ◌∷◌, codes, refl}
+use Rattle.std.proofs.Common.{◌≡◌, ℕ, [], ◌∷◌, Ok, Err, codes, refl}
 use Rattle.std.specs.Fmt.{digits}
 use Rattle.bytecode_format.specs.Code.{Code}
+use Rattle.bytecode_format.specs.declared.instruction.Instruction.{Instruction}
+use Rattle.bytecode_listing.specs.declared.drafts.Target.{Target}
+use Rattle.bytecode_listing.specs.declared.drafts.Target.TheVariants.{Number, Name, Quoted}
+use Rattle.bytecode_listing.specs.declared.drafts.Line.{Line}
+use Rattle.bytecode_listing.specs.declared.drafts.Line.TheVariants.{Label, Step}
+use Rattle.bytecode_listing.specs.Labels.{resolved}
 use Rattle.bytecode_listing.specs.Listing.{listing_of, quoted, operation_text, fields_text, instruction_text, comment, meant}
 
 -- a quote, a backslash and what isn't printed are told by their digits
@@ -72,3 +78,25 @@ outside = (refl, refl, refl)
 nothing_meant : (comment (meant program (record { op = 0x03; a = 0; b = 0; c = 0 })) ≡ []) × (comment (meant program (record { op = 0xFF; a = 0; b = 0; c = 0 })) ≡ [])
 unfolding program
 nothing_meant = (refl, refl)
+
+-- labels before and after they are used, one after the last instruction
+abbrev jump_to : Target → Line
+jump_to target = Step (record { op = 0x09; a = 0; b = 0; c = target })
+
+abbrev jumps : ℕ → Instruction
+jumps c = record { op = 0x09; a = 0; b = 0; c = c }
+
+labels : resolved [] (Label (codes "start") 90 ∷ jump_to (Name (codes "end") 80) ∷ Label (codes "two") 75 ∷ jump_to (Name (codes "start") 70) ∷ jump_to (Name (codes "two") 65) ∷ Label (codes "end") 60 ∷ []) ≡ Ok ([], jumps 3 ∷ jumps 0 ∷ jumps 1 ∷ [])
+labels = refl
+
+-- the second of a label's names, also where another name is no label
+double_label : resolved [] (jump_to (Name (codes "no") 90) ∷ Label (codes "x") 80 ∷ Label (codes "x") 70 ∷ Label (codes "x") 60 ∷ []) ≡ Err 70
+double_label = refl
+
+no_label : resolved [] (jump_to (Number 5) ∷ jump_to (Name (codes "a") 80) ∷ jump_to (Name (codes "b") 70) ∷ []) ≡ Err 80
+no_label = refl
+
+-- strings in lines: the first place in the table, or its end
+strings_of_lines : resolved (codes "a" ∷ codes "b" ∷ codes "a" ∷ []) (jump_to (Quoted (codes "b") 90) ∷ jump_to (Quoted (codes "new") 80) ∷ jump_to (Quoted (codes "a") 70) ∷ jump_to (Quoted (codes "new") 60) ∷ [])
+    ≡ Ok (codes "a" ∷ codes "b" ∷ codes "a" ∷ codes "new" ∷ [], jumps 1 ∷ jumps 3 ∷ jumps 0 ∷ jumps 3 ∷ [])
+strings_of_lines = refl

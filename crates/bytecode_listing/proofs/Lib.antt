@@ -10,3 +10,4 @@ mod Skipped
 mod Short
 mod Faultless
 mod Lines
+mod Resolving

@@ -1,6 +1,6 @@
 -- Lines and lists of lines, read as they were written.
 use Rattle.std.proofs.Common.{◌≡◌, ℕ, suc, ◌+◌, ◌-◌, ◌^◌, ◌<◌, ◌≤◌, ◌==◌, ◌&&◌, ◌||◌, Bool, true, false, if◌then◌else◌, List, [], ◌∷◌, ◌++◌, length, All, Option, Some, None, Result, Ok, Err, refl, sym, ap, subst, ◌∙◌, append_assoc, arith, eqb-true, codes}
-use Rattle.std.specs.Prelude.{bytes_eq, is_some, unwrap_or}
+use Rattle.std.specs.Prelude.{bytes_eq, is_ok, is_some, unwrap_or}
 use Rattle.std.specs.List.{flat_map, AllByRecursion}
 use Rattle.std.specs.Fmt.{decimal}
 use Rattle.std.specs.Char.{is_ascii_digit}
@@ -11,10 +11,16 @@ use Rattle.bytecode_format.specs.Spelling.{Fits, IsProgram}
 use Rattle.bytecode_format.specs.declared.instruction.Instruction.{Instruction}
 use Rattle.bytecode_listing.specs.Listing.{line, quoted, operation_text, field_text, fields_text, instruction_text, comment, meant, instruction_line, instruction_lines, number_line, string_line, listing_of, AreOctets}
 use Rattle.bytecode_listing.specs.Tokens.{is_word_octet, tokens_from, tokens_of}
-use Rattle.bytecode_listing.specs.Items.{Tokens, ◌>>=◌, is_word, is_left, word_at, text_at, begins_with, begins_number, left_at, keyword_at, number_at, operation_at, field_number, field_at, Fields, round_at, fields_at, place_at, instruction_at, number_item, string_item, onto, many_at, all_at, items_at, said_by, Lists}
+use Rattle.bytecode_listing.specs.Labels.{◌>>=◌, count, double_after, instructions_of, unless_double, instructions_in, strings_in}
+use Rattle.bytecode_listing.specs.declared.drafts.Target.{Target}
+use Rattle.bytecode_listing.specs.declared.drafts.Target.TheVariants.{Number, Name, Quoted}
+use Rattle.bytecode_listing.specs.declared.drafts.Draft.{Draft}
+use Rattle.bytecode_listing.specs.declared.drafts.Line.{Line}
+use Rattle.bytecode_listing.specs.declared.drafts.Line.TheVariants.{Label, Step}
+use Rattle.bytecode_listing.specs.Items.{Tokens, Drafted, code_from, is_word, is_left, word_at, text_at, begins_with, begins_number, left_at, keyword_at, number_at, operation_at, field_number, field_at, Fields, round_at, fields_at, name_at, target_at, target_field, c_at, place_at, draft_at, label_at, line_at, number_item, string_item, onto, many_at, all_at, items_at, said_by, Lists}
 use Rattle.bytecode_listing.proofs.Lexing.{after_white}
 use Rattle.bytecode_listing.proofs.Loop.{IsItem, from_place, unrolled, stops}
-use Rattle.bytecode_listing.proofs.Shorter.{instruction_leaves, number_item_leaves, string_item_leaves}
+use Rattle.bytecode_listing.proofs.Shorter.{line_leaves, number_item_leaves, string_item_leaves}
 use Rattle.bytecode_listing.proofs.Words.{Stops, IsWord, word_reads, word_then, same_word, keyword_reads, number_word, number_reads, number_begins, number_is_other}
 use Rattle.bytecode_listing.proofs.Skipped.{comment_skipped, comment_stops}
 use Rattle.bytecode_listing.proofs.Written.{read_on, operation_reads, text_reads}
@@ -65,6 +71,47 @@ field_reads name highest n rest w within small s other = by_zero (n == 0)
         (word_then name 32 (decimal n ++ rest) w refl refl)
         (word_reads (decimal n) rest (number_word n (omega arith)) s)
 
+abbrev given_c : ℕ → Option Target
+given_c n = if n == 0 then None else Some (Number n)
+
+given_c_is : (n : ℕ) → unwrap_or (given_c n) (Number 0) ≡ Number n
+given_c_is n = by_zero (n == 0) refl
+  where
+    by_zero : (b : Bool) → (n == 0) ≡ b → unwrap_or (if b then None else Some (Number n)) (Number 0) ≡ Number n
+    by_zero true e = ap Number (sym (eqb-true n 0 e))
+    by_zero false e = refl
+
+c_skipped : (read : Option Target) (tokens : Tokens) → begins_with (codes "c") tokens ≡ false → c_at read tokens ≡ Ok (read, tokens)
+unfolding c_at
+c_skipped read tokens h =
+    ap (λ b. let r : Result (Option Target × Tokens) ℕ = if b then (if is_some read then Err (left_at tokens) else (target_field tokens >>= λ c. Ok (Some c.0, c.1))) else Ok (read, tokens) in r) h
+
+c_found : (n : ℕ) (tokens named rest : Tokens) → n ≤ 4294967295 → word_at tokens ≡ Ok (codes "c", named) → word_at named ≡ Ok (decimal n, rest) → c_at None tokens ≡ Ok (Some (Number n), rest)
+unfolding c_at target_field target_at
+c_found n tokens named rest within first second =
+    let number : ℕ × Tokens → Result (Target × Tokens) ℕ = λ n. Ok (Number n.0, n.1) in
+    let some : Target × Tokens → Result (Option Target × Tokens) ℕ = λ c. Ok (Some c.0, c.1) in
+    let here : begins_with (codes "c") tokens ≡ true = ap (is_word (codes "c")) first ∙ same_word (codes "c") in
+    let begun : begins_number (word_at named) ≡ true = ap begins_number second ∙ number_begins n rest (omega arith) in
+    let read : target_at named ≡ Ok (Number n, rest) =
+    ap (λ b. let r : Result (Target × Tokens) ℕ = if b then (number_at 0 4294967295 named >>= number) else if is_ok (word_at named) then (name_at named >>= λ name. Ok (Name name.0 (left_at named), name.1)) else (text_at named >>= λ text. Ok (Quoted text.0 (left_at named), text.1)) in r) begun
+    ∙ ap (λ r. r >>= number) (number_reads 0 4294967295 n named rest (omega arith) within (omega arith) second) in
+    ap (λ b. let r : Result (Option Target × Tokens) ℕ = if b then (target_field tokens >>= some) else Ok (None, tokens) in r) here
+    ∙ ap (λ r. r >>= target_at >>= some) (keyword_reads (codes "c") tokens named first)
+    ∙ ap (λ r. r >>= some) read
+
+c_reads : (n : ℕ) (rest : List ℕ) → n ≤ 4294967295 → Stops rest → begins_with (codes "c") (tokens_of rest) ≡ false
+    → c_at None (tokens_of (field_text (codes "c") n ++ rest)) ≡ Ok (given_c n, tokens_of rest)
+c_reads n rest within s other = by_zero (n == 0)
+  where
+    by_zero : (b : Bool) → c_at None (tokens_of ((if b then [] else codes " " ++ codes "c" ++ codes " " ++ decimal n) ++ rest)) ≡ Ok ((if b then None else Some (Number n)), tokens_of rest)
+    by_zero true = c_skipped None (tokens_of rest) other
+    by_zero false =
+        ap (c_at None) (field_tokens (codes "c") n rest)
+        ∙ c_found n (tokens_of (codes "c" ++ 32 ∷ (decimal n ++ rest))) (tokens_of (decimal n ++ rest)) (tokens_of rest) within
+        (word_then (codes "c") 32 (decimal n ++ rest) (record { some = omega arith; octets = refl }) refl refl)
+        (word_reads (decimal n) rest (number_word n (omega arith)) s)
+
 -- another field's name doesn't begin where a field stands, unless it begins after it
 field_other : (name sought : List ℕ) (n : ℕ) (rest : List ℕ) → IsWord name → bytes_eq name sought ≡ false → begins_with sought (tokens_of rest) ≡ false → begins_with sought (tokens_of (field_text name n ++ rest)) ≡ false
 field_other name sought n rest w different other = by_zero (n == 0)
@@ -94,13 +141,13 @@ round_skipped : (read : Fields) (rest : List ℕ) → Ends rest → round_at rea
 unfolding round_at
 round_skipped read rest ends =
     let tokens : Tokens = tokens_of rest in
-    let made : Option ℕ × Tokens → Option ℕ × Tokens → Option ℕ × Tokens → Result (Fields × Tokens) ℕ = λ a b c. Ok (record { a = a.0; b = b.0; c = c.0 }, c.1) in
-    read_on (field_at (codes "a") 255 read.a tokens) (read.a, tokens) (λ a. field_at (codes "b") 65535 read.b a.1 >>= λ b. field_at (codes "c") 4294967295 read.c b.1 >>= λ c. made a b c) (Ok (read, tokens)) (field_skipped (codes "a") 255 read.a tokens ends.a)
-    (read_on (field_at (codes "b") 65535 read.b tokens) (read.b, tokens) (λ b. field_at (codes "c") 4294967295 read.c b.1 >>= λ c. made (read.a, tokens) b c) (Ok (read, tokens)) (field_skipped (codes "b") 65535 read.b tokens ends.b)
-    (read_on (field_at (codes "c") 4294967295 read.c tokens) (read.c, tokens) (λ c. made (read.a, tokens) (read.b, tokens) c) (Ok (read, tokens)) (field_skipped (codes "c") 4294967295 read.c tokens ends.c) refl))
+    let made : Option ℕ × Tokens → Option ℕ × Tokens → Option Target × Tokens → Result (Fields × Tokens) ℕ = λ a b c. Ok (record { a = a.0; b = b.0; c = c.0 }, c.1) in
+    read_on (field_at (codes "a") 255 read.a tokens) (read.a, tokens) (λ a. field_at (codes "b") 65535 read.b a.1 >>= λ b. c_at read.c b.1 >>= λ c. made a b c) (Ok (read, tokens)) (field_skipped (codes "a") 255 read.a tokens ends.a)
+    (read_on (field_at (codes "b") 65535 read.b tokens) (read.b, tokens) (λ b. c_at read.c b.1 >>= λ c. made (read.a, tokens) b c) (Ok (read, tokens)) (field_skipped (codes "b") 65535 read.b tokens ends.b)
+    (read_on (c_at read.c tokens) (read.c, tokens) (λ c. made (read.a, tokens) (read.b, tokens) c) (Ok (read, tokens)) (c_skipped read.c tokens ends.c) refl))
 
 abbrev given_fields : Instruction → Fields
-given_fields i = record { a = given i.a; b = given i.b; c = given i.c }
+given_fields i = record { a = given i.a; b = given i.b; c = given_c i.c }
 
 fields_grouped : (i : Instruction) (rest : List ℕ) → fields_text i ++ rest ≡ field_text (codes "a") i.a ++ (field_text (codes "b") i.b ++ (field_text (codes "c") i.c ++ rest))
 fields_grouped i rest =
@@ -127,14 +174,14 @@ fields_read i rest fits ends =
     let a_after : begins_with (codes "a") (tokens_of at_b) ≡ false = field_other (codes "b") (codes "a") i.b at_c word_b refl a_in_c in
     let stops_c : Stops at_c = field_stops (codes "c") i.c rest ends.stops in
     let stops_b : Stops at_b = field_stops (codes "b") i.b at_c stops_c in
-    let made : Option ℕ × Tokens → Option ℕ × Tokens → Option ℕ × Tokens → Result (Fields × Tokens) ℕ = λ a b c. Ok (record { a = a.0; b = b.0; c = c.0 }, c.1) in
+    let made : Option ℕ × Tokens → Option ℕ × Tokens → Option Target × Tokens → Result (Fields × Tokens) ℕ = λ a b c. Ok (record { a = a.0; b = b.0; c = c.0 }, c.1) in
     let a : Option ℕ × Tokens = (given i.a, tokens_of at_b) in
     let b : Option ℕ × Tokens = (given i.b, tokens_of at_c) in
     let all : Result (Fields × Tokens) ℕ = Ok (given_fields i, tokens_of rest) in
     let first : round_at none (tokens_of at_a) ≡ all =
-    read_on (field_at (codes "a") 255 None (tokens_of at_a)) a (λ a. field_at (codes "b") 65535 None a.1 >>= λ b. field_at (codes "c") 4294967295 None b.1 >>= λ c. made a b c) all (field_reads (codes "a") 255 i.a at_b (letter 97 refl) (omega (arith, fits.a)) (omega arith) stops_b a_after)
-    (read_on (field_at (codes "b") 65535 None (tokens_of at_b)) b (λ b. field_at (codes "c") 4294967295 None b.1 >>= λ c. made a b c) all (field_reads (codes "b") 65535 i.b at_c word_b (omega (arith, fits.b)) (omega arith) stops_c b_after)
-    (read_on (field_at (codes "c") 4294967295 None (tokens_of at_c)) (given i.c, tokens_of rest) (λ c. made a b c) all (field_reads (codes "c") 4294967295 i.c rest word_c (omega (arith, fits.c)) (omega arith) ends.stops ends.c) refl)) in
+    read_on (field_at (codes "a") 255 None (tokens_of at_a)) a (λ a. field_at (codes "b") 65535 None a.1 >>= λ b. c_at None b.1 >>= λ c. made a b c) all (field_reads (codes "a") 255 i.a at_b (letter 97 refl) (omega (arith, fits.a)) (omega arith) stops_b a_after)
+    (read_on (field_at (codes "b") 65535 None (tokens_of at_b)) b (λ b. c_at None b.1 >>= λ c. made a b c) all (field_reads (codes "b") 65535 i.b at_c word_b (omega (arith, fits.b)) (omega arith) stops_c b_after)
+    (read_on (c_at None (tokens_of at_c)) (given_c i.c, tokens_of rest) (λ c. made a b c) all (c_reads i.c rest (omega (arith, fits.c)) ends.stops ends.c) refl)) in
     ap (λ (t : List ℕ). fields_at (tokens_of t)) (fields_grouped i rest)
     ∙ read_on (round_at none (tokens_of at_a)) (given_fields i, tokens_of rest) (λ first. round_at first.0 first.1 >>= λ second. round_at second.0 second.1) all first
     (read_on (round_at (given_fields i) (tokens_of rest)) (given_fields i, tokens_of rest) (λ second. round_at second.0 second.1) all (round_skipped (given_fields i) rest ends) (round_skipped (given_fields i) rest ends))
@@ -149,24 +196,28 @@ place_reads place rest h =
     ap (λ b. let r : Result Tokens ℕ = if b then (number_at place place tokens >>= λ n. Ok n.1) else Ok tokens in r) (ap begins_number word ∙ number_begins place (tokens_of rest) h)
     ∙ ap (λ r. r >>= λ n. let s : Result Tokens ℕ = Ok n.1 in s) (number_reads place place place tokens (tokens_of rest) (omega arith) (omega arith) h word)
 
-instruction_is : (i : Instruction) → (let made : Instruction = record { op = i.op; a = unwrap_or (given i.a) 0; b = unwrap_or (given i.b) 0; c = unwrap_or (given i.c) 0 } in made) ≡ i
-instruction_is i = rw (given_is i.a, given_is i.b, given_is i.c) refl
+-- an instruction as it is read: its c is a number
+abbrev draft_of : Instruction → Draft
+draft_of i = record { op = i.op; a = i.a; b = i.b; c = Number i.c }
 
-pub instruction_reads : (place : ℕ) (i : Instruction) (rest : List ℕ) → place < 2 ^ 64 → Fits i → Ends rest → instruction_at place (tokens_of (instruction_text place i ++ rest)) ≡ Ok (i, tokens_of rest)
-unfolding instruction_at
-instruction_reads place i rest small fits ends =
+draft_is : (i : Instruction) → (let made : Draft = record { op = i.op; a = unwrap_or (given i.a) 0; b = unwrap_or (given i.b) 0; c = unwrap_or (given_c i.c) (Number 0) } in made) ≡ draft_of i
+draft_is i = rw (given_is i.a, given_is i.b, given_c_is i.c) refl
+
+draft_reads : (place : ℕ) (i : Instruction) (rest : List ℕ) → place < 2 ^ 64 → Fits i → Ends rest → draft_at place (tokens_of (instruction_text place i ++ rest)) ≡ Ok (draft_of i, tokens_of rest)
+unfolding draft_at
+draft_reads place i rest small fits ends =
     let after_operation : List ℕ = fields_text i ++ rest in
     let at_operation : List ℕ = operation_text i.op ++ after_operation in
     let regrouped : instruction_text place i ++ rest ≡ decimal place ++ 32 ∷ at_operation = simp append_assoc in
-    let made : ℕ × Tokens → Fields × Tokens → Result (Instruction × Tokens) ℕ =
-    λ operation fields. Ok (record { op = operation.0; a = unwrap_or fields.0.a 0; b = unwrap_or fields.0.b 0; c = unwrap_or fields.0.c 0 }, fields.1) in
-    let all : Result (Instruction × Tokens) ℕ = Ok (i, tokens_of rest) in
+    let made : ℕ × Tokens → Fields × Tokens → Result (Draft × Tokens) ℕ =
+    λ operation fields. Ok (record { op = operation.0; a = unwrap_or fields.0.a 0; b = unwrap_or fields.0.b 0; c = unwrap_or fields.0.c (Number 0) }, fields.1) in
+    let all : Result (Draft × Tokens) ℕ = Ok (draft_of i, tokens_of rest) in
     let stops : Stops after_operation = fields_stop i rest ends.stops in
-    ap (λ (t : List ℕ). instruction_at place (tokens_of t)) regrouped
+    ap (λ (t : List ℕ). draft_at place (tokens_of t)) regrouped
     ∙ read_on (place_at place (tokens_of (decimal place ++ 32 ∷ at_operation))) (tokens_of at_operation) (λ rest. operation_at rest >>= λ operation. fields_at operation.1 >>= λ fields. made operation fields) all (place_reads place at_operation small)
     (read_on (operation_at (tokens_of at_operation)) (i.op, tokens_of after_operation) (λ operation. fields_at operation.1 >>= λ fields. made operation fields) all (operation_reads i.op after_operation (omega (arith, fits.op)) stops)
     (read_on (fields_at (tokens_of after_operation)) (given_fields i, tokens_of rest) (λ fields. made (i.op, tokens_of after_operation) fields) all (fields_read i rest fits ends)
-    (ap (λ (j : Instruction). let r : Result (Instruction × Tokens) ℕ = Ok (j, tokens_of rest) in r) (instruction_is i))))
+    (ap (λ (j : Draft). let r : Result (Draft × Tokens) ℕ = Ok (j, tokens_of rest) in r) (draft_is i))))
 
 -- ---- lists of lines
 
@@ -175,19 +226,19 @@ word_is_left [] read e = absurd cc
 word_is_left (t ∷ tokens) read e = refl
 
 -- an item reads its own line, whatever follows
-record Reads {A : Type 0} (begins : Tokens → Bool) (item : ℕ → Tokens → Result (A × Tokens) ℕ) (text : A → List ℕ) (Within : A → Type 0) : Type 0 where
+record Reads {A : Type 0} (begins : Tokens → Bool) (item : List A → Tokens → Result (A × Tokens) ℕ) (text : A → List ℕ) (Within : A → Type 0) : Type 0 where
   is_item : IsItem begins item
   here : (x : A) (rest : List ℕ) → Within x → begins (tokens_of (text x ++ rest)) ≡ true
-  reads : (place : ℕ) (x : A) (rest : List ℕ) → Within x → item place (tokens_of (text x ++ rest)) ≡ Ok (x, tokens_of rest)
+  reads : (place : List A) (x : A) (rest : List ℕ) → Within x → item place (tokens_of (text x ++ rest)) ≡ Ok (x, tokens_of rest)
 
-many_read : {A : Type 0} (begins : Tokens → Bool) (item : ℕ → Tokens → Result (A × Tokens) ℕ) (text : A → List ℕ) (Within : A → Type 0) → Reads begins item text Within → (xs : List A) (place : ℕ) (rest : List ℕ) → AllByRecursion Within xs → begins (tokens_of rest) ≡ false
+many_read : {A : Type 0} (begins : Tokens → Bool) (item : List A → Tokens → Result (A × Tokens) ℕ) (text : A → List ℕ) (Within : A → Type 0) → Reads begins item text Within → (xs : List A) (place : List A) (rest : List ℕ) → AllByRecursion Within xs → begins (tokens_of rest) ≡ false
     → from_place begins item place (tokens_of (flat_map text xs ++ rest)) ≡ Ok (xs, tokens_of rest)
 many_read begins item text Within is [] place rest within ended = stops begins item (length (tokens_of rest)) place (tokens_of rest) ended
 many_read begins item text Within is (x ∷ xs) place rest within ended =
     let more : List ℕ = flat_map text xs ++ rest in
     ap (λ (t : List ℕ). from_place begins item place (tokens_of t)) (append_assoc (text x) (flat_map text xs) rest)
     ∙ unrolled begins item is.is_item place (tokens_of (text x ++ more)) (tokens_of more) x (is.here x more within.0) (is.reads place x more within.0)
-    ∙ ap (onto x) (many_read begins item text Within is xs (suc place) rest within.1 ended)
+    ∙ ap (onto x) (many_read begins item text Within is xs (place ++ x ∷ []) rest within.1 ended)
 
 number_word_is : IsWord (codes "number")
 number_word_is = record { some = omega arith; octets = refl }
@@ -260,20 +311,59 @@ line_ends code i is place small =
     let other : (x : ℕ) → is_ascii_digit x ≡ false → begins_with (x ∷ []) (tokens_of end) ≡ false = λ x h. ap (begins_with (x ∷ [])) (comment_skipped code i rest) ∙ lines_other code x [] h is place small in
     record { stops = comment_stops (meant code i) rest; a = other 97 refl; b = other 98 refl; c = other 99 refl }
 
-instructions_read : (code : Code) (is : List Instruction) (place : ℕ) → place + length is < 2 ^ 64 → AllByRecursion Fits is → from_place is_left instruction_at place (tokens_of (instruction_lines code place is)) ≡ Ok (is, [])
+-- instructions as lines without labels
+abbrev pub steps_of : List Instruction → List Line
+steps_of [] = []
+steps_of (i ∷ is) = Step (draft_of i) ∷ steps_of is
+
+count_more : (before : List Line) (draft : Draft) → count (before ++ Step draft ∷ []) ≡ suc (count before)
+count_more [] draft = refl
+count_more (Label name left ∷ before) draft = count_more before draft
+count_more (Step other ∷ before) draft = ap suc (count_more before draft)
+
+line_reads : (before : List Line) (place : ℕ) (i : Instruction) (rest : List ℕ) → count before ≡ place → place < 2 ^ 64 → Fits i → Ends rest → line_at before (tokens_of (instruction_text place i ++ rest)) ≡ Ok (Step (draft_of i), tokens_of rest)
+unfolding line_at
+line_reads before place i rest counted small fits ends =
+    let tokens : Tokens = tokens_of (instruction_text place i ++ rest) in
+    let step : Draft × Tokens → Result (Line × Tokens) ℕ = λ x. Ok (Step x.0, x.1) in
+    let other : begins_with (codes "label") tokens ≡ false = ap (is_word (codes "label")) (instruction_here place i rest small) ∙ number_is_other place 108 (codes "abel") small refl in
+    ap (λ b. let r : Result (Line × Tokens) ℕ = if b then label_at tokens else (draft_at (count before) tokens >>= step) in r) other
+    ∙ ap (λ n. draft_at n tokens >>= step) counted
+    ∙ ap (λ r. r >>= step) (draft_reads place i rest small fits ends)
+
+lines_read : (code : Code) (is : List Instruction) (before : List Line) (place : ℕ) → count before ≡ place → place + length is < 2 ^ 64 → AllByRecursion Fits is → from_place is_left line_at before (tokens_of (instruction_lines code place is)) ≡ Ok (steps_of is, [])
 unfolding tokens_from many_at
-instructions_read code [] place small fits = refl
-instructions_read code (i ∷ is) place small fits =
+lines_read code [] before place counted small fits = refl
+lines_read code (i ∷ is) before place counted small fits =
     let rest : List ℕ = instruction_lines code (suc place) is in
     let end : List ℕ = comment (meant code i) ++ 10 ∷ rest in
     let text : List ℕ = instruction_text place i ++ end in
     let fewer : suc place + length is < 2 ^ 64 = omega arith in
-    ap (λ (t : List ℕ). from_place is_left instruction_at place (tokens_of t)) (one_line code place i rest)
-    ∙ unrolled is_left instruction_at (record { none = refl; leaves = instruction_leaves }) place (tokens_of text) (tokens_of end) i
+    let more : List Line = before ++ Step (draft_of i) ∷ [] in
+    ap (λ (t : List ℕ). from_place is_left line_at before (tokens_of t)) (one_line code place i rest)
+    ∙ unrolled is_left line_at (record { none = refl; leaves = line_leaves }) before (tokens_of text) (tokens_of end) (Step (draft_of i))
     (word_is_left (tokens_of text) _ (instruction_here place i end (omega arith)))
-    (instruction_reads place i end (omega arith) fits.0 (line_ends code i is (suc place) fewer))
-    ∙ ap (λ t. onto i (from_place is_left instruction_at (suc place) t)) (comment_skipped code i rest)
-    ∙ ap (onto i) (instructions_read code is (suc place) fewer fits.1)
+    (line_reads before place i end counted (omega arith) fits.0 (line_ends code i is (suc place) fewer))
+    ∙ ap (λ t. onto (Step (draft_of i)) (from_place is_left line_at more t)) (comment_skipped code i rest)
+    ∙ ap (onto (Step (draft_of i))) (lines_read code is more (suc place) (count_more before (draft_of i) ∙ ap suc counted) fewer fits.1)
+
+-- steps without labels have no double label, and are the instructions that they were
+steps_single : (before : List Line) (is : List Instruction) → double_after before (steps_of is) ≡ None
+steps_single before [] = refl
+steps_single before (i ∷ is) = steps_single (before ++ Step (draft_of i) ∷ []) is
+
+steps_found : (table : List (List ℕ)) (all : List Line) (is : List Instruction) → instructions_of table all (steps_of is) ≡ Ok is
+steps_found table all [] = refl
+steps_found table all (i ∷ is) = ap (λ r. r >>= λ others. let s : Result (List Instruction) ℕ = Ok (i ∷ others) in s) (steps_found table all is)
+
+steps_read : (table : List (List ℕ)) (is : List Instruction) → instructions_in table (steps_of is) ≡ Ok is
+steps_read table is =
+    ap (λ o. unless_double o (instructions_of table (steps_of is) (steps_of is))) (steps_single [] is)
+    ∙ steps_found table (steps_of is) is
+
+steps_strings : (table : List (List ℕ)) (is : List Instruction) → strings_in table (steps_of is) ≡ table
+steps_strings table [] = refl
+steps_strings table (i ∷ is) = steps_strings table is
 
 -- ---- the whole
 
@@ -323,10 +413,12 @@ says_itself code is =
     let version : number_at 1 2 (tokens_of at_version) ≡ Ok (code.version, tokens_of at_variables) = number_reads 1 2 code.version (tokens_of at_version) (tokens_of at_variables) is.low is.high (omega arith) (word_then (decimal code.version) 10 at_variables (number_word code.version (omega (arith, is.high))) refl refl) in
     let variables_word : keyword_at (codes "variables") (tokens_of at_variables) ≡ Ok (tokens_of at_count) = keyword_reads (codes "variables") (tokens_of at_variables) (tokens_of at_count) (word_then (codes "variables") 32 at_count (record { some = omega arith; octets = refl }) refl refl) in
     let variables : number_at 0 128 (tokens_of at_count) ≡ Ok (code.variables, tokens_of at_numbers) = number_reads 0 128 code.variables (tokens_of at_count) (tokens_of at_numbers) (omega arith) is.variables (omega arith) (word_then (decimal code.variables) 10 at_numbers (number_word code.variables (omega (arith, is.variables))) refl refl) in
-    let all_numbers : all_at (begins_with (codes "number")) number_item (tokens_of at_numbers) ≡ Ok (code.numbers, tokens_of at_strings) = many_read (begins_with (codes "number")) number_item number_line (λ n. n < 2 ^ 64) numbers code.numbers 0 at_strings is.numbers (strings_other code code.strings code.instructions is.places) in
-    let all_strings : all_at (begins_with (codes "string")) string_item (tokens_of at_strings) ≡ Ok (code.strings, tokens_of at_instructions) = many_read (begins_with (codes "string")) string_item string_line IsText strings code.strings 0 at_instructions is.strings (lines_other code 115 (codes "tring") refl code.instructions 0 (omega (arith, is.places))) in
-    let all_instructions : all_at is_left instruction_at (tokens_of at_instructions) ≡ Ok (code.instructions, []) = instructions_read code code.instructions 0 (omega (arith, is.places)) is.instructions in
-    ap said_by regrouped ∙ rw (version_word, version, variables_word, variables, all_numbers, all_strings, all_instructions) refl
+    let all_numbers : all_at (begins_with (codes "number")) number_item (tokens_of at_numbers) ≡ Ok (code.numbers, tokens_of at_strings) = many_read (begins_with (codes "number")) number_item number_line (λ n. n < 2 ^ 64) numbers code.numbers [] at_strings is.numbers (strings_other code code.strings code.instructions is.places) in
+    let all_strings : all_at (begins_with (codes "string")) string_item (tokens_of at_strings) ≡ Ok (code.strings, tokens_of at_instructions) = many_read (begins_with (codes "string")) string_item string_line IsText strings code.strings [] at_instructions is.strings (lines_other code 115 (codes "tring") refl code.instructions 0 (omega (arith, is.places))) in
+    let all_lines : all_at is_left line_at (tokens_of at_instructions) ≡ Ok (steps_of code.instructions, []) = lines_read code code.instructions [] 0 refl (omega (arith, is.places)) is.instructions in
+    let drafted : Drafted = record { version = code.version; variables = code.variables; numbers = code.numbers; strings = code.strings; lines = steps_of code.instructions } in
+    let read : items_at (tokens_of whole) ≡ Ok drafted = rw (version_word, version, variables_word, variables, all_numbers, all_strings, all_lines) refl in
+    ap said_by regrouped ∙ ap (λ r. r >>= code_from) read ∙ rw (steps_strings code.strings code.instructions, steps_read code.strings code.instructions) refl
 
 low_version : (n : ℕ) → (n == 1) || (n == 2) ≡ true → 1 ≤ n
 low_version n h = grind (arith, nat_tests)

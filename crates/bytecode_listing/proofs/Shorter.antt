@@ -1,10 +1,15 @@
 -- What a reader leaves is shorter than what it was given.
 use Rattle.std.proofs.Common.{ℕ, suc, ◌^◌, ◌-◌, ◌<◌, ◌≤◌, Bool, true, false, if◌then◌else◌, List, [], ◌∷◌, length, Option, Some, None, is_some, Result, Ok, Err, codes, arith}
-use Rattle.std.specs.Prelude.{bytes_eq, nat_le, unwrap_or}
-use Rattle.bytecode_format.specs.declared.instruction.Instruction.{Instruction}
+use Rattle.std.specs.Prelude.{bytes_eq, is_ok, nat_le, unwrap_or}
+use Rattle.bytecode_listing.specs.declared.drafts.Target.{Target}
+use Rattle.bytecode_listing.specs.declared.drafts.Target.TheVariants.{Number, Name, Quoted}
+use Rattle.bytecode_listing.specs.declared.drafts.Draft.{Draft}
+use Rattle.bytecode_listing.specs.declared.drafts.Line.{Line}
+use Rattle.bytecode_listing.specs.declared.drafts.Line.TheVariants.{Label, Step}
+use Rattle.bytecode_listing.specs.Labels.{◌>>=◌, count}
 use Rattle.bytecode_listing.specs.Names.{octet_named}
 use Rattle.bytecode_listing.specs.Tokens.{Token, Word, Text, Wrong}
-use Rattle.bytecode_listing.specs.Items.{Tokens, ◌>>=◌, left_at, word_in, word_at, text_in, text_at, begins_with, begins_number, keyword_at, value_from, is_within, number_at, octet_in, found, octet_at, operation_at, field_number, field_at, Fields, round_at, fields_at, place_at, instruction_at, number_item, string_item}
+use Rattle.bytecode_listing.specs.Items.{Tokens, left_at, word_in, word_at, text_in, text_at, begins_with, begins_number, keyword_at, value_from, is_within, number_at, octet_in, found, octet_at, operation_at, field_number, field_at, Fields, round_at, fields_at, name_at, target_at, target_field, c_at, place_at, draft_at, label_at, line_at, number_item, string_item}
 
 -- fewer tokens than that are left, where something was read
 abbrev pub Leaves : {A : Type 0} → ℕ → Result (A × Tokens) ℕ → Type 0
@@ -100,14 +105,48 @@ field_leaves name highest given tokens =
     (if_leaves (suc (length tokens)) (is_some given) (Err (left_at tokens)) read tt reads)
     (omega arith)
 
+name_leaves : (tokens : Tokens) → Leaves (length tokens) (name_at tokens)
+unfolding name_at
+name_leaves tokens = if_leaves (length tokens) (begins_number (word_at tokens)) (Err (left_at tokens)) (word_at tokens) tt (word_leaves tokens)
+
+target_leaves : (tokens : Tokens) → Leaves (length tokens) (target_at tokens)
+unfolding target_at
+target_leaves tokens =
+    let n : ℕ = length tokens in
+    let number : ℕ × Tokens → Result (Target × Tokens) ℕ = λ n. Ok (Number n.0, n.1) in
+    let name : List ℕ × Tokens → Result (Target × Tokens) ℕ = λ name. Ok (Name name.0 (left_at tokens), name.1) in
+    let text : List ℕ × Tokens → Result (Target × Tokens) ℕ = λ text. Ok (Quoted text.0 (left_at tokens), text.1) in
+    let other : Result (Target × Tokens) ℕ = if is_ok (word_at tokens) then (name_at tokens >>= name) else (text_at tokens >>= text) in
+    if_leaves n (begins_number (word_at tokens)) (number_at 0 4294967295 tokens >>= number) other
+    (chain n n (number_at 0 4294967295 tokens) number (number_leaves 0 4294967295 tokens) (λ x h. h))
+    (if_leaves n (is_ok (word_at tokens)) (name_at tokens >>= name) (text_at tokens >>= text)
+    (chain n n (name_at tokens) name (name_leaves tokens) (λ x h. h))
+    (chain n n (text_at tokens) text (text_leaves tokens) (λ x h. h)))
+
+target_field_leaves : (tokens : Tokens) → Leaves (length tokens) (target_field tokens)
+unfolding target_field
+target_field_leaves tokens =
+    rest_then (length tokens) (length tokens) (keyword_at (codes "c") tokens) (λ rest. target_at rest) (keyword_leaves (codes "c") tokens)
+    (λ rest h. wider (length rest) (length tokens) (target_at rest) (omega arith) (target_leaves rest))
+
+c_leaves : (given : Option Target) (tokens : Tokens) → Leaves (suc (length tokens)) (c_at given tokens)
+unfolding c_at
+c_leaves given tokens =
+    let some : Target × Tokens → Result (Option Target × Tokens) ℕ = λ c. Ok (Some c.0, c.1) in
+    let read : Result (Option Target × Tokens) ℕ = target_field tokens >>= some in
+    let reads : Leaves (suc (length tokens)) read = chain (length tokens) (suc (length tokens)) (target_field tokens) some (target_field_leaves tokens) (λ n h. omega (arith, h)) in
+    if_leaves (suc (length tokens)) (begins_with (codes "c") tokens) (if is_some given then Err (left_at tokens) else read) (Ok (given, tokens))
+    (if_leaves (suc (length tokens)) (is_some given) (Err (left_at tokens)) read tt reads)
+    (omega arith)
+
 round_leaves : (given : Fields) (tokens : Tokens) → Leaves (suc (length tokens)) (round_at given tokens)
 unfolding round_at
 round_leaves given tokens =
     let n : ℕ = suc (length tokens) in
-    let last : (a b c : Option ℕ × Tokens) → Result (Fields × Tokens) ℕ = λ a b c. Ok (record { a = a.0; b = b.0; c = c.0 }, c.1) in
-    chain n n (field_at (codes "a") 255 given.a tokens) (λ a. field_at (codes "b") 65535 given.b a.1 >>= λ b. field_at (codes "c") 4294967295 given.c b.1 >>= λ c. last a b c) (field_leaves (codes "a") 255 given.a tokens)
-    (λ a h. chain n n (field_at (codes "b") 65535 given.b a.1) (λ b. field_at (codes "c") 4294967295 given.c b.1 >>= λ c. last a b c) (wider (suc (length a.1)) n (field_at (codes "b") 65535 given.b a.1) (omega (arith, h)) (field_leaves (codes "b") 65535 given.b a.1))
-    (λ b k. chain n n (field_at (codes "c") 4294967295 given.c b.1) (λ c. last a b c) (wider (suc (length b.1)) n (field_at (codes "c") 4294967295 given.c b.1) (omega (arith, k)) (field_leaves (codes "c") 4294967295 given.c b.1))
+    let last : (a b : Option ℕ × Tokens) (c : Option Target × Tokens) → Result (Fields × Tokens) ℕ = λ a b c. Ok (record { a = a.0; b = b.0; c = c.0 }, c.1) in
+    chain n n (field_at (codes "a") 255 given.a tokens) (λ a. field_at (codes "b") 65535 given.b a.1 >>= λ b. c_at given.c b.1 >>= λ c. last a b c) (field_leaves (codes "a") 255 given.a tokens)
+    (λ a h. chain n n (field_at (codes "b") 65535 given.b a.1) (λ b. c_at given.c b.1 >>= λ c. last a b c) (wider (suc (length a.1)) n (field_at (codes "b") 65535 given.b a.1) (omega (arith, h)) (field_leaves (codes "b") 65535 given.b a.1))
+    (λ b k. chain n n (c_at given.c b.1) (λ c. last a b c) (wider (suc (length b.1)) n (c_at given.c b.1) (omega (arith, k)) (c_leaves given.c b.1))
     (λ c l. l)))
 
 fields_leaves : (tokens : Tokens) → Leaves (suc (length tokens)) (fields_at tokens)
@@ -127,24 +166,38 @@ place_leaves place tokens =
     (then_rest (length tokens) (suc (length tokens)) (number_at place place tokens) (λ n. Ok n.1) (number_leaves place place tokens) (λ n h. omega (arith, h)))
     (omega arith)
 
-pub instruction_leaves : (place : ℕ) (tokens : Tokens) → Leaves (length tokens) (instruction_at place tokens)
-unfolding instruction_at
-instruction_leaves place tokens =
+draft_leaves : (place : ℕ) (tokens : Tokens) → Leaves (length tokens) (draft_at place tokens)
+unfolding draft_at
+draft_leaves place tokens =
     let n : ℕ = length tokens in
-    let last : (operation : ℕ × Tokens) (fields : Fields × Tokens) → Result (Instruction × Tokens) ℕ =
-    λ operation fields. Ok (record { op = operation.0; a = unwrap_or fields.0.a 0; b = unwrap_or fields.0.b 0; c = unwrap_or fields.0.c 0 }, fields.1) in
+    let last : (operation : ℕ × Tokens) (fields : Fields × Tokens) → Result (Draft × Tokens) ℕ =
+    λ operation fields. Ok (record { op = operation.0; a = unwrap_or fields.0.a 0; b = unwrap_or fields.0.b 0; c = unwrap_or fields.0.c (Number 0) }, fields.1) in
     rest_then (suc n) n (place_at place tokens) (λ rest. operation_at rest >>= λ operation. fields_at operation.1 >>= λ fields. last operation fields) (place_leaves place tokens)
     (λ rest h. chain n n (operation_at rest) (λ operation. fields_at operation.1 >>= λ fields. last operation fields) (wider (length rest) n (operation_at rest) (omega (arith, h)) (operation_leaves rest))
     (λ operation k. chain n n (fields_at operation.1) (λ fields. last operation fields) (wider (suc (length operation.1)) n (fields_at operation.1) (omega (arith, k)) (fields_leaves operation.1))
     (λ fields l. l)))
 
-pub number_item_leaves : (place : ℕ) (tokens : Tokens) → Leaves (length tokens) (number_item place tokens)
+label_leaves : (tokens : Tokens) → Leaves (length tokens) (label_at tokens)
+unfolding label_at
+label_leaves tokens =
+    let made : Tokens → List ℕ × Tokens → Result (Line × Tokens) ℕ = λ rest name. Ok (Label name.0 (left_at rest), name.1) in
+    rest_then (length tokens) (length tokens) (keyword_at (codes "label") tokens) (λ rest. name_at rest >>= λ name. made rest name) (keyword_leaves (codes "label") tokens)
+    (λ rest h. chain (length rest) (length tokens) (name_at rest) (λ name. made rest name) (name_leaves rest) (λ name k. omega (arith, k)))
+
+pub line_leaves : (before : List Line) (tokens : Tokens) → Leaves (length tokens) (line_at before tokens)
+unfolding line_at
+line_leaves before tokens =
+    let step : Draft × Tokens → Result (Line × Tokens) ℕ = λ x. Ok (Step x.0, x.1) in
+    if_leaves (length tokens) (begins_with (codes "label") tokens) (label_at tokens) (draft_at (count before) tokens >>= step) (label_leaves tokens)
+    (chain (length tokens) (length tokens) (draft_at (count before) tokens) step (draft_leaves (count before) tokens) (λ x h. h))
+
+pub number_item_leaves : (place : List ℕ) (tokens : Tokens) → Leaves (length tokens) (number_item place tokens)
 unfolding number_item
 number_item_leaves place tokens =
     rest_then (length tokens) (length tokens) (keyword_at (codes "number") tokens) (λ rest. number_at 0 (2 ^ 64 - 1) rest) (keyword_leaves (codes "number") tokens)
     (λ rest h. wider (length rest) (length tokens) (number_at 0 (2 ^ 64 - 1) rest) (omega arith) (number_leaves 0 (2 ^ 64 - 1) rest))
 
-pub string_item_leaves : (place : ℕ) (tokens : Tokens) → Leaves (length tokens) (string_item place tokens)
+pub string_item_leaves : (place : List (List ℕ)) (tokens : Tokens) → Leaves (length tokens) (string_item place tokens)
 unfolding string_item
 string_item_leaves place tokens =
     rest_then (length tokens) (length tokens) (keyword_at (codes "string") tokens) (λ rest. text_at rest) (keyword_leaves (codes "string") tokens)

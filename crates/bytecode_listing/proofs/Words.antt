@@ -12,7 +12,8 @@ use Rattle.std.proofs.lemmas.Fmt.{decimal_nonempty, digits_decimal, digits_value
 use Rattle.std.proofs.lemmas.Slice.Eq.{bytes_eq-Decides}
 use Rattle.std.proofs.lemmas.Str.Parse.{IsNumeralModel, numerals_by_fold, tells_all_ascii_digits}
 use Rattle.bytecode_listing.specs.Tokens.{is_white, is_word_octet, tokens_of}
-use Rattle.bytecode_listing.specs.Items.{Tokens, ◌>>=◌, word_at, left_at, keyword_at, begins_number, value_from, is_within, number_at}
+use Rattle.bytecode_listing.specs.Labels.{◌>>=◌}
+use Rattle.bytecode_listing.specs.Items.{Tokens, word_at, left_at, keyword_at, begins_number, value_from, is_within, number_at}
 use Rattle.bytecode_listing.specs.Readers.{led}
 use Rattle.bytecode_listing.proofs.Lexing.{leads, after_white}
 

@@ -1,18 +1,18 @@
 -- What a listing says: the items that its tokens are, in their order.
-use Rattle.std.specs.Prelude.{◌≡◌, ℕ, zero, suc, ◌+◌, ◌-◌, ◌*◌, ◌^◌, ◌&&◌, nat_le, Bool, true, false, List, [], ◌∷◌, length, Option, Some, None, is_some, unwrap_or, Result, Ok, Err, MatchResult, bytes_eq, codes, if◌then◌else◌}
+use Rattle.std.specs.Prelude.{◌≡◌, ℕ, zero, suc, ◌+◌, ◌++◌, ◌-◌, ◌*◌, ◌^◌, ◌&&◌, nat_le, Bool, true, false, List, [], ◌∷◌, length, Option, Some, None, is_some, unwrap_or, Result, Ok, Err, is_ok, MatchResult, bytes_eq, codes, if◌then◌else◌}
 use Rattle.std.specs.Str.{all_ascii_digits}
 use Rattle.std.specs.Char.{digit_value, is_ascii_digit}
 use Rattle.octets.specs.Limits.{max_variables, max_string}
 use Rattle.bytecode_format.specs.Code.{Code}
 use Rattle.bytecode_format.specs.Spelling.{IsProgram}
-use Rattle.bytecode_format.specs.declared.instruction.Instruction.{Instruction}
 use Rattle.bytecode_listing.specs.Names.{octet_named}
+use Rattle.bytecode_listing.specs.declared.drafts.Target.{Target}
+use Rattle.bytecode_listing.specs.declared.drafts.Target.TheVariants.{Number, Name, Quoted}
+use Rattle.bytecode_listing.specs.declared.drafts.Draft.{Draft}
+use Rattle.bytecode_listing.specs.declared.drafts.Line.{Line}
+use Rattle.bytecode_listing.specs.declared.drafts.Line.TheVariants.{Label, Step}
+use Rattle.bytecode_listing.specs.Labels.{◌>>=◌, count, resolved}
 use Rattle.bytecode_listing.specs.Tokens.{Token, Word, Text, Wrong, Placed, is_hex, tokens_of}
-
-infixl 10 ◌>>=◌
-abbrev pub ◌>>=◌ : {A B : Type 0} → Result A ℕ → (A → Result B ℕ) → Result B ℕ
-(Ok x) >>= f = f x
-(Err left) >>= f = Err left
 
 abbrev pub Tokens : Type 0
 Tokens = List Placed
@@ -130,18 +130,52 @@ field_at name highest given tokens =
     then named_field name highest given tokens
     else Ok (given, tokens)
 
+-- a name: a word that doesn't begin with a digit
+unfoldable pub name_at : Tokens → Read (List ℕ)
+name_at tokens =
+    if begins_number (word_at tokens)
+    then Err (left_at tokens)
+    else word_at tokens
+
+-- what stands for the number of c: a number, or a name or a string and where it stands
+unfoldable pub target_at : Tokens → Read Target
+target_at tokens =
+    if begins_number (word_at tokens)
+    then (number_at 0 (2 ^ 32 - 1) tokens >>= λ n. Ok (Number n.0, n.1))
+    else if is_ok (word_at tokens)
+    then (name_at tokens >>= λ name. Ok (Name name.0 (left_at tokens), name.1))
+    else (text_at tokens >>= λ text. Ok (Quoted text.0 (left_at tokens), text.1))
+
+-- the field's name c and what stands for its number
+unfoldable pub target_field : Tokens → Read Target
+target_field tokens = keyword_at (codes "c") tokens >>= λ rest. target_at rest
+
+-- the field c whose name stands there: it must not have been given before
+abbrev pub named_c : Option Target → Tokens → Read (Option Target)
+named_c given tokens =
+    if is_some given
+    then Err (left_at tokens)
+    else (target_field tokens >>= λ c. Ok (Some c.0, c.1))
+
+-- the field c where its name stands; otherwise nothing is read
+unfoldable pub c_at : Option Target → Tokens → Read (Option Target)
+c_at given tokens =
+    if begins_with (codes "c") tokens
+    then named_c given tokens
+    else Ok (given, tokens)
+
 -- the fields of an instruction, of which each may have been given
 pub record Fields : Type 0 where
   pub a : Option ℕ
   pub b : Option ℕ
-  pub c : Option ℕ
+  pub c : Option Target
 
 -- each field that stands there, in this order
 unfoldable pub round_at : Fields → Tokens → Read Fields
 round_at given tokens = do
   a ← field_at (codes "a") (2 ^ 8 - 1) given.a tokens
   b ← field_at (codes "b") (2 ^ 16 - 1) given.b a.1
-  c ← field_at (codes "c") (2 ^ 32 - 1) given.c b.1
+  c ← c_at given.c b.1
   Ok (record { a = a.0; b = b.0; c = c.0 }, c.1)
 
 -- the fields in any order, each at most once: three rounds read them all
@@ -159,47 +193,62 @@ place_at place tokens =
     else Ok tokens
 
 -- an operation with its fields, of which one that isn't given is 0
-abbrev pub with_fields : ℕ → Fields → Instruction
+abbrev pub with_fields : ℕ → Fields → Draft
 with_fields octet given = record {
   op = octet;
   a = unwrap_or given.a 0;
   b = unwrap_or given.b 0;
-  c = unwrap_or given.c 0;
+  c = unwrap_or given.c (Number 0);
 }
 
 -- an instruction at its place
-unfoldable pub instruction_at : ℕ → Tokens → Read Instruction
-instruction_at place tokens = do
+unfoldable pub draft_at : ℕ → Tokens → Read Draft
+draft_at place tokens = do
   rest ← place_at place tokens
   operation ← operation_at rest
   fields ← fields_at operation.1
   Ok (with_fields operation.0 fields.0, fields.1)
 
+-- a label: its name, and where that stands
+unfoldable pub label_at : Tokens → Read Line
+label_at tokens = do
+  rest ← keyword_at (codes "label") tokens
+  name ← name_at rest
+  Ok (Label name.0 (left_at rest), name.1)
+
+-- a label, or an instruction, whose place is the number of those before it
+unfoldable pub line_at : List Line → Tokens → Read Line
+line_at before tokens =
+    if begins_with (codes "label") tokens
+    then label_at tokens
+    else (draft_at (count before) tokens >>= λ x. Ok (Step x.0, x.1))
+
 -- a number and a string of the tables, after their words
-unfoldable pub number_item : ℕ → Tokens → Read ℕ
-number_item place tokens =
+unfoldable pub number_item : List ℕ → Tokens → Read ℕ
+number_item before tokens =
     keyword_at (codes "number") tokens >>= λ rest. number_at 0 (2 ^ 64 - 1) rest
 
-unfoldable pub string_item : ℕ → Tokens → Read (List ℕ)
-string_item place tokens = keyword_at (codes "string") tokens >>= λ rest. text_at rest
+unfoldable pub string_item : List (List ℕ) → Tokens → Read (List ℕ)
+string_item before tokens = keyword_at (codes "string") tokens >>= λ rest. text_at rest
 
 -- an item before those that are read after it
 abbrev pub onto : {A : Type 0} → A → Read (List A) → Read (List A)
 onto x others = others >>= λ rest. Ok (x ∷ rest.0, rest.1)
 
--- at most so many items as long as they begin so, the first of which has this place
-unfoldable pub many_at : {A : Type 0} → (Tokens → Bool) → (ℕ → Tokens → Read A)
-    → ℕ → ℕ → Tokens → Read (List A)
-many_at begins item zero place tokens = Ok ([], tokens)
-many_at begins item (suc most) place tokens =
+-- at most so many items as long as they begin so; each is read knowing those before it
+unfoldable pub many_at : {A : Type 0} → (Tokens → Bool) → (List A → Tokens → Read A)
+    → ℕ → List A → Tokens → Read (List A)
+many_at begins item zero before tokens = Ok ([], tokens)
+many_at begins item (suc most) before tokens =
     if begins tokens
-    then (item place tokens >>= λ x. onto x.0 (many_at begins item most (suc place) x.1))
+    then (item before tokens >>= λ x.
+    onto x.0 (many_at begins item most (before ++ x.0 ∷ []) x.1))
     else Ok ([], tokens)
 
 -- all items; there are at most as many as tokens
-abbrev pub all_at : {A : Type 0} → (Tokens → Bool) → (ℕ → Tokens → Read A)
+abbrev pub all_at : {A : Type 0} → (Tokens → Bool) → (List A → Tokens → Read A)
     → Tokens → Read (List A)
-all_at begins item tokens = many_at begins item (length tokens) 0 tokens
+all_at begins item tokens = many_at begins item (length tokens) [] tokens
 
 -- whether a token is left
 abbrev pub is_left : Tokens → Bool
@@ -213,12 +262,20 @@ numbers_at tokens = all_at (begins_with (codes "number")) number_item tokens
 abbrev pub strings_at : Tokens → Read (List (List ℕ))
 strings_at tokens = all_at (begins_with (codes "string")) string_item tokens
 
--- the instructions, up to the listing's end
-abbrev pub instructions_at : Tokens → Read (List Instruction)
-instructions_at tokens = all_at is_left instruction_at tokens
+-- the labels and the instructions, up to the listing's end
+abbrev pub lines_at : Tokens → Read (List Line)
+lines_at tokens = all_at is_left line_at tokens
 
--- a listing's tokens: version, variables, numbers, strings and instructions
-unfoldable pub items_at : Tokens → Result Code ℕ
+-- what a listing says before names and strings are looked up
+pub record Drafted : Type 0 where
+  pub version : ℕ
+  pub variables : ℕ
+  pub numbers : List ℕ
+  pub strings : List (List ℕ)
+  pub lines : List Line
+
+-- a listing's tokens: version, variables, numbers, strings, and instructions with their labels
+unfoldable pub items_at : Tokens → Result Drafted ℕ
 items_at tokens = do
   after_version ← keyword_at (codes "version") tokens
   version ← number_at 1 2 after_version
@@ -226,18 +283,30 @@ items_at tokens = do
   variables ← number_at 0 max_variables after_variables
   numbers ← numbers_at variables.1
   strings ← strings_at numbers.1
-  instructions ← instructions_at strings.1
+  lines ← lines_at strings.1
   Ok (record {
     version = version.0;
     variables = variables.0;
     numbers = numbers.0;
     strings = strings.0;
-    instructions = instructions.0;
+    lines = lines.0;
   })
 
--- what a listing says
+-- the program of it: each name and each string in a line is looked up
+abbrev pub code_from : Drafted → Result Code ℕ
+code_from drafted = do
+  parts ← resolved drafted.strings drafted.lines
+  Ok (record {
+    version = drafted.version;
+    variables = drafted.variables;
+    numbers = drafted.numbers;
+    strings = parts.0;
+    instructions = parts.1;
+  })
+
+-- what a listing says: all of it is read, and then names and strings are looked up
 abbrev pub said_by : List ℕ → Result Code ℕ
-said_by listing = items_at (tokens_of listing)
+said_by listing = items_at (tokens_of listing) >>= code_from
 
 -- a listing of a program: it says the program, whose limits it keeps
 pub record Lists (listing : List ℕ) (code : Code) : Type 0 where
@@ -249,8 +318,8 @@ pub record Lists (listing : List ℕ) (code : Code) : Type 0 where
 abbrev pub ExceedsAt : List ℕ → ℕ → Code → Type 0
 ExceedsAt listing place code = (place ≡ length listing) × ¬ IsProgram code
 
--- the first fault of a listing, after so many octets: the first token that can't stand there, if
--- there is one
+-- the fault of a listing, after so many octets: the first token that can't stand there; where all
+-- can, the first label that is there again; where none is, the first name that is no label
 abbrev pub FaultsAt : List ℕ → ℕ → Type 0
 FaultsAt listing place =
     MatchResult (said_by listing) (ExceedsAt listing place) (λ left. place ≡ length listing - left)

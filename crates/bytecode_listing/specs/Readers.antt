@@ -5,11 +5,18 @@ use Rattle.std.specs.Borrow.{Bor}
 use Rattle.std.specs.Str.{all_ascii_digits}
 use Rattle.bytecode_listing.specs.declared.error.ReadError.{ReadError}
 use Rattle.bytecode_listing.specs.declared.error.ReadError.TheVariants.{Memory, At}
+use Rattle.bytecode_listing.specs.declared.error.ListingError.{ListingError}
+use Rattle.bytecode_listing.specs.declared.error.ListingError.TheVariants as listings
+use Rattle.bytecode_listing.specs.declared.error.ListingError.TheVariants.{Fault}
 use Rattle.bytecode_listing.specs.Tokens.{is_white, is_hex, tokens_of}
-use Rattle.bytecode_listing.specs.Items.{Tokens, Fields, value_from}
+use Rattle.bytecode_listing.specs.Items.{Tokens, Drafted, Fields, value_from}
 use Rattle.bytecode_listing.specs.declared.assembling.Parts.{Parts}
 use Rattle.bytecode_listing.specs.declared.items.Fields as items
-use Rattle.bytecode_format.specs.Code.{Code}
+use Rattle.bytecode_listing.specs.declared.drafts.Line.{Line}
+use Rattle.bytecode_listing.specs.Labels.{place_of}
+use Rattle.std.specs.BTreeMap.{BTreeMap, get_by}
+use Rattle.std.specs.Ordering.{nat_cmp}
+use Rattle.std.specs.Cmp.Lexicographic.{slice_cmp}
 
 -- what a function returned, seen by view, is what reading gives, unless memory ran out
 abbrev pub Fails : {Y : Type 0} → ReadError → Result Y ℕ → Type 0
@@ -31,14 +38,19 @@ and_rest x = with_rest (λ y. y) x
 abbrev pub read_fields : items.Fields → Fields
 read_fields given = record { a = given.a; b = given.b; c = given.c }
 
-abbrev pub code_of : Parts → Code
-code_of parts = record {
+abbrev pub drafted : Parts → Drafted
+drafted parts = record {
   version = parts.version;
   variables = parts.variables;
   numbers = parts.numbers.items;
   strings = parts.strings.items;
-  instructions = parts.instructions.items;
+  lines = parts.lines.items;
 }
+
+-- the error of a listing of so many octets
+abbrev pub fault_in : ℕ → ReadError → ListingError
+fault_in whole Memory = listings.Memory
+fault_in whole (At left) = Fault (whole - left)
 
 -- a number and one more digit, where 64 bits hold it
 abbrev pub one_more : ℕ → ℕ → Option ℕ
@@ -74,3 +86,9 @@ decimal_on n digits =
     if all_ascii_digits digits && nat_lt (value_from n digits) (2 ^ 64)
     then Some (value_from n digits)
     else None
+
+-- whether a map has the place of each name that labels among lines, and no more
+abbrev pub IsPlaces : BTreeMap (Bor (List ℕ)) ℕ → List Line → Type 0
+IsPlaces places lines =
+    (name : List ℕ)
+    → get_by (λ (key : Bor (List ℕ)). slice_cmp nat_cmp name key.now) places ≡ place_of lines name

@@ -3,7 +3,7 @@ use crate::laws::read_again;
 use crate::{ListingError, assemble, disassemble};
 use bytecode_format::{Instruction, Operation, Program};
 use octets::Octets;
-use std::alloc::Global;
+use std::alloc::{AllocError, Global};
 use std::test::Fail;
 
 /// How many instructions a program has at most.
@@ -111,5 +111,95 @@ fn faults_are_placed(rt: HostRuntime) -> Result<(), Fail> {
     );
     assert_eq!(rt; fault(alloc, b"version 1 variables 0 lit")?, 22);
     assert_eq!(rt; fault(alloc, b"version 1 ; variables 0")?, 23);
+    Ok(())
+}
+
+// Labels before and after they are used, two at a place, and one after the last instruction; and
+// the same program with numbers.
+const NAMED: &[u8] = b"version 1 variables 0 label start JT c end label two label again LIT c 7\n\
+    JF c two JMP c start EACH c again label end";
+
+const NUMBERED: &[u8] = b"version 1\nvariables 0\n0 JT c 5\n1 LIT c 7\n2 JF c 1 ; to 1\n\
+    3 JMP ; to 0\n4 EACH c 1\n";
+
+#[test]
+fn labels_are_places(rt: HostRuntime) -> Result<(), Fail> {
+    let alloc = rt.alloc();
+    let Ok(program) = assemble(alloc, NAMED) else {
+        return Err(Fail::from("not read"));
+    };
+    let listing = disassemble(alloc, &program)?;
+    assert!(rt; listing.as_slice() == NUMBERED);
+    Ok(())
+}
+
+#[test]
+fn faults_of_labels_are_placed(rt: HostRuntime) -> Result<(), Fail> {
+    let alloc = rt.alloc();
+    assert_eq!(rt; fault(alloc, b"version 1 variables 0 label 1a HALT")?, 28);
+    assert_eq!(rt;
+        fault(alloc, b"version 1 variables 0 JMP c x label a label a")?,
+        44
+    );
+    assert_eq!(rt;
+        fault(alloc, b"version 1 variables 0 JMP c x label a JT c y")?,
+        28
+    );
+    assert_eq!(rt;
+        fault(alloc, b"version 1 variables 0 JMP c x label a lit")?,
+        38
+    );
+    Ok(())
+}
+
+// Strings in the places of numbers: listed ones, one of them twice, and new ones.
+const IN_LINE: &[u8] = b"version 1 variables 0 string \"a\" string \"b\" string \"a\" LIT c \"b\"\n\
+    LIT c \"new\" LIT c \"a\" LIT c \"new\" LIT c \"\\4e\"";
+
+const IN_TABLE: &[u8] = b"version 1\nvariables 0\nstring \"a\"\nstring \"b\"\nstring \"a\"\n\
+    string \"new\"\nstring \"N\"\n0 LIT c 1 ; \"b\"\n1 LIT c 3 ; \"new\"\n2 LIT ; \"a\"\n\
+    3 LIT c 3 ; \"new\"\n4 LIT c 4 ; \"N\"\n";
+
+#[test]
+fn strings_stand_in_lines(rt: HostRuntime) -> Result<(), Fail> {
+    let alloc = rt.alloc();
+    let Ok(program) = assemble(alloc, IN_LINE) else {
+        return Err(Fail::from("not read"));
+    };
+    let listing = disassemble(alloc, &program)?;
+    assert!(rt; listing.as_slice() == IN_TABLE);
+    Ok(())
+}
+
+// A name of five digits after an `n`.
+fn put_name(out: &mut Vec<u8>, number: usize) -> Result<(), AllocError> {
+    out.push(b'n')?;
+    for unit in [10_000, 1_000, 100, 10, 1] {
+        out.push(b'0' + (number / unit % 10) as u8)?;
+    }
+    Ok(())
+}
+
+#[test]
+fn as_many_labels_as_there_may_be(rt: HostRuntime) -> Result<(), Fail> {
+    let alloc = rt.alloc();
+    let mut listing = b"version 1 variables 0".to_vec(alloc)?;
+    for place in 0..MOST_INSTRUCTIONS {
+        listing.extend_from_slice(b" label ")?;
+        put_name(&mut listing, place)?;
+        listing.extend_from_slice(b" JMP c ")?;
+        put_name(&mut listing, MOST_INSTRUCTIONS - 1 - place)?;
+    }
+    let Ok(program) = assemble(alloc, listing.as_slice()) else {
+        return Err(Fail::from("not read"));
+    };
+    let instructions = program.instructions();
+    assert_eq!(rt; instructions.len(), MOST_INSTRUCTIONS);
+    for place in 0..instructions.len() {
+        assert_eq!(rt;
+            instructions[place].c as usize,
+            MOST_INSTRUCTIONS - 1 - place
+        );
+    }
     Ok(())
 }

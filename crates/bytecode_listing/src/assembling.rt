@@ -1,14 +1,17 @@
 // Programs from listings.
-ghost use Rattle.std.specs.Prelude.{◌≡◌, ℕ, IfOk, IfErr, codes};
+ghost use Rattle.std.specs.Prelude.{◌≡◌, ℕ, [], ◌∷◌, length, IfOk, IfErr, codes};
 ghost use Rattle.bytecode_listing.specs.Tokens.{tokens_of};
-ghost use Rattle.bytecode_listing.specs.Items.{numbers_at, strings_at, instructions_at, items_at, Lists, FaultsAt};
-ghost use Rattle.bytecode_listing.specs.Readers.{Gives, with_rest, code_of};
+ghost use Rattle.bytecode_listing.specs.Items.{numbers_at, strings_at, lines_at, items_at, Lists, FaultsAt};
+ghost use Rattle.bytecode_listing.specs.Labels.{count};
+ghost use Rattle.bytecode_listing.specs.Readers.{Gives, with_rest, drafted, fault_in};
 ghost use Rattle.bytecode_listing.specs.declared.error.ListingError.TheVariants.{Fault};
 
+use crate::drafts::Line;
 use crate::error::{ListingError, ReadError};
-use crate::items::{instruction_of, keyword_of, number_of, number_row, string_row};
+use crate::items::{keyword_of, line_of, number_of, number_row, string_row};
+use crate::labels::resolved;
 use crate::tokens::{begins_with, is_left};
-use bytecode_format::{Instruction, Program};
+use bytecode_format::Program;
 use octets::Octets;
 use std::alloc::Global;
 
@@ -49,34 +52,46 @@ fn strings_of(alloc: Global, octets: &[u8]) -> Result<(Vec<Octets>, &[u8]), Read
     Ok((strings, rest))
 }
 
-// Reads the instructions, up to the listing's end.
-fn instructions_of(alloc: Global, octets: &[u8]) -> Result<(Vec<Instruction>, &[u8]), ReadError>
-    ensures { Gives (with_rest (λ v. v.items)) result (instructions_at (tokens_of octets.now)) }
+// How many instructions a line is.
+fn steps_in(line: &Line) -> usize
+    ensures { result ≡ count (line.now ∷ []) }
 {
-    let mut instructions = Vec::new(alloc);
-    let mut rest = octets;
-    'table: while is_left(rest) {
-        let (instruction, after) = instruction_of(rest, instructions.as_slice().len())?;
-        instructions.push(instruction)?;
-        rest = after;
+    match line {
+        Line::Label(..) => 0,
+        Line::Step(_) => 1,
     }
-    Ok((instructions, rest))
 }
 
-/// What a listing says.
+// Reads the labels and the instructions, up to the listing's end.
+fn lines_of(alloc: Global, octets: &[u8]) -> Result<(Vec<Line>, &[u8]), ReadError>
+    ensures { Gives (with_rest (λ v. v.items)) result (lines_at (tokens_of octets.now)) }
+{
+    let mut lines = Vec::new(alloc);
+    let mut rest = octets;
+    let mut place: usize = 0;
+    'table: while is_left(rest) {
+        let (line, after) = line_of(alloc, rest, place)?;
+        place += steps_in(&line);
+        lines.push(line)?;
+        rest = after;
+    }
+    Ok((lines, rest))
+}
+
+/// What a listing says before names and strings are looked up.
 #[derive(Drop)]
 pub struct Parts {
     version: u8,
     variables: u16,
     numbers: Vec<u64>,
     strings: Vec<Octets>,
-    instructions: Vec<Instruction>,
+    lines: Vec<Line>,
 }
 
 // Reads a listing.
 #[tactic(auto, unfolding(crate::specs::Items::items_at))]
 fn parts_of(alloc: Global, octets: &[u8]) -> Result<Parts, ReadError>
-    ensures { Gives code_of result (items_at (tokens_of octets.now)) }
+    ensures { Gives drafted result (items_at (tokens_of octets.now)) }
 {
     let rest = keyword_of(octets, b"version")?;
     let (version, rest) = number_of(rest, LOWEST_VERSION, HIGHEST_VERSION)?;
@@ -84,22 +99,37 @@ fn parts_of(alloc: Global, octets: &[u8]) -> Result<Parts, ReadError>
     let (variables, rest) = number_of(rest, 0, MAX_VARIABLES)?;
     let (numbers, rest) = numbers_of(alloc, rest)?;
     let (strings, rest) = strings_of(alloc, rest)?;
-    let (instructions, _) = instructions_of(alloc, rest)?;
+    let (lines, _) = lines_of(alloc, rest)?;
     Ok(Parts {
         version: version as u8,
         variables: variables as u16,
         numbers,
         strings,
-        instructions,
+        lines,
     })
+}
+
+// Why a listing isn't read, told by the octets before the fault.
+fn fault_of(listing: &[u8], error: ReadError) -> ListingError
+    ensures { result ≡ fault_in (length listing.now) error }
+{
+    match error {
+        ReadError::Memory => ListingError::Memory,
+        ReadError::At(left) => ListingError::Fault {
+            place: listing.len().saturating_sub(left),
+        },
+    }
 }
 
 /// The program that a listing says.
 ///
 /// `Fault` comes exactly where it says none: with the place of the first token that can't stand
-/// where it stands; or, where all can, with the listing's end, where the program exceeds the limits
-/// of programs. `Memory` comes only where an allocation was refused. What is allocated grows with
-/// the listing, whose length is for the caller to limit; the listing is gone through once.
+/// where it stands; where all can, with that of the first label that is there a second time; where
+/// none is, with that of the first name that is no label; and where all names are, with the
+/// listing's end, where the program exceeds the limits of programs. `Memory` comes only where an
+/// allocation was refused. What is allocated grows with the listing, whose length is for the caller
+/// to limit; the listing is gone through once, and a name or a string is looked up in the logarithm
+/// of their number.
 pub fn assemble(alloc: Global, listing: &[u8]) -> Result<Program, ListingError>
     ensures listed { IfOk result (λ p. Lists listing.now p) }
     ensures fault { IfErr result
@@ -107,19 +137,19 @@ pub fn assemble(alloc: Global, listing: &[u8]) -> Result<Program, ListingError>
 {
     let parts = match parts_of(alloc, listing) {
         Ok(parts) => parts,
-        Err(ReadError::Memory) => return Err(ListingError::Memory),
-        Err(ReadError::At(left)) => {
-            return Err(ListingError::Fault {
-                place: listing.len().saturating_sub(left),
-            });
-        }
+        Err(e) => return Err(fault_of(listing, e)),
+    };
+    let resolved = resolved(alloc, parts.strings.as_slice(), parts.lines.as_slice());
+    let (strings, instructions) = match resolved {
+        Ok(resolved) => resolved,
+        Err(e) => return Err(fault_of(listing, e)),
     };
     match Program::build(
         parts.version,
         parts.variables,
         parts.numbers,
-        parts.strings,
-        parts.instructions,
+        strings,
+        instructions,
     ) {
         Ok(program) => Ok(program),
         Err(_) => Err(ListingError::Fault {

@@ -11,8 +11,9 @@ pub enum ListingError {
     /// An allocation was refused.
     #[error("memory was refused")]
     Memory,
-    /// What stands at this place can't stand there, or the program that is listed exceeds the
-    /// limits of programs; then the place is the listing's end.
+    /// What stands at this place can't stand there: a token, a label that is there a second time or
+    /// a name that is no label. Or the program that is listed exceeds the limits of programs; then
+    /// the place is the listing's end.
     #[error("fault at octet {place}")]
     Fault {
         /// How many octets of the listing stand before it.

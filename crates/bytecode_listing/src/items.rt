@@ -1,14 +1,18 @@
 // The items of a listing, one at a time: each reader gives what it read and what is left after it.
-ghost use Rattle.std.specs.Prelude.{◌≡◌, ℕ, ◌+◌, ◌*◌, ◌-◌, ◌^◌, ◌&&◌, ◌≤◌, ◌<◌, nat_lt, length, IfOk, Some, None, if◌then◌else◌, codes};
+ghost use Rattle.std.specs.Prelude.{◌≡◌, ℕ, List, ◌+◌, ◌*◌, ◌-◌, ◌^◌, ◌&&◌, ◌≤◌, ◌<◌, nat_lt, length, IfOk, Some, None, if◌then◌else◌, codes};
 ghost use Rattle.std.specs.Char.{is_ascii_digit};
 ghost use Rattle.bytecode_listing.specs.Tokens.{tokens_of};
-ghost use Rattle.bytecode_listing.specs.Items.{keyword_at, field_number, number_at, is_within, value_from, octet_in, octet_at, operation_at, field_at, round_at, fields_at, place_at, instruction_at, number_item, string_item};
+ghost use Rattle.bytecode_listing.specs.Items.{keyword_at, field_number, number_at, is_within, value_from, octet_in, octet_at, operation_at, field_at, round_at, fields_at, name_at, target_at, target_field, c_at, place_at, draft_at, label_at, line_at, number_item, string_item};
+ghost use Rattle.bytecode_listing.specs.Labels.{count};
+ghost use Rattle.bytecode_listing.specs.declared.drafts.Line.{Line};
 ghost use Rattle.bytecode_listing.specs.Readers.{Gives, and_rest, with_rest, read_fields, one_more, decimal_on};
 
+use crate::drafts::{Draft, Line, Target};
 use crate::error::ReadError;
 use crate::names::octet_named;
-use crate::tokens::{begins_number, begins_with, first, left_at, octet_from, text_of, word_of};
-use bytecode_format::Instruction;
+use crate::tokens::{
+    begins_number, begins_with, begins_word, first, left_at, octet_from, text_of, word_of,
+};
 use octets::Octets;
 use std::alloc::Global;
 
@@ -112,11 +116,11 @@ fn operation_of(octets: &[u8]) -> Result<(u8, &[u8]), ReadError>
 }
 
 /// The fields of an instruction that have been given.
-#[derive(Clone, Copy)]
+#[derive(Drop)]
 pub struct Fields {
     a: Option<u8>,
     b: Option<u16>,
-    c: Option<u32>,
+    c: Option<Target>,
 }
 
 // Reads a field's name and its number.
@@ -160,11 +164,51 @@ fn b_of(octets: &[u8], given: Option<u16>) -> Result<(Option<u16>, &[u8]), ReadE
     Ok((Some(number as u16), rest))
 }
 
+// Reads a name.
+#[tactic(auto, unfolding(crate::specs::Items::name_at))]
+fn given_name(alloc: Global, octets: &[u8]) -> Result<(Octets, &[u8]), ReadError>
+    ensures { Gives and_rest result (name_at (tokens_of octets.now)) }
+{
+    if begins_number(octets) {
+        return Err(ReadError::At(left_at(octets)));
+    }
+    let (word, rest) = word_of(octets)?;
+    Ok((Octets::from_vec(word.to_vec(alloc)?), rest))
+}
+
+// Reads what stands for the number of c.
+#[tactic(auto, unfolding(crate::specs::Items::target_at))]
+fn target_of(alloc: Global, octets: &[u8]) -> Result<(Target, &[u8]), ReadError>
+    ensures { Gives and_rest result (target_at (tokens_of octets.now)) }
+{
+    if begins_number(octets) {
+        let (number, rest) = number_of(octets, 0, u64::from(u32::MAX))?;
+        return Ok((Target::Number(number as u32), rest));
+    }
+    if !begins_word(octets) {
+        let (text, rest) = text_of(alloc, octets)?;
+        return Ok((Target::Quoted(text, left_at(octets)), rest));
+    }
+    let (name, rest) = given_name(alloc, octets)?;
+    Ok((Target::Name(name, left_at(octets)), rest))
+}
+
+// Reads the name of the field c and what stands for its number.
+#[tactic(auto, unfolding(crate::specs::Items::target_field))]
+fn target_field(alloc: Global, octets: &[u8]) -> Result<(Target, &[u8]), ReadError>
+    ensures { Gives and_rest result (target_field (tokens_of octets.now)) }
+{
+    target_of(alloc, keyword_of(octets, b"c")?)
+}
+
 // Reads the field c, where it stands first.
-#[tactic(auto, unfolding(crate::specs::Items::field_at))]
-fn c_of(octets: &[u8], given: Option<u32>) -> Result<(Option<u32>, &[u8]), ReadError>
-    ensures { Gives and_rest result
-        (field_at (codes "c") (2 ^ 32 - 1) given (tokens_of octets.now)) }
+#[tactic(auto, unfolding(crate::specs::Items::c_at))]
+fn c_of(
+    alloc: Global,
+    octets: &[u8],
+    given: Option<Target>,
+) -> Result<(Option<Target>, &[u8]), ReadError>
+    ensures { Gives and_rest result (c_at given (tokens_of octets.now)) }
 {
     if !begins_with(octets, b"c") {
         return Ok((given, octets));
@@ -172,25 +216,25 @@ fn c_of(octets: &[u8], given: Option<u32>) -> Result<(Option<u32>, &[u8]), ReadE
     if given.is_some() {
         return Err(ReadError::At(left_at(octets)));
     }
-    let (number, rest) = field_of(octets, b"c", u64::from(u32::MAX))?;
-    Ok((Some(number as u32), rest))
+    let (target, rest) = target_field(alloc, octets)?;
+    Ok((Some(target), rest))
 }
 
 // Reads each field that stands there, in the order a, b, c.
 #[tactic(auto, unfolding(crate::specs::Items::round_at))]
-fn round_of(octets: &[u8], given: Fields) -> Result<(Fields, &[u8]), ReadError>
+fn round_of(alloc: Global, octets: &[u8], given: Fields) -> Result<(Fields, &[u8]), ReadError>
     ensures { Gives (with_rest read_fields) result
         (round_at (read_fields given) (tokens_of octets.now)) }
 {
     let (a, rest) = a_of(octets, given.a)?;
     let (b, rest) = b_of(rest, given.b)?;
-    let (c, rest) = c_of(rest, given.c)?;
+    let (c, rest) = c_of(alloc, rest, given.c)?;
     Ok((Fields { a, b, c }, rest))
 }
 
 // Reads the fields of an instruction, in any order.
 #[tactic(auto, unfolding(crate::specs::Items::fields_at))]
-fn fields_of(octets: &[u8]) -> Result<(Fields, &[u8]), ReadError>
+fn fields_of(alloc: Global, octets: &[u8]) -> Result<(Fields, &[u8]), ReadError>
     ensures { Gives (with_rest read_fields) result (fields_at (tokens_of octets.now)) }
 {
     let none = Fields {
@@ -198,9 +242,9 @@ fn fields_of(octets: &[u8]) -> Result<(Fields, &[u8]), ReadError>
         b: None,
         c: None,
     };
-    let (given, rest) = round_of(octets, none)?;
-    let (given, rest) = round_of(rest, given)?;
-    round_of(rest, given)
+    let (given, rest) = round_of(alloc, octets, none)?;
+    let (given, rest) = round_of(alloc, rest, given)?;
+    round_of(alloc, rest, given)
 }
 
 // Reads an instruction's place, where a number stands first.
@@ -215,27 +259,52 @@ fn place_of(octets: &[u8], place: usize) -> Result<&[u8], ReadError>
     Ok(rest)
 }
 
-/// Reads an instruction at its place.
-#[tactic(auto, unfolding(crate::specs::Items::instruction_at))]
-pub fn instruction_of(octets: &[u8], place: usize) -> Result<(Instruction, &[u8]), ReadError>
-    ensures { Gives and_rest result (instruction_at place (tokens_of octets.now)) }
+// Reads an instruction at its place.
+#[tactic(auto, unfolding(crate::specs::Items::draft_at))]
+fn draft_of(alloc: Global, octets: &[u8], place: usize) -> Result<(Draft, &[u8]), ReadError>
+    ensures { Gives and_rest result (draft_at place (tokens_of octets.now)) }
 {
     let rest = place_of(octets, place)?;
     let (op, rest) = operation_of(rest)?;
-    let (fields, rest) = fields_of(rest)?;
-    let instruction = Instruction {
+    let (fields, rest) = fields_of(alloc, rest)?;
+    let draft = Draft {
         op,
         a: fields.a.unwrap_or(0),
         b: fields.b.unwrap_or(0),
-        c: fields.c.unwrap_or(0),
+        c: fields.c.unwrap_or(Target::Number(0)),
     };
-    Ok((instruction, rest))
+    Ok((draft, rest))
+}
+
+// Reads a label.
+#[tactic(auto, unfolding(crate::specs::Items::label_at))]
+fn label_of(alloc: Global, octets: &[u8]) -> Result<(Line, &[u8]), ReadError>
+    ensures { Gives and_rest result (label_at (tokens_of octets.now)) }
+{
+    let rest = keyword_of(octets, b"label")?;
+    let left = left_at(rest);
+    let (name, rest) = given_name(alloc, rest)?;
+    Ok((Line::Label(name, left), rest))
+}
+
+/// Reads a label, or an instruction before which so many stand.
+#[tactic(auto, unfolding(crate::specs::Items::line_at))]
+pub fn line_of(alloc: Global, octets: &[u8], place: usize) -> Result<(Line, &[u8]), ReadError>
+    ensures { (before : List Line) → count before ≡ place
+        → Gives and_rest result (line_at before (tokens_of octets.now)) }
+{
+    if begins_with(octets, b"label") {
+        return label_of(alloc, octets);
+    }
+    let (draft, rest) = draft_of(alloc, octets, place)?;
+    Ok((Line::Step(draft), rest))
 }
 
 /// Reads a number of the table.
 #[tactic(auto, unfolding(crate::specs::Items::number_item))]
 pub fn number_row(octets: &[u8]) -> Result<(u64, &[u8]), ReadError>
-    ensures { (place : ℕ) → Gives and_rest result (number_item place (tokens_of octets.now)) }
+    ensures { (before : List ℕ)
+        → Gives and_rest result (number_item before (tokens_of octets.now)) }
 {
     number_of(keyword_of(octets, b"number")?, 0, u64::MAX)
 }
@@ -243,7 +312,8 @@ pub fn number_row(octets: &[u8]) -> Result<(u64, &[u8]), ReadError>
 /// Reads a string of the table.
 #[tactic(auto, unfolding(crate::specs::Items::string_item))]
 pub fn string_row(alloc: Global, octets: &[u8]) -> Result<(Octets, &[u8]), ReadError>
-    ensures { (place : ℕ) → Gives and_rest result (string_item place (tokens_of octets.now)) }
+    ensures { (before : List (List ℕ))
+        → Gives and_rest result (string_item before (tokens_of octets.now)) }
 {
     text_of(alloc, keyword_of(octets, b"string")?)
 }

@@ -5,10 +5,13 @@
 mod ample;
 mod assembling;
 mod comments;
+mod drafts;
 mod error;
 mod items;
+mod labels;
 pub mod laws;
 mod names;
+mod strings;
 mod tokens;
 mod writing;
 

@@ -1,5 +1,5 @@
 // The tokens of a listing, one at a time.
-ghost use Rattle.std.specs.Prelude.{◌≡◌, ◌∷◌, ◌≤◌, ◌<◌, [], length, MatchOption, MatchResult, option_map, IfSome, Some, None, if◌then◌else◌};
+ghost use Rattle.std.specs.Prelude.{◌≡◌, ◌∷◌, ◌≤◌, ◌<◌, [], length, MatchOption, MatchResult, option_map, IfSome, Some, None, if◌then◌else◌, is_ok};
 ghost use Rattle.std.specs.List.{take_while};
 ghost use Rattle.bytecode_listing.specs.Tokens.{Comment, InText, Text, is_white, is_hex, is_word_octet, tokens_of, tokens_from};
 ghost use Rattle.bytecode_listing.specs.Items.{word_at, text_in, text_at, left_at, is_left, begins_with, begins_number, octet_from};
@@ -132,6 +132,14 @@ pub fn begins_number(octets: &[u8]) -> bool
         Some((octet, _)) => octet.is_ascii_digit(),
         None => false,
     }
+}
+
+/// Whether the tokens begin with a word.
+pub fn begins_word(octets: &[u8]) -> bool
+    ensures { result ≡ is_ok (word_at (tokens_of octets.now)) }
+{
+    let (read, _) = leading_word(octets);
+    !read.is_empty()
 }
 
 // The value of a hexadecimal digit of either case.

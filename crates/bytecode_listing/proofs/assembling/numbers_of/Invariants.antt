@@ -5,7 +5,7 @@ use Rattle.bytecode_listing.proofs.Loop.{from_place, with_prefix}
 use Rattle.bytecode_listing.proofs.assembling.numbers_of.Given as goal
 
 abbrev pub invariant-table : goal.invariant-table
-invariant-table l = with_prefix l.numbers.items (from_place (begins_with (codes "number")) number_item (length l.numbers.items) (tokens_of l.rest)) ≡ all_at (begins_with (codes "number")) number_item (tokens_of l.octets)
+invariant-table l = with_prefix l.numbers.items (from_place (begins_with (codes "number")) number_item l.numbers.items (tokens_of l.rest)) ≡ all_at (begins_with (codes "number")) number_item (tokens_of l.octets)
 
 abbrev pub decreases-table : goal.decreases-table
 decreases-table l = length (tokens_of l.rest)

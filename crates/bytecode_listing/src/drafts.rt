@@ -1,0 +1,29 @@
+// Lines of a listing before names and strings are looked up.
+use octets::Octets;
+
+/// What stands for the number of c.
+#[derive(Drop)]
+pub enum Target {
+    Number(u32),
+    /// A name, and how many octets of the listing are left where it stands.
+    Name(Octets, usize),
+    /// A string, and how many octets of the listing are left where it stands.
+    Quoted(Octets, usize),
+}
+
+/// An instruction whose c may be a name or a string.
+#[derive(Drop)]
+pub struct Draft {
+    pub op: u8,
+    pub a: u8,
+    pub b: u16,
+    pub c: Target,
+}
+
+/// A label or an instruction.
+#[derive(Drop)]
+pub enum Line {
+    /// Its name, and how many octets of the listing are left where that stands.
+    Label(Octets, usize),
+    Step(Draft),
+}
