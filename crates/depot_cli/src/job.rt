@@ -338,6 +338,14 @@ fn put_listing<O: Sink>(out: &mut O, listing: &[u8], verdict: &Verdict) -> Resul
     ensures err { OnErr result (HasBroken (listing.now ++ commented (verdict_line verdict.now)) (O.output out.old) (O.output out.new)) }
 {
     put(out, listing)?;
+    put_commented(out, verdict)
+}
+
+// Writes what the verifier says of a program, as a comment.
+fn put_commented<O: Sink>(out: &mut O, verdict: &Verdict) -> Result<(), DeviceFailed>
+    ensures ok { OnOk result (HasTaken (commented (verdict_line verdict.now)) (O.output out.old) (O.output out.new)) }
+    ensures err { OnErr result (HasBroken (commented (verdict_line verdict.now)) (O.output out.old) (O.output out.new)) }
+{
     put(out, b"; ")?;
     put_verdict(out, verdict)
 }

@@ -40,7 +40,7 @@ pub fn save<S: Alter, H: Host, O: Sink, E: Sink>(
     out: &mut O,
     err: &mut E,
 ) -> u8
-    ensures served { HasServed (state S.Store) saving result opened.old opened.new
+    ensures served { HasServed (state S.Store) saving.entry result opened.old opened.new
         (world (H.state host.old) (O.output out.old) (E.output err.old)) (world (H.state host.new) (O.output out.new) (E.output err.new)) }
     ensures survives { OutlastsSaving (state S.Store) opened.old opened.new }
 {
@@ -61,8 +61,8 @@ fn save_program<S: Alter, H: Host>(
     host: &mut H,
 ) -> Result<usize, Refusal>
     ensures saved { IfOk result (λ octets. (program : List ℕ) × (octets ≡ length program)
-        × HasSavedFile saving program (state S.Store depot.old) (state S.Store depot.new) (H.state host.old) (H.state host.new)) }
-    ensures unsaved { IfErr result (λ e. IsUnsaved saving e (state S.Store depot.old) (state S.Store depot.new) (H.state host.old) (H.state host.new)) }
+        × HasSavedFile saving.entry program (state S.Store depot.old) (state S.Store depot.new) (H.state host.old) (H.state host.new)) }
+    ensures unsaved { IfErr result (λ e. IsUnsaved saving.entry e (state S.Store depot.old) (state S.Store depot.new) (H.state host.old) (H.state host.new)) }
     ensures survives { Survives (state S.Store depot.old) (state S.Store depot.new) (λ _. ⊥) }
 {
     match depot.program_of(saving.user)? {
