@@ -107,5 +107,5 @@ listing_blanks [] = plain (codes "the listing ends before its program does, or t
 listing_blanks (octet ∷ rest) =
     if octet == 34
     then plain (codes "no string can stand here, or this one is never closed, too long, or has a backslash without two hexadecimal digits")
-    else record (plain (codes "@ can't stand here: after version and variables stand numbers, strings, and then instructions with their fields"))
+    else record (plain (codes "@ can't stand here: after version and variables stand numbers, strings, and then instructions with their fields; a label stands once, and a name is that of a label"))
     { name = take (suc (length (take_while is_dark rest))) (octet ∷ rest) }

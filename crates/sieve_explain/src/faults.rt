@@ -109,7 +109,7 @@ pub fn listing_sentence(rest: &[u8]) -> Sentence<'_>
         [_, others @ ..] => Sentence {
             name: &rest[..dark_length(others) + 1],
             ..plain(
-                "@ can't stand here: after version and variables stand numbers, strings, and then instructions with their fields",
+                "@ can't stand here: after version and variables stand numbers, strings, and then instructions with their fields; a label stands once, and a name is that of a label",
             )
         },
     }
