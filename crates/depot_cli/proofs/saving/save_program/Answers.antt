@@ -1,0 +1,14 @@
+use Rattle.std.proofs.Common.{inr}
+use Rattle.std.proofs.lemmas.Result.{err_from_is_err_and}
+use Rattle.depot_cli.proofs.saving.save_program.Goals as goal
+
+pub returns-in_err-make_file-in-Some-clause-unsaved :
+    goal.returns-in_err-make_file-in-Some-clause-unsaved
+returns-in_err-make_file-in-Some-clause-unsaved g c =
+    let refused = c.from_residual-in_err-make_file-in-Some in
+    let p = err_from_is_err_and refused.result refused.ensures.1 in
+    rw (p.1, p.2) (inr (inr (
+      c.in-Some.program.items,
+      λ clean. (rw c.in-Some.is at (c.in_ok-program.ensures.done clean), c.in_ok-program.ensures.spared clean),
+      c.in_err-make_file-in-Some.ensures.err,
+    )))
