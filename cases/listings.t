@@ -1,0 +1,251 @@
+# disassemble, assemble and program: programs as listings, and back
+
+Listings of programs.
+
+## a script's program
+    $ depot disassemble examples/discard-large.svbc
+    version 2
+    variables 0
+    number 50000
+    0 SIZE ; 50000
+    1 JF c 3 ; to 3
+    2 DISCARD
+    3 HALT
+    ; A0=4 B0=0 A1=0 B1=0 A2=0 B2=0 A3=0 B3=0 by chains
+
+## a program that isn't accepted
+    $ depot disassemble examples/endless.svbc
+    version 1
+    variables 0
+    0 JMP ; to 0
+    1 HALT
+    ; refused 25 Jump at 0
+
+## octets that are no operation, and fields that are none
+    $ printf 'SVBC\1\0\1\0\0\0\1\0\0\0\2' > program
+    $ printf '\0\4a"\\\377' >> program
+    $ printf '\377\1\0\2\0\0\0\3' >> program
+    $ printf '\2\0\0\0\0\0\0\1' >> program
+    $ depot disassemble program
+    version 1
+    variables 1
+    string "a\22\5c\ff"
+    0 OP ff a 1 b 2 c 3
+    1 LIT c 1
+    ; refused 21 Index at 1
+    $ depot disassemble program > listing
+    $ depot assemble listing again
+    wrote 37 octets
+    $ cmp program again
+
+## all examples, back again
+    $ for name in examples/*.svbc examples/gallery/*.svbc; do depot disassemble "$name" > listing && depot assemble listing again > said && cmp "$name" again && head -c 5 said && echo; done | sort | uniq -c | sed 's/^ *[0-9]* //'
+    wrote
+    $ for name in examples/*.sieve examples/gallery/*.sieve; do depot compile "$name" one > said && depot disassemble one > listing && depot assemble listing two >> said && cmp one two; done
+    $ rm -f said
+
+## a long string, cut in the comment
+    $ printf 'require "fileinto"; fileinto "0123456789012345678901234567890123456789x";' > script
+    $ depot compile script out
+    wrote 92 octets
+    $ depot disassemble out
+    version 2
+    variables 0
+    string "0123456789012345678901234567890123456789x"
+    0 LIT ; "0123456789012345678901234567890123456789"...
+    1 FILE
+    2 HALT
+    ; A0=45 B0=0 A1=0 B1=0 A2=0 B2=0 A3=0 B3=0 by chains
+
+## octets that spell no program
+    $ depot disassemble examples/invoice.eml
+    2> refused 20 Spelling
+    [1]
+
+## a program that is too long
+    $ head -c 4194305 "$FILES/largest" > program
+    $ depot disassemble program
+    2> refused 20 Spelling
+    [1]
+
+Listings by hand.
+
+## labels and strings in lines
+    $ cat > listing << 'END'
+    > version 2 variables 0
+    > number 50000
+    >         SIZE
+    >         JF c small    ; below, a label may be used before it stands
+    >         LIT c "Large"
+    >         FILE
+    > label small
+    >         HALT
+    > END
+    $ depot assemble listing out
+    wrote 78 octets
+    $ depot disassemble out
+    version 2
+    variables 0
+    number 50000
+    string "Large"
+    0 SIZE ; 50000
+    1 JF c 4 ; to 4
+    2 LIT ; "Large"
+    3 FILE
+    4 HALT
+    ; A0=10 B0=0 A1=0 B1=0 A2=0 B2=0 A3=0 B3=0 by chains
+    $ depot run out examples/newsletter.eml
+    fileinto "Large"
+    charged 10 of 10
+
+## targets that lead back are assembled, and refused by the verifier
+    $ printf 'version 1 variables 0 label again KEEP JMP c again HALT' > listing
+    $ depot assemble listing out
+    wrote 39 octets
+    $ depot verify out
+    2> refused 25 Jump at 1
+    [1]
+
+## from standard input
+    $ printf 'version 1 variables 0 KEEP HALT' | depot assemble /dev/stdin out
+    wrote 31 octets
+    $ cmp out examples/keep.svbc
+
+Faults of listings.
+
+## a word that is no operation
+    $ printf 'version 1\nvariables 0\nKEEP\nDISCRAD ; a typing error\nHALT\n' > listing
+    $ depot assemble listing out
+    listing:4:1: error: DISCRAD can't stand here: after version and variables stand numbers, strings, and then instructions with their fields; a label stands once, and a name is that of a label
+    DISCRAD ; a typing error
+    ^
+    2> refused 28 Listing at 27
+    [1]
+
+## a label that is there twice
+    $ printf 'version 1 variables 0\nlabel a KEEP\nlabel a HALT\n' > listing
+    $ depot assemble listing out
+    listing:3:7: error: a can't stand here: after version and variables stand numbers, strings, and then instructions with their fields; a label stands once, and a name is that of a label
+    label a HALT
+          ^
+    2> refused 28 Listing at 41
+    [1]
+
+## a label that is missing
+    $ printf 'version 1 variables 0\nJMP c there\nHALT\n' > listing
+    $ depot assemble listing out
+    listing:2:7: error: there can't stand here: after version and variables stand numbers, strings, and then instructions with their fields; a label stands once, and a name is that of a label
+    JMP c there
+          ^
+    2> refused 28 Listing at 28
+    [1]
+
+## a string without its end
+    $ printf 'version 1 variables 0\nstring "a' > listing
+    $ depot assemble listing out
+    listing:2:8: error: no string can stand here, or this one is never closed, too long, or has a backslash without two hexadecimal digits
+    string "a
+           ^
+    2> refused 28 Listing at 29
+    [1]
+
+## an empty file
+    $ depot assemble /dev/null out
+    /dev/null:1:1: error: the listing ends before its program does, or the program exceeds the limits of programs
+    
+    ^
+    2> refused 28 Listing at 0
+    [1]
+
+## a script
+    $ depot assemble examples/pager.sieve out | head -n 1 | cut -c 1-40
+    examples/pager.sieve:1:1: error: # can't
+
+## a listing that is refused makes no file, and leaves one that is there
+    $ printf old > out
+    $ printf 'version 3' > listing
+    $ depot assemble listing out > said
+    2> refused 28 Listing at 8
+    [1]
+    $ cat out
+    old
+    [no line break]
+    $ rm said
+
+## not onto its listing
+    $ printf 'version 1 variables 0 HALT' > listing
+    $ ln -s listing other
+    $ depot assemble listing other
+    2> refused 45 Write
+    [1]
+    $ cat listing && rm other
+    version 1 variables 0 HALT
+    [no line break]
+
+## as many instructions as there may be, and one more
+    $ { echo version 1 variables 0; yes HALT | head -n 65536; } > listing
+    $ depot assemble listing out
+    wrote 524303 octets
+    $ { echo version 1 variables 0; yes HALT | head -n 65537; } > listing
+    $ depot assemble listing out > /dev/null
+    2> refused 28 Listing at 327707
+    [1]
+
+## a listing that is as large as may be, and one that is too large
+    $ { echo 'version 1 variables 0 HALT'; yes ' ' | head -c 67108837; } > listing
+    $ depot assemble listing out
+    wrote 23 octets
+    $ depot assemble "$FILES/too-large" out
+    2> refused 2 MessageTooLarge
+    [1]
+
+## 4 MB of one string's places
+    $ { echo version 1 variables 0; printf 'string "%16384s"\n' ''; yes LIT | head -n 65535; echo HALT; } > listing
+    $ depot assemble listing out
+    wrote 540689 octets
+    $ depot disassemble out | wc -c
+    4423203
+
+The program of a user.
+
+## a filter, given back
+    $ depot script mail.depot ann examples/documents.sieve
+    stored
+    $ depot program mail.depot ann out
+    wrote 129 octets
+    $ cmp out examples/documents.svbc
+    $ depot code mail.depot bob out
+    stored
+
+## a user without a filter
+    $ depot deliver mail.depot ann examples/invoice.eml
+    1 message "INBOX"
+    $ depot program mail.depot ann out
+    2> refused 40 NoSuchEntry
+    [1]
+    $ test -e out
+    [1]
+
+## a name that is no user's
+    $ depot program mail.depot Ann out
+    2> refused 44 UserName
+    [1]
+    $ test -s mail.depot
+
+## never over the depot
+    $ depot script mail.depot ann examples/documents.sieve
+    stored
+    $ ln -s mail.depot other
+    $ depot program mail.depot ann other
+    2> refused 45 Write
+    [1]
+    $ rm other
+    $ depot list mail.depot ann
+    none
+
+## into no folder
+    $ depot script mail.depot ann examples/documents.sieve
+    stored
+    $ depot program mail.depot ann missing/out
+    2> refused 45 Write
+    [1]
