@@ -98,6 +98,22 @@ Listings by hand.
     fileinto "Large"
     charged 10 of 10
 
+## the listings of the manual
+    $ sed -n '/^    version 1$/,/^    ; A0/s/^    //p' "$TOP/docs/BYTECODE.md" > listing
+    $ depot assemble listing out
+    wrote 42 octets
+    $ depot disassemble out | cmp - listing
+    $ sed -n '/^    version 2 variables 0$/,/^    HALT$/s/^    //p' "$TOP/docs/BYTECODE.md" > listing
+    $ depot assemble listing out
+    wrote 87 octets
+    $ depot verify out
+    A0=2 B0=0 A1=7 B1=4 A2=0 B2=0 A3=0 B3=0 by chains
+    $ printf '\nabc' > message
+    $ depot run out message
+    store "x" 0
+    keep
+    charged 25 of 29
+
 ## targets that lead back are assembled, and refused by the verifier
     $ printf 'version 1 variables 0 label again KEEP JMP c again HALT' > listing
     $ depot assemble listing out
