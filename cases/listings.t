@@ -39,7 +39,7 @@ Listings of programs.
     $ cmp program again
 
 ## all examples, back again
-    $ for name in examples/*.svbc examples/gallery/*.svbc; do depot disassemble "$name" > listing && depot assemble listing again > said && cmp "$name" again && head -c 5 said && echo; done | sort | uniq -c | sed 's/^ *[0-9]* //'
+    $ for name in examples/*.svbc; do depot disassemble "$name" > listing && depot assemble listing again > said && cmp "$name" again && head -c 5 said && echo; done | sort | uniq -c | sed 's/^ *[0-9]* //'
     wrote
     $ for name in examples/*.sieve examples/gallery/*.sieve; do depot compile "$name" one > said && depot disassemble one > listing && depot assemble listing two >> said && cmp one two; done
     $ rm -f said
@@ -47,7 +47,7 @@ Listings of programs.
 ## a long string, cut in the comment
     $ printf 'require "fileinto"; fileinto "0123456789012345678901234567890123456789x";' > script
     $ depot compile script out
-    wrote 92 octets
+    wrote 82 octets
     $ depot disassemble out
     version 2
     variables 0
@@ -55,7 +55,7 @@ Listings of programs.
     0 LIT ; "0123456789012345678901234567890123456789"...
     1 FILE
     2 HALT
-    ; A0=45 B0=0 A1=0 B1=0 A2=0 B2=0 A3=0 B3=0 by chains
+    ; A0=44 B0=0 A1=0 B1=0 A2=0 B2=0 A3=0 B3=0 by chains
 
 ## octets that spell no program
     $ depot disassemble examples/invoice.eml
@@ -82,7 +82,7 @@ Listings by hand.
     >         HALT
     > END
     $ depot assemble listing out
-    wrote 78 octets
+    wrote 70 octets
     $ depot disassemble out
     version 2
     variables 0
@@ -132,7 +132,7 @@ Faults of listings.
 ## a word that is no operation
     $ printf 'version 1\nvariables 0\nKEEP\nDISCRAD ; a typing error\nHALT\n' > listing
     $ depot assemble listing out
-    listing:4:1: error: DISCRAD can't stand here: after version and variables stand numbers, strings, and then instructions with their fields; a label stands once, and a name is that of a label
+    listing:4:1: error: `DISCRAD` can't stand here: after version and variables stand numbers, strings, and then instructions with their fields; a label stands once, and a name is that of a label
     DISCRAD ; a typing error
     ^
     2> refused 28 Listing at 27
@@ -141,7 +141,7 @@ Faults of listings.
 ## a label that is there twice
     $ printf 'version 1 variables 0\nlabel a KEEP\nlabel a HALT\n' > listing
     $ depot assemble listing out
-    listing:3:7: error: a can't stand here: after version and variables stand numbers, strings, and then instructions with their fields; a label stands once, and a name is that of a label
+    listing:3:7: error: `a` can't stand here: after version and variables stand numbers, strings, and then instructions with their fields; a label stands once, and a name is that of a label
     label a HALT
           ^
     2> refused 28 Listing at 41
@@ -150,7 +150,7 @@ Faults of listings.
 ## a label that is missing
     $ printf 'version 1 variables 0\nJMP c there\nHALT\n' > listing
     $ depot assemble listing out
-    listing:2:7: error: there can't stand here: after version and variables stand numbers, strings, and then instructions with their fields; a label stands once, and a name is that of a label
+    listing:2:7: error: `there` can't stand here: after version and variables stand numbers, strings, and then instructions with their fields; a label stands once, and a name is that of a label
     JMP c there
           ^
     2> refused 28 Listing at 28
@@ -174,8 +174,9 @@ Faults of listings.
     [1]
 
 ## a script
-    $ depot assemble examples/pager.sieve out | head -n 1 | cut -c 1-40
-    examples/pager.sieve:1:1: error: # can't
+    $ depot assemble examples/pager.sieve out | head -n 1 | cut -c 1-36
+    examples/pager.sieve:1:1: error: `#`
+    2> refused 28 Listing at 0
 
 ## a listing that is refused makes no file, and leaves one that is there
     $ printf old > out
@@ -220,7 +221,7 @@ Faults of listings.
     $ depot assemble listing out
     wrote 540689 octets
     $ depot disassemble out | wc -c
-    4423203
+    3806374
 
 The program of a user.
 
