@@ -1,8 +1,8 @@
 -- Modifiers, octet by octet, and their numbers.
-use Rattle.std.proofs.Common.{◌≡◌, ℕ, ◌+◌, ◌*◌, ◌/◌, ◌%◌, ◌<◌, ◌≤◌, ◌==◌, nat_lt, ◌&&◌, lit≤, lt-ltb, ltb-true, eqb-true, sum_by, Bool, true, false, cond, if◌then◌else◌, List, [], ◌∷◌, ◌++◌, length, map, Option, Some, None, refl, sym, ◌∙◌, append_assoc, arith}
+use Rattle.std.proofs.Common.{◌≡◌, ℕ, zero, suc, ◌+◌, ◌*◌, ◌/◌, ◌%◌, ◌<◌, ◌≤◌, ◌==◌, nat_lt, ◌&&◌, lit≤, lt-ltb, ltb-true, eqb-true, sum_by, Bool, true, false, cond, if◌then◌else◌, List, [], ◌∷◌, ◌++◌, length, map, Option, Some, None, refl, sym, ◌∙◌, append_assoc, take, arith}
 use Rattle.std.proofs.Math.Dec.{eqb-suc-zero}
 use Rattle.std.proofs.lemmas.Grind.{common_steps, flat_map-append}
-use Rattle.std.proofs.lemmas.List.{append-nil}
+use Rattle.std.proofs.lemmas.List.{append-nil, take-map}
 use Rattle.std.proofs.lemmas.List.Concat.{flat_map-cons}
 use Rattle.std.proofs.lemmas.List.Sums.{sum_by-append, sum_by-cons}
 use Rattle.std.specs.Char.{to_ascii_uppercase, to_ascii_lowercase}
@@ -14,6 +14,34 @@ use Rattle.bytecode_format.specs.Modifiers.{cased, first_cased, is_quotable, quo
 -- the text modified but for its count
 abbrev pub spelled : Modifiers → List ℕ → List ℕ
 spelled m text = quoted m.quote_wildcard (first_cased m.first (cased m.letters text))
+
+-- the modifiers with backslashes
+abbrev pub with_quotes : Modifiers → Modifiers
+with_quotes m = record m { quote_wildcard = true }
+
+take-cased : (case : Option Case) (n : ℕ) (xs : List ℕ) → take n (cased case xs) ≡ cased case (take n xs)
+take-cased None n xs = refl
+take-cased (Some Lower) n xs = take-map to_ascii_lowercase n xs
+take-cased (Some Upper) n xs = take-map to_ascii_uppercase n xs
+
+cased-nil : (case : Option Case) → cased case [] ≡ []
+cased-nil None = refl
+cased-nil (Some Lower) = refl
+cased-nil (Some Upper) = refl
+
+cased-one : (case : Option Case) (x : ℕ) → (y : ℕ) × (cased case (x ∷ []) ≡ y ∷ [])
+cased-one None x = (x, refl)
+cased-one (Some Lower) x = (to_ascii_lowercase x, refl)
+cased-one (Some Upper) x = (to_ascii_uppercase x, refl)
+
+take-first_cased : (case : Option Case) (n : ℕ) (xs : List ℕ) → take n (first_cased case xs) ≡ first_cased case (take n xs)
+take-first_cased case zero xs = rw (cased-nil case) refl
+take-first_cased case (suc n) [] = rw (cased-nil case) refl
+take-first_cased case (suc n) (x ∷ xs) = rw (cased-one case x).1 refl
+
+-- the beginning of a text in its cases is that of the text, in its cases
+pub take-both : (letters first : Option Case) (n : ℕ) (xs : List ℕ) → take n (first_cased first (cased letters xs)) ≡ first_cased first (cased letters (take n xs))
+take-both letters first n xs = rw (take-first_cased first n (cased letters xs), take-cased letters n xs) refl
 
 cased-append : (case : Option Case) (xs ys : List ℕ) → cased case (xs ++ ys) ≡ cased case xs ++ cased case ys
 cased-append None xs ys = refl
@@ -28,11 +56,6 @@ length-cased : (case : Option Case) (xs : List ℕ) → length (cased case xs) �
 length-cased None xs = refl
 length-cased (Some Lower) xs = grind (arith, common_steps)
 length-cased (Some Upper) xs = grind (arith, common_steps)
-
-cased-nil : (case : Option Case) → cased case [] ≡ []
-cased-nil None = refl
-cased-nil (Some Lower) = refl
-cased-nil (Some Upper) = refl
 
 first_cased-push : (case now : Option Case) (xs : List ℕ) (x : ℕ) → now ≡ (if length xs == 0 then case else None) → first_cased case (xs ++ x ∷ []) ≡ first_cased case xs ++ cased now (x ∷ [])
 first_cased-push case now [] x h = rw (h, cased-nil case) (append-nil (cased case (x ∷ [])))

@@ -1,5 +1,5 @@
 // The actions of a run, each once.
-ghost use Rattle.std.specs.Prelude.{◌≡◌, [], IfOk, OnOk, OnErr};
+ghost use Rattle.std.specs.Prelude.{◌≡◌, [], IfOk, IsTrue, OnOk, OnErr};
 
 use crate::action::Action;
 use std::alloc::{AllocError, Global};
@@ -14,6 +14,8 @@ pub struct ActionList {
     listed: Vec<Action>,
     // The same actions, by their order.
     seen: BTreeSet<Action>,
+    // Whether Keep is among them.
+    keeps: bool,
 }
 
 impl Model for ActionList {
@@ -21,17 +23,21 @@ impl Model for ActionList {
     ghost use Rattle.bytecode_format.specs.declared.action.Action.{Action};
     ghost use Rattle.bytecode_format.specs.Action.{action_cmp};
     ghost use Rattle.bytecode_format.specs.Actions.{is_listed};
+    ghost use Rattle.bytecode_format.specs.declared.action.Action.TheVariants.{Keep};
     ghost use Rattle.std.specs.BTreeSet.{contains};
 
     ghost Value = { List Action };
 
     ghost view = { λ l. l.listed.items };
 
-    ghost invariant = { λ l. (action : Action) → contains action_cmp l.seen action ≡ is_listed action l.listed.items };
+    ghost invariant = { λ l. ((action : Action) → contains action_cmp l.seen action ≡ is_listed action l.listed.items) × (l.keeps ≡ is_listed Keep l.listed.items) };
 }
 
 impl ActionList {
-    ghost use Rattle.bytecode_format.specs.Actions.{with_action, with_implicit_keep};
+    ghost use Rattle.std.specs.Prelude.{◌||◌};
+    ghost use Rattle.bytecode_format.specs.declared.action.Action.TheVariants.{Keep};
+    ghost use Rattle.bytecode_format.specs.Action.{is_same};
+    ghost use Rattle.bytecode_format.specs.Actions.{is_listed, with_action, with_implicit_keep};
 
     /// No action. Takes no memory.
     pub fn new(alloc: Global) -> ActionList
@@ -40,7 +46,35 @@ impl ActionList {
         ActionList {
             listed: Vec::new(alloc),
             seen: BTreeSet::new(alloc),
+            keeps: false,
         }
+    }
+
+    // Whether the action is listed. A Keep, and the action that was listed last, take no search.
+    fn has(&self, action: &Action) -> bool
+        ensures { result ≡ is_listed action.now self.now }
+    {
+        match action {
+            Action::Keep => self.keeps,
+            _ => self.is_last(action) || self.seen.contains(action),
+        }
+    }
+
+    // Whether the action was listed last.
+    fn is_last(&self, action: &Action) -> bool
+        ensures { IsTrue result → IsTrue (is_listed action.now self.now) }
+    {
+        match self.listed.last() {
+            Some(last) => last == action,
+            None => false,
+        }
+    }
+
+    // Whether Keep is listed once the action is.
+    fn will_keep(&self, action: &Action) -> bool
+        ensures { result ≡ (is_listed Keep self.now || is_same action.now Keep) }
+    {
+        self.keeps || *action == Action::Keep
     }
 
     /// Lists the action, unless an equal one is listed.
@@ -50,12 +84,14 @@ impl ActionList {
         ensures ok { OnOk result (self.new ≡ with_action self.old action) }
         ensures err { OnErr result (self.new ≡ self.old) }
     {
-        if self.seen.contains(&action) {
+        if self.has(&action) {
             return Ok(());
         }
+        let keeps = self.will_keep(&action);
         self.listed.reserve(1)?;
         self.seen.insert(action.clone()?)?;
         self.listed.push(action).unwrap();
+        self.keeps = keeps;
         Ok(())
     }
 
@@ -65,7 +101,7 @@ impl ActionList {
     pub fn into_final(mut self, implicit_keep: bool) -> Result<Vec<Action>, AllocError>
         ensures { IfOk result (λ v. v.items ≡ with_implicit_keep self implicit_keep) }
     {
-        if implicit_keep && !self.seen.contains(&Action::Keep) {
+        if implicit_keep && !self.keeps {
             self.listed.push(Action::Keep)?;
         }
         Ok(self.listed)

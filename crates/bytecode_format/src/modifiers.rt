@@ -1,5 +1,5 @@
 // What is done to a text before it becomes a variable's value.
-ghost use Rattle.std.specs.Prelude.{◌≡◌, ◌↔◌, ℕ, List, [], ◌∷◌, ◌++◌, take, IfOk, OnOk, IsTrue};
+ghost use Rattle.std.specs.Prelude.{◌≡◌, ◌↔◌, ℕ, true, List, [], ◌∷◌, ◌++◌, take, IfOk, OnOk, IsTrue};
 ghost use Rattle.std.specs.Fmt.{decimal};
 ghost use Rattle.bytecode_format.specs.Modifiers.{case_number, case_numbered, cased, first_cased, is_quotable, quoted, continues_character, characters, modified, no_modifiers, modifiers_number, modifiers_numbered};
 
@@ -51,6 +51,17 @@ impl Case {
         }
     }
 
+    // The text in a case, if one is named.
+    fn written(alloc: Global, case: Option<Case>, text: &[u8]) -> Result<Vec<u8>, AllocError>
+        ensures { IfOk result (λ out. out.items ≡ cased case text.now) }
+    {
+        match case {
+            None => text.to_vec(alloc),
+            Some(Case::Lower) => text.to_ascii_lowercase(alloc),
+            Some(Case::Upper) => text.to_ascii_uppercase(alloc),
+        }
+    }
+
     // The octet in a case, if one is named.
     fn of(case: Option<Case>, octet: u8) -> u8
         ensures { result ∷ [] ≡ cased case (octet ∷ []) }
@@ -87,12 +98,11 @@ fn put(out: &mut Vec<u8>, octet: u8, limit: usize) -> Result<(), AllocError>
     Ok(())
 }
 
-// The same with a backslash before it, where that is asked for and a pattern reads the octet as more
-// than itself.
-fn put_quoted(out: &mut Vec<u8>, octet: u8, quote: bool, limit: usize) -> Result<(), AllocError>
-    ensures { OnOk result ((text : List ℕ) → out.old.items ≡ take limit text → out.new.items ≡ take limit (text ++ quoted quote (octet ∷ []))) }
+// The same with a backslash before it, where a pattern reads the octet as more than itself.
+fn put_quoted(out: &mut Vec<u8>, octet: u8, limit: usize) -> Result<(), AllocError>
+    ensures { OnOk result ((text : List ℕ) → out.old.items ≡ take limit text → out.new.items ≡ take limit (text ++ quoted true (octet ∷ []))) }
 {
-    if quote && is_quotable(octet) {
+    if is_quotable(octet) {
         put(out, b'\\', limit)?;
     }
     put(out, octet, limit)
@@ -170,17 +180,34 @@ impl Modifiers {
     fn written(self, alloc: Global, text: &[u8], limit: usize) -> Result<Octets, AllocError>
         ensures { IfOk result (λ value. value ≡ take limit (quoted self.quote_wildcard (first_cased self.first (cased self.letters text.now)))) }
     {
-        let most = if self.quote_wildcard {
-            text.len() * 2
-        } else {
-            text.len()
-        };
-        let mut out = Vec::with_capacity(alloc, most.min(limit))?;
+        if self.quote_wildcard {
+            return self.quoted(alloc, text, limit);
+        }
+        let kept = &text[..text.len().min(limit)];
+        Ok(Octets::from(self.cased(alloc, kept)?))
+    }
+
+    // The text with the case of its letters and of its first octet.
+    fn cased(self, alloc: Global, text: &[u8]) -> Result<Vec<u8>, AllocError>
+        ensures { IfOk result (λ out. out.items ≡ first_cased self.first (cased self.letters text.now)) }
+    {
+        let mut out = Case::written(alloc, self.letters, text)?;
+        if let Some(octet) = out.first_mut() {
+            *octet = Case::of(self.first, *octet);
+        }
+        Ok(out)
+    }
+
+    // The same with backslashes, of which the first `limit` octets stay.
+    fn quoted(self, alloc: Global, text: &[u8], limit: usize) -> Result<Octets, AllocError>
+        ensures { IfOk result (λ value. value ≡ take limit (quoted true (first_cased self.first (cased self.letters text.now)))) }
+    {
+        let mut out = Vec::with_capacity(alloc, (text.len() * 2).min(limit))?;
         let mut first = self.first;
         'text: for octet in text {
             let octet = Case::of(first, Case::of(self.letters, *octet));
             first = None;
-            put_quoted(&mut out, octet, self.quote_wildcard, limit)?;
+            put_quoted(&mut out, octet, limit)?;
         }
         Ok(Octets::from(out))
     }

@@ -1,15 +1,9 @@
-use Rattle.std.proofs.Common.{◌≡◌, ◌+◌, ◌==◌, if◌then◌else◌, None, ◌∷◌, [], ◌++◌, length, get_or, take, refl, arith}
+use Rattle.std.proofs.Common.{◌≡◌, take, sym, arith}
 use Rattle.std.proofs.lemmas.Grind.{common_steps}
-use Rattle.bytecode_format.proofs.ModifierLemmas.{not_first, spelled, spelled-push}
+use Rattle.bytecode_format.proofs.ModifierLemmas.{take-both}
 use Rattle.bytecode_format.proofs.modifiers.Modifiers.written.Goals as goal
 
-pub text-preserved : goal.text-preserved
-text-preserved c =
-    let i = c.text.octet-index in
-    let x = get_or c.args.text.now i 0 in
-    let before = take i c.args.text.now in
-    let more : take (i + 1) c.args.text.now ≡ before ++ x ∷ [] = grind (arith, common_steps) in
-    let taken : length before ≡ i = grind (arith, common_steps) in
-    let first : c.text.first ≡ (if length before == 0 then c.args.self.first else None) = rw taken c.text.invariant.0 in
-    let pushed = spelled-push c.args.self c.text.first before x c.of.result c.of-octet.result first c.of.ensures c.of-octet.ensures in
-    (rw (not_first i) refl, rw (more, pushed) (c.in_ok-put_quoted.ensures (spelled c.args.self before) c.text.invariant.1))
+pub returns : goal.returns
+returns c =
+    let kept : take c.min.result c.args.text.now ≡ take c.args.limit c.args.text.now = grind (arith, common_steps) in
+    rw (c.from.ensures, c.in_ok-cased.ensures, c.if-self.false, kept) (sym (take-both c.args.self.letters c.args.self.first c.args.limit c.args.text.now))

@@ -1,6 +1,0 @@
-use Rattle.std.proofs.Common.{◌≡◌, ◌==◌, if◌then◌else◌, None, take}
-use Rattle.bytecode_format.proofs.ModifierLemmas.{spelled}
-use Rattle.bytecode_format.proofs.modifiers.Modifiers.written.Given as goal
-
-abbrev pub invariant-text : goal.invariant-text
-invariant-text l = (l.first ≡ (if l.octet-index == 0 then l.self.first else None)) × (l.out.items ≡ take l.limit (spelled l.self (take l.octet-index l.text)))
