@@ -26,3 +26,7 @@ Only if: python3 -c 'import sqlite3' # there is no sqlite3 for python3
     one bit changed: usual 36, refused 2, other 62
     other tables: refused
     a column more: usual
+
+## forty commands, each a process of its own
+    $ "$TOP/cases/forty_commands" depot
+    41 commands over one file, 0 answered otherwise than over memory

@@ -16,6 +16,8 @@ mod failing_disks;
 #[cfg(test)]
 mod failing_sinks;
 #[cfg(test)]
+mod forty_commands;
+#[cfg(test)]
 mod held;
 #[cfg(test)]
 mod history;
