@@ -46,12 +46,12 @@ impl<'s, 'm> Model for Loops<'s, 'm> {
     ghost Value = { Visits };
 
     ghost view = { λ l. record {
-        mail = l.message.now;
-        frames = frames_of l.frames.items;
-        held = held_in l.frames.items;
-        lengths = l.lengths.items;
-        digests = l.digests.items;
-        beginnings = l.beginnings.items;
+      mail = l.message.now;
+      frames = frames_of l.frames.items;
+      held = held_in l.frames.items;
+      lengths = l.lengths.items;
+      digests = l.digests.items;
+      beginnings = l.beginnings.items;
     } };
 
     ghost invariant = { λ l. All (HasContent l.message.now) l.frames.items × IsKnown l.message.now l.lengths.items l.digests.items l.beginnings.items };
