@@ -4,6 +4,7 @@ mod Captured
 mod Cases
 mod Earliest
 mod Examples
+mod Gathered
 mod Least
 mod Marks
 mod Occurs

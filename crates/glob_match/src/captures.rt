@@ -1,10 +1,12 @@
 // What the wildcards of a key stand for.
-ghost use Rattle.std.specs.Prelude.{◌≡◌, ◌≤◌, [], length, slice_index_or, ◌∷◌};
-ghost use Rattle.glob_match.specs.Captures.{cut, texts, whole};
+ghost use Rattle.std.specs.Prelude.{◌≡◌, ◌≤◌, ◌<◌, ◌+◌, ◌++◌, [], IfOk, OnOk, length, slice_index_or, ◌∷◌};
+ghost use Rattle.std.specs.List.{concat};
+ghost use Rattle.glob_match.specs.Captures.{LieWithin, cut, texts, whole};
 ghost use Rattle.glob_match.specs.Segments.{with_stretches};
 ghost use Rattle.glob_match.specs.Matching.{max_captures};
 
 use arrayvec::ArrayVec;
+use std::alloc::{AllocError, Global};
 use std::marker::Model;
 
 /// How many captures there are at most: the whole value, and the first nine wildcards (RFC 5229, section 3.2).
@@ -82,5 +84,43 @@ impl Captures {
             }
             None => &[],
         }
+    }
+
+    /// What is captured of `value`, without the rest of it: the texts of the captures, one after the other, and where each of them
+    /// stands there.
+    ///
+    /// # Errors
+    ///
+    /// An allocation was refused.
+    pub fn gathered(&self, alloc: Global, value: &[u8]) -> Result<(Vec<u8>, Captures), AllocError>
+        ensures octets { IfOk result (λ gathered. gathered.0.items ≡ concat (texts value.now self.now)) }
+        ensures same { IfOk result (λ gathered. texts gathered.0.items gathered.1 ≡ texts value.now self.now) }
+    {
+        let mut octets = Vec::new(alloc);
+        let mut captures = Captures {
+            stretches: ArrayVec::new(),
+        };
+        for number in 0..self.stretches.len() {
+            captures.add_text(&mut octets, self.text(value, number))?;
+        }
+        Ok((octets, captures))
+    }
+
+    // Puts a text after the octets in which the captures stand, and adds its capture.
+    fn add_text(&mut self, octets: &mut Vec<u8>, text: &[u8]) -> Result<(), AllocError>
+        requires room { length self.old < max_captures }
+        requires within { LieWithin (length octets.old.items) self.old }
+        ensures octets { OnOk result (octets.new.items ≡ octets.old.items ++ text.now) }
+        ensures texts { OnOk result (texts octets.new.items self.new ≡ texts octets.old.items self.old ++ text.now ∷ []) }
+        ensures within { OnOk result (LieWithin (length octets.new.items) self.new) }
+        ensures number { OnOk result (length self.new ≡ length self.old + 1) }
+    {
+        let start = octets.len();
+        octets.extend_from_slice(text)?;
+        self.stretches.push(Stretch {
+            start,
+            end: octets.len(),
+        });
+        Ok(())
     }
 }

@@ -2,7 +2,7 @@
 //!
 //! [`is`] and [`contains`] answer whether the text is the key or has a stretch that is, [`matches`] whether it fits a key
 //! with wildcards, and which stretches of it the wildcards stand for. What fits, and which of several lists of stretches
-//! is taken, stands in `specs/Matching`. No call takes memory, and all succeed outright.
+//! is taken, stands in `specs/Matching`. No call takes memory but [`Captures::gathered`], and the others succeed outright.
 #![tactic(auto)]
 
 mod captures;

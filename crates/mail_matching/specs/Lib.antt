@@ -10,6 +10,8 @@ pub mod PartTests
 pub mod Selection
 pub mod Texts
 pub mod Outcomes
+-- what is kept of a value
+pub mod Kept
 -- how the tests of headers go; of what is public only that `header` takes no memory rests on it
 pub mod Headers
 pub mod Readings

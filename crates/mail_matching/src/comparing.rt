@@ -1,6 +1,6 @@
 // A value and the keys of a test.
 ghost use Rattle.std.specs.Prelude.{◌≡◌, ◌≤◌, ℕ, List, IfOk, IsOk, length, if◌then◌else◌};
-ghost use Rattle.std.specs.Cow.{cow_slice_items};
+ghost use Rattle.std.specs.Cow.{IsBorrowedSlice, cow_slice_items};
 ghost use Rattle.octets.specs.Limits.{max_message, max_string};
 ghost use Rattle.mail_matching.specs.FirstMatch.{KeepsCaptures, after_match, first_key};
 ghost use Rattle.mail_matching.specs.Outcomes.{after, after_compared};
@@ -24,19 +24,28 @@ pub(crate) enum Compared {
 }
 
 /// What comparing a value with each key in order comes to, up to the first that it matches.
-pub(crate) fn first_key<'a, K: Texts>(value: CowSlice<'a, u8>, keys: &K, how: Match) -> Outcome<'a>
-    requires value { length (cow_slice_items value) ≤ max_message }
+///
+/// An error comes only where memory was refused: where the value is owned and sets captures, these are copied.
+pub(crate) fn first_key<'a, K: Texts>(
+    alloc: Global,
+    value: &CowSlice<'a, u8>,
+    keys: &K,
+    how: Match,
+) -> Result<Outcome<'a>, AllocError>
+    requires value { length (cow_slice_items value.now) ≤ max_message }
     requires keys { AreTexts (K.texts keys.now) }
-    ensures { (captures : List (List ℕ)) → after result captures ≡ first_key how (cow_slice_items value.entry) (K.texts keys.now) captures }
+    ensures outcome { IfOk result (λ outcome. (captures : List (List ℕ)) → after outcome captures ≡ first_key how (cow_slice_items value.now) (K.texts keys.now) captures) }
+    ensures lent { IsBorrowedSlice value.now → IsOk result }
+    ensures told { KeepsCaptures (first_key how (cow_slice_items value.now) (K.texts keys.now)) → IsOk result }
 {
-    match first_comparison(value.as_slice(), keys, how) {
+    Ok(match first_comparison(value.as_slice(), keys, how) {
         Compared::Differs => Outcome::Fails,
         Compared::Matches => Outcome::Holds,
-        Compared::Sets(stretches) => Outcome::Captures(Captured::new(value, stretches)),
-    }
+        Compared::Sets(stretches) => Outcome::Captures(Captured::new(alloc, value, stretches)?),
+    })
 }
 
-/// The same of a value that is lent for now: it is copied where it sets captures.
+/// The same of a value that is lent for now: what is captured of it is copied.
 ///
 /// An error comes only where memory was refused.
 pub(crate) fn first_key_of_lent<'a, K: Texts>(
@@ -54,8 +63,7 @@ pub(crate) fn first_key_of_lent<'a, K: Texts>(
         Compared::Differs => Outcome::Fails,
         Compared::Matches => Outcome::Holds,
         Compared::Sets(stretches) => {
-            let value = CowSlice::Owned(Vec::from_slice(alloc, value)?);
-            Outcome::Captures(Captured::new(value, stretches))
+            Outcome::Captures(Captured::copied(alloc, value, &stretches)?)
         }
     })
 }

@@ -27,8 +27,8 @@ use std::alloc::{AllocError, Global};
 ///
 /// # Errors
 ///
-/// An allocation was refused; none is made but for values that are folded, for types and parameters, and for a parameter that
-/// sets captures.
+/// An allocation was refused; none is made but for values that are folded, for types and parameters, and for what is captured of
+/// these.
 pub fn header<'m, N: Texts, P: Texts, K: Texts>(
     alloc: Global,
     message: &Message<'m>,

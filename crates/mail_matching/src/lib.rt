@@ -4,8 +4,8 @@
 //! [`header`], [`body`], [`digest`] and [`string`] find the first value that matches a key, and [`exists`] whether each name is
 //! that of a field. All answer what the test costs, too. What matches first, which captures it leaves, and what is charged stands
 //! in `specs/`; how much that is at most of a message that was read is in the [`laws`]. Names, sources and keys are lent by any
-//! [`Texts`]. A field's value is copied only where it is folded, or where its type or a parameter is asked for, and any other value
-//! only where it sets captures.
+//! [`Texts`]. A field's value is copied only where it is folded, or where its type or a parameter is asked for, and of any other
+//! value that isn't lent by the message only what it captures is.
 #![tactic(auto)]
 
 mod comparing;

@@ -8,9 +8,9 @@ ghost use Rattle.mail_matching.specs.Outcomes.{after};
 ghost use Rattle.mail_matching.specs.PartTests.{exactly};
 ghost use Rattle.mail_matching.specs.Texts.{AreTexts};
 
-use crate::comparing::{Compared, first_comparison};
+use crate::comparing::first_key;
 use crate::cost::{extent_of, product};
-use crate::outcome::{Answer, Captured, Outcome};
+use crate::outcome::{Answer, Outcome};
 use crate::texts::Texts;
 use glob_match::{Comparator, Match, is};
 use std::alloc::{AllocError, Global};
@@ -22,7 +22,7 @@ use std::borrow::CowSlice;
 ///
 /// # Errors
 ///
-/// An allocation was refused; none is made but where the content is owned and sets captures, and so is copied.
+/// An allocation was refused; none is made but where the content is owned and sets captures: what is captured is copied.
 pub fn body<'m, K: Texts>(
     alloc: Global,
     content: &CowSlice<'m, u8>,
@@ -37,32 +37,10 @@ pub fn body<'m, K: Texts>(
     ensures lent { IsBorrowedSlice content.now → IsOk result }
     ensures told { KeepsCaptures (first_match how (cow_slice_items content.now ∷ []) (K.texts keys.now)) → IsOk result }
 {
-    let outcome = match first_comparison(content.as_slice(), keys, how) {
-        Compared::Differs => Outcome::Fails,
-        Compared::Matches => Outcome::Holds,
-        Compared::Sets(stretches) => {
-            Outcome::Captures(Captured::new(lent_or_copied(alloc, content)?, stretches))
-        }
-    };
     Ok(Answer {
-        outcome,
+        outcome: first_key(alloc, content, keys, how)?,
         cost: product(content.len() as u64 + 1, extent_of(keys)),
     })
-}
-
-// The octets, which are copied where they are owned.
-fn lent_or_copied<'m>(
-    alloc: Global,
-    octets: &CowSlice<'m, u8>,
-) -> Result<CowSlice<'m, u8>, AllocError>
-    ensures same { IfOk result (λ same. cow_slice_items same ≡ cow_slice_items octets.now) }
-    ensures lent { IsBorrowedSlice octets.now → IfOk result (λ same. IsBorrowedSlice same) }
-    ensures told { IsBorrowedSlice octets.now → IsOk result }
-{
-    match octets {
-        CowSlice::Borrowed(lent) => Ok(CowSlice::Borrowed(lent)),
-        CowSlice::Owned(owned) => Ok(CowSlice::Owned(Vec::from_slice(alloc, owned)?)),
-    }
 }
 
 /// Whether the digest of a part equals a key, octet by octet. No captures are set, and no memory is taken.

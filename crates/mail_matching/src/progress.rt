@@ -1,6 +1,6 @@
 // The values that a test selects, compared one after the other.
 ghost use Rattle.std.specs.Prelude.{◌≡◌, ◌+◌, ◌<◌, ◌≤◌, ◌^◌, ◌∷◌, [], false, All, IfSome, IsOk, OnOk, length};
-ghost use Rattle.std.specs.Cow.{cow_slice_items};
+ghost use Rattle.std.specs.Cow.{IsBorrowedSlice, cow_slice_items};
 ghost use Rattle.octets.specs.Limits.{max_message};
 ghost use Rattle.header_fields.specs.Extent.{fields_extent};
 ghost use Rattle.mime_decode.specs.Scope.{given, params_of, reading_of, selected_of};
@@ -133,8 +133,7 @@ impl<'m> Progress<'m> {
             Selector::ContentType => {
                 let text = type_text(alloc, field)?;
                 let content_type = content_type_of(alloc, field, text.as_slice())?;
-                self.take(content_type, test.keys, test.how);
-                Ok(())
+                self.take(alloc, &content_type, test.keys, test.how)
             }
             Selector::Param => {
                 let text = unfold(alloc, field)?;
@@ -161,7 +160,7 @@ impl<'m> Progress<'m> {
             self.extent += unfolded_length(field) as u64 + 1;
         } else {
             let value = unfold(alloc, field)?;
-            self.take(value, keys, how);
+            self.take(alloc, &value, keys, how)?;
         }
         Ok(())
     }
@@ -183,37 +182,52 @@ impl<'m> Progress<'m> {
         for place in 0..test.params.count() {
             let name = test.params.text(place);
             let param = param_in(alloc, field, value, name)?;
-            self.take_param(param, test.keys, test.how);
+            self.take_param(alloc, param, test.keys, test.how)?;
         }
         Ok(())
     }
 
     // Goes on with the value of a parameter, if there is one.
-    fn take_param<K: Texts>(&mut self, param: Option<Octets>, keys: &K, how: Match)
+    fn take_param<K: Texts>(
+        &mut self,
+        alloc: Global,
+        param: Option<Octets>,
+        keys: &K,
+        how: Match,
+    ) -> Result<(), AllocError>
         requires keys { AreTexts (K.texts keys.now) }
         requires short { IfSome param (λ value. length value ≤ max_message) }
         requires room { self.old.extent + extent_of (given param) < 2 ^ 64 }
-        ensures { GoesOn how (given param) (K.texts keys.now) self.old self.new }
+        ensures { OnOk result (GoesOn how (given param) (K.texts keys.now) self.old self.new) }
     {
-        if let Some(value) = param {
-            self.take(CowSlice::Owned(value.into_vec()), keys, how);
+        match param {
+            Some(value) => self.take_lent(alloc, value.as_slice(), keys, how),
+            None => Ok(()),
         }
     }
 
     // Goes on with a value.
-    fn take<K: Texts>(&mut self, value: CowSlice<'m, u8>, keys: &K, how: Match)
+    fn take<K: Texts>(
+        &mut self,
+        alloc: Global,
+        value: &CowSlice<'m, u8>,
+        keys: &K,
+        how: Match,
+    ) -> Result<(), AllocError>
         requires keys { AreTexts (K.texts keys.now) }
-        requires value { length (cow_slice_items value) ≤ max_message }
-        requires room { self.old.extent + extent_of (cow_slice_items value ∷ []) < 2 ^ 64 }
-        ensures { GoesOn how (cow_slice_items value.entry ∷ []) (K.texts keys.now) self.old self.new }
+        requires value { length (cow_slice_items value.now) ≤ max_message }
+        requires room { self.old.extent + extent_of (cow_slice_items value.now ∷ []) < 2 ^ 64 }
+        ensures goes { OnOk result (GoesOn how (cow_slice_items value.now ∷ []) (K.texts keys.now) self.old self.new) }
+        ensures lent { IsBorrowedSlice value.now → IsOk result }
     {
         self.extent += value.len() as u64 + 1;
         if !self.outcome.holds() {
-            self.outcome = first_key(value, keys, how);
+            self.outcome = first_key(alloc, value, keys, how)?;
         }
+        Ok(())
     }
 
-    // Goes on with a value that is lent for now: it is copied where it sets captures.
+    // Goes on with a value that is lent for now: what is captured of it is copied.
     fn take_lent<K: Texts>(
         &mut self,
         alloc: Global,

@@ -19,7 +19,7 @@ use std::alloc::{AllocError, Global};
 ///
 /// # Errors
 ///
-/// An allocation was refused; none is made but for a source that sets captures, which is copied.
+/// An allocation was refused; none is made but for a source that sets captures: what is captured is copied.
 pub fn string<'m, S: Texts, K: Texts>(
     alloc: Global,
     sources: &S,

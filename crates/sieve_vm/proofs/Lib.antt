@@ -1,6 +1,7 @@
 pub mod Taking
 pub mod Pushed
 pub mod Charges
+pub mod Contents
 pub mod Reached
 pub mod Falls
 pub mod Opened

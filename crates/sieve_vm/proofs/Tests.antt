@@ -1,5 +1,5 @@
 -- What an operation on the workspace leaves of the state that the machine stands for.
-use Rattle.std.proofs.Common.{◌≡◌, ℕ, ◌+◌, List, [], ◌∷◌, Option, Some, None, is_some, subst, ap, ◌∙◌, arith}
+use Rattle.std.proofs.Common.{◌≡◌, ℕ, ◌+◌, Bool, false, List, [], ◌∷◌, Option, Some, None, drop, is_some, subst, ap, ◌∙◌, arith}
 use Rattle.std.specs.Option.{unwrap_or}
 use Rattle.mail_matching.specs.Outcomes.{after}
 use Rattle.mail_matching.specs.declared.outcome.Outcome.{Outcome}
@@ -9,7 +9,7 @@ use Rattle.sieve_vm.specs.declared.workspace.Workspace.{Workspace}
 use Rattle.mime_decode.specs.Mail.{Mail}
 use Rattle.sieve_vm.specs.declared.machine.Flow.TheVariants.{On, To}
 use Rattle.sieve_vm.specs.Machine.{next_part}
-use Rattle.sieve_vm.specs.Visits.{Visits, Continues}
+use Rattle.sieve_vm.specs.Visits.{Visits, Continues, HasSameLoops}
 use Rattle.sieve_vm.specs.State.{Value, truth, Frame, State}
 use Rattle.sieve_vm.specs.Stack.{OnTop, texts_on_top, Lists, lists_on_top}
 use Rattle.sieve_vm.specs.Standing.{Held, held_of, held_by, StandsFor, GoesFrom}
@@ -41,21 +41,21 @@ module _ (mail : Mail) (s : State) (m : Machine) (stands : StandsFor mail s m) w
       }
 
   -- the open loops are as they were
-  pub same_loops : (loops : Visits) → loops ≡ m.loops → StandsFor mail s (record m { loops = loops })
+  pub same_loops : (loops : Visits) → HasSameLoops m.loops loops → StandsFor mail s (record m { loops = loops })
   same_loops loops same =
       record {
         place = stands.place;
         work = stands.work;
-        mail_is = ap (λ (l : Visits). l.mail) same ∙ stands.mail_is;
-        frames = ap (λ (l : Visits). l.frames) same ∙ stands.frames;
+        mail_is = same.mail ∙ stands.mail_is;
+        frames = same.frames ∙ stands.frames;
         actions = stands.actions;
         implicit_keep = stands.implicit_keep;
         charge = stands.charge;
       }
 
   -- the open loops have changed
-  pub loops_now : (loops : Visits) (frames : List Frame) → loops ≡ record m.loops { frames = frames } → StandsFor mail (record s { frames = frames }) (record m { loops = loops })
-  loops_now loops frames now =
+  pub loops_now : (loops : Visits) (frames : List Frame) (held : List Bool) → loops ≡ record m.loops { frames = frames; held = held } → StandsFor mail (record s { frames = frames }) (record m { loops = loops })
+  loops_now loops frames held now =
       record {
         place = stands.place;
         work = stands.work;
@@ -68,7 +68,7 @@ module _ (mail : Mail) (s : State) (m : Machine) (stands : StandsFor mail s m) w
 
   -- the innermost loop was closed
   pub next_closes : (frame : Frame) (frames : List Frame) (rest : List ℕ) (loops : Visits) → Continues frame frames rest None m.loops loops → GoesFrom mail (next_part frame frames rest s) On (record m { loops = loops })
-  next_closes frame frames [] loops h = loops_now loops frames h.1
+  next_closes frame frames [] loops h = loops_now loops frames (drop 1 m.loops.held) h.1
   next_closes frame frames (part ∷ rest) loops h = absurd (let none = h.0 in cc)
 
   -- it goes on
@@ -77,7 +77,7 @@ module _ (mail : Mail) (s : State) (m : Machine) (stands : StandsFor mail s m) w
   next_continues frame frames (part ∷ rest) each loops h =
       let is = h.0 in
       let same : each ≡ frame.each = cc in
-      (omega (arith, same), loops_now loops (record frame { part = part; rest = rest } ∷ frames) h.1)
+      (omega (arith, same), loops_now loops (record frame { part = part; rest = rest } ∷ frames) (false ∷ drop 1 m.loops.held) h.1)
 
   -- the state after a test of texts, whose entries were dropped
   abbrev After : List Value → Option (List (List ℕ)) → State

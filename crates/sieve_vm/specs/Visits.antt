@@ -1,5 +1,5 @@
 -- What the open loops of the code stand for.
-use Rattle.std.specs.Prelude.{◌≡◌, ℕ, suc, ◌-◌, Bool, true, false, List, [], ◌∷◌, Option, Some, None, IfSome, length, map, reverse, take, slice_get, slice_index_or}
+use Rattle.std.specs.Prelude.{◌≡◌, ℕ, suc, ◌-◌, ◌==◌, Bool, true, false, List, [], ◌∷◌, Option, Some, None, IfSome, is_some, length, map, reverse, take, drop, slice_get, slice_index_or, if◌then◌else◌}
 use Rattle.std.specs.Cow.{cow_slice_items}
 use Rattle.std.specs.Option.{option_and_then}
 use Rattle.octets.specs.Limits.{max_value}
@@ -9,10 +9,15 @@ use Rattle.mime_decode.specs.Scope.{numbers_from}
 use Rattle.sieve_vm.specs.declared.frame.Frame as code
 use Rattle.sieve_vm.specs.State.{Frame, current_part}
 
--- a message, and the loops that are open on its parts, the innermost first
+-- a message, the loops that are open on its parts, the innermost first, and whether each holds the content of its current part; and by
+-- the numbers of the parts what is known of their contents: how long they are, their digests, and their first octets
 pub record Visits : Type 0 where
   pub mail : Mail
   pub frames : List Frame
+  pub held : List Bool
+  pub lengths : List (Option ℕ)
+  pub digests : List (Option (List ℕ))
+  pub beginnings : List (Option (List ℕ))
 
 -- an open loop: the parts not yet visited are the numbers after the current one up to the last
 abbrev pub frame_of : code.Frame → Frame
@@ -21,6 +26,10 @@ frame_of frame = record { each = frame.each; next = frame.next; part = frame.par
 -- the open loops, of which the code has the innermost last
 abbrev pub frames_of : List code.Frame → List Frame
 frames_of frames = map frame_of (reverse frames)
+
+-- which of them hold the content of their current part
+abbrev pub held_in : List code.Frame → List Bool
+held_in frames = map (λ frame. is_some frame.content) (reverse frames)
 
 -- the content that a frame has is that of its current part
 abbrev pub HasContent : Mail → code.Frame → Type 0
@@ -36,11 +45,38 @@ pub record IsKnown (mail : Mail) (lengths : List (Option ℕ)) (digests beginnin
 abbrev pub part_in : Visits → Option Part
 part_in visits = option_and_then (slice_get visits.mail.parts) (current_part visits.frames)
 
+-- whether the innermost of loops holds the content of its current part, by whether each does
+abbrev pub holds_first : List Bool → Bool
+holds_first [] = false
+holds_first (held ∷ others) = held
+
+-- whether the content of the current part is held
+abbrev pub holds : Visits → Bool
+holds visits = holds_first visits.held
+
+-- it is held from now on, and nothing else has changed
+abbrev pub holding : Visits → Visits
+holding visits = record visits { held = true ∷ drop 1 visits.held }
+
+-- the message and its open loops are the same
+pub record HasSameLoops (old new : Visits) : Type 0 where
+  pub mail : new.mail ≡ old.mail
+  pub frames : new.frames ≡ old.frames
+
+-- what is known of the current part, in such a list
+abbrev pub known_of : {A : Type 0} → List (Option A) → Visits → Option A
+known_of list visits = option_and_then (λ part. slice_index_or list part None) (current_part visits.frames)
+
+-- this is known of the current part from then on, and of the others what was known before
+abbrev pub Learns : {A : Type 0} → A → List (Option A) → List (Option A) → Visits → Type 0
+Learns found old new visits =
+    (part other : ℕ) → current_part visits.frames ≡ Some part → slice_index_or new other None ≡ (if other == part then Some found else slice_index_or old other None)
+
 -- a loop is open with the first of the parts; without parts none is
 abbrev pub Opens : ℕ → ℕ → List ℕ → Bool → Visits → Visits → Type 0
 Opens each next [] opened old new = (opened ≡ false) × (new ≡ old)
 Opens each next (part ∷ rest) opened old new =
-    (opened ≡ true) × (new ≡ record old { frames = record { each = each; next = next; part = part; rest = rest } ∷ old.frames })
+    (opened ≡ true) × (new ≡ record old { frames = record { each = each; next = next; part = part; rest = rest } ∷ old.frames; held = false ∷ old.held })
 
 -- a frame goes on with the first of the parts that are left; without parts it stays
 abbrev pub GoesOn : List ℕ → Bool → code.Frame → code.Frame → Type 0
@@ -50,6 +86,6 @@ GoesOn (part ∷ rest) went old new =
 
 -- the innermost loop goes on with the first of the parts that are left, after its Each; without parts it is closed
 abbrev pub Continues : Frame → List Frame → List ℕ → Option ℕ → Visits → Visits → Type 0
-Continues frame frames [] place old new = (place ≡ None) × (new ≡ record old { frames = frames })
+Continues frame frames [] place old new = (place ≡ None) × (new ≡ record old { frames = frames; held = drop 1 old.held })
 Continues frame frames (part ∷ rest) place old new =
-    (place ≡ Some frame.each) × (new ≡ record old { frames = record frame { part = part; rest = rest } ∷ frames })
+    (place ≡ Some frame.each) × (new ≡ record old { frames = record frame { part = part; rest = rest } ∷ frames; held = false ∷ drop 1 old.held })

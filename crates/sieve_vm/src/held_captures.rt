@@ -11,7 +11,7 @@ use std::marker::Model;
 
 /// The captures of the last match that has set them. A contract sees ten texts.
 ///
-/// The value that was matched is kept once, however often captures of it are pushed: what is pushed is a text of the
+/// What the match has captured is kept once, however often captures of it are pushed: what is pushed is a text of the
 /// capture's own, which is made where it is pushed first.
 #[derive(Drop)]
 pub struct HeldCaptures<'p, 'm> {

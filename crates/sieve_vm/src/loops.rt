@@ -1,5 +1,5 @@
 // The open loops, and what is known of the parts that they visit.
-ghost use Rattle.std.specs.Prelude.{◌≡◌, ◌<◌, ◌≤◌, ◌+◌, ◌-◌, ℕ, suc, List, [], ◌∷◌, Some, IfOk, OnOk, IfSome, IsNone, IsSome, length, drop, take};
+ghost use Rattle.std.specs.Prelude.{◌≡◌, ◌<◌, ◌≤◌, ◌+◌, ◌-◌, ℕ, suc, false, true, List, [], ◌∷◌, None, Some, IfOk, OnErr, OnOk, IfSome, IsNone, IsSome, length, drop, take};
 ghost use Rattle.std.specs.Cow.{IsBorrowedSlice, cow_slice_items};
 ghost use Rattle.octets.specs.Limits.{max_loops, max_parts, max_value};
 ghost use Rattle.mime_decode.specs.Content.{digest_of};
@@ -7,7 +7,7 @@ ghost use Rattle.mime_decode.specs.Mail.{Part};
 ghost use Rattle.mime_decode.specs.Scope.{numbers_from, visited};
 ghost use Rattle.sieve_vm.specs.State;
 ghost use Rattle.sieve_vm.specs.State.{current_part};
-ghost use Rattle.sieve_vm.specs.Visits.{Continues, Opens, part_in};
+ghost use Rattle.sieve_vm.specs.Visits.{Continues, HasSameLoops, Learns, Opens, holding, holds, known_of, part_in};
 
 use crate::frame::Frame;
 use crate::joining::{as_many, first};
@@ -23,7 +23,8 @@ use std::marker::Model;
 /// The most open loops.
 const MAX_LOOPS: usize = 3;
 
-/// The open loops of a run on a message. A contract sees both.
+/// The open loops of a run on a message, which of them hold the content of their current part, and what is known of the parts' contents.
+/// A contract sees all of that.
 ///
 /// A part's content is decoded where it is asked for, and kept as long as a loop stays on the part. How long it is, its digest, and
 /// the first octets of one that had to be decoded are kept for the whole run.
@@ -40,11 +41,18 @@ pub struct Loops<'s, 'm> {
 
 impl<'s, 'm> Model for Loops<'s, 'm> {
     ghost use Rattle.std.specs.Prelude.{All};
-    ghost use Rattle.sieve_vm.specs.Visits.{Visits, HasContent, IsKnown, frames_of};
+    ghost use Rattle.sieve_vm.specs.Visits.{Visits, HasContent, IsKnown, frames_of, held_in};
 
     ghost Value = { Visits };
 
-    ghost view = { λ l. record { mail = l.message.now; frames = frames_of l.frames.items } };
+    ghost view = { λ l. record {
+      mail = l.message.now;
+      frames = frames_of l.frames.items;
+      held = held_in l.frames.items;
+      lengths = l.lengths.items;
+      digests = l.digests.items;
+      beginnings = l.beginnings.items;
+    } };
 
     ghost invariant = { λ l. All (HasContent l.message.now) l.frames.items × IsKnown l.message.now l.lengths.items l.digests.items l.beginnings.items };
 }
@@ -52,7 +60,7 @@ impl<'s, 'm> Model for Loops<'s, 'm> {
 impl<'s, 'm> Loops<'s, 'm> {
     /// No loop is open on the message.
     pub fn new(alloc: Global, message: &'s Message<'m>) -> Loops<'s, 'm>
-        ensures { result ≡ record { mail = message.now; frames = [] } }
+        ensures { result ≡ record { mail = message.now; frames = []; held = []; lengths = []; digests = []; beginnings = [] } }
     {
         Loops {
             message,
@@ -126,7 +134,7 @@ impl<'s, 'm> Loops<'s, 'm> {
     pub fn close(&mut self, number: usize) -> usize
         requires some { 0 < number }
         requires there { number ≤ length self.old.frames }
-        ensures { (frame : State.Frame) (frames : List State.Frame) → drop (number - 1) self.old.frames ≡ frame ∷ frames → (result ≡ frame.next) × (self.new ≡ record self.old { frames = frames }) }
+        ensures { (frame : State.Frame) (frames : List State.Frame) → drop (number - 1) self.old.frames ≡ frame ∷ frames → (result ≡ frame.next) × (self.new ≡ record self.old { frames = frames; held = drop number self.old.held }) }
     {
         let left = self.frames.len() - number;
         let next = self.frames[left].next;
@@ -134,87 +142,116 @@ impl<'s, 'm> Loops<'s, 'm> {
         next
     }
 
-    /// The content of the current part, until it is given back.
+    /// Holds the content of the current part from now on, as long as the loop stays on it. It is decoded only where it isn't held.
     ///
-    /// An error comes only where memory was refused.
-    pub fn take_content(&mut self, alloc: Global) -> Result<CowSlice<'m, u8>, AllocError>
+    /// An error comes only where memory was refused, and none where the content is held.
+    pub fn fetch(&mut self, alloc: Global) -> Result<(), AllocError>
         requires { IsSome (part_in self.old) }
-        ensures content { IfOk result (λ content. (part : Part) → part_in self.old ≡ Some part → cow_slice_items content ≡ part.content) }
-        ensures same { OnOk result (self.new ≡ self.old) }
+        ensures held { OnOk result (self.new ≡ holding self.old) }
+        ensures refused { OnErr result ((self.new ≡ self.old) × (holds self.old ≡ false)) }
     {
-        let part = self.part();
-        let innermost = self.frames.len() - 1;
-        match self.frames[innermost].content.take() {
-            Some(content) => Ok(content),
-            None => self.message.content(alloc, part),
+        if !self.is_held() {
+            let content = self.message.content(alloc, self.part())?;
+            self.hold(content);
+        }
+        Ok(())
+    }
+
+    // Whether the content of the current part is held.
+    fn is_held(&self) -> bool
+        ensures { result ≡ holds self.now }
+    {
+        match self.frames.as_slice() {
+            [.., frame] => frame.content.is_some(),
+            [] => false,
         }
     }
 
-    /// Keeps the content of the current part, as long as the loop stays on it.
-    pub fn keep_content(&mut self, content: CowSlice<'m, u8>)
+    // Holds this content, which is that of the current part.
+    fn hold(&mut self, content: CowSlice<'m, u8>)
         requires { (part : Part) × ((part_in self.old ≡ Some part) × (cow_slice_items content ≡ part.content)) }
-        ensures { self.new ≡ self.old }
+        ensures { self.new ≡ holding self.old }
     {
         let innermost = self.frames.len() - 1;
         self.frames[innermost].content = Some(content);
     }
 
+    /// The content of the current part, which is held.
+    pub fn content(&self) -> &CowSlice<'m, u8>
+        requires part { IsSome (part_in self.now) }
+        requires held { holds self.now ≡ true }
+        ensures { (part : Part) → part_in self.now ≡ Some part → cow_slice_items result.now ≡ part.content }
+    {
+        let innermost = self.frames.len() - 1;
+        self.frames[innermost].content.as_ref().unwrap()
+    }
+
     /// The length of the current part's content.
     ///
-    /// An error comes only where memory was refused.
+    /// Where it isn't known yet, the content is held from now on. An error comes only where memory was refused, and none where the
+    /// length is known.
     pub fn length(&mut self, alloc: Global) -> Result<usize, AllocError>
         requires { IsSome (part_in self.old) }
         ensures length { IfOk result (λ found. (part : Part) → part_in self.old ≡ Some part → found ≡ length part.content) }
-        ensures same { OnOk result (self.new ≡ self.old) }
+        ensures same { OnOk result (HasSameLoops self.old self.new) }
+        ensures known { OnOk result (IsSome (known_of self.old.lengths self.old) → self.new ≡ self.old) }
+        ensures held { OnOk result (known_of self.old.lengths self.old ≡ None → self.new ≡ record (holding self.old) { lengths = self.new.lengths }) }
+        ensures kept { IfOk result (λ found. Learns found self.old.lengths self.new.lengths self.old) }
+        ensures refused { OnErr result (known_of self.old.lengths self.old ≡ None) }
     {
         let part = self.part();
         if let Some(found) = known(&self.lengths, part) {
             return Ok(found);
         }
-        let content = self.take_content(alloc)?;
-        let found = content.as_slice().len();
-        self.keep_content(content);
+        self.fetch(alloc)?;
+        let found = self.content().len();
         keep(&mut self.lengths, self.message.parts(), part, found)?;
         Ok(found)
     }
 
     /// The digest of the current part's content.
     ///
-    /// An error comes only where memory was refused.
+    /// Where it isn't known yet, the content is held from now on. An error comes only where memory was refused, and none where the
+    /// digest is known.
     pub fn digest(&mut self, alloc: Global) -> Result<[u8; 64], AllocError>
         requires { IsSome (part_in self.old) }
         ensures digest { IfOk result (λ found. (part : Part) → part_in self.old ≡ Some part → found ≡ digest_of part.content) }
-        ensures same { OnOk result (self.new ≡ self.old) }
+        ensures same { OnOk result (HasSameLoops self.old self.new) }
+        ensures known { OnOk result (IsSome (known_of self.old.digests self.old) → self.new ≡ self.old) }
+        ensures held { OnOk result (known_of self.old.digests self.old ≡ None → self.new ≡ record (holding self.old) { digests = self.new.digests }) }
+        ensures kept { IfOk result (λ found. Learns found self.old.digests self.new.digests self.old) }
+        ensures refused { OnErr result (known_of self.old.digests self.old ≡ None) }
     {
         let part = self.part();
         if let Some(found) = known(&self.digests, part) {
             return Ok(found);
         }
-        let content = self.take_content(alloc)?;
-        let found = digest_of(content.as_slice());
-        self.keep_content(content);
+        self.fetch(alloc)?;
+        let found = digest_of(self.content().as_slice());
         keep(&mut self.digests, self.message.parts(), part, found)?;
         Ok(found)
     }
 
     /// A copy of the first octets of the current part's content: so many, or all where there are fewer.
     ///
-    /// A content that has to be decoded is so once in a run. An error comes only where memory was refused.
+    /// A content that has to be decoded is so once in a run. Where its first octets aren't known yet, it is held from now on. An error
+    /// comes only where memory was refused.
     pub fn beginning(&mut self, alloc: Global, most: usize) -> Result<Vec<u8>, AllocError>
         requires part { IsSome (part_in self.old) }
         requires few { most ≤ max_value }
         ensures octets { IfOk result (λ octets. (part : Part) → part_in self.old ≡ Some part → octets.items ≡ take most part.content) }
-        ensures same { OnOk result (self.new ≡ self.old) }
+        ensures same { OnOk result (HasSameLoops self.old self.new) }
+        ensures known { OnOk result (IsSome (known_of self.old.beginnings self.old) → self.new ≡ self.old) }
+        ensures held { OnOk result (known_of self.old.beginnings self.old ≡ None → self.new ≡ record (holding self.old) { beginnings = self.new.beginnings }) }
     {
         let part = self.part();
         if let Some(found) = octets_known(&self.beginnings, part) {
             return Vec::from_slice(alloc, as_many(found, most));
         }
-        let content = self.take_content(alloc)?;
+        self.fetch(alloc)?;
+        let content = self.content();
         let octets = Vec::from_slice(alloc, as_many(content.as_slice(), most))?;
-        let decoded = decoded_beginning(alloc, &content)?;
-        self.keep_content(content);
-        if let Some(found) = decoded {
+        if let Some(found) = decoded_beginning(alloc, content)? {
             keep(&mut self.beginnings, self.message.parts(), part, found)?;
         }
         Ok(octets)

@@ -172,7 +172,8 @@ impl<'p, 's, 'm> Machine<'p, 's, 'm> {
     /// Puts a truth value on top of the stack.
     #[inline(always)]
     pub fn push(&mut self, value: bool) -> Result<Done, AllocError>
-        ensures { IfOk result (λ done. (done ≡ once Flow.On) × ((mail : Mail) (s : State) → StandsFor mail s self.old → StandsFor mail (record s { stack = truth value ∷ s.stack }) self.new)) }
+        ensures done { IfOk result (λ done. (done ≡ once Flow.On) × ((mail : Mail) (s : State) → StandsFor mail s self.old → StandsFor mail (record s { stack = truth value ∷ s.stack }) self.new)) }
+        ensures loops { self.new.loops ≡ self.old.loops }
     {
         self.work.push(Entry::Truth(value))?;
         Ok(once(Flow::On))

@@ -12,7 +12,7 @@ use mime_decode::Message;
 use std::alloc::{AllocError, Global};
 
 impl<'p, 's, 'm> Machine<'p, 's, 'm> {
-    ghost use Rattle.std.specs.Prelude.{◌≡◌, ◌<◌, ◌≤◌, ◌-◌, ◌∷◌, Some, IfOk, IfSome, IsSome, length, is_some};
+    ghost use Rattle.std.specs.Prelude.{◌≡◌, ◌<◌, ◌≤◌, ◌-◌, ◌∷◌, Some, IfOk, IfSome, IsSome, OnOk, length, is_some};
     ghost use Rattle.octets.specs.Limits.{max_message};
     ghost use Rattle.mail_matching.specs.FirstMatch.{first_match};
     ghost use Rattle.std.specs.Option.{unwrap_or};
@@ -21,7 +21,7 @@ impl<'p, 's, 'm> Machine<'p, 's, 'm> {
     ghost use Rattle.mail_matching.specs.PartTests.{body_cost, body_match, digest_cost, digest_match};
     ghost use Rattle.bytecode_verifier.specs.Rows.{keys_in, params_in};
     ghost use Rattle.sieve_vm.specs.MatchNumbers.{match_numbered, scope_numbered};
-    ghost use Rattle.sieve_vm.specs.Visits.{part_in};
+    ghost use Rattle.sieve_vm.specs.Visits.{holding, part_in};
     ghost use Rattle.mail_matching.specs.Outcomes.{after};
     ghost use Rattle.mail_matching.specs.Texts.{AreTexts};
     ghost use Rattle.sieve_vm.specs.State.{State, truth, current_part};
@@ -125,7 +125,7 @@ impl<'p, 's, 'm> Machine<'p, 's, 'm> {
         self.push(compares(instruction, number, length as u64))
     }
 
-    /// Takes keys, and pushes whether the current part's content matches one.
+    /// Takes keys, and pushes whether the current part's content matches one. The loop holds the content from then on.
     pub fn part_body(
         &mut self,
         alloc: Global,
@@ -133,18 +133,19 @@ impl<'p, 's, 'm> Machine<'p, 's, 'm> {
     ) -> Result<Done, AllocError>
         requires part { (part : Part) × ((part_in self.old.loops ≡ Some part) × (length part.content ≤ max_message)) }
         requires top { (mail : Mail) × ((s : State) × ((top : OnTop) × (StandsFor mail s self.old × (texts_on_top instruction.now.c s.stack ≡ Some top) × AreTexts top.texts))) }
-        ensures { IfOk result (λ done. (mail : Mail) (s : State) (top : OnTop) (part : Part) → StandsFor mail s self.old → texts_on_top instruction.now.c s.stack ≡ Some top → part_in self.old.loops ≡ Some part
+        ensures done { IfOk result (λ done. (mail : Mail) (s : State) (top : OnTop) (part : Part) → StandsFor mail s self.old → texts_on_top instruction.now.c s.stack ≡ Some top → part_in self.old.loops ≡ Some part
             → (done ≡ record { flow = Flow.On; cost = body_cost part top.texts })
             × StandsFor mail (record s {
               stack = truth (is_some (body_match (match_numbered instruction.now.a) part top.texts s.captures)) ∷ top.below;
               captures = unwrap_or (body_match (match_numbered instruction.now.a) part top.texts s.captures) s.captures;
             }) self.new) }
+        ensures held { OnOk result (self.new.loops ≡ holding self.old.loops) }
     {
         let number = instruction.c as usize;
-        let content = self.loops.take_content(alloc)?;
+        self.loops.fetch(alloc)?;
+        let content = self.loops.content();
         let keys = self.work.texts(number);
-        let answer = body(alloc, &content, &keys, match_numbered(instruction.a))?;
-        self.loops.keep_content(content);
+        let answer = body(alloc, content, &keys, match_numbered(instruction.a))?;
         self.work.drop_texts(number);
         self.settle(answer)
     }
@@ -169,11 +170,12 @@ impl<'p, 's, 'm> Machine<'p, 's, 'm> {
 
     /// Keeps the captures that a test has set, and pushes whether it has matched.
     pub fn settle(&mut self, answer: Answer<'m>) -> Result<Done, AllocError>
-        ensures { IfOk result (λ done. (done ≡ record { flow = Flow.On; cost = answer.entry.cost })
+        ensures done { IfOk result (λ done. (done ≡ record { flow = Flow.On; cost = answer.entry.cost })
             × ((mail : Mail) (s : State) → StandsFor mail s self.old → StandsFor mail (record s {
               stack = truth (is_some (after answer.entry.outcome s.captures)) ∷ s.stack;
               captures = unwrap_or (after answer.entry.outcome s.captures) s.captures;
             }) self.new)) }
+        ensures loops { self.new.loops ≡ self.old.loops }
     {
         let matched = self.work.settle(answer.outcome);
         self.push(matched)?;

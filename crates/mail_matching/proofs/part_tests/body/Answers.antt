@@ -1,9 +1,8 @@
 use Rattle.std.proofs.Common.{◌+◌, ◌*◌, ◌∙◌, [], length, ap, sym}
+use Rattle.std.proofs.lemmas.Bool.{false≢true}
 use Rattle.std.specs.Cow.{cow_slice_items}
-use Rattle.glob_match.specs.Captures.{texts}
-use Rattle.mail_matching.specs.FirstMatch.{first_key}
 use Rattle.mail_matching.proofs.Extents.{value_cost}
-use Rattle.mail_matching.proofs.Keeping.{keeps_first, sets_none}
+use Rattle.mail_matching.proofs.Keeping.{keeps_first}
 use Rattle.mail_matching.proofs.part_tests.body.Goals as goal
 
 pub returns-clause-cost : goal.returns-clause-cost
@@ -13,8 +12,8 @@ returns-clause-cost g c =
     ∙ ap (λ n. (length (cow_slice_items c.args.content.now) + 1) * n) c.extent_of.ensures
     ∙ sym (value_cost (cow_slice_items c.args.content.now) (g.K.Texts.texts c.args.keys.now))
 
-pub returns-in_err-lent_or_copied-in-Sets-clause-told : goal.returns-in_err-lent_or_copied-in-Sets-clause-told
-returns-in_err-lent_or_copied-in-Sets-clause-told g c = λ keeps.
+pub returns-in_err-first_key-clause-told : goal.returns-in_err-first_key-clause-told
+returns-in_err-first_key-clause-told g c = λ keeps.
     let value = cow_slice_items c.args.content.now in
     let keys = g.K.Texts.texts c.args.keys.now in
-    absurd (sets_none (first_key c.args.how value keys) (texts value c.in-Sets.stretches) (keeps_first c.args.how value [] keys keeps) (rw c.as_slice.ensures.value at c.in-Sets.ensures))
+    absurd (false≢true (c.in_err-first_key.ensures.told (keeps_first c.args.how value [] keys keeps)))

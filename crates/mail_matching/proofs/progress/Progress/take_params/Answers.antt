@@ -37,4 +37,4 @@ loop-place-preserved g c =
     let params = params_of (reading_of c.args.field.now) in
     let lt : c.loop-place.place < length names = omega (arith, c.loop-place-test.true, c.count-place-end.ensures) in
     goes_on_more how keys (λ name. given (value_named name params)) names c.loop-place.place c.text-name.result.now [] c.args.self.now c.loop-place.self c.take_param.new.self lt c.text-name.ensures c.loop-place.invariant
-    (subst (λ o. GoesOn how (given o) keys c.loop-place.self c.take_param.new.self) c.in_ok-param.ensures c.take_param.ensures)
+    (subst (λ o. GoesOn how (given o) keys c.loop-place.self c.take_param.new.self) c.in_ok-param.ensures c.in_ok-take_param.ensures)

@@ -42,7 +42,7 @@ set-requires-clause-top c =
 
 pub returns-in-Bool : goal.returns-in-Bool
 returns-in-Bool c =
-    rw c.in-Bool.is (IfOk-weaker c.push.result _ _ (λ done h s at. had_bool c.args.program.now c.args.message.now c.requires.accepted c.requires.mail c.args.self.now s at c.args.instruction.now c.requires.here (c.requires.named ∙ ap (λ o. Some o) c.in-Bool.is) done c.push.new.self (h.0, h.1 c.args.message.now)) c.push.ensures)
+    rw c.in-Bool.is (IfOk-weaker c.push.result _ _ (λ done h s at. had_bool c.args.program.now c.args.message.now c.requires.accepted c.requires.mail c.args.self.now s at c.args.instruction.now c.requires.here (c.requires.named ∙ ap (λ o. Some o) c.in-Bool.is) done c.push.new.self (h.0, h.1 c.args.message.now)) c.push.ensures.done)
 
 pub returns-in-Literal : goal.returns-in-Literal
 returns-in-Literal c =
@@ -54,7 +54,7 @@ returns-in-Literal c =
 
 pub returns-in-Not : goal.returns-in-Not
 returns-in-Not c =
-    rw c.in-Not.is (IfOk-weaker c.push-in-Not.result _ _ (λ done h s at. had_not c.args.program.now c.args.message.now c.requires.accepted c.requires.mail c.args.self.now s at c.args.instruction.now c.requires.here (c.requires.named ∙ ap (λ o. Some o) c.in-Not.is) c.take-value.result c.take-value.new.self done c.push-in-Not.new.self (c.take-value.ensures c.args.message.now) (h.0, h.1 c.args.message.now)) c.push-in-Not.ensures)
+    rw c.in-Not.is (IfOk-weaker c.push-in-Not.result _ _ (λ done h s at. had_not c.args.program.now c.args.message.now c.requires.accepted c.requires.mail c.args.self.now s at c.args.instruction.now c.requires.here (c.requires.named ∙ ap (λ o. Some o) c.in-Not.is) c.take-value.result c.take-value.new.self done c.push-in-Not.new.self (c.take-value.ensures c.args.message.now) (h.0, h.1 c.args.message.now)) c.push-in-Not.ensures.done)
 
 pub returns-in-JumpIfTrue : goal.returns-in-JumpIfTrue
 returns-in-JumpIfTrue c = λ s at.
@@ -68,7 +68,7 @@ pub returns-in-Size : goal.returns-in-Size
 returns-in-Size c =
     let answer : c.compares.result ≡ compares c.args.instruction.now (get_or c.args.program.now.numbers c.args.instruction.now.c 0) _ =
     c.compares.ensures ∙ ap (λ xs. compares c.args.instruction.now (get_or xs c.args.instruction.now.c 0) c.size.result) c.numbers.ensures.value ∙ ap (compares c.args.instruction.now (get_or c.args.program.now.numbers c.args.instruction.now.c 0)) c.size.ensures.value in
-    rw c.in-Size.is (IfOk-weaker c.push-in-Size.result _ _ (λ done h s at. had_size c.args.program.now c.args.message.now c.requires.accepted c.requires.mail c.args.self.now s at c.args.instruction.now c.requires.here (c.requires.named ∙ ap (λ o. Some o) c.in-Size.is) c.compares.result done c.push-in-Size.new.self answer (h.0, h.1 c.args.message.now)) c.push-in-Size.ensures)
+    rw c.in-Size.is (IfOk-weaker c.push-in-Size.result _ _ (λ done h s at. had_size c.args.program.now c.args.message.now c.requires.accepted c.requires.mail c.args.self.now s at c.args.instruction.now c.requires.here (c.requires.named ∙ ap (λ o. Some o) c.in-Size.is) c.compares.result done c.push-in-Size.new.self answer (h.0, h.1 c.args.message.now)) c.push-in-Size.ensures.done)
 
 pub returns-in-PartSize : goal.returns-in-PartSize
 returns-in-PartSize c =
@@ -102,7 +102,7 @@ returns-in-Header c =
 
 pub returns-in-PartBody : goal.returns-in-PartBody
 returns-in-PartBody c =
-    rw c.in-PartBody.is (IfOk-weaker c.part_body.result _ _ (λ done h s at. had_part_body c.args.program.now c.args.message.now c.requires.accepted c.requires.mail c.args.self.now s at c.args.instruction.now c.requires.here (c.requires.named ∙ ap (λ o. Some o) c.in-PartBody.is) done c.part_body.new.self (h c.args.message.now)) c.part_body.ensures)
+    rw c.in-PartBody.is (IfOk-weaker c.part_body.result _ _ (λ done h s at. had_part_body c.args.program.now c.args.message.now c.requires.accepted c.requires.mail c.args.self.now s at c.args.instruction.now c.requires.here (c.requires.named ∙ ap (λ o. Some o) c.in-PartBody.is) done c.part_body.new.self (h c.args.message.now)) c.part_body.ensures.done)
 
 pub returns-in-PartDigest : goal.returns-in-PartDigest
 returns-in-PartDigest c =

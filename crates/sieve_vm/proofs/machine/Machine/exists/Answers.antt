@@ -24,5 +24,5 @@ returns c = λ s top stands e.
     let spent : c.exists-found.result.1 ≡ exists_cost (scope_numbered a) (current_part s.frames) top.texts mail = c.exists-found.ensures.cost ∙ counted (λ x y z. exists_cost x y z mail) in
     let left = holds_now mail s c.args.self.now stands c.drop_texts.new.self (λ (h : Held). record h { stack = top.below }) (c.drop_texts.ensures top there) in (
       ap charged_at spent,
-      subst (λ (b : Bool). StandsFor mail (record s { stack = truth b ∷ top.below }) c.push.new.self) right (c.in_ok-push.ensures.1 mail (record s { stack = top.below }) left),
+      subst (λ (b : Bool). StandsFor mail (record s { stack = truth b ∷ top.below }) c.push.new.self) right (c.in_ok-push.ensures.done.1 mail (record s { stack = top.below }) left),
     )

@@ -48,4 +48,4 @@ returns c =
     ∙ ap (λ ts. header_cost (scope_numbered (scope_in i.a)) (current_part s.frames) (selector_numbered (selector_in i.a) top.params) top.names ts mail) keys in
     settled mail s c.args.self.now stands top.below c.drop_lists.new.self answer.outcome answer.cost (cost_of_matching i.a (current_part s.frames) mail top) (found_in mail i.a top s) done c.settle.new.self
     (c.drop_lists.ensures top there) right spent h)
-    c.settle.ensures
+    c.settle.ensures.done

@@ -7,34 +7,29 @@ use Rattle.mail_matching.specs.Outcomes.{after}
 use Rattle.mail_matching.specs.PartTests.{body_cost, body_match}
 use Rattle.sieve_vm.specs.declared.machine.Machine.{Machine}
 use Rattle.sieve_vm.specs.Standing.{texts_of}
-use Rattle.sieve_vm.specs.Visits.{part_in}
+use Rattle.sieve_vm.specs.Visits.{Visits, part_in}
 use Rattle.sieve_vm.specs.MatchNumbers.{match_numbered}
 use Rattle.sieve_vm.proofs.Tests.{texts_there, same_loops, settled}
 use Rattle.sieve_vm.proofs.machine.Machine.part_body.Goals as goal
 
-pub keep_content-requires : goal.keep_content-requires
-keep_content-requires c =
-    let part = c.requires.part.0 in
-    let at = c.requires.part.1.0 in
-    (part, (ap part_in c.in_ok-content.ensures.same ∙ at, c.in_ok-content.ensures.content part at))
-
-pub returns : goal.returns
-returns c =
+pub returns-clause-done : goal.returns-clause-done
+returns-clause-done c =
     IfOk-weaker c.settle.result _ _
     (λ done h mail s top part stands e at.
     let i = c.args.instruction.now in
-    let m : Machine = record c.args.self.now { loops = c.keep_content.new.self } in
-    let stands_now = same_loops mail s c.args.self.now stands c.keep_content.new.self (c.keep_content.ensures ∙ c.in_ok-content.ensures.same) in
+    let m : Machine = record c.args.self.now { loops = c.fetch.new.self } in
+    let loops = c.in_ok-fetch.ensures.held in
+    let stands_now = same_loops mail s c.args.self.now stands c.fetch.new.self (record { mail = ap (λ (v : Visits). v.mail) loops; frames = ap (λ (v : Visits). v.frames) loops }) in
     let there = texts_there mail s c.args.self.now stands i.c top e in
     let keys = c.texts-keys.ensures top there in
-    let content = c.in_ok-content.ensures.content part at in
+    let content = c.content-content.ensures part (ap part_in loops ∙ at) in
     let answer = c.in_ok-answer.answer in
     let how = c.match_numbered.ensures in
-    let value : List ℕ = cow_slice_items c.in_ok-content.content in
+    let value : List ℕ = cow_slice_items c.content-content.result.now in
     let second : List (List ℕ) = texts_of c.texts-keys.result in
     let right : after answer.outcome s.captures ≡ body_match (match_numbered i.a) part top.texts s.captures =
     c.in_ok-answer.ensures.outcome s.captures ∙ ap (λ m. first_match m (value ∷ []) second s.captures) how ∙ ap (λ v. first_match (match_numbered i.a) (v ∷ []) second s.captures) content ∙ ap (λ ts. first_match (match_numbered i.a) (part.content ∷ []) ts s.captures) keys in
     let spent : answer.cost ≡ body_cost part top.texts = c.in_ok-answer.ensures.cost ∙ ap (λ v. values_cost (v ∷ []) second) content ∙ ap (λ ts. values_cost (part.content ∷ []) ts) keys in
     settled mail s m stands_now top.below c.drop_texts.new.self answer.outcome answer.cost (body_cost part top.texts) (body_match (match_numbered i.a) part top.texts s.captures) done c.settle.new.self
     (c.drop_texts.ensures top there) right spent h)
-    c.settle.ensures
+    c.settle.ensures.done

@@ -26,4 +26,4 @@ returns c =
     let spent : answer.cost ≡ digest_cost part top.texts = c.digest-answer.ensures.cost ∙ ap (λ v. values_cost (v ∷ []) second) found ∙ ap (λ ts. values_cost (digest_of part.content ∷ []) ts) keys in
     settled mail s m stands_now top.below c.drop_texts.new.self answer.outcome answer.cost (digest_cost part top.texts) (digest_match part top.texts s.captures) done c.settle.new.self
     (c.drop_texts.ensures top there) right spent h)
-    c.settle.ensures
+    c.settle.ensures.done

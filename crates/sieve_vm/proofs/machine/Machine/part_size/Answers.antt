@@ -15,4 +15,4 @@ returns c =
       h.0,
       subst (λ (b : Bool). StandsFor mail (record s { stack = truth b ∷ s.stack }) c.push.new.self) told (h.1 mail s (same_loops mail s c.args.self.now stands c.length.new.self c.in_ok-length.ensures.same)),
     ))
-    c.push.ensures
+    c.push.ensures.done

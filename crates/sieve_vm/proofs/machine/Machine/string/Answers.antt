@@ -30,4 +30,4 @@ returns c =
     let spent : answer.cost ≡ cost_of_comparing top = c.in_ok-answer.ensures.cost ∙ ap (λ ts. values_cost ts second) sources ∙ ap (λ ts. values_cost top.names ts) keys in
     settled mail s c.args.self.now stands top.below c.drop_lists.new.self answer.outcome answer.cost (cost_of_comparing top) (first_match (match_numbered i.a) top.names top.keys s.captures) done c.settle.new.self
     (c.drop_lists.ensures top there) right spent h)
-    c.settle.ensures
+    c.settle.ensures.done
