@@ -11,3 +11,4 @@ mod Short
 mod Faultless
 mod Lines
 mod Resolving
+mod Worded
