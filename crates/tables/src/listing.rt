@@ -35,7 +35,13 @@ pub fn program(alloc: Global, code: &[u8], strings: &[Vec<u8>]) -> Result<Progra
     }
     let numbers = listed.numbers().to_vec(alloc)?;
     let instructions = listed.instructions().to_vec(alloc)?;
-    Ok(Program::build(listed.version(), listed.variables(), numbers, table, instructions)?)
+    Ok(Program::build(
+        listed.version(),
+        listed.variables(),
+        numbers,
+        table,
+        instructions,
+    )?)
 }
 
 // Adds a number to a listing, after a word.

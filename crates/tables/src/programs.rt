@@ -178,9 +178,11 @@ fn put_built(
     halts: &[u8],
     answer: &mut Printed,
 ) -> Result<bool, Refusal> {
-    let (Some(version), Some(variables), Some(halts)) =
-        (octet_of(version), short_of(variables), number_of(halts))
-    else {
+    let (Some(version), Some(variables), Some(halts)) = (
+        octet_of(version),
+        short_of(variables),
+        number_of(halts),
+    ) else {
         return Ok(false);
     };
     let halt = Instruction {
@@ -190,8 +192,13 @@ fn put_built(
         c: 0,
     };
     let instructions = vec![in alloc; halt; halts]?;
-    let program =
-        Program::build(version, variables, Vec::new(alloc), Vec::new(alloc), instructions)?;
+    let program = Program::build(
+        version,
+        variables,
+        Vec::new(alloc),
+        Vec::new(alloc),
+        instructions,
+    )?;
     answer.text(&program.write(alloc)?)?;
     Ok(true)
 }
