@@ -12,3 +12,4 @@ mod Faultless
 mod Lines
 mod Resolving
 mod Worded
+mod Spoken
