@@ -114,6 +114,63 @@ Listings by hand.
     keep
     charged 25 of 29
 
+## tests in words
+    $ cat > listing << 'END'
+    > version 2 variables 0
+    >     LIT c "Content-Type" LIT c "name" LIT c ".exe"
+    >     HEADER a contains below param b 1 c 1 params 1 keys
+    >     JF c end
+    >     KEEP
+    > label end HALT
+    > END
+    $ depot assemble listing out
+    wrote 97 octets
+    $ depot disassemble out
+    version 2
+    variables 0
+    string "Content-Type"
+    string "name"
+    string ".exe"
+    0 LIT ; "Content-Type"
+    1 LIT c 1 ; "name"
+    2 LIT c 2 ; ".exe"
+    3 HEADER a 145 b 1 c 65537 ; a contains casemap below param c 1 params 1 keys
+    4 JF c 6 ; to 6
+    5 KEEP
+    6 HALT
+    ; A0=7 B0=18 A1=0 B1=0 A2=0 B2=0 A3=0 B3=0 by chains
+
+## the examples that no script says
+    $ depot assemble examples/ladder.listing out
+    wrote 188 octets
+    $ depot verify out
+    A0=28 B0=32 A1=0 B1=0 A2=0 B2=0 A3=0 B3=0 by chains
+    $ depot run out examples/ticket.eml
+    fileinto "Tickets"
+    fileinto "Office"
+    keep
+    charged 223 of 117756
+    $ depot run out examples/forwarded.eml
+    fileinto "Office"
+    keep
+    charged 741 of 84540
+    $ depot run out examples/newsletter.eml
+    keep
+    charged 999 of 2139772
+    $ depot assemble examples/twice.listing out
+    wrote 102 octets
+    $ depot verify out
+    A0=2 B0=0 A1=16785486 B1=0 A2=0 B2=0 A3=0 B3=0 by chains
+    $ printf 'Content-Type: multipart/mixed; boundary=b\n\n' > message
+    $ printf -- '--b\n\nabc\n--b\n\nabc\n--b\n\nabd\n--b--\n' >> message
+    $ depot run out message
+    store "Twice" 2
+    keep
+    charged 277 of 67141946
+    $ depot run out examples/forwarded.eml
+    keep
+    charged 11843 of 67141946
+
 ## targets that lead back are assembled, and refused by the verifier
     $ printf 'version 1 variables 0 label again KEEP JMP c again HALT' > listing
     $ depot assemble listing out
@@ -136,6 +193,15 @@ Faults of listings.
     DISCRAD ; a typing error
     ^
     2> refused 28 Listing at 27
+    [1]
+
+## a word that says nothing of a test
+    $ printf 'version 1\nvariables 0\nHEADER a contain b 1 c 1\nHALT\n' > listing
+    $ depot assemble listing out
+    listing:3:10: error: `contain` can't stand here: after version and variables stand numbers, strings, and then instructions with their fields; a label stands once, and a name is that of a label
+    HEADER a contain b 1 c 1
+             ^
+    2> refused 28 Listing at 31
     [1]
 
 ## a label that is there twice

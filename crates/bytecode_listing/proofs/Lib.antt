@@ -11,3 +11,5 @@ mod Short
 mod Faultless
 mod Lines
 mod Resolving
+mod Worded
+mod Spoken

@@ -1,12 +1,13 @@
 -- Lines and lists of lines, read as they were written.
 use Rattle.std.proofs.Common.{◌≡◌, ℕ, suc, ◌+◌, ◌-◌, ◌^◌, ◌<◌, ◌≤◌, ◌==◌, ◌&&◌, ◌||◌, Bool, true, false, if◌then◌else◌, List, [], ◌∷◌, ◌++◌, length, All, Option, Some, None, Result, Ok, Err, refl, sym, ap, subst, ◌∙◌, append_assoc, arith, eqb-true, codes}
-use Rattle.std.specs.Prelude.{bytes_eq, is_ok, is_some, unwrap_or}
+use Rattle.std.specs.Prelude.{bytes_eq, is_ok, is_some, nat_le, unwrap_or}
 use Rattle.std.specs.List.{flat_map, AllByRecursion}
 use Rattle.std.specs.Fmt.{decimal}
 use Rattle.std.specs.Char.{is_ascii_digit}
 use Rattle.std.proofs.lemmas.Bool.Decides.{nat_tests}
 use Rattle.std.proofs.lemmas.List.Elements.{recursion_from_All}
 use Rattle.bytecode_format.specs.Code.{Code}
+use Rattle.bytecode_format.specs.Operations.{operation_of}
 use Rattle.bytecode_format.specs.Spelling.{Fits, IsProgram}
 use Rattle.bytecode_format.specs.declared.instruction.Instruction.{Instruction}
 use Rattle.bytecode_listing.specs.Listing.{line, quoted, operation_text, field_text, fields_text, instruction_text, comment, meant, instruction_line, instruction_lines, number_line, string_line, listing_of, AreOctets}
@@ -17,7 +18,7 @@ use Rattle.bytecode_listing.specs.declared.drafts.Target.TheVariants.{Number, Na
 use Rattle.bytecode_listing.specs.declared.drafts.Draft.{Draft}
 use Rattle.bytecode_listing.specs.declared.drafts.Line.{Line}
 use Rattle.bytecode_listing.specs.declared.drafts.Line.TheVariants.{Label, Step}
-use Rattle.bytecode_listing.specs.Items.{Tokens, Drafted, code_from, is_word, is_left, word_at, text_at, begins_with, begins_number, left_at, keyword_at, number_at, operation_at, field_number, field_at, Fields, round_at, fields_at, name_at, target_at, target_field, c_at, place_at, draft_at, label_at, line_at, number_item, string_item, onto, many_at, all_at, items_at, said_by, Lists}
+use Rattle.bytecode_listing.specs.Items.{Tokens, Drafted, code_from, is_word, is_left, word_at, text_at, begins_with, begins_number, left_at, keyword_at, number_at, operation_at, field_number, field_at, Fields, round_at, fields_at, words_at, a_value, a_field, a_at, keys_after, counts_at, counted_at, name_at, target_at, target_field, c_at, place_at, draft_at, label_at, line_at, number_item, string_item, onto, many_at, all_at, items_at, said_by, Lists}
 use Rattle.bytecode_listing.proofs.Lexing.{after_white}
 use Rattle.bytecode_listing.proofs.Loop.{IsItem, from_place, unrolled, stops}
 use Rattle.bytecode_listing.proofs.Shorter.{line_leaves, number_item_leaves, string_item_leaves}
@@ -71,6 +72,36 @@ field_reads name highest n rest w within small s other = by_zero (n == 0)
         (word_then name 32 (decimal n ++ rest) w refl refl)
         (word_reads (decimal n) rest (number_word n (omega arith)) s)
 
+a_skipped : (op : ℕ) (read : Option ℕ) (tokens : Tokens) → begins_with (codes "a") tokens ≡ false → a_at op read tokens ≡ Ok (read, tokens)
+unfolding a_at
+a_skipped op read tokens h =
+    ap (λ b. let r : Result (Option ℕ × Tokens) ℕ = if b then (if is_some read then Err (left_at tokens) else (a_field op tokens >>= λ n. Ok (Some n.0, n.1))) else Ok (read, tokens) in r) h
+
+a_found : (op n : ℕ) (tokens named rest : Tokens) → n ≤ 255 → word_at tokens ≡ Ok (codes "a", named) → word_at named ≡ Ok (decimal n, rest) → a_at op None tokens ≡ Ok (Some n, rest)
+unfolding a_at a_field a_value
+a_found op n tokens named rest within first second =
+    let some : ℕ × Tokens → Result (Option ℕ × Tokens) ℕ = λ n. Ok (Some n.0, n.1) in
+    let here : begins_with (codes "a") tokens ≡ true = ap (is_word (codes "a")) first ∙ same_word (codes "a") in
+    let begun : begins_number (word_at named) ≡ true = ap begins_number second ∙ number_begins n rest (omega arith) in
+    let read : a_value op named ≡ Ok (n, rest) =
+    ap (λ b. let r : Result (ℕ × Tokens) ℕ = if b then number_at 0 255 named else words_at (operation_of op) named in r) begun
+    ∙ number_reads 0 255 n named rest (omega arith) within (omega arith) second in
+    ap (λ b. let r : Result (Option ℕ × Tokens) ℕ = if b then (a_field op tokens >>= some) else Ok (None, tokens) in r) here
+    ∙ ap (λ r. r >>= (λ rest. a_value op rest) >>= some) (keyword_reads (codes "a") tokens named first)
+    ∙ ap (λ r. r >>= some) read
+
+a_reads : (op n : ℕ) (rest : List ℕ) → n ≤ 255 → Stops rest → begins_with (codes "a") (tokens_of rest) ≡ false
+    → a_at op None (tokens_of (field_text (codes "a") n ++ rest)) ≡ Ok (given n, tokens_of rest)
+a_reads op n rest within s other = by_zero (n == 0)
+  where
+    by_zero : (b : Bool) → a_at op None (tokens_of ((if b then [] else codes " " ++ codes "a" ++ codes " " ++ decimal n) ++ rest)) ≡ Ok ((if b then None else Some n), tokens_of rest)
+    by_zero true = a_skipped op None (tokens_of rest) other
+    by_zero false =
+        ap (a_at op None) (field_tokens (codes "a") n rest)
+        ∙ a_found op n (tokens_of (codes "a" ++ 32 ∷ (decimal n ++ rest))) (tokens_of (decimal n ++ rest)) (tokens_of rest) within
+        (word_then (codes "a") 32 (decimal n ++ rest) (record { some = omega arith; octets = refl }) refl refl)
+        (word_reads (decimal n) rest (number_word n (omega arith)) s)
+
 abbrev given_c : ℕ → Option Target
 given_c n = if n == 0 then None else Some (Number n)
 
@@ -86,29 +117,45 @@ unfolding c_at
 c_skipped read tokens h =
     ap (λ b. let r : Result (Option Target × Tokens) ℕ = if b then (if is_some read then Err (left_at tokens) else (target_field tokens >>= λ c. Ok (Some c.0, c.1))) else Ok (read, tokens) in r) h
 
-c_found : (n : ℕ) (tokens named rest : Tokens) → n ≤ 4294967295 → word_at tokens ≡ Ok (codes "c", named) → word_at named ≡ Ok (decimal n, rest) → c_at None tokens ≡ Ok (Some (Number n), rest)
+-- no word of counts
+pub record IsNoCount (tokens : Tokens) : Type 0 where
+  pub params : begins_with (codes "params") tokens ≡ false
+  pub keys : begins_with (codes "keys") tokens ≡ false
+
+counts_skipped : (n : ℕ) (tokens : Tokens) → IsNoCount tokens → counts_at n tokens ≡ Ok (n, tokens)
+unfolding counts_at
+counts_skipped n tokens none =
+    ap (λ b. let r : Result (ℕ × Tokens) ℕ = if b && nat_le n 65535 then keys_after n tokens else if begins_with (codes "keys") tokens then (keyword_at (codes "keys") tokens >>= λ rest. Ok (n, rest)) else Ok (n, tokens) in r) none.params
+    ∙ ap (λ b. let r : Result (ℕ × Tokens) ℕ = if b then (keyword_at (codes "keys") tokens >>= λ rest. Ok (n, rest)) else Ok (n, tokens) in r) none.keys
+
+counted_reads : (n : ℕ) (tokens rest : Tokens) → n ≤ 4294967295 → IsNoCount rest → word_at tokens ≡ Ok (decimal n, rest) → counted_at tokens ≡ Ok (n, rest)
+unfolding counted_at
+counted_reads n tokens rest within none second =
+    ap (λ r. r >>= λ n. counts_at n.0 n.1) (number_reads 0 4294967295 n tokens rest (omega arith) within (omega arith) second) ∙ counts_skipped n rest none
+
+c_found : (n : ℕ) (tokens named rest : Tokens) → n ≤ 4294967295 → IsNoCount rest → word_at tokens ≡ Ok (codes "c", named) → word_at named ≡ Ok (decimal n, rest) → c_at None tokens ≡ Ok (Some (Number n), rest)
 unfolding c_at target_field target_at
-c_found n tokens named rest within first second =
+c_found n tokens named rest within none first second =
     let number : ℕ × Tokens → Result (Target × Tokens) ℕ = λ n. Ok (Number n.0, n.1) in
     let some : Target × Tokens → Result (Option Target × Tokens) ℕ = λ c. Ok (Some c.0, c.1) in
     let here : begins_with (codes "c") tokens ≡ true = ap (is_word (codes "c")) first ∙ same_word (codes "c") in
     let begun : begins_number (word_at named) ≡ true = ap begins_number second ∙ number_begins n rest (omega arith) in
     let read : target_at named ≡ Ok (Number n, rest) =
-    ap (λ b. let r : Result (Target × Tokens) ℕ = if b then (number_at 0 4294967295 named >>= number) else if is_ok (word_at named) then (name_at named >>= λ name. Ok (Name name.0 (left_at named), name.1)) else (text_at named >>= λ text. Ok (Quoted text.0 (left_at named), text.1)) in r) begun
-    ∙ ap (λ r. r >>= number) (number_reads 0 4294967295 n named rest (omega arith) within (omega arith) second) in
+    ap (λ b. let r : Result (Target × Tokens) ℕ = if b then (counted_at named >>= number) else if is_ok (word_at named) then (name_at named >>= λ name. Ok (Name name.0 (left_at named), name.1)) else (text_at named >>= λ text. Ok (Quoted text.0 (left_at named), text.1)) in r) begun
+    ∙ ap (λ r. r >>= number) (counted_reads n named rest within none second) in
     ap (λ b. let r : Result (Option Target × Tokens) ℕ = if b then (target_field tokens >>= some) else Ok (None, tokens) in r) here
     ∙ ap (λ r. r >>= target_at >>= some) (keyword_reads (codes "c") tokens named first)
     ∙ ap (λ r. r >>= some) read
 
-c_reads : (n : ℕ) (rest : List ℕ) → n ≤ 4294967295 → Stops rest → begins_with (codes "c") (tokens_of rest) ≡ false
+c_reads : (n : ℕ) (rest : List ℕ) → n ≤ 4294967295 → Stops rest → IsNoCount (tokens_of rest) → begins_with (codes "c") (tokens_of rest) ≡ false
     → c_at None (tokens_of (field_text (codes "c") n ++ rest)) ≡ Ok (given_c n, tokens_of rest)
-c_reads n rest within s other = by_zero (n == 0)
+c_reads n rest within s none other = by_zero (n == 0)
   where
     by_zero : (b : Bool) → c_at None (tokens_of ((if b then [] else codes " " ++ codes "c" ++ codes " " ++ decimal n) ++ rest)) ≡ Ok ((if b then None else Some (Number n)), tokens_of rest)
     by_zero true = c_skipped None (tokens_of rest) other
     by_zero false =
         ap (c_at None) (field_tokens (codes "c") n rest)
-        ∙ c_found n (tokens_of (codes "c" ++ 32 ∷ (decimal n ++ rest))) (tokens_of (decimal n ++ rest)) (tokens_of rest) within
+        ∙ c_found n (tokens_of (codes "c" ++ 32 ∷ (decimal n ++ rest))) (tokens_of (decimal n ++ rest)) (tokens_of rest) within none
         (word_then (codes "c") 32 (decimal n ++ rest) (record { some = omega arith; octets = refl }) refl refl)
         (word_reads (decimal n) rest (number_word n (omega arith)) s)
 
@@ -133,16 +180,17 @@ pub record Ends (rest : List ℕ) : Type 0 where
   pub a : begins_with (codes "a") (tokens_of rest) ≡ false
   pub b : begins_with (codes "b") (tokens_of rest) ≡ false
   pub c : begins_with (codes "c") (tokens_of rest) ≡ false
+  pub counts : IsNoCount (tokens_of rest)
 
 letter : (x : ℕ) → is_word_octet x ≡ true → IsWord (x ∷ [])
 letter x h = record { some = omega arith; octets = ap (λ b. b && true) h }
 
-round_skipped : (read : Fields) (rest : List ℕ) → Ends rest → round_at read (tokens_of rest) ≡ Ok (read, tokens_of rest)
+round_skipped : (op : ℕ) (read : Fields) (rest : List ℕ) → Ends rest → round_at op read (tokens_of rest) ≡ Ok (read, tokens_of rest)
 unfolding round_at
-round_skipped read rest ends =
+round_skipped op read rest ends =
     let tokens : Tokens = tokens_of rest in
     let made : Option ℕ × Tokens → Option ℕ × Tokens → Option Target × Tokens → Result (Fields × Tokens) ℕ = λ a b c. Ok (record { a = a.0; b = b.0; c = c.0 }, c.1) in
-    read_on (field_at (codes "a") 255 read.a tokens) (read.a, tokens) (λ a. field_at (codes "b") 65535 read.b a.1 >>= λ b. c_at read.c b.1 >>= λ c. made a b c) (Ok (read, tokens)) (field_skipped (codes "a") 255 read.a tokens ends.a)
+    read_on (a_at op read.a tokens) (read.a, tokens) (λ a. field_at (codes "b") 65535 read.b a.1 >>= λ b. c_at read.c b.1 >>= λ c. made a b c) (Ok (read, tokens)) (a_skipped op read.a tokens ends.a)
     (read_on (field_at (codes "b") 65535 read.b tokens) (read.b, tokens) (λ b. c_at read.c b.1 >>= λ c. made (read.a, tokens) b c) (Ok (read, tokens)) (field_skipped (codes "b") 65535 read.b tokens ends.b)
     (read_on (c_at read.c tokens) (read.c, tokens) (λ c. made (read.a, tokens) (read.b, tokens) c) (Ok (read, tokens)) (c_skipped read.c tokens ends.c) refl))
 
@@ -160,7 +208,7 @@ fields_stop i rest s =
     let at_b : List ℕ = field_text (codes "b") i.b ++ at_c in
     subst Stops (sym (fields_grouped i rest)) (field_stops (codes "a") i.a at_b (field_stops (codes "b") i.b at_c (field_stops (codes "c") i.c rest s)))
 
-fields_read : (i : Instruction) (rest : List ℕ) → Fits i → Ends rest → fields_at (tokens_of (fields_text i ++ rest)) ≡ Ok (given_fields i, tokens_of rest)
+fields_read : (i : Instruction) (rest : List ℕ) → Fits i → Ends rest → fields_at i.op (tokens_of (fields_text i ++ rest)) ≡ Ok (given_fields i, tokens_of rest)
 unfolding fields_at round_at
 fields_read i rest fits ends =
     let none : Fields = record { a = None; b = None; c = None } in
@@ -178,13 +226,13 @@ fields_read i rest fits ends =
     let a : Option ℕ × Tokens = (given i.a, tokens_of at_b) in
     let b : Option ℕ × Tokens = (given i.b, tokens_of at_c) in
     let all : Result (Fields × Tokens) ℕ = Ok (given_fields i, tokens_of rest) in
-    let first : round_at none (tokens_of at_a) ≡ all =
-    read_on (field_at (codes "a") 255 None (tokens_of at_a)) a (λ a. field_at (codes "b") 65535 None a.1 >>= λ b. c_at None b.1 >>= λ c. made a b c) all (field_reads (codes "a") 255 i.a at_b (letter 97 refl) (omega (arith, fits.a)) (omega arith) stops_b a_after)
+    let first : round_at i.op none (tokens_of at_a) ≡ all =
+    read_on (a_at i.op None (tokens_of at_a)) a (λ a. field_at (codes "b") 65535 None a.1 >>= λ b. c_at None b.1 >>= λ c. made a b c) all (a_reads i.op i.a at_b (omega (arith, fits.a)) stops_b a_after)
     (read_on (field_at (codes "b") 65535 None (tokens_of at_b)) b (λ b. c_at None b.1 >>= λ c. made a b c) all (field_reads (codes "b") 65535 i.b at_c word_b (omega (arith, fits.b)) (omega arith) stops_c b_after)
-    (read_on (c_at None (tokens_of at_c)) (given_c i.c, tokens_of rest) (λ c. made a b c) all (c_reads i.c rest (omega (arith, fits.c)) ends.stops ends.c) refl)) in
-    ap (λ (t : List ℕ). fields_at (tokens_of t)) (fields_grouped i rest)
-    ∙ read_on (round_at none (tokens_of at_a)) (given_fields i, tokens_of rest) (λ first. round_at first.0 first.1 >>= λ second. round_at second.0 second.1) all first
-    (read_on (round_at (given_fields i) (tokens_of rest)) (given_fields i, tokens_of rest) (λ second. round_at second.0 second.1) all (round_skipped (given_fields i) rest ends) (round_skipped (given_fields i) rest ends))
+    (read_on (c_at None (tokens_of at_c)) (given_c i.c, tokens_of rest) (λ c. made a b c) all (c_reads i.c rest (omega (arith, fits.c)) ends.stops ends.counts ends.c) refl)) in
+    ap (λ (t : List ℕ). fields_at i.op (tokens_of t)) (fields_grouped i rest)
+    ∙ read_on (round_at i.op none (tokens_of at_a)) (given_fields i, tokens_of rest) (λ first. round_at i.op first.0 first.1 >>= λ second. round_at i.op second.0 second.1) all first
+    (read_on (round_at i.op (given_fields i) (tokens_of rest)) (given_fields i, tokens_of rest) (λ second. round_at i.op second.0 second.1) all (round_skipped i.op (given_fields i) rest ends) (round_skipped i.op (given_fields i) rest ends))
 
 -- ---- an instruction
 
@@ -214,9 +262,9 @@ draft_reads place i rest small fits ends =
     let all : Result (Draft × Tokens) ℕ = Ok (draft_of i, tokens_of rest) in
     let stops : Stops after_operation = fields_stop i rest ends.stops in
     ap (λ (t : List ℕ). draft_at place (tokens_of t)) regrouped
-    ∙ read_on (place_at place (tokens_of (decimal place ++ 32 ∷ at_operation))) (tokens_of at_operation) (λ rest. operation_at rest >>= λ operation. fields_at operation.1 >>= λ fields. made operation fields) all (place_reads place at_operation small)
-    (read_on (operation_at (tokens_of at_operation)) (i.op, tokens_of after_operation) (λ operation. fields_at operation.1 >>= λ fields. made operation fields) all (operation_reads i.op after_operation (omega (arith, fits.op)) stops)
-    (read_on (fields_at (tokens_of after_operation)) (given_fields i, tokens_of rest) (λ fields. made (i.op, tokens_of after_operation) fields) all (fields_read i rest fits ends)
+    ∙ read_on (place_at place (tokens_of (decimal place ++ 32 ∷ at_operation))) (tokens_of at_operation) (λ rest. operation_at rest >>= λ operation. fields_at operation.0 operation.1 >>= λ fields. made operation fields) all (place_reads place at_operation small)
+    (read_on (operation_at (tokens_of at_operation)) (i.op, tokens_of after_operation) (λ operation. fields_at operation.0 operation.1 >>= λ fields. made operation fields) all (operation_reads i.op after_operation (omega (arith, fits.op)) stops)
+    (read_on (fields_at i.op (tokens_of after_operation)) (given_fields i, tokens_of rest) (λ fields. made (i.op, tokens_of after_operation) fields) all (fields_read i rest fits ends)
     (ap (λ (j : Draft). let r : Result (Draft × Tokens) ℕ = Ok (j, tokens_of rest) in r) (draft_is i))))
 
 -- ---- lists of lines
@@ -308,8 +356,8 @@ line_ends : (code : Code) (i : Instruction) (is : List Instruction) (place : ℕ
 line_ends code i is place small =
     let rest : List ℕ = instruction_lines code place is in
     let end : List ℕ = comment (meant code i) ++ 10 ∷ rest in
-    let other : (x : ℕ) → is_ascii_digit x ≡ false → begins_with (x ∷ []) (tokens_of end) ≡ false = λ x h. ap (begins_with (x ∷ [])) (comment_skipped code i rest) ∙ lines_other code x [] h is place small in
-    record { stops = comment_stops (meant code i) rest; a = other 97 refl; b = other 98 refl; c = other 99 refl }
+    let other : (x : ℕ) (name : List ℕ) → is_ascii_digit x ≡ false → begins_with (x ∷ name) (tokens_of end) ≡ false = λ x name h. ap (begins_with (x ∷ name)) (comment_skipped code i rest) ∙ lines_other code x name h is place small in
+    record { stops = comment_stops (meant code i) rest; a = other 97 [] refl; b = other 98 [] refl; c = other 99 [] refl; counts = record { params = other 112 (codes "arams") refl; keys = other 107 (codes "eys") refl } }
 
 -- instructions as lines without labels
 abbrev pub steps_of : List Instruction → List Line

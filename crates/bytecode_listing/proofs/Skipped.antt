@@ -9,9 +9,14 @@ use Rattle.std.proofs.lemmas.List.Folds.{list_all-append}
 use Rattle.bytecode_format.specs.Code.{Code}
 use Rattle.bytecode_format.specs.Operations.{operation_of}
 use Rattle.bytecode_format.specs.declared.instruction.Instruction.{Instruction}
+use Rattle.bytecode_format.specs.declared.operation.Operation.{Operation}
+use Rattle.bytecode_format.specs.declared.operation.Operation.TheVariants.{Header, Exists, String, PartBody}
+use Rattle.bytecode_listing.specs.declared.wording.Facet.{Facet}
+use Rattle.bytecode_listing.specs.declared.wording.Facet.TheVariants.{Match, Comparator, Scope, Selector}
+use Rattle.bytecode_listing.specs.Wording.{words, word_of, both, match_words, scope_words, selection_words, counts_words, said_a}
 use Rattle.bytecode_listing.specs.declared.comments.Table.{Table}
 use Rattle.bytecode_listing.specs.declared.comments.Table.TheVariants.{Strings, Numbers, Instructions}
-use Rattle.bytecode_listing.specs.Listing.{is_plain, two_digits, escaped_octet, quoted, max_shown, shown, table_of, entry_text, meant, comment}
+use Rattle.bytecode_listing.specs.Listing.{is_plain, two_digits, escaped_octet, quoted, max_shown, shown, table_of, entry_text, in_words, told, meant, comment}
 use Rattle.bytecode_listing.specs.Tokens.{Comment, tokens_from, tokens_of}
 use Rattle.bytecode_listing.proofs.Lexing.{after_white, after_semicolon, comment_ends, comment_goes_on}
 use Rattle.bytecode_listing.proofs.Words.{Stops}
@@ -96,12 +101,58 @@ entry_line code place Instructions = found (nat_lt place (length code.instructio
     found true = decimal_line place
     found false = tt
 
+-- words
+one_of : (listed : List (List ℕ)) (n : ℕ) → list_all (list_all goes_on) listed ≡ true → AreLines (slice_get listed n)
+one_of [] n h = tt
+one_of (word ∷ listed) zero h = (and_parts (list_all goes_on word) (list_all (list_all goes_on) listed) h).0
+one_of (word ∷ listed) (suc n) h = one_of listed n (and_parts (list_all goes_on word) (list_all (list_all goes_on) listed) h).1
+
+word_line : (facet : Facet) (n : ℕ) → AreLines (word_of facet n)
+word_line Match n = one_of (words Match) n refl
+word_line Comparator n = one_of (words Comparator) n refl
+word_line Scope n = one_of (words Scope) n refl
+word_line Selector n = one_of (words Selector) n refl
+
+both_line : (first second : Option (List ℕ)) → AreLines first → AreLines second → AreLines (both first second)
+both_line None second h k = tt
+both_line (Some first) None h k = tt
+both_line (Some first) (Some second) h k = appended (first ++ codes " ") second (appended first (codes " ") h refl) k
+
+match_line : (a : ℕ) → AreLines (match_words a)
+match_line a = both_line (word_of Match (a % 4)) (word_of Comparator (a / 4)) (word_line Match (a % 4)) (word_line Comparator (a / 4))
+
+scope_line : (a : ℕ) → AreLines (scope_words a)
+scope_line a = both_line (word_of Scope (a / 8 % 4)) (word_of Selector (a / 32)) (word_line Scope (a / 8 % 4)) (word_line Selector (a / 32))
+
+counts_line : (c : ℕ) → IsLine (counts_words c)
+counts_line c =
+    appended (codes " c " ++ decimal (c / 65536) ++ codes " params " ++ decimal (c % 65536)) (codes " keys")
+    (appended (codes " c " ++ decimal (c / 65536) ++ codes " params ") (decimal (c % 65536))
+    (appended (codes " c " ++ decimal (c / 65536)) (codes " params ") (appended (codes " c ") (decimal (c / 65536)) refl (decimal_line (c / 65536))) refl)
+    (decimal_line (c % 65536)))
+    refl
+
+with_rest : (text : Option (List ℕ)) (rest : List ℕ) → AreLines text → IsLine rest → AreLines (option_map (λ words. said_a words ++ rest) text)
+with_rest None rest h k = tt
+with_rest (Some words) rest h k = appended (said_a words) rest (appended (codes "a ") words refl h) k
+
+words_line : (code : Code) (i : Instruction) (operation : Operation) → AreLines (in_words operation i)
+words_line code i Header = with_rest (selection_words i.a) (counts_words i.c) (both_line (match_words (i.a % 8)) (scope_words i.a) (match_line (i.a % 8)) (scope_line i.a)) (counts_line i.c)
+words_line code i Exists = with_rest (word_of Scope i.a) [] (word_line Scope i.a) refl
+words_line code i String = with_rest (match_words i.a) [] (match_line i.a) refl
+words_line code i PartBody = with_rest (match_words i.a) [] (match_line i.a) refl
+words_line code i _ = tt
+
 meant_line : (code : Code) (i : Instruction) → AreLines (meant code i)
-meant_line code i = by_table (option_and_then table_of (operation_of i.op))
+meant_line code i = by_operation (operation_of i.op)
   where
-    by_table : (table : Option Table) → AreLines (option_and_then (entry_text code i.c) table)
-    by_table None = tt
-    by_table (Some table) = entry_line code i.c table
+    by_table : (operation : Operation) (table : Option Table) → AreLines (told code i operation table)
+    by_table operation None = words_line code i operation
+    by_table operation (Some table) = entry_line code i.c table
+
+    by_operation : (operation : Option Operation) → AreLines (option_and_then (λ o. told code i o (table_of o)) operation)
+    by_operation None = tt
+    by_operation (Some operation) = by_table operation (table_of operation)
 
 -- what follows a comment's LF
 in_comment : (text rest : List ℕ) → IsLine text → tokens_from Comment (text ++ 10 ∷ rest) ≡ tokens_of rest

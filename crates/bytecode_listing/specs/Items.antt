@@ -5,7 +5,13 @@ use Rattle.std.specs.Char.{digit_value, is_ascii_digit}
 use Rattle.octets.specs.Limits.{max_variables, max_string}
 use Rattle.bytecode_format.specs.Code.{Code}
 use Rattle.bytecode_format.specs.Spelling.{IsProgram}
+use Rattle.bytecode_format.specs.Operations.{operation_of}
+use Rattle.bytecode_format.specs.declared.operation.Operation.{Operation}
+use Rattle.bytecode_format.specs.declared.operation.Operation.TheVariants.{Header, Exists, String, PartBody}
 use Rattle.bytecode_listing.specs.Names.{octet_named}
+use Rattle.bytecode_listing.specs.Wording.{number_of}
+use Rattle.bytecode_listing.specs.declared.wording.Facet.{Facet}
+use Rattle.bytecode_listing.specs.declared.wording.Facet.TheVariants.{Match, Comparator, Scope, Selector}
 use Rattle.bytecode_listing.specs.declared.drafts.Target.{Target}
 use Rattle.bytecode_listing.specs.declared.drafts.Target.TheVariants.{Number, Name, Quoted}
 use Rattle.bytecode_listing.specs.declared.drafts.Draft.{Draft}
@@ -130,6 +136,112 @@ field_at name highest given tokens =
     then named_field name highest given tokens
     else Ok (given, tokens)
 
+-- ---- a in words
+
+-- what words say so far, and the tokens after them; None where no word was read
+abbrev pub Said : Type 0
+Said = Option ℕ × Tokens
+
+-- the number of a facet's word; None, where it isn't one, and then nothing is read
+abbrev pub facet_in : Option ℕ → Tokens → Tokens → Said
+facet_in None rest tokens = (None, tokens)
+facet_in (Some n) rest tokens = (Some n, rest)
+
+abbrev pub facet_from : Facet → Read (List ℕ) → Tokens → Said
+facet_from facet (Ok read) tokens = facet_in (number_of facet read.0) read.1 tokens
+facet_from facet (Err left) tokens = (None, tokens)
+
+-- the word of a facet, where one stands first
+unfoldable pub facet_at : Facet → Tokens → Said
+facet_at facet tokens = facet_from facet (word_at tokens) tokens
+
+-- two numbers in one, the second so many times; one that isn't said is 0, unless neither is
+abbrev pub joined : Option ℕ → ℕ → Option ℕ → Option ℕ
+joined None unit None = None
+joined None unit (Some n) = Some (unit * n)
+joined (Some m) unit None = Some m
+joined (Some m) unit (Some n) = Some (m + unit * n)
+
+-- what is said, and then what is said after it, so many times
+abbrev pub then_said : Said → ℕ → (Tokens → Said) → Said
+then_said first unit next = (joined first.0 unit (next first.1).0, (next first.1).1)
+
+-- a match number in words: of the match, and of the comparator
+unfoldable pub match_at : Tokens → Said
+match_at tokens = then_said (facet_at Match tokens) 4 (facet_at Comparator)
+
+-- a selection in words: a match number, the scope and the selector
+unfoldable pub selection_at : Tokens → Said
+selection_at tokens =
+    then_said (then_said (match_at tokens) 8 (facet_at Scope)) 32 (facet_at Selector)
+
+-- the field a of an operation in words, where it says how a test compares or what it looks at
+abbrev pub worded_at : Option Operation → Tokens → Said
+worded_at None tokens = (None, tokens)
+worded_at (Some Header) tokens = selection_at tokens
+worded_at (Some Exists) tokens = facet_at Scope tokens
+worded_at (Some String) tokens = match_at tokens
+worded_at (Some PartBody) tokens = match_at tokens
+worded_at (Some _) tokens = (None, tokens)
+
+-- the number of a in words; at least one has to stand there
+abbrev pub words_at : Option Operation → Tokens → Read ℕ
+words_at operation tokens =
+    found (worded_at operation tokens).0 (left_at tokens) (worded_at operation tokens).1
+
+-- the number of a, in digits or in words
+unfoldable pub a_value : ℕ → Tokens → Read ℕ
+a_value op tokens =
+    if begins_number (word_at tokens)
+    then number_at 0 (2 ^ 8 - 1) tokens
+    else words_at (operation_of op) tokens
+
+-- the field's name a and its number
+unfoldable pub a_field : ℕ → Tokens → Read ℕ
+a_field op tokens = keyword_at (codes "a") tokens >>= λ rest. a_value op rest
+
+-- the field a whose name stands there: it must not have been given before
+abbrev pub named_a : ℕ → Option ℕ → Tokens → Read (Option ℕ)
+named_a op given tokens =
+    if is_some given
+    then Err (left_at tokens)
+    else (a_field op tokens >>= λ a. Ok (Some a.0, a.1))
+
+-- the field a where its name stands; otherwise nothing is read
+unfoldable pub a_at : ℕ → Option ℕ → Tokens → Read (Option ℕ)
+a_at op given tokens =
+    if begins_with (codes "a") tokens
+    then named_a op given tokens
+    else Ok (given, tokens)
+
+-- ---- c
+
+-- the most parameters, and the most keys, that c counts
+abbrev pub max_count : ℕ
+max_count = 2 ^ 16 - 1
+
+-- the number of keys after so many parameters
+unfoldable pub keys_after : ℕ → Tokens → Read ℕ
+keys_after params tokens = do
+  rest ← keyword_at (codes "params") tokens
+  keys ← number_at 0 max_count rest
+  last ← keyword_at (codes "keys") keys.1
+  Ok (2 ^ 16 * params + keys.0, last)
+
+-- the number of c after a first number: that, also where `keys` stands after it; where `params`
+-- does, the numbers of parameters and keys in one
+unfoldable pub counts_at : ℕ → Tokens → Read ℕ
+counts_at n tokens =
+    if begins_with (codes "params") tokens && nat_le n max_count
+    then keys_after n tokens
+    else if begins_with (codes "keys") tokens
+    then (keyword_at (codes "keys") tokens >>= λ rest. Ok (n, rest))
+    else Ok (n, tokens)
+
+-- a number, or the counts of HEADER
+unfoldable pub counted_at : Tokens → Read ℕ
+counted_at tokens = number_at 0 (2 ^ 32 - 1) tokens >>= λ n. counts_at n.0 n.1
+
 -- a name: a word that doesn't begin with a digit
 unfoldable pub name_at : Tokens → Read (List ℕ)
 name_at tokens =
@@ -141,7 +253,7 @@ name_at tokens =
 unfoldable pub target_at : Tokens → Read Target
 target_at tokens =
     if begins_number (word_at tokens)
-    then (number_at 0 (2 ^ 32 - 1) tokens >>= λ n. Ok (Number n.0, n.1))
+    then (counted_at tokens >>= λ n. Ok (Number n.0, n.1))
     else if is_ok (word_at tokens)
     then (name_at tokens >>= λ name. Ok (Name name.0 (left_at tokens), name.1))
     else (text_at tokens >>= λ text. Ok (Quoted text.0 (left_at tokens), text.1))
@@ -171,19 +283,19 @@ pub record Fields : Type 0 where
   pub c : Option Target
 
 -- each field that stands there, in this order
-unfoldable pub round_at : Fields → Tokens → Read Fields
-round_at given tokens = do
-  a ← field_at (codes "a") (2 ^ 8 - 1) given.a tokens
+unfoldable pub round_at : ℕ → Fields → Tokens → Read Fields
+round_at op given tokens = do
+  a ← a_at op given.a tokens
   b ← field_at (codes "b") (2 ^ 16 - 1) given.b a.1
   c ← c_at given.c b.1
   Ok (record { a = a.0; b = b.0; c = c.0 }, c.1)
 
 -- the fields in any order, each at most once: three rounds read them all
-unfoldable pub fields_at : Tokens → Read Fields
-fields_at tokens = do
-  first ← round_at (record { a = None; b = None; c = None }) tokens
-  second ← round_at first.0 first.1
-  round_at second.0 second.1
+unfoldable pub fields_at : ℕ → Tokens → Read Fields
+fields_at op tokens = do
+  first ← round_at op (record { a = None; b = None; c = None }) tokens
+  second ← round_at op first.0 first.1
+  round_at op second.0 second.1
 
 -- the place of an instruction, which may be missing
 unfoldable pub place_at : ℕ → Tokens → Result Tokens ℕ
@@ -206,7 +318,7 @@ unfoldable pub draft_at : ℕ → Tokens → Read Draft
 draft_at place tokens = do
   rest ← place_at place tokens
   operation ← operation_at rest
-  fields ← fields_at operation.1
+  fields ← fields_at operation.0 operation.1
   Ok (with_fields operation.0 fields.0, fields.1)
 
 -- a label: its name, and where that stands

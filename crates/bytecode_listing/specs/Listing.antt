@@ -8,6 +8,7 @@ use Rattle.bytecode_format.specs.declared.instruction.Instruction.{Instruction}
 use Rattle.bytecode_format.specs.declared.operation.Operation.{Operation}
 use Rattle.bytecode_format.specs.declared.operation.Operation.TheVariants.{Literal, Jump, JumpIfTrue, JumpIfFalse, Size, PartSize}
 use Rattle.bytecode_listing.specs.Names.{name_of}
+use Rattle.bytecode_listing.specs.Wording.{a_words, after_a, said_a}
 use Rattle.bytecode_listing.specs.declared.comments.Table.{Table}
 use Rattle.bytecode_listing.specs.declared.comments.Table.TheVariants.{Strings, Numbers, Instructions}
 
@@ -84,9 +85,19 @@ entry_text code place Numbers = option_map decimal (slice_get code.numbers place
 entry_text code place Instructions =
     if nat_lt place (length code.instructions) then Some (codes "to " ++ decimal place) else None
 
--- what an instruction refers to
+-- what the fields of an operation say in words
+abbrev pub in_words : Operation → Instruction → Option (List ℕ)
+in_words operation i =
+    option_map (λ words. said_a words ++ after_a operation i.c) (a_words operation i.a)
+
+-- what an operation's fields refer to, or say in words
+abbrev pub told : Code → Instruction → Operation → Option Table → Option (List ℕ)
+told code i operation (Some table) = entry_text code i.c table
+told code i operation None = in_words operation i
+
+-- what an instruction refers to, or says in words
 abbrev pub meant : Code → Instruction → Option (List ℕ)
-meant code i = option_and_then (entry_text code i.c) (option_and_then table_of (operation_of i.op))
+meant code i = option_and_then (λ o. told code i o (table_of o)) (operation_of i.op)
 
 -- a comment, where there is something to say
 abbrev pub comment : Option (List ℕ) → List ℕ

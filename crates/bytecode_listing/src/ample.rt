@@ -11,7 +11,8 @@ const MOST_INSTRUCTIONS: usize = 65_536;
 
 /// The listing of the small program.
 const SMALL: &[u8] = b"version 2\nvariables 1\nnumber 1048576\nstring \"a\\00a\\22b\"\n\
-    0 LIT ; \"a\\00a\\22b\"\n1 HEADER a 1 b 2 c 3\n2 OP ff\n";
+    0 LIT ; \"a\\00a\\22b\"\n\
+    1 HEADER a 1 b 2 c 3 ; a contains casemap message value c 0 params 3 keys\n2 OP ff\n";
 
 // The program of these strings and instructions, with a variable and a number.
 fn program_of(
@@ -87,6 +88,28 @@ fn reads_what_it_writes(rt: HostRuntime) -> Result<(), Fail> {
     Ok(())
 }
 
+// Tests whose fields are words, in any order, and some of them left out.
+const WORDED: &[u8] =
+    b"version 1 variables 0 HEADER c 2 params 1 keys b 1 a matches octet part param\n\
+    EXISTS a below b 1 STRING c 3 keys a is PARTBODY a octet c 1 keys";
+
+const WORDED_LISTED: &[u8] = b"version 1\nvariables 0\n0 HEADER a 142 b 1 c 131073 ; \
+    a matches octet part param c 2 params 1 keys\n1 EXISTS a 2 b 1 ; a below\n\
+    2 STRING c 3 ; a is casemap\n3 PARTBODY a 4 c 1 ; a is octet\n";
+
+#[test]
+fn words_are_numbers(rt: HostRuntime) -> Result<(), Fail> {
+    let alloc = rt.alloc();
+    for listing in [WORDED, WORDED_LISTED] {
+        let Ok(program) = assemble(alloc, listing) else {
+            return Err(Fail::from("not read"));
+        };
+        let again = disassemble(alloc, &program)?;
+        assert!(rt; again.as_slice() == WORDED_LISTED);
+    }
+    Ok(())
+}
+
 // The place of a listing's fault, and the listing's length where there is none.
 fn fault(alloc: Global, listing: &[u8]) -> Result<usize, Fail> {
     match assemble(alloc, listing) {
@@ -110,6 +133,15 @@ fn faults_are_placed(rt: HostRuntime) -> Result<(), Fail> {
         29
     );
     assert_eq!(rt; fault(alloc, b"version 1 variables 0 lit")?, 22);
+    assert_eq!(rt; fault(alloc, b"version 1 variables 0 LIT a is")?, 28);
+    assert_eq!(rt;
+        fault(alloc, b"version 1 variables 0 HEADER a part is")?,
+        36
+    );
+    assert_eq!(rt;
+        fault(alloc, b"version 1 variables 0 HEADER c 65536 params 1 keys")?,
+        37
+    );
     assert_eq!(rt; fault(alloc, b"version 1 ; variables 0")?, 23);
     Ok(())
 }

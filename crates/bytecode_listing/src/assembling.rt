@@ -123,6 +123,9 @@ fn fault_of(listing: &[u8], error: ReadError) -> ListingError
 
 /// The program that a listing says.
 ///
+/// A label or a string may stand in the place of c's number. In the place of a's may stand words,
+/// at HEADER, EXISTS, STRING and PARTBODY, and HEADER's counts may be told one by one.
+///
 /// `Fault` comes exactly where it says none: with the place of the first token that can't stand
 /// where it stands; where all can, with that of the first label that is there a second time; where
 /// none is, with that of the first name that is no label; and where all names are, with the

@@ -1,8 +1,11 @@
 // What instructions refer to, as comments of a listing.
-ghost use Rattle.std.specs.Prelude.{◌≡◌, ◌++◌, OnOk, codes};
+ghost use Rattle.std.specs.Prelude.{◌≡◌, ◌++◌, OnOk, codes, option_map};
 ghost use Rattle.std.specs.Fmt.{decimal};
-ghost use Rattle.bytecode_listing.specs.Listing.{comment, entry_text, meant, shown, table_of};
+ghost use Rattle.bytecode_listing.specs.Listing.{comment, entry_text, meant, shown, in_words, table_of, told};
+ghost use Rattle.bytecode_listing.specs.declared.wording.Facet.TheVariants.{Scope};
+ghost use Rattle.bytecode_listing.specs.Wording.{counts_words, match_words, said_a, scope_words, selection_words, word_of};
 
+use crate::wording::{COUNTS, Facet, word_of};
 use crate::writing::{put_number, put_quoted};
 use bytecode_format::{Instruction, Operation, Program};
 use std::alloc::AllocError;
@@ -83,7 +86,122 @@ fn put_entry(
     }
 }
 
-/// Appends what an instruction of a program refers to, as a comment.
+// A match number in words.
+fn match_words(a: u8) -> Option<(&'static str, &'static str)>
+    ensures { option_map (λ x. x.0.now ++ codes " " ++ x.1.now) result ≡ match_words a }
+{
+    let matched = word_of(Facet::Match, a % 4)?;
+    let comparator = word_of(Facet::Comparator, a / 4)?;
+    Some((matched, comparator))
+}
+
+// The scope and the selector of a selection in words.
+fn scope_words(a: u8) -> Option<(&'static str, &'static str)>
+    ensures { option_map (λ x. x.0.now ++ codes " " ++ x.1.now) result ≡ scope_words a }
+{
+    let scope = word_of(Facet::Scope, a / 8 % 4)?;
+    let selector = word_of(Facet::Selector, a / 32)?;
+    Some((scope, selector))
+}
+
+// Appends two words with a space between.
+fn put_both(out: &mut Vec<u8>, first: &str, second: &str) -> Result<(), AllocError>
+    ensures { OnOk result
+        (out.new.items ≡ out.old.items ++ (first.now ++ codes " " ++ second.now)) }
+{
+    out.extend_from_slice(first.as_bytes())?;
+    out.push(b' ')?;
+    out.extend_from_slice(second.as_bytes())
+}
+
+// Appends the counts of HEADER.
+fn put_counts(out: &mut Vec<u8>, counts: u32) -> Result<(), AllocError>
+    ensures { OnOk result (out.new.items ≡ out.old.items ++ counts_words counts) }
+{
+    put_counted(out, b" c ", u64::from(counts / COUNTS))?;
+    put_counted(out, b" params ", u64::from(counts % COUNTS))?;
+    out.extend_from_slice(b" keys")
+}
+
+// Appends the comment of a match number.
+fn put_match(out: &mut Vec<u8>, a: u8) -> Result<(), AllocError>
+    ensures { OnOk result
+        (out.new.items ≡ out.old.items ++ comment (option_map said_a (match_words a))) }
+{
+    match match_words(a) {
+        Some((matched, comparator)) => {
+            out.extend_from_slice(b" ; a ")?;
+            put_both(out, matched, comparator)
+        }
+        None => Ok(()),
+    }
+}
+
+// Appends the comment of a scope.
+fn put_scope(out: &mut Vec<u8>, a: u8) -> Result<(), AllocError>
+    ensures { OnOk result
+        (out.new.items ≡ out.old.items ++ comment (option_map said_a (word_of Scope a))) }
+{
+    match word_of(Facet::Scope, a) {
+        Some(word) => {
+            out.extend_from_slice(b" ; a ")?;
+            out.extend_from_slice(word.as_bytes())
+        }
+        None => Ok(()),
+    }
+}
+
+// Appends the comment of a selection and of counts.
+fn put_selection(out: &mut Vec<u8>, a: u8, counts: u32) -> Result<(), AllocError>
+    ensures { OnOk result (out.new.items ≡ out.old.items
+        ++ comment (option_map (λ words. said_a words ++ counts_words counts) (selection_words a))) }
+{
+    match (match_words(a % 8), scope_words(a)) {
+        (Some((matched, comparator)), Some((scope, selector))) => {
+            out.extend_from_slice(b" ; a ")?;
+            put_both(out, matched, comparator)?;
+            out.push(b' ')?;
+            put_both(out, scope, selector)?;
+            put_counts(out, counts)
+        }
+        _ => Ok(()),
+    }
+}
+
+// Appends what the fields of an operation say in words, as a comment.
+fn put_words(
+    out: &mut Vec<u8>,
+    operation: Operation,
+    instruction: Instruction,
+) -> Result<(), AllocError>
+    ensures { OnOk result
+        (out.new.items ≡ out.old.items ++ comment (in_words operation instruction)) }
+{
+    match operation {
+        Operation::Header => put_selection(out, instruction.a, instruction.c),
+        Operation::Exists => put_scope(out, instruction.a),
+        Operation::String | Operation::PartBody => put_match(out, instruction.a),
+        _ => Ok(()),
+    }
+}
+
+// Appends what an operation's fields refer to, or say in words, as a comment.
+fn put_told(
+    out: &mut Vec<u8>,
+    program: &Program,
+    instruction: Instruction,
+    operation: Operation,
+) -> Result<(), AllocError>
+    ensures { OnOk result (out.new.items ≡
+        out.old.items ++ comment (told program.now instruction operation (table_of operation))) }
+{
+    match table_of(operation) {
+        Some(table) => put_entry(out, program, instruction.c as usize, table),
+        None => put_words(out, operation, instruction),
+    }
+}
+
+/// Appends what an instruction of a program refers to, or says in words, as a comment.
 pub fn put_comment(
     out: &mut Vec<u8>,
     program: &Program,
@@ -92,8 +210,8 @@ pub fn put_comment(
     ensures { OnOk result
         (out.new.items ≡ out.old.items ++ comment (meant program.now instruction)) }
 {
-    match Operation::of(instruction.op).and_then(table_of) {
-        Some(table) => put_entry(out, program, instruction.c as usize, table),
+    match Operation::of(instruction.op) {
+        Some(operation) => put_told(out, program, instruction, operation),
         None => Ok(()),
     }
 }

@@ -2,7 +2,7 @@
 ghost use Rattle.std.specs.Prelude.{◌≡◌, ℕ, List, ◌+◌, ◌*◌, ◌-◌, ◌^◌, ◌&&◌, ◌≤◌, ◌<◌, nat_lt, length, IfOk, Some, None, if◌then◌else◌, codes};
 ghost use Rattle.std.specs.Char.{is_ascii_digit};
 ghost use Rattle.bytecode_listing.specs.Tokens.{tokens_of};
-ghost use Rattle.bytecode_listing.specs.Items.{keyword_at, field_number, number_at, is_within, value_from, octet_in, octet_at, operation_at, field_at, round_at, fields_at, name_at, target_at, target_field, c_at, place_at, draft_at, label_at, line_at, number_item, string_item};
+ghost use Rattle.bytecode_listing.specs.Items.{keyword_at, field_number, number_at, is_within, value_from, octet_in, octet_at, operation_at, field_at, round_at, fields_at, a_value, a_field, a_at, keys_after, counts_at, counted_at, name_at, target_at, target_field, c_at, place_at, max_count, draft_at, label_at, line_at, number_item, string_item};
 ghost use Rattle.bytecode_listing.specs.Labels.{count};
 ghost use Rattle.bytecode_listing.specs.declared.drafts.Line.{Line};
 ghost use Rattle.bytecode_listing.specs.Readers.{Gives, and_rest, with_rest, read_fields, one_more, decimal_on};
@@ -13,8 +13,13 @@ use crate::names::octet_named;
 use crate::tokens::{
     begins_number, begins_with, begins_word, first, left_at, octet_from, text_of, word_of,
 };
+use crate::wording::{COUNTS, worded_of};
+use bytecode_format::Operation;
 use octets::Octets;
 use std::alloc::Global;
+
+/// The most parameters, and the most keys, that c counts.
+const MAX_COUNT: u32 = 65_535;
 
 /// Reads this word.
 #[tactic(auto, unfolding(crate::specs::Items::keyword_at))]
@@ -132,11 +137,33 @@ fn field_of<'a>(octets: &'a [u8], name: &[u8], highest: u64) -> Result<(u64, &'a
     number_of(keyword_of(octets, name)?, 0, highest)
 }
 
-// Reads the field a, where it stands first.
-#[tactic(auto, unfolding(crate::specs::Items::field_at))]
-fn a_of(octets: &[u8], given: Option<u8>) -> Result<(Option<u8>, &[u8]), ReadError>
-    ensures { Gives and_rest result
-        (field_at (codes "a") (2 ^ 8 - 1) given (tokens_of octets.now)) }
+// Reads the number of the operation's a, in digits or in words.
+#[tactic(auto, unfolding(crate::specs::Items::a_value))]
+fn a_value(octets: &[u8], op: u8) -> Result<(u8, &[u8]), ReadError>
+    ensures { Gives and_rest result (a_value op (tokens_of octets.now)) }
+{
+    if begins_number(octets) {
+        let (number, rest) = number_of(octets, 0, u64::from(u8::MAX))?;
+        return Ok((number as u8, rest));
+    }
+    match worded_of(octets, Operation::of(op)) {
+        (Some(number), rest) => Ok((number, rest)),
+        (None, _) => Err(ReadError::At(left_at(octets))),
+    }
+}
+
+// Reads the name of the field a and its number.
+#[tactic(auto, unfolding(crate::specs::Items::a_field))]
+fn a_field(octets: &[u8], op: u8) -> Result<(u8, &[u8]), ReadError>
+    ensures { Gives and_rest result (a_field op (tokens_of octets.now)) }
+{
+    a_value(keyword_of(octets, b"a")?, op)
+}
+
+// Reads the field a of an operation, where it stands first.
+#[tactic(auto, unfolding(crate::specs::Items::a_at))]
+fn a_of(octets: &[u8], op: u8, given: Option<u8>) -> Result<(Option<u8>, &[u8]), ReadError>
+    ensures { Gives and_rest result (a_at op given (tokens_of octets.now)) }
 {
     if !begins_with(octets, b"a") {
         return Ok((given, octets));
@@ -144,8 +171,8 @@ fn a_of(octets: &[u8], given: Option<u8>) -> Result<(Option<u8>, &[u8]), ReadErr
     if given.is_some() {
         return Err(ReadError::At(left_at(octets)));
     }
-    let (number, rest) = field_of(octets, b"a", u64::from(u8::MAX))?;
-    Ok((Some(number as u8), rest))
+    let (number, rest) = a_field(octets, op)?;
+    Ok((Some(number), rest))
 }
 
 // Reads the field b, where it stands first.
@@ -162,6 +189,41 @@ fn b_of(octets: &[u8], given: Option<u16>) -> Result<(Option<u16>, &[u8]), ReadE
     }
     let (number, rest) = field_of(octets, b"b", u64::from(u16::MAX))?;
     Ok((Some(number as u16), rest))
+}
+
+// Reads the number of keys after that of parameters.
+#[tactic(auto, unfolding(crate::specs::Items::keys_after))]
+fn keys_after(octets: &[u8], params: u32) -> Result<(u32, &[u8]), ReadError>
+    requires { params ≤ max_count }
+    ensures { Gives and_rest result (keys_after params (tokens_of octets.now)) }
+{
+    let rest = keyword_of(octets, b"params")?;
+    let (keys, rest) = number_of(rest, 0, u64::from(MAX_COUNT))?;
+    let rest = keyword_of(rest, b"keys")?;
+    Ok((COUNTS * params + keys as u32, rest))
+}
+
+// Reads the counts of HEADER after their first number, where words stand there.
+#[tactic(auto, unfolding(crate::specs::Items::counts_at))]
+fn counts_of(octets: &[u8], number: u32) -> Result<(u32, &[u8]), ReadError>
+    ensures { Gives and_rest result (counts_at number (tokens_of octets.now)) }
+{
+    if begins_with(octets, b"params") && number <= MAX_COUNT {
+        return keys_after(octets, number);
+    }
+    if begins_with(octets, b"keys") {
+        return Ok((number, keyword_of(octets, b"keys")?));
+    }
+    Ok((number, octets))
+}
+
+// Reads the number of c, or the counts of HEADER.
+#[tactic(auto, unfolding(crate::specs::Items::counted_at))]
+fn counted_of(octets: &[u8]) -> Result<(u32, &[u8]), ReadError>
+    ensures { Gives and_rest result (counted_at (tokens_of octets.now)) }
+{
+    let (number, rest) = number_of(octets, 0, u64::from(u32::MAX))?;
+    counts_of(rest, number as u32)
 }
 
 // Reads a name.
@@ -182,8 +244,8 @@ fn target_of(alloc: Global, octets: &[u8]) -> Result<(Target, &[u8]), ReadError>
     ensures { Gives and_rest result (target_at (tokens_of octets.now)) }
 {
     if begins_number(octets) {
-        let (number, rest) = number_of(octets, 0, u64::from(u32::MAX))?;
-        return Ok((Target::Number(number as u32), rest));
+        let (number, rest) = counted_of(octets)?;
+        return Ok((Target::Number(number), rest));
     }
     if !begins_word(octets) {
         let (text, rest) = text_of(alloc, octets)?;
@@ -220,31 +282,36 @@ fn c_of(
     Ok((Some(target), rest))
 }
 
-// Reads each field that stands there, in the order a, b, c.
+// Reads each field of an operation that stands there, in the order a, b, c.
 #[tactic(auto, unfolding(crate::specs::Items::round_at))]
-fn round_of(alloc: Global, octets: &[u8], given: Fields) -> Result<(Fields, &[u8]), ReadError>
+fn round_of(
+    alloc: Global,
+    octets: &[u8],
+    op: u8,
+    given: Fields,
+) -> Result<(Fields, &[u8]), ReadError>
     ensures { Gives (with_rest read_fields) result
-        (round_at (read_fields given) (tokens_of octets.now)) }
+        (round_at op (read_fields given) (tokens_of octets.now)) }
 {
-    let (a, rest) = a_of(octets, given.a)?;
+    let (a, rest) = a_of(octets, op, given.a)?;
     let (b, rest) = b_of(rest, given.b)?;
     let (c, rest) = c_of(alloc, rest, given.c)?;
     Ok((Fields { a, b, c }, rest))
 }
 
-// Reads the fields of an instruction, in any order.
+// Reads the fields of an operation, in any order.
 #[tactic(auto, unfolding(crate::specs::Items::fields_at))]
-fn fields_of(alloc: Global, octets: &[u8]) -> Result<(Fields, &[u8]), ReadError>
-    ensures { Gives (with_rest read_fields) result (fields_at (tokens_of octets.now)) }
+fn fields_of(alloc: Global, octets: &[u8], op: u8) -> Result<(Fields, &[u8]), ReadError>
+    ensures { Gives (with_rest read_fields) result (fields_at op (tokens_of octets.now)) }
 {
     let none = Fields {
         a: None,
         b: None,
         c: None,
     };
-    let (given, rest) = round_of(alloc, octets, none)?;
-    let (given, rest) = round_of(alloc, rest, given)?;
-    round_of(alloc, rest, given)
+    let (given, rest) = round_of(alloc, octets, op, none)?;
+    let (given, rest) = round_of(alloc, rest, op, given)?;
+    round_of(alloc, rest, op, given)
 }
 
 // Reads an instruction's place, where a number stands first.
@@ -266,7 +333,7 @@ fn draft_of(alloc: Global, octets: &[u8], place: usize) -> Result<(Draft, &[u8])
 {
     let rest = place_of(octets, place)?;
     let (op, rest) = operation_of(rest)?;
-    let (fields, rest) = fields_of(alloc, rest)?;
+    let (fields, rest) = fields_of(alloc, rest, op)?;
     let draft = Draft {
         op,
         a: fields.a.unwrap_or(0),

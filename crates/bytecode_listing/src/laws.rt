@@ -1,11 +1,15 @@
 //! What holds of every program and its listing, over the definitions that `disassemble` and
 //! `assemble` cite.
-ghost use Rattle.std.specs.Prelude.{◌≡◌, ◌≤◌, ℕ, List, All, length, IfOk, IfErr};
+ghost use Rattle.std.specs.Prelude.{◌≡◌, ◌≤◌, ◌<◌, ◌^◌, ℕ, List, [], Some, All, length, IfOk, IfErr};
 ghost use Rattle.bytecode_format.specs.Code.{Code};
 ghost use Rattle.bytecode_format.specs.Spelling.{IsProgram};
 ghost use Rattle.bytecode_format.specs.declared.instruction.Instruction.{Instruction};
 ghost use Rattle.bytecode_listing.specs.Listing.{AreOctets, comment, listing_of, meant};
-ghost use Rattle.bytecode_listing.specs.Items.{FaultsAt, Lists};
+ghost use Rattle.bytecode_listing.specs.Items.{FaultsAt, Lists, worded_at};
+ghost use Rattle.bytecode_listing.specs.Tokens.{tokens_of};
+ghost use Rattle.bytecode_format.specs.declared.operation.Operation.{Operation};
+ghost use Rattle.bytecode_listing.specs.Wording.{a_words, number_of, word_of};
+ghost use Rattle.bytecode_listing.specs.declared.wording.Facet.{Facet};
 ghost use Rattle.bytecode_listing.specs.declared.error.ListingError.TheVariants.{Memory};
 
 use crate::assembling::assemble;
@@ -35,6 +39,22 @@ pub fn listings_have_no_fault()
 /// instructions refer to, and however often.
 pub fn comments_are_short()
     ensures { (code : Code) (i : Instruction) → length (comment (meant code i)) ≤ 128 }
+{}
+
+/// A word that says how a test compares, or what it looks at, is one number's, and a number has one
+/// word, in each of the four tables of them.
+pub fn words_and_numbers()
+    ensures { (facet : Facet) (n : ℕ) (word : List ℕ)
+        → (word_of facet n ≡ Some word → number_of facet word ≡ Some n)
+        × (number_of facet word ≡ Some n → word_of facet n ≡ Some word) }
+{}
+
+/// What a comment says of the field a of a test is read as that field, by `assemble` in the place
+/// of a's number.
+pub fn words_say_their_numbers()
+    ensures { (operation : Operation) (a : ℕ) (words : List ℕ)
+        → a < 2 ^ 8 → a_words operation a ≡ Some words
+        → worded_at (Some operation) (tokens_of words) ≡ (Some a, []) }
 {}
 
 /// The same program, by both calls: nothing but a refused allocation keeps it from being read.

@@ -13,6 +13,7 @@ pub mod laws;
 mod names;
 mod strings;
 mod tokens;
+mod wording;
 mod writing;
 
 pub use assembling::assemble;

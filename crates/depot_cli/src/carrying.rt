@@ -14,10 +14,12 @@ use refusals::Refusal;
 use sqlite::Alter;
 use std::alloc::Global;
 
-/// Carries an errand to what opening its depot gave, and gives the status: the task is performed on the depot, once, as [`perform`] says;
-/// or the line of the refusal of opening is written to `err`, with 1. What was opened stays open, for whoever closes it.
+/// Carries an errand to what opening its depot gave, and gives the status: the task is performed on
+/// the depot, once, as [`perform`] says; or the line of the refusal of opening is written to `err`,
+/// with 1. What was opened stays open, for whoever closes it.
 ///
-/// A crash, at any moment, leaves of a depot that was opened what it could have left before, or what the command makes of it.
+/// A crash, at any moment, leaves of a depot that was opened what it could have left before, or
+/// what the command makes of it.
 pub fn carry<S: Alter, O: Sink, E: Sink>(
     alloc: Global,
     errand: &Errand<'_>,
@@ -25,9 +27,12 @@ pub fn carry<S: Alter, O: Sink, E: Sink>(
     out: &mut O,
     err: &mut E,
 ) -> u8
-    ensures carried { HasCarried (state S.Store) (command_in errand.now.order errand.now.octets.items) result
-        opened.old opened.new (O.output out.old) (E.output err.old) (O.output out.new) (E.output err.new) }
-    ensures survives { OutlastsCarrying (state S.Store) (command_in errand.now.order errand.now.octets.items)
+    ensures carried { HasCarried (state S.Store)
+        (command_in errand.now.order errand.now.octets.items) result
+        opened.old opened.new
+        (O.output out.old) (E.output err.old) (O.output out.new) (E.output err.new) }
+    ensures survives { OutlastsCarrying (state S.Store)
+        (command_in errand.now.order errand.now.octets.items)
         opened.old opened.new }
 {
     match opened {
@@ -36,8 +41,9 @@ pub fn carry<S: Alter, O: Sink, E: Sink>(
     }
 }
 
-/// Says what opening a file as it is gave, after how many octets its log had before that, and gives the status: what the depot holds, as
-/// [`inspect`] says; or why there is none, with 1, as [`tell_no_depot`] says, or with the line of `Memory` on `err`.
+/// Says what opening a file as it is gave, after how many octets its log had before that, and gives
+/// the status: what the depot holds, as [`inspect`] says; or why there is none, with 1, as
+/// [`tell_no_depot`] says, or with the line of `Memory` on `err`.
 pub fn inspect_opened<S: Alter, O: Sink, E: Sink>(
     alloc: Global,
     log: Option<u64>,
@@ -46,7 +52,8 @@ pub fn inspect_opened<S: Alter, O: Sink, E: Sink>(
     err: &mut E,
 ) -> u8
     ensures reported { HasReported (state S.Store) log result
-        opened.old opened.new (O.output out.old) (E.output err.old) (O.output out.new) (E.output err.new) }
+        opened.old opened.new
+        (O.output out.old) (E.output err.old) (O.output out.new) (E.output err.new) }
     ensures survives { OutlastsReporting (state S.Store) opened.old opened.new }
 {
     match opened {

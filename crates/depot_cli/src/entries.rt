@@ -24,8 +24,10 @@ pub fn put_entries<O: Sink>(
     detail: Detail,
     rows: &[EntryRow],
 ) -> Result<(), DeviceFailed>
-    ensures ok { OnOk result (HasTaken (entries_text detail (map listed rows.now)) (O.output out.old) (O.output out.new)) }
-    ensures err { OnErr result (HasBroken (entries_text detail (map listed rows.now)) (O.output out.old) (O.output out.new)) }
+    ensures ok { OnOk result (HasTaken (entries_text detail (map listed rows.now))
+        (O.output out.old) (O.output out.new)) }
+    ensures err { OnErr result (HasBroken (entries_text detail (map listed rows.now))
+        (O.output out.old) (O.output out.new)) }
 {
     if rows.is_empty() {
         return put_line(out, "none");
@@ -38,8 +40,10 @@ pub fn put_entries<O: Sink>(
 
 // Writes the line of an entry.
 fn put_entry<O: Sink>(out: &mut O, detail: Detail, row: &EntryRow) -> Result<(), DeviceFailed>
-    ensures ok { OnOk result (HasTaken (line_of (entry_text detail (listed row.now))) (O.output out.old) (O.output out.new)) }
-    ensures err { OnErr result (HasBroken (line_of (entry_text detail (listed row.now))) (O.output out.old) (O.output out.new)) }
+    ensures ok { OnOk result (HasTaken (line_of (entry_text detail (listed row.now)))
+        (O.output out.old) (O.output out.new)) }
+    ensures err { OnErr result (HasBroken (line_of (entry_text detail (listed row.now)))
+        (O.output out.old) (O.output out.new)) }
 {
     let number = Piece::Number(row.number as u128);
     let kind = Piece::Text(kind_name(row.kind));

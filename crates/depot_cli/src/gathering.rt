@@ -7,7 +7,8 @@ ghost use Rattle.depot_cli.specs.Gathering.{HasGathered, gathering};
 use arrayvec::ArrayVec;
 use depot_actions::{DeviceFailed, Sink, put};
 
-/// How many octets of a line wait for the others: as many as a pipe takes in one piece. A longer line goes out in several calls.
+/// How many octets of a line wait for the others: as many as a pipe takes in one piece. A longer
+/// line goes out in several calls.
 const MAX_WAITING: usize = 4_096;
 
 /// The octets of a line that wait for the others.
@@ -15,8 +16,10 @@ pub type Line = ArrayVec<u8, MAX_WAITING>;
 
 /// Adds octets to a line. What it has no room for goes out with those that wait.
 pub fn gather<O: Sink>(line: &mut Line, out: &mut O, octets: &[u8]) -> Result<(), DeviceFailed>
-    ensures ok { OnOk result (HasGathered octets.now (gathering line.old.items (O.output out.old)) (gathering line.new.items (O.output out.new))) }
-    ensures err { OnErr result (HasBroken (line.old.items ++ octets.now) (O.output out.old) (O.output out.new)) }
+    ensures ok { OnOk result (HasGathered octets.now (gathering line.old.items (O.output out.old))
+        (gathering line.new.items (O.output out.new))) }
+    ensures err { OnErr result (HasBroken (line.old.items ++ octets.now) (O.output out.old)
+        (O.output out.new)) }
 {
     let mut done = 0;
     'pieces: while done < octets.len() {
@@ -40,7 +43,8 @@ pub fn send<O: Sink>(line: &mut Line, out: &mut O) -> Result<(), DeviceFailed>
 // Writes what waits of a line that is full.
 fn make_room<O: Sink>(line: &mut Line, out: &mut O) -> Result<(), DeviceFailed>
     ensures room { OnOk result (array_vec_len line.new < MAX_WAITING) }
-    ensures ok { OnOk result (HasGathered [] (gathering line.old.items (O.output out.old)) (gathering line.new.items (O.output out.new))) }
+    ensures ok { OnOk result (HasGathered [] (gathering line.old.items (O.output out.old))
+        (gathering line.new.items (O.output out.new))) }
     ensures err { OnErr result (HasBroken line.old.items (O.output out.old) (O.output out.new)) }
 {
     if line.is_full() {
@@ -49,7 +53,8 @@ fn make_room<O: Sink>(line: &mut Line, out: &mut O) -> Result<(), DeviceFailed>
     Ok(())
 }
 
-// Adds the first of the octets to a line that isn't full, as many as it has room for, and answers how many.
+// Adds the first of the octets to a line that isn't full, as many as it has room for, and answers
+// how many.
 fn add(line: &mut Line, octets: &[u8]) -> usize
     requires { array_vec_len line.old < MAX_WAITING }
     ensures bound { result ≤ length octets.now }

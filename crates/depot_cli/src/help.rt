@@ -1,6 +1,7 @@
 // What stands at the end of the helps.
 
-// The end of a command's help: an example, what the statuses say, and with which refusals status 1 may come.
+// The end of a command's help: an example, what the statuses say, and with which refusals status 1
+// may come.
 macro_rules! ending {
     ($example:literal, $refusals:literal) => {
         concat!(

@@ -16,11 +16,11 @@ use part_store::ContentTotal;
 use sqlite::Alter;
 use std::alloc::Global;
 
-/// Writes to `out` what a depot holds, after how many octets its log had before it was opened, and gives 0; or writes the line of its
-/// refusal, `Memory` or `Database`, to `err` and gives 1.
+/// Writes to `out` what a depot holds, after how many octets its log had before it was opened, and
+/// gives 0; or writes the line of its refusal, `Memory` or `Database`, to `err` and gives 1.
 ///
-/// Writing follows the look and takes no memory. Where `out` fails, a prefix is written there, the line of `Write` to `err`, and the
-/// status is 1. The depot stays as it is.
+/// Writing follows the look and takes no memory. Where `out` fails, a prefix is written there, the
+/// line of `Write` to `err`, and the status is 1. The depot stays as it is.
 pub fn inspect<S: Alter, O: Sink, E: Sink>(
     alloc: Global,
     log: Option<u64>,
@@ -29,7 +29,8 @@ pub fn inspect<S: Alter, O: Sink, E: Sink>(
     err: &mut E,
 ) -> u8
     ensures inspected { HasInspected log result
-        (desk (state S.Store depot.old) (O.output out.old) (E.output err.old)) (desk (state S.Store depot.new) (O.output out.new) (E.output err.new)) }
+        (desk (state S.Store depot.old) (O.output out.old) (E.output err.old))
+        (desk (state S.Store depot.new) (O.output out.new) (E.output err.new)) }
     ensures survives { Survives (state S.Store depot.old) (state S.Store depot.new) (λ _. ⊥) }
 {
     match depot.inspect(alloc) {
@@ -44,8 +45,10 @@ fn put_overview<O: Sink>(
     log: Option<u64>,
     overview: &Overview,
 ) -> Result<(), DeviceFailed>
-    ensures ok { OnOk result (HasTaken (overview_text log overview.now) (O.output out.old) (O.output out.new)) }
-    ensures err { OnErr result (HasBroken (overview_text log overview.now) (O.output out.old) (O.output out.new)) }
+    ensures ok { OnOk result (HasTaken (overview_text log overview.now) (O.output out.old)
+        (O.output out.new)) }
+    ensures err { OnErr result (HasBroken (overview_text log overview.now) (O.output out.old)
+        (O.output out.new)) }
 {
     put_head(out, log)?;
     put_contents(out, &overview.users, &overview.contents)
@@ -75,8 +78,12 @@ fn put_contents<O: Sink>(
     users: &[UserOverview],
     contents: &ContentTotal,
 ) -> Result<(), DeviceFailed>
-    ensures ok { OnOk result (HasTaken (users_text users.now ++ line_of (contents_text contents.now)) (O.output out.old) (O.output out.new)) }
-    ensures err { OnErr result (HasBroken (users_text users.now ++ line_of (contents_text contents.now)) (O.output out.old) (O.output out.new)) }
+    ensures ok { OnOk result (HasTaken
+        (users_text users.now ++ line_of (contents_text contents.now)) (O.output out.old)
+        (O.output out.new)) }
+    ensures err { OnErr result (HasBroken
+        (users_text users.now ++ line_of (contents_text contents.now)) (O.output out.old)
+        (O.output out.new)) }
 {
     put_users(out, users)?;
     put_total(out, contents)
@@ -84,8 +91,10 @@ fn put_contents<O: Sink>(
 
 // Writes a line for each user.
 fn put_users<O: Sink>(out: &mut O, users: &[UserOverview]) -> Result<(), DeviceFailed>
-    ensures ok { OnOk result (HasTaken (users_text users.now) (O.output out.old) (O.output out.new)) }
-    ensures err { OnErr result (HasBroken (users_text users.now) (O.output out.old) (O.output out.new)) }
+    ensures ok { OnOk result (HasTaken (users_text users.now) (O.output out.old)
+        (O.output out.new)) }
+    ensures err { OnErr result (HasBroken (users_text users.now) (O.output out.old)
+        (O.output out.new)) }
 {
     for user in users {
         put_user(out, user)?;
@@ -96,7 +105,8 @@ fn put_users<O: Sink>(out: &mut O, users: &[UserOverview]) -> Result<(), DeviceF
 // Writes the line of a user.
 fn put_user<O: Sink>(out: &mut O, user: &UserOverview) -> Result<(), DeviceFailed>
     ensures ok { OnOk result (HasTaken (user_line user.now) (O.output out.old) (O.output out.new)) }
-    ensures err { OnErr result (HasBroken (user_line user.now) (O.output out.old) (O.output out.new)) }
+    ensures err { OnErr result (HasBroken (user_line user.now) (O.output out.old)
+        (O.output out.new)) }
 {
     let head = Piece::Text("user ");
     let name = Piece::Quoted(user.user.as_bytes());
@@ -160,8 +170,10 @@ fn put_user<O: Sink>(out: &mut O, user: &UserOverview) -> Result<(), DeviceFaile
 
 // Writes the line of the contents.
 fn put_total<O: Sink>(out: &mut O, contents: &ContentTotal) -> Result<(), DeviceFailed>
-    ensures ok { OnOk result (HasTaken (line_of (contents_text contents.now)) (O.output out.old) (O.output out.new)) }
-    ensures err { OnErr result (HasBroken (line_of (contents_text contents.now)) (O.output out.old) (O.output out.new)) }
+    ensures ok { OnOk result (HasTaken (line_of (contents_text contents.now)) (O.output out.old)
+        (O.output out.new)) }
+    ensures err { OnErr result (HasBroken (line_of (contents_text contents.now)) (O.output out.old)
+        (O.output out.new)) }
 {
     put_pieces(
         out,

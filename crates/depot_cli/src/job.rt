@@ -127,16 +127,21 @@ pub enum Lines {
     Octets(Vec<u8>),
 }
 
-/// Carries out a job: writes its answer to `out` and gives 0, or writes the line of its refusal to `err` and gives 1.
+/// Carries out a job: writes its answer to `out` and gives 0, or writes the line of its refusal to
+/// `err` and gives 1.
 ///
-/// What is wrong with a script that is to be explained, or with a listing, goes to `out`, and then the line of its refusal to `err`, with 1.
+/// What is wrong with a script that is to be explained, or with a listing, goes to `out`, and then
+/// the line of its refusal to `err`, with 1.
 ///
-/// Writing follows the job and takes no memory. Where `out` fails, a prefix of the answer is written there, what the job did stands,
-/// the line of `Write` is written to `err`, and the status is 1. Where `err` fails, a prefix of the line is written there.
+/// Writing follows the job and takes no memory. Where `out` fails, a prefix of the answer is
+/// written there, what the job did stands, the line of `Write` is written to `err`, and the status
+/// is 1. Where `err` fails, a prefix of the line is written there.
 ///
-/// A script or a program above its limit is refused as such, without taking memory; but to explain a script takes memory.
+/// A script or a program above its limit is refused as such, without taking memory; but to explain
+/// a script takes memory.
 ///
-/// The jobs of compile and assemble are refused with `Write` only where a call on the file failed, and then no file is kept.
+/// The jobs of compile and assemble are refused with `Write` only where a call on the file failed,
+/// and then no file is kept.
 pub fn answer<H: Host, O: Sink, E: Sink>(
     alloc: Global,
     job: Job<'_>,
@@ -146,18 +151,24 @@ pub fn answer<H: Host, O: Sink, E: Sink>(
 ) -> u8
     ensures status { result ≤ 1 }
     ensures done { result ≡ 0 → HasAnswered job.entry
-        (world (H.state host.old) (O.output out.old) (E.output err.old)) (world (H.state host.new) (O.output out.new) (E.output err.new))
+        (world (H.state host.old) (O.output out.old) (E.output err.old))
+        (world (H.state host.new) (O.output out.new) (E.output err.new))
         × (err.new ≡ err.old) }
     ensures failed { result ≡ 1 →
         HasFound job.entry
-        (world (H.state host.old) (O.output out.old) (E.output err.old)) (world (H.state host.new) (O.output out.new) (E.output err.new))
+        (world (H.state host.old) (O.output out.old) (E.output err.old))
+        (world (H.state host.new) (O.output out.new) (E.output err.new))
         ⊎ (HasStopped job.entry
-        (world (H.state host.old) (O.output out.old) (E.output err.old)) (world (H.state host.new) (O.output out.new) (E.output err.new))
+        (world (H.state host.old) (O.output out.old) (E.output err.old))
+        (world (H.state host.new) (O.output out.new) (E.output err.new))
         ⊎ (HasRefused job.entry
-        (world (H.state host.old) (O.output out.old) (E.output err.old)) (world (H.state host.new) (O.output out.new) (E.output err.new))
+        (world (H.state host.old) (O.output out.old) (E.output err.old))
+        (world (H.state host.new) (O.output out.new) (E.output err.new))
         × (out.new ≡ out.old))) }
-    ensures long_script { HasLongScript job.entry → (result ≡ 1) × HasTold ScriptTooLong (E.output err.old) (E.output err.new) × (out.new ≡ out.old) }
-    ensures long_program { HasLongProgram job.entry → (result ≡ 1) × HasTold Spelling (E.output err.old) (E.output err.new) × (out.new ≡ out.old) }
+    ensures long_script { HasLongScript job.entry → (result ≡ 1)
+        × HasTold ScriptTooLong (E.output err.old) (E.output err.new) × (out.new ≡ out.old) }
+    ensures long_program { HasLongProgram job.entry → (result ≡ 1)
+        × HasTold Spelling (E.output err.old) (E.output err.new) × (out.new ≡ out.old) }
 {
     match carry_out(alloc, job, host) {
         Ok(lines) => match put_lines(out, &lines) {
@@ -196,8 +207,10 @@ pub fn tell<E: Sink>(err: &mut E, refusal: &Refusal) -> u8
 
 // What the job comes to, with all that its lines are made of.
 fn carry_out<H: Host>(alloc: Global, job: Job<'_>, host: &mut H) -> Result<Lines, Refusal>
-    ensures shown { IfOk result (λ lines. IsShown job.entry (lines_text lines) (refusal_in lines) (H.state host.old) (H.state host.new)) }
-    ensures refused { IfErr result (λ refusal. IsJobRefusal job.entry refusal (H.state host.old) (H.state host.new)) }
+    ensures shown { IfOk result (λ lines. IsShown job.entry (lines_text lines) (refusal_in lines)
+        (H.state host.old) (H.state host.new)) }
+    ensures refused { IfErr result (λ refusal. IsJobRefusal job.entry refusal (H.state host.old)
+        (H.state host.new)) }
     ensures long_script { HasLongScript job.entry → IsErrAnd result (λ e. e ≡ ScriptTooLong) }
     ensures long_program { HasLongProgram job.entry → IsErrAnd result (λ e. e ≡ Spelling) }
 {
@@ -227,7 +240,8 @@ fn carry_out<H: Host>(alloc: Global, job: Job<'_>, host: &mut H) -> Result<Lines
 fn explain_script(alloc: Global, script: &[u8], name: &str) -> Result<Lines, Refusal>
     ensures shown { IfOk result (λ lines. MatchOption (refusal_in lines)
         ((form : CommandForms) × IsScript script.now form × (lines_text lines ≡ line ok_text))
-        (λ refusal. (refusal ≢ Memory) × IsScriptRefusal script.now refusal × Explains name.now script.now refusal (lines_text lines))) }
+        (λ refusal. (refusal ≢ Memory) × IsScriptRefusal script.now refusal
+        × Explains name.now script.now refusal (lines_text lines))) }
     ensures refused { IfErr result (λ e. e ≡ Memory) }
 {
     match check_script(alloc, script) {
@@ -242,7 +256,8 @@ fn explain_script(alloc: Global, script: &[u8], name: &str) -> Result<Lines, Ref
 
 // The octets of a script's program.
 fn program_octets(alloc: Global, script: &[u8]) -> Result<Vec<u8>, Refusal>
-    ensures compiled { IfOk result (λ octets. (code : Code) × IsCompiled script.now code × (octets.items ≡ spelling code)) }
+    ensures compiled { IfOk result (λ octets. (code : Code) × IsCompiled script.now code
+        × (octets.items ≡ spelling code)) }
     ensures refused { IfErr result (λ refusal. IsScriptRefusal script.now refusal) }
     ensures large { max_script < length script.now → IsErrAnd result (λ e. e ≡ ScriptTooLong) }
 {
@@ -252,7 +267,8 @@ fn program_octets(alloc: Global, script: &[u8]) -> Result<Vec<u8>, Refusal>
 
 // The text of an accepted program's budget.
 fn budget_line(alloc: Global, program: &[u8]) -> Result<String, Refusal>
-    ensures accepted { IfOk result (λ text. (code : Code) × IsChecked program.now code × (string_bytes text ≡ budget_text (budget_of code))) }
+    ensures accepted { IfOk result (λ text. (code : Code) × IsChecked program.now code
+        × (string_bytes text ≡ budget_text (budget_of code))) }
     ensures refused { IfErr result (λ refusal. IsProgramRefusal program.now refusal) }
     ensures large { max_program < length program.now → IsErrAnd result (λ e. e ≡ Spelling) }
 {
@@ -262,8 +278,10 @@ fn budget_line(alloc: Global, program: &[u8]) -> Result<String, Refusal>
 
 // The listing of a program, and what the verifier says of it.
 fn list_program(alloc: Global, program: &[u8]) -> Result<Lines, Refusal>
-    ensures listed { IfOk result (λ lines. (refusal_in lines ≡ None) × (code : Code) × (verdict : List ℕ)
-        × Spells program.now code × IsVerdict program.now verdict × (lines_text lines ≡ listing_of code ++ commented verdict)) }
+    ensures listed { IfOk result (λ lines. (refusal_in lines ≡ None) × (code : Code)
+        × (verdict : List ℕ)
+        × Spells program.now code × IsVerdict program.now verdict
+        × (lines_text lines ≡ listing_of code ++ commented verdict)) }
     ensures refused { IfErr result (IsUnspelled program.now) }
     ensures large { max_program < length program.now → IsErrAnd result (λ e. e ≡ Spelling) }
 {
@@ -285,7 +303,8 @@ fn verdict_on(alloc: Global, program: &[u8]) -> Result<Verdict, Refusal>
     }
 }
 
-// Makes the file of the program that a listing says; or says in words what is wrong with the listing.
+// Makes the file of the program that a listing says; or says in words what is wrong with the
+// listing.
 fn assemble_program<H: Host>(
     alloc: Global,
     listing: &[u8],
@@ -294,12 +313,15 @@ fn assemble_program<H: Host>(
     host: &mut H,
 ) -> Result<Lines, Refusal>
     ensures shown { IfOk result (λ lines. MatchOption (refusal_in lines)
-        ((code : Code) × Lists listing.now code × (lines_text lines ≡ line (wrote_text (length (spelling code))))
+        ((code : Code) × Lists listing.now code
+        × (lines_text lines ≡ line (wrote_text (length (spelling code))))
         × HasMade out.now name.now (spelling code) (H.state host.old) (H.state host.new))
         (λ refusal. (place : ℕ) × (refusal ≡ Listing place) × FaultsAt listing.now place
-        × Explains name.now listing.now refusal (lines_text lines) × (H.state host.new ≡ H.state host.old))) }
+        × Explains name.now listing.now refusal (lines_text lines)
+        × (H.state host.new ≡ H.state host.old))) }
     ensures refused { IfErr result (λ e. ((e ≡ Memory) × (H.state host.new ≡ H.state host.old))
-        ⊎ ((code : Code) × Lists listing.now code × HasNotMade e out.now name.now (H.state host.old) (H.state host.new))) }
+        ⊎ ((code : Code) × Lists listing.now code
+        × HasNotMade e out.now name.now (H.state host.old) (H.state host.new))) }
 {
     match assemble(alloc, listing) {
         Ok(program) => {
@@ -318,8 +340,10 @@ fn assemble_program<H: Host>(
 
 // Writes the lines.
 fn put_lines<O: Sink>(out: &mut O, lines: &Lines) -> Result<(), DeviceFailed>
-    ensures ok { OnOk result (HasTaken (lines_text lines.now) (O.output out.old) (O.output out.new)) }
-    ensures err { OnErr result (HasBroken (lines_text lines.now) (O.output out.old) (O.output out.new)) }
+    ensures ok { OnOk result (HasTaken (lines_text lines.now) (O.output out.old)
+        (O.output out.new)) }
+    ensures err { OnErr result (HasBroken (lines_text lines.now) (O.output out.old)
+        (O.output out.new)) }
 {
     match lines {
         Lines::NoFault => put_line(out, "ok"),
@@ -334,8 +358,10 @@ fn put_lines<O: Sink>(out: &mut O, lines: &Lines) -> Result<(), DeviceFailed>
 
 // Writes a listing, and behind it as a comment what the verifier says of its program.
 fn put_listing<O: Sink>(out: &mut O, listing: &[u8], verdict: &Verdict) -> Result<(), DeviceFailed>
-    ensures ok { OnOk result (HasTaken (listing.now ++ commented (verdict_line verdict.now)) (O.output out.old) (O.output out.new)) }
-    ensures err { OnErr result (HasBroken (listing.now ++ commented (verdict_line verdict.now)) (O.output out.old) (O.output out.new)) }
+    ensures ok { OnOk result (HasTaken (listing.now ++ commented (verdict_line verdict.now))
+        (O.output out.old) (O.output out.new)) }
+    ensures err { OnErr result (HasBroken (listing.now ++ commented (verdict_line verdict.now))
+        (O.output out.old) (O.output out.new)) }
 {
     put(out, listing)?;
     put_commented(out, verdict)
@@ -343,8 +369,10 @@ fn put_listing<O: Sink>(out: &mut O, listing: &[u8], verdict: &Verdict) -> Resul
 
 // Writes what the verifier says of a program, as a comment.
 fn put_commented<O: Sink>(out: &mut O, verdict: &Verdict) -> Result<(), DeviceFailed>
-    ensures ok { OnOk result (HasTaken (commented (verdict_line verdict.now)) (O.output out.old) (O.output out.new)) }
-    ensures err { OnErr result (HasBroken (commented (verdict_line verdict.now)) (O.output out.old) (O.output out.new)) }
+    ensures ok { OnOk result (HasTaken (commented (verdict_line verdict.now)) (O.output out.old)
+        (O.output out.new)) }
+    ensures err { OnErr result (HasBroken (commented (verdict_line verdict.now)) (O.output out.old)
+        (O.output out.new)) }
 {
     put(out, b"; ")?;
     put_verdict(out, verdict)
@@ -352,8 +380,10 @@ fn put_commented<O: Sink>(out: &mut O, verdict: &Verdict) -> Result<(), DeviceFa
 
 // Writes the line of what the verifier says of a program.
 fn put_verdict<O: Sink>(out: &mut O, verdict: &Verdict) -> Result<(), DeviceFailed>
-    ensures ok { OnOk result (HasTaken (verdict_line verdict.now) (O.output out.old) (O.output out.new)) }
-    ensures err { OnErr result (HasBroken (verdict_line verdict.now) (O.output out.old) (O.output out.new)) }
+    ensures ok { OnOk result (HasTaken (verdict_line verdict.now) (O.output out.old)
+        (O.output out.new)) }
+    ensures err { OnErr result (HasBroken (verdict_line verdict.now) (O.output out.old)
+        (O.output out.new)) }
 {
     match verdict {
         Verdict::Accepted(budget) => put_line(out, budget.as_str()),

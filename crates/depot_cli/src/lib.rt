@@ -1,11 +1,12 @@
 //! The command line of `depot`: what its words say, what its files hold, what it does and prints.
 //!
-//! [`run`] goes from the words to the status (`specs/Running`). What it needs of its surroundings is a [`Host`], which opens and makes
-//! files: a contract sees what it was asked for, and what it gave. [`System`] is the host of a real system. [`line_of`] says what the
-//! words say (`specs/Words`); [`read_limited`] reads a [`Source`] up to a limit (`specs/LimitedReading`); [`answer`] carries out a
-//! [`Job`], [`perform`] a [`Task`] on a depot: each writes exactly the answer, or the line of the refusal (`specs/Jobs`, `specs/Tasks`,
-//! `specs/Printed`). Writing takes no memory, and what
-//! a sink that failed has got is a prefix of the text.
+//! [`run`] goes from the words to the status (`specs/Running`). What it needs of its surroundings
+//! is a [`Host`], which opens and makes files: a contract sees what it was asked for, and what it
+//! gave. [`System`] is the host of a real system. [`line_of`] says what the words say
+//! (`specs/Words`); [`read_limited`] reads a [`Source`] up to a limit (`specs/LimitedReading`);
+//! [`answer`] carries out a [`Job`], [`perform`] a [`Task`] on a depot: each writes exactly the
+//! answer, or the line of the refusal (`specs/Jobs`, `specs/Tasks`, `specs/Printed`). Writing takes
+//! no memory, and what a sink that failed has got is a prefix of the text.
 #![tactic(auto)]
 
 mod arguments;

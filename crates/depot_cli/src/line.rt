@@ -129,9 +129,12 @@ const ENCODINGS: &[&str] = &[
 ///
 /// Where the words aren't those of a command, or ask for help, the error has the text for the user.
 pub fn line_of<'a>(alloc: Global, words: &'a [&'a str]) -> Result<CommandLine<'a>, Error>
-    ensures says { IfOk result (λ line. (app : App) × IsDepot app × Says line (subcommand_of app (map (λ w. w.now) words.entry.now))) }
-    ensures taken { IfErr result (λ e. (app : App) × IsDepot app × (takes app (map (λ w. w.now) words.entry.now) ≡ true → kind_of e ≡ OutOfMemory)) }
-    ensures kinds { (app : App) × IsDepot app × FailsBy (fault_of app (map (λ w. w.now) words.entry.now)) result }
+    ensures says { IfOk result (λ line. (app : App) × IsDepot app
+        × Says line (subcommand_of app (map (λ w. w.now) words.entry.now))) }
+    ensures taken { IfErr result (λ e. (app : App) × IsDepot app
+        × (takes app (map (λ w. w.now) words.entry.now) ≡ true → kind_of e ≡ OutOfMemory)) }
+    ensures kinds { (app : App) × IsDepot app
+        × FailsBy (fault_of app (map (λ w. w.now) words.entry.now)) result }
 {
     let names = encodings();
     let matches = depot_command(alloc, names)?.try_get_matches_from(words)?;
@@ -143,51 +146,43 @@ fn line_in<'a>(matches: &ArgMatches<'a>) -> CommandLine<'a>
     ensures { Says result (subcommand_rows_of matches.now) }
 {
     match matches.subcommand() {
-        Some(("check", found)) => CommandLine::Check {
-            script: argument(found, "SCRIPT"),
-        },
-        Some(("explain", found)) => CommandLine::Explain {
-            script: argument(found, "SCRIPT"),
-        },
-        Some(("compile", found)) => CommandLine::Compile {
-            script: argument(found, "SCRIPT"),
-            out: argument(found, "OUT"),
-        },
-        Some(("verify", found)) => CommandLine::Verify {
-            program: argument(found, "PROGRAM"),
-        },
-        Some(("run", found)) => CommandLine::Run {
-            program: argument(found, "PROGRAM"),
-            message: argument(found, "MESSAGE"),
-        },
-        Some(("disassemble", found)) => CommandLine::Disassemble {
-            program: argument(found, "PROGRAM"),
-        },
-        Some(("assemble", found)) => CommandLine::Assemble {
-            listing: argument(found, "LISTING"),
-            out: argument(found, "OUT"),
-        },
-        Some(("eval", found)) => CommandLine::Eval {
-            script: argument(found, "SCRIPT"),
-            message: argument(found, "MESSAGE"),
-        },
-        Some(("parts", found)) => CommandLine::Parts {
-            message: argument(found, "MESSAGE"),
-        },
-        Some(("encode", found)) => CommandLine::Encode {
-            encoding: encoding_named(argument(found, "ENCODING")),
-        },
-        Some(("decode", found)) => CommandLine::Decode {
-            encoding: encoding_named(argument(found, "ENCODING")),
-        },
-        Some((name, found)) => depot_line_in(name, found),
+        Some((name, found)) => mail_line_in(name, found),
         None => CommandLine::NoWords,
+    }
+}
+
+// What the matches of a command say. An argument that the command hasn't is empty.
+fn mail_line_in<'a>(name: &str, found: &ArgMatches<'a>) -> CommandLine<'a>
+    ensures { Says result (Some (name.now, rows_of (found_of found.now))) }
+{
+    let script = argument(found, "SCRIPT");
+    let program = argument(found, "PROGRAM");
+    let message = argument(found, "MESSAGE");
+    let out = argument(found, "OUT");
+    let encoding = encoding_named(argument(found, "ENCODING"));
+    match name {
+        "check" => CommandLine::Check { script },
+        "explain" => CommandLine::Explain { script },
+        "compile" => CommandLine::Compile { script, out },
+        "verify" => CommandLine::Verify { program },
+        "run" => CommandLine::Run { program, message },
+        "disassemble" => CommandLine::Disassemble { program },
+        "assemble" => CommandLine::Assemble {
+            listing: argument(found, "LISTING"),
+            out,
+        },
+        "eval" => CommandLine::Eval { script, message },
+        "parts" => CommandLine::Parts { message },
+        "encode" => CommandLine::Encode { encoding },
+        "decode" => CommandLine::Decode { encoding },
+        _ => depot_line_in(name, found),
     }
 }
 
 // What the matches of a command on a depot say.
 fn depot_line_in<'a>(name: &str, found: &ArgMatches<'a>) -> CommandLine<'a>
-    ensures { IsNoMailCommand name.now → Says result (Some (name.now, rows_of (found_of found.now))) }
+    ensures { IsNoMailCommand name.now
+        → Says result (Some (name.now, rows_of (found_of found.now))) }
 {
     let depot = argument(found, "DB");
     let user = argument(found, "USER");

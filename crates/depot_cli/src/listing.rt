@@ -15,9 +15,11 @@ use mime_params::MediaType;
 use refusals::Refusal;
 use std::alloc::{AllocError, Global};
 
-/// A line for each part of the message that the octets are. One content is decoded at a time, and each once.
+/// A line for each part of the message that the octets are. One content is decoded at a time, and
+/// each once.
 pub fn parts_lines(alloc: Global, octets: &[u8]) -> Result<Vec<u8>, Refusal>
-    ensures lines { IfOk result (λ text. IsReadable octets.now × (text.items ≡ parts_text (mail_of octets.now).parts)) }
+    ensures lines { IfOk result (λ text. IsReadable octets.now
+        × (text.items ≡ parts_text (mail_of octets.now).parts)) }
     ensures refused { IfErr result (λ refusal. IsUnread octets.now refusal) }
 {
     let message = Message::read(alloc, octets)?;
@@ -43,7 +45,8 @@ fn add_part(
     part: usize,
 ) -> Result<(), AllocError>
     requires { part < length message.now.parts }
-    ensures { OnOk result (HoldsAt (λ p. text.new.items ≡ text.old.items ++ line (part_text part p.depth p.media p.content)) message.now.parts part) }
+    ensures { OnOk result (HoldsAt (λ p. text.new.items ≡ text.old.items
+        ++ line (part_text part p.depth p.media p.content)) message.now.parts part) }
 {
     let tree = message.tree();
     let content = message.content(alloc, part)?;
@@ -64,7 +67,8 @@ fn add_line(
     media: &MediaType,
     content: &[u8],
 ) -> Result<(), AllocError>
-    ensures { OnOk result (text.new.items ≡ text.old.items ++ line (part_text place depth media.now content.now)) }
+    ensures { OnOk result (text.new.items ≡ text.old.items
+        ++ line (part_text place depth media.now content.now)) }
 {
     add_number(text, place)?;
     add_number(text, depth)?;

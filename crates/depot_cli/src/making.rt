@@ -11,8 +11,9 @@ use std::alloc::Global;
 ///
 /// # Errors
 ///
-/// `Memory` where an allocation was refused before the file was made, `Write` where a call failed. A file that has the name stays as
-/// it is; but a device or a pipe may have got a prefix of the octets.
+/// `Memory` where an allocation was refused before the file was made, `Write` where a call failed.
+/// A file that has the name stays as it is; but a device or a pipe may have got a prefix of the
+/// octets.
 pub fn make_file<H: Host>(
     alloc: Global,
     host: &mut H,
@@ -20,8 +21,10 @@ pub fn make_file<H: Host>(
     script: &str,
     octets: &[u8],
 ) -> Result<(), Refusal>
-    ensures ok { OnOk result (HasMade name.now script.now octets.now (H.state host.old) (H.state host.new)) }
-    ensures err { IfErr result (λ e. HasNotMade e name.now script.now (H.state host.old) (H.state host.new)) }
+    ensures ok { OnOk result (HasMade name.now script.now octets.now (H.state host.old)
+        (H.state host.new)) }
+    ensures err { IfErr result (λ e. HasNotMade e name.now script.now (H.state host.old)
+        (H.state host.new)) }
 {
     let mut file = host.create(alloc, name, script)?;
     match put(&mut file, octets) {

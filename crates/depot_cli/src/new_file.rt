@@ -45,12 +45,14 @@ impl<F: Write + Drop> Sink for NewFile<F> {
     }
 }
 
-/// Makes a file that is to have this name. Where a regular file has it, or none, that stays as it is, and the new file stands beside it;
-/// symbolic links are followed first. Where a device or a pipe has it, that is what is written.
+/// Makes a file that is to have this name. Where a regular file has it, or none, that stays as it
+/// is, and the new file stands beside it; symbolic links are followed first. Where a device or a
+/// pipe has it, that is what is written.
 ///
 /// # Errors
 ///
-/// The file can't be made, the one that has the name can't be written, or it is the script's own file.
+/// The file can't be made, the one that has the name can't be written, or it is the script's own
+/// file.
 pub fn begin<R: Files>(
     rt: &R,
     alloc: Global,
@@ -59,7 +61,8 @@ pub fn begin<R: Files>(
     script: &str,
 ) -> io::Result<NewFile<R::File>>
     ensures faults { IfOk result (λ file. file.sink.faults ≡ 0) }
-    ensures stands { IfOk result (λ file. IfSome file.paths (λ paths. IsReached name.now (path_buf_bytes paths.kept))) }
+    ensures stands { IfOk result (λ file. IfSome file.paths
+        (λ paths. IsReached name.now (path_buf_bytes paths.kept))) }
 {
     match File::options().write(true).open(rt, name) {
         Ok(file) => {
@@ -91,7 +94,8 @@ fn begin_in_place_of<R: Files>(
     old: &Metadata,
 ) -> io::Result<NewFile<R::File>>
     ensures faults { IfOk result (λ file. file.sink.faults ≡ 0) }
-    ensures stands { IfOk result (λ file. IfSome file.paths (λ paths. IsReached name.now (path_buf_bytes paths.kept))) }
+    ensures stands { IfOk result (λ file. IfSome file.paths
+        (λ paths. IsReached name.now (path_buf_bytes paths.kept))) }
 {
     let kept = without_links(rt, alloc, name)?;
     if is_same_file(rt, script, old) || !is_same_file(rt, kept.as_str(), old) {
@@ -124,7 +128,8 @@ fn begin_beside<R: Files>(
     mode: u32,
 ) -> io::Result<NewFile<R::File>>
     ensures faults { IfOk result (λ file. file.sink.faults ≡ 0) }
-    ensures stands { IfOk result (λ file. IfSome file.paths (λ paths. path_buf_bytes paths.kept ≡ path_buf_bytes kept)) }
+    ensures stands { IfOk result (λ file. IfSome file.paths
+        (λ paths. path_buf_bytes paths.kept ≡ path_buf_bytes kept)) }
 {
     for n in 0..MAX_NAMES {
         let made = path_beside(alloc, &kept, number, n)?;
@@ -153,7 +158,8 @@ fn create_new<R: Files>(rt: &R, path: &str, mode: u32) -> io::Result<R::File> {
 
 // The path of a new file, in the folder of another.
 fn path_beside(alloc: Global, kept: &PathBuf, number: u32, n: u32) -> Result<PathBuf, AllocError>
-    ensures { IfOk result (λ path. path_buf_bytes path ≡ path_with_file_name (path_buf_bytes kept.now) (new_name number n)) }
+    ensures { IfOk result (λ path. path_buf_bytes path
+        ≡ path_with_file_name (path_buf_bytes kept.now) (new_name number n)) }
 {
     let name = format!(in alloc; ".depot-{number}-{n}")?;
     kept.with_file_name(alloc, name.as_str())

@@ -58,11 +58,12 @@ impl NoDepot {
     }
 }
 
-/// Writes to `out` why a file is no depot, and gives 1, the status of a refusal. Where `out` fails, a prefix is written there, and the
-/// line of `Write` to `err`.
+/// Writes to `out` why a file is no depot, and gives 1, the status of a refusal. Where `out` fails,
+/// a prefix is written there, and the line of `Write` to `err`.
 pub fn tell_no_depot<O: Sink, E: Sink>(out: &mut O, err: &mut E, why: NoDepot) -> u8
     ensures status { result ≡ 1 }
-    ensures said { HasSaidWhy why (O.output out.old) (E.output err.old) (O.output out.new) (E.output err.new) }
+    ensures said { HasSaidWhy why (O.output out.old) (E.output err.old) (O.output out.new)
+        (E.output err.new) }
 {
     match put_pieces(
         out,

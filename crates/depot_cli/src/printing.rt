@@ -18,8 +18,10 @@ use sieve_engine::Report;
 
 /// Writes the line that pieces make.
 pub fn put_pieces<O: Sink>(out: &mut O, pieces: &[Piece<'_>]) -> Result<(), DeviceFailed>
-    ensures ok { OnOk result (HasTaken (pieces_text pieces.now) (O.output out.old) (O.output out.new)) }
-    ensures err { OnErr result (HasBroken (pieces_text pieces.now) (O.output out.old) (O.output out.new)) }
+    ensures ok { OnOk result (HasTaken (pieces_text pieces.now) (O.output out.old)
+        (O.output out.new)) }
+    ensures err { OnErr result (HasBroken (pieces_text pieces.now) (O.output out.old)
+        (O.output out.new)) }
 {
     let mut line = Line::new();
     for piece in pieces {
@@ -34,8 +36,11 @@ fn gather_piece<O: Sink>(
     out: &mut O,
     piece: &Piece<'_>,
 ) -> Result<(), DeviceFailed>
-    ensures ok { OnOk result (HasGathered (piece_text piece.now) (gathering line.old.items (O.output out.old)) (gathering line.new.items (O.output out.new))) }
-    ensures err { OnErr result (HasBroken (line.old.items ++ piece_text piece.now) (O.output out.old) (O.output out.new)) }
+    ensures ok { OnOk result (HasGathered (piece_text piece.now)
+        (gathering line.old.items (O.output out.old))
+        (gathering line.new.items (O.output out.new))) }
+    ensures err { OnErr result (HasBroken (line.old.items ++ piece_text piece.now)
+        (O.output out.old) (O.output out.new)) }
 {
     match piece {
         Piece::Text(text) => gather(line, out, text.as_bytes()),
@@ -48,8 +53,11 @@ fn gather_piece<O: Sink>(
 
 // Adds octets between quotes to a line.
 fn gather_quoted<O: Sink>(line: &mut Line, out: &mut O, octets: &[u8]) -> Result<(), DeviceFailed>
-    ensures ok { OnOk result (HasGathered (quoted octets.now) (gathering line.old.items (O.output out.old)) (gathering line.new.items (O.output out.new))) }
-    ensures err { OnErr result (HasBroken (line.old.items ++ quoted octets.now) (O.output out.old) (O.output out.new)) }
+    ensures ok { OnOk result (HasGathered (quoted octets.now)
+        (gathering line.old.items (O.output out.old))
+        (gathering line.new.items (O.output out.new))) }
+    ensures err { OnErr result (HasBroken (line.old.items ++ quoted octets.now) (O.output out.old)
+        (O.output out.new)) }
 {
     gather(line, out, b"\"")?;
     gather_escaped(line, out, Setting::Quotes, octets)?;
@@ -63,8 +71,11 @@ fn gather_escaped<O: Sink>(
     setting: Setting,
     octets: &[u8],
 ) -> Result<(), DeviceFailed>
-    ensures ok { OnOk result (HasGathered (escaped setting octets.now) (gathering line.old.items (O.output out.old)) (gathering line.new.items (O.output out.new))) }
-    ensures err { OnErr result (HasBroken (line.old.items ++ escaped setting octets.now) (O.output out.old) (O.output out.new)) }
+    ensures ok { OnOk result (HasGathered (escaped setting octets.now)
+        (gathering line.old.items (O.output out.old))
+        (gathering line.new.items (O.output out.new))) }
+    ensures err { OnErr result (HasBroken (line.old.items ++ escaped setting octets.now)
+        (O.output out.old) (O.output out.new)) }
 {
     if are_plain(setting, octets) {
         return gather(line, out, octets);
@@ -82,8 +93,11 @@ fn gather_octet<O: Sink>(
     setting: Setting,
     octet: u8,
 ) -> Result<(), DeviceFailed>
-    ensures ok { OnOk result (HasGathered (escaped_octet setting octet) (gathering line.old.items (O.output out.old)) (gathering line.new.items (O.output out.new))) }
-    ensures err { OnErr result (HasBroken (line.old.items ++ escaped_octet setting octet) (O.output out.old) (O.output out.new)) }
+    ensures ok { OnOk result (HasGathered (escaped_octet setting octet)
+        (gathering line.old.items (O.output out.old))
+        (gathering line.new.items (O.output out.new))) }
+    ensures err { OnErr result (HasBroken (line.old.items ++ escaped_octet setting octet)
+        (O.output out.old) (O.output out.new)) }
 {
     if is_plain(setting, octet) {
         gather(line, out, &[octet])
@@ -119,8 +133,10 @@ fn digit(n: u8) -> u8
 
 // Writes the line of an action.
 fn put_action<O: Sink>(out: &mut O, action: &Action) -> Result<(), DeviceFailed>
-    ensures ok { OnOk result (HasTaken (line_of (action_text action.now)) (O.output out.old) (O.output out.new)) }
-    ensures err { OnErr result (HasBroken (line_of (action_text action.now)) (O.output out.old) (O.output out.new)) }
+    ensures ok { OnOk result (HasTaken (line_of (action_text action.now)) (O.output out.old)
+        (O.output out.new)) }
+    ensures err { OnErr result (HasBroken (line_of (action_text action.now)) (O.output out.old)
+        (O.output out.new)) }
 {
     match action {
         Action::Keep => put_line(out, "keep"),
@@ -147,8 +163,10 @@ fn put_action<O: Sink>(out: &mut O, action: &Action) -> Result<(), DeviceFailed>
 
 // Writes a line for each action, or one that there is none.
 fn put_actions<O: Sink>(out: &mut O, actions: &[Action]) -> Result<(), DeviceFailed>
-    ensures ok { OnOk result (HasTaken (actions_text actions.now) (O.output out.old) (O.output out.new)) }
-    ensures err { OnErr result (HasBroken (actions_text actions.now) (O.output out.old) (O.output out.new)) }
+    ensures ok { OnOk result (HasTaken (actions_text actions.now) (O.output out.old)
+        (O.output out.new)) }
+    ensures err { OnErr result (HasBroken (actions_text actions.now) (O.output out.old)
+        (O.output out.new)) }
 {
     if actions.is_empty() {
         return put_line(out, "none");
@@ -161,8 +179,12 @@ fn put_actions<O: Sink>(out: &mut O, actions: &[Action]) -> Result<(), DeviceFai
 
 /// Writes the lines of a run: its actions, and what it charged of what it may charge.
 pub fn put_report<O: Sink>(out: &mut O, report: &Report) -> Result<(), DeviceFailed>
-    ensures ok { OnOk result (HasTaken (report_text report.now.outcome.actions.items report.now.outcome.charged report.now.limit) (O.output out.old) (O.output out.new)) }
-    ensures err { OnErr result (HasBroken (report_text report.now.outcome.actions.items report.now.outcome.charged report.now.limit) (O.output out.old) (O.output out.new)) }
+    ensures ok { OnOk result (HasTaken
+        (report_text report.now.outcome.actions.items report.now.outcome.charged report.now.limit)
+        (O.output out.old) (O.output out.new)) }
+    ensures err { OnErr result (HasBroken
+        (report_text report.now.outcome.actions.items report.now.outcome.charged report.now.limit)
+        (O.output out.old) (O.output out.new)) }
 {
     let outcome = &report.outcome;
     put_run(out, &outcome.actions, outcome.charged, report.limit)
@@ -175,8 +197,10 @@ fn put_run<O: Sink>(
     charged: u128,
     limit: u128,
 ) -> Result<(), DeviceFailed>
-    ensures ok { OnOk result (HasTaken (report_text actions.now charged limit) (O.output out.old) (O.output out.new)) }
-    ensures err { OnErr result (HasBroken (report_text actions.now charged limit) (O.output out.old) (O.output out.new)) }
+    ensures ok { OnOk result (HasTaken (report_text actions.now charged limit) (O.output out.old)
+        (O.output out.new)) }
+    ensures err { OnErr result (HasBroken (report_text actions.now charged limit) (O.output out.old)
+        (O.output out.new)) }
 {
     put_actions(out, actions)?;
     put_charge(out, charged, limit)
@@ -184,8 +208,10 @@ fn put_run<O: Sink>(
 
 // Writes the line of what a run charged.
 fn put_charge<O: Sink>(out: &mut O, charged: u128, limit: u128) -> Result<(), DeviceFailed>
-    ensures ok { OnOk result (HasTaken (line_of (charge_text charged limit)) (O.output out.old) (O.output out.new)) }
-    ensures err { OnErr result (HasBroken (line_of (charge_text charged limit)) (O.output out.old) (O.output out.new)) }
+    ensures ok { OnOk result (HasTaken (line_of (charge_text charged limit)) (O.output out.old)
+        (O.output out.new)) }
+    ensures err { OnErr result (HasBroken (line_of (charge_text charged limit)) (O.output out.old)
+        (O.output out.new)) }
 {
     put_pieces(
         out,
@@ -202,15 +228,18 @@ fn put_charge<O: Sink>(out: &mut O, charged: u128, limit: u128) -> Result<(), De
 /// Writes a text and the end of its line.
 pub fn put_line<O: Sink>(out: &mut O, text: &str) -> Result<(), DeviceFailed>
     ensures ok { OnOk result (HasTaken (line_of text.now) (O.output out.old) (O.output out.new)) }
-    ensures err { OnErr result (HasBroken (line_of text.now) (O.output out.old) (O.output out.new)) }
+    ensures err { OnErr result (HasBroken (line_of text.now) (O.output out.old)
+        (O.output out.new)) }
 {
     put_pieces(out, &[Piece::Text(text), Piece::Text("\n")])
 }
 
 /// Writes the line of so many octets that were written to a file.
 pub fn put_wrote<O: Sink>(out: &mut O, octets: usize) -> Result<(), DeviceFailed>
-    ensures ok { OnOk result (HasTaken (line_of (wrote_text octets)) (O.output out.old) (O.output out.new)) }
-    ensures err { OnErr result (HasBroken (line_of (wrote_text octets)) (O.output out.old) (O.output out.new)) }
+    ensures ok { OnOk result (HasTaken (line_of (wrote_text octets)) (O.output out.old)
+        (O.output out.new)) }
+    ensures err { OnErr result (HasBroken (line_of (wrote_text octets)) (O.output out.old)
+        (O.output out.new)) }
 {
     put_pieces(
         out,
@@ -224,8 +253,10 @@ pub fn put_wrote<O: Sink>(out: &mut O, octets: usize) -> Result<(), DeviceFailed
 
 /// Writes the line of a refusal: its number, its name, and its place where it has one.
 pub fn put_refusal<O: Sink>(out: &mut O, refusal: &Refusal) -> Result<(), DeviceFailed>
-    ensures ok { OnOk result (HasTaken (refusal_line refusal.now) (O.output out.old) (O.output out.new)) }
-    ensures err { OnErr result (HasBroken (refusal_line refusal.now) (O.output out.old) (O.output out.new)) }
+    ensures ok { OnOk result (HasTaken (refusal_line refusal.now) (O.output out.old)
+        (O.output out.new)) }
+    ensures err { OnErr result (HasBroken (refusal_line refusal.now) (O.output out.old)
+        (O.output out.new)) }
 {
     let number = Piece::Number(refusal.number() as u128);
     let name = Piece::Text(refusal.name());
@@ -255,7 +286,8 @@ pub fn put_refusal<O: Sink>(out: &mut O, refusal: &Refusal) -> Result<(), Device
     }
 }
 
-/// Writes lines of a text, in which all octets but printable characters and line breaks are escaped.
+/// Writes lines of a text, in which all octets but printable characters and line breaks are
+/// escaped.
 pub fn put_text<O: Sink>(out: &mut O, text: &str) -> Result<(), DeviceFailed>
     ensures ok { OnOk result (HasTaken (shown text.now) (O.output out.old) (O.output out.new)) }
     ensures err { OnErr result (HasBroken (shown text.now) (O.output out.old) (O.output out.new)) }

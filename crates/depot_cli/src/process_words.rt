@@ -36,7 +36,8 @@ pub fn words(alloc: Global, args: Args) -> Result<Vec<String>, AllocError>
 ///
 /// An allocation was refused.
 pub fn texts<'a>(alloc: Global, words: &'a [String]) -> Result<Vec<&'a str>, AllocError>
-    ensures { IfOk result (λ texts. map (λ text. text.now) texts.items ≡ map string_bytes words.entry.now) }
+    ensures { IfOk result (λ texts. map (λ text. text.now) texts.items
+        ≡ map string_bytes words.entry.now) }
 {
     let mut texts = Vec::new(alloc);
     for word in words {
@@ -45,13 +46,14 @@ pub fn texts<'a>(alloc: Global, words: &'a [String]) -> Result<Vec<&'a str>, All
     Ok(texts)
 }
 
-/// Tells why the words of a process can't be had, and gives the status: 1 and the line of `Memory` where an allocation was refused, else
-/// 2 and that a word isn't UTF-8.
+/// Tells why the words of a process can't be had, and gives the status: 1 and the line of `Memory`
+/// where an allocation was refused, else 2 and that a word isn't UTF-8.
 pub fn tell_no_words<E: Sink>(err: &mut E, fault: &io::Error) -> u8
     ensures memory { error_kind fault.now ≡ OutOfMemory
         → (result ≡ refused) × HasTold Memory (E.output err.old) (E.output err.new) }
     ensures other { error_kind fault.now ≢ OutOfMemory
-        → (result ≡ usage) × HasShown (codes "error: a word isn't UTF-8\n") (E.output err.old) (E.output err.new) }
+        → (result ≡ usage) × HasShown (codes "error: a word isn't UTF-8\n") (E.output err.old)
+        (E.output err.new) }
 {
     if fault.kind() == ErrorKind::OutOfMemory {
         return tell(err, &Refusal::Memory);

@@ -13,17 +13,20 @@ const PIECE: usize = 65_536;
 
 /// All octets of a source, if they are no more than the limit.
 ///
-/// At most one octet more than the limit is taken, also from a source that never ends; then the answer is `MessageTooLarge`, and it is
-/// in no other case. `Read` comes only where the source failed, and no other error but `Memory`. Else the source has met its end.
+/// At most one octet more than the limit is taken, also from a source that never ends; then the
+/// answer is `MessageTooLarge`, and it is in no other case. `Read` comes only where the source
+/// failed, and no other error but `Memory`. Else the source has met its end.
 pub fn read_limited<R: Source>(
     alloc: Global,
     source: &mut R,
     limit: usize,
 ) -> Result<Vec<u8>, Refusal>
-    ensures all { IfOk result (λ octets. HasGiven octets.items (R.supply source.old) (R.supply source.new)) }
+    ensures all { IfOk result (λ octets. HasGiven octets.items (R.supply source.old)
+        (R.supply source.new)) }
     ensures ended { OnOk result (HasEnded (R.supply source.new)) }
     ensures small { IfOk result (λ octets. vec_len octets ≤ limit) }
-    ensures refused { IfErr result (λ e. HasGivenUp e limit (R.supply source.old) (R.supply source.new)) }
+    ensures refused { IfErr result (λ e. HasGivenUp e limit (R.supply source.old)
+        (R.supply source.new)) }
 {
     let mut octets = Vec::new(alloc);
     let mut filled = 0;
@@ -43,8 +46,8 @@ pub fn read_limited<R: Source>(
     }
 }
 
-// Makes room after the octets that are filled: for a piece, or for one octet more than the limit. So no octet is taken that memory
-// is refused for.
+// Makes room after the octets that are filled: for a piece, or for one octet more than the limit.
+// So no octet is taken that memory is refused for.
 fn make_room(octets: &mut Vec<u8>, filled: usize, limit: usize) -> Result<(), AllocError>
     requires filled { filled ≤ vec_len octets.old }
     requires more { filled ≤ limit }
@@ -70,7 +73,8 @@ fn read_from<R: Source>(
     ensures len { vec_len octets.new ≡ vec_len octets.old }
     ensures kept { take filled octets.new.items ≡ take filled octets.old.items }
     ensures bound { IfOk result (λ n. filled + n ≤ vec_len octets.new) }
-    ensures ok { IfOk result (λ n. HasGiven (take n (drop filled octets.new.items)) (R.supply source.old) (R.supply source.new)) }
+    ensures ok { IfOk result (λ n. HasGiven (take n (drop filled octets.new.items))
+        (R.supply source.old) (R.supply source.new)) }
     ensures ended { IfOk result (λ n. n ≡ 0 → HasEnded (R.supply source.new)) }
     ensures err { OnErr result (HasFailedToGive (R.supply source.old) (R.supply source.new)) }
 {

@@ -48,7 +48,8 @@ pub enum Inputs<'a> {
 /// What is to be done next.
 #[derive(Drop)]
 pub enum Next<'a> {
-    /// To end with a status: 0 for success, 1 for a refusal or an answer that broke off, 2 for words that aren't those of a command, and for help.
+    /// To end with a status: 0 for success, 1 for a refusal or an answer that broke off, 2 for
+    /// words that aren't those of a command, and for help.
     Exit(u8),
     /// To perform an errand on a depot. What it reads was read, and nothing was done yet.
     Perform(Errand<'a>),
@@ -58,11 +59,13 @@ pub enum Next<'a> {
     Save(Saving<'a>),
 }
 
-/// Carries out what the words say, of which the first is the program's name; but a command on a depot is handed back, for whoever opens
-/// the depot to perform, and so is one that inspects, or that saves a program.
+/// Carries out what the words say, of which the first is the program's name; but a command on a
+/// depot is handed back, for whoever opens the depot to perform, and so is one that inspects, or
+/// that saves a program.
 ///
-/// What the command reads is read in the order of its words, before anything is done with it; each at most one octet past the limit.
-/// Where it can't be read, the refusal is told, and nothing after it is opened. Then the job is answered, with these octets.
+/// What the command reads is read in the order of its words, before anything is done with it; each
+/// at most one octet past the limit. Where it can't be read, the refusal is told, and nothing after
+/// it is opened. Then the job is answered, with these octets.
 pub fn run<'a, H: Host, O: Sink, E: Sink>(
     alloc: Global,
     words: &'a [&'a str],
@@ -71,7 +74,8 @@ pub fn run<'a, H: Host, O: Sink, E: Sink>(
     err: &mut E,
 ) -> Next<'a>
     ensures { HasRun (map (λ w. w.now) words.entry.now) result
-        (world (H.state host.old) (O.output out.old) (E.output err.old)) (world (H.state host.new) (O.output out.new) (E.output err.new)) }
+        (world (H.state host.old) (O.output out.old) (E.output err.old))
+        (world (H.state host.new) (O.output out.new) (E.output err.new)) }
 {
     match line_of(alloc, words) {
         Ok(line) => lead(alloc, line, host, out, err),
@@ -79,8 +83,8 @@ pub fn run<'a, H: Host, O: Sink, E: Sink>(
     }
 }
 
-/// Writes a text for the user, in which all octets but printable characters and line breaks are escaped, and gives the status of
-/// words that aren't those of a command.
+/// Writes a text for the user, in which all octets but printable characters and line breaks are
+/// escaped, and gives the status of words that aren't those of a command.
 pub fn tell_usage<E: Sink>(err: &mut E, text: &str) -> u8
     ensures status { result ≡ usage }
     ensures told { HasShown text.now (E.output err.old) (E.output err.new) }
@@ -92,7 +96,8 @@ pub fn tell_usage<E: Sink>(err: &mut E, text: &str) -> u8
 // Writes why the words aren't those of a command, or the help that they ask for.
 fn tell_fault<E: Sink>(alloc: Global, fault: Error, err: &mut E) -> u8
     ensures { ((result ≡ refused) × HasTold Memory (E.output err.old) (E.output err.new))
-        ⊎ ((kind_of fault ≢ OutOfMemory) × (result ≡ usage) × HasToldUsage (E.output err.old) (E.output err.new)) }
+        ⊎ ((kind_of fault ≢ OutOfMemory) × (result ≡ usage)
+        × HasToldUsage (E.output err.old) (E.output err.new)) }
 {
     if fault.kind() == ErrorKind::OutOfMemory {
         return tell(err, &Refusal::Memory);
@@ -112,7 +117,8 @@ fn lead<'a, H: Host, O: Sink, E: Sink>(
     err: &mut E,
 ) -> Next<'a>
     ensures { LeadsTo line.entry result
-        (world (H.state host.old) (O.output out.old) (E.output err.old)) (world (H.state host.new) (O.output out.new) (E.output err.new)) }
+        (world (H.state host.old) (O.output out.old) (E.output err.old))
+        (world (H.state host.new) (O.output out.new) (E.output err.new)) }
 {
     match (inspected(line), saved(line)) {
         (Some(name), _) => Next::Inspect(name),
@@ -123,7 +129,8 @@ fn lead<'a, H: Host, O: Sink, E: Sink>(
 
 // The file that a command inspects, if it does.
 fn inspected<'a>(line: CommandLine<'a>) -> Option<&'a str>
-    ensures { MatchOption result (is_inspection line.entry ≡ false) (λ name. IsInspected line.entry name.now) }
+    ensures { MatchOption result (is_inspection line.entry ≡ false)
+        (λ name. IsInspected line.entry name.now) }
 {
     match line {
         CommandLine::Inspect { depot } => Some(depot),
@@ -133,7 +140,8 @@ fn inspected<'a>(line: CommandLine<'a>) -> Option<&'a str>
 
 // What a command saves, if it does.
 fn saved<'a>(line: CommandLine<'a>) -> Option<Saving<'a>>
-    ensures { MatchOption result (is_saving line.entry ≡ false) (λ saving. IsSavingOf line.entry saving) }
+    ensures { MatchOption result (is_saving line.entry ≡ false)
+        (λ saving. IsSavingOf line.entry saving) }
 {
     match line {
         CommandLine::Program { depot, user, out } => Some(Saving {
@@ -156,7 +164,8 @@ fn carry_out<'a, H: Host, O: Sink, E: Sink>(
     requires inspects { is_inspection line ≡ false }
     requires saves { is_saving line ≡ false }
     ensures { LeadsTo line.entry result
-        (world (H.state host.old) (O.output out.old) (E.output err.old)) (world (H.state host.new) (O.output out.new) (E.output err.new)) }
+        (world (H.state host.old) (O.output out.old) (E.output err.old))
+        (world (H.state host.new) (O.output out.new) (E.output err.new)) }
 {
     match read_inputs(alloc, inputs_of(line), host) {
         Ok((first, second)) => match order_of(line) {
@@ -176,7 +185,8 @@ fn carry_out<'a, H: Host, O: Sink, E: Sink>(
 
 // The depot that a command is on, and what it asks of it.
 fn order_of<'a>(line: CommandLine<'a>) -> Option<(&'a str, Order<'a>)>
-    ensures { MatchOption result (is_on_depot line.entry ≡ false) (λ found. IsDepotOf line.entry found.0.now × IsOrderOf line.entry found.1) }
+    ensures { MatchOption result (is_on_depot line.entry ≡ false)
+        (λ found. IsDepotOf line.entry found.0.now × IsOrderOf line.entry found.1) }
 {
     match line {
         CommandLine::Script { depot, user, .. } => Some((depot, Order::Script { user })),
@@ -240,13 +250,16 @@ fn inputs_of<'a>(line: CommandLine<'a>) -> Inputs<'a>
     }
 }
 
-// The job of a command that isn't on a depot, with the octets that it reads, the second ones empty where it reads once.
+// The job of a command that isn't on a depot, with the octets that it reads, the second ones empty
+// where it reads once.
 fn job_of<'a>(line: CommandLine<'a>, first: &'a [u8], second: &'a [u8]) -> Job<'a>
     requires elsewhere { is_on_depot line ≡ false }
     requires inspects { is_inspection line ≡ false }
     requires saves { is_saving line ≡ false }
-    ensures { (inputs : List (List ℕ)) → first.entry.now ≡ input inputs 0 → second.entry.now ≡ input inputs 1 → IsJobOf line.entry inputs result }
+    ensures { (inputs : List (List ℕ)) → first.entry.now ≡ input inputs 0
+        → second.entry.now ≡ input inputs 1 → IsJobOf line.entry inputs result }
 {
+    let (octets, text) = (first, first);
     match line {
         CommandLine::NoWords => Job::Run {
             program: keeping_program(),
@@ -278,14 +291,8 @@ fn job_of<'a>(line: CommandLine<'a>, first: &'a [u8], second: &'a [u8]) -> Job<'
             message: second,
         },
         CommandLine::Parts { .. } => Job::Parts { message: first },
-        CommandLine::Encode { encoding } => Job::Encode {
-            encoding,
-            octets: first,
-        },
-        CommandLine::Decode { encoding } => Job::Decode {
-            encoding,
-            text: first,
-        },
+        CommandLine::Encode { encoding } => Job::Encode { encoding, octets },
+        CommandLine::Decode { encoding } => Job::Decode { encoding, text },
         _ => unreachable!(),
     }
 }
@@ -297,15 +304,18 @@ fn keeping_program() -> &'static [u8]
     KEEPS_ALL
 }
 
-// The octets of what a command reads, the second ones empty where it reads once, and both where it reads nothing.
+// The octets of what a command reads, the second ones empty where it reads once, and both where it
+// reads nothing.
 fn read_inputs<H: Host>(
     alloc: Global,
     inputs: Inputs<'_>,
     host: &mut H,
 ) -> Result<(Vec<u8>, Vec<u8>), Refusal>
-    ensures read { IfOk result (λ octets. (all : List (List ℕ)) × HaveRead (origins_in inputs.entry) all (H.state host.old) (H.state host.new)
+    ensures read { IfOk result (λ octets. (all : List (List ℕ))
+        × HaveRead (origins_in inputs.entry) all (H.state host.old) (H.state host.new)
         × (octets.0.items ≡ input all 0) × (octets.1.items ≡ input all 1)) }
-    ensures refused { IfErr result (λ e. HaveNotRead e (origins_in inputs.entry) (H.state host.old) (H.state host.new)) }
+    ensures refused { IfErr result (λ e. HaveNotRead e (origins_in inputs.entry) (H.state host.old)
+        (H.state host.new)) }
 {
     match inputs {
         Inputs::None => Ok((Vec::new(alloc), Vec::new(alloc))),
@@ -320,8 +330,10 @@ fn read_inputs<H: Host>(
 
 // The octets of a file, or of standard input.
 fn read_input<H: Host>(alloc: Global, input: Input<'_>, host: &mut H) -> Result<Vec<u8>, Refusal>
-    ensures read { IfOk result (λ octets. HasRead (origin_of input.entry) octets.items (H.state host.old) (H.state host.new)) }
-    ensures refused { IfErr result (λ e. HasNotRead e (origin_of input.entry) (H.state host.old) (H.state host.new)) }
+    ensures read { IfOk result (λ octets. HasRead (origin_of input.entry) octets.items
+        (H.state host.old) (H.state host.new)) }
+    ensures refused { IfErr result (λ e. HasNotRead e (origin_of input.entry) (H.state host.old)
+        (H.state host.new)) }
 {
     let mut reader = host.open(input)?;
     let octets = read_limited(alloc, &mut reader, MAX_MESSAGE);

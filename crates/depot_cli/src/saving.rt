@@ -26,12 +26,14 @@ pub struct Saving<'a> {
     pub out: &'a str,
 }
 
-/// Asks what opening a depot gave for a user's program, makes it a file, whole or not at all, writes to `out` how many octets it has, and
-/// gives 0; or writes the line of its refusal, or of the refusal of opening, to `err`, and gives 1. The depot stays as it is, and open.
+/// Asks what opening a depot gave for a user's program, makes it a file, whole or not at all,
+/// writes to `out` how many octets it has, and gives 0; or writes the line of its refusal, or of
+/// the refusal of opening, to `err`, and gives 1. The depot stays as it is, and open.
 ///
-/// It is refused as `Depot::program_of` says; with `NoSuchEntry` where the user has no program; and with `Memory` or `Write` where the
-/// file can't be made, or is the depot's own. Where `out` fails, the file is there, a prefix of the line is written, and the line of
-/// `Write` to `err`, and the status is 1.
+/// It is refused as `Depot::program_of` says; with `NoSuchEntry` where the user has no program; and
+/// with `Memory` or `Write` where the file can't be made, or is the depot's own. Where `out` fails,
+/// the file is there, a prefix of the line is written, and the line of `Write` to `err`, and the
+/// status is 1.
 pub fn save<S: Alter, H: Host, O: Sink, E: Sink>(
     alloc: Global,
     saving: Saving<'_>,
@@ -41,7 +43,8 @@ pub fn save<S: Alter, H: Host, O: Sink, E: Sink>(
     err: &mut E,
 ) -> u8
     ensures served { HasServed (state S.Store) saving.entry result opened.old opened.new
-        (world (H.state host.old) (O.output out.old) (E.output err.old)) (world (H.state host.new) (O.output out.new) (E.output err.new)) }
+        (world (H.state host.old) (O.output out.old) (E.output err.old))
+        (world (H.state host.new) (O.output out.new) (E.output err.new)) }
     ensures survives { OutlastsSaving (state S.Store) opened.old opened.new }
 {
     match opened {
@@ -61,8 +64,10 @@ fn save_program<S: Alter, H: Host>(
     host: &mut H,
 ) -> Result<usize, Refusal>
     ensures saved { IfOk result (λ octets. (program : List ℕ) × (octets ≡ length program)
-        × HasSavedFile saving.entry program (state S.Store depot.old) (state S.Store depot.new) (H.state host.old) (H.state host.new)) }
-    ensures unsaved { IfErr result (λ e. IsUnsaved saving.entry e (state S.Store depot.old) (state S.Store depot.new) (H.state host.old) (H.state host.new)) }
+        × HasSavedFile saving.entry program (state S.Store depot.old) (state S.Store depot.new)
+        (H.state host.old) (H.state host.new)) }
+    ensures unsaved { IfErr result (λ e. IsUnsaved saving.entry e (state S.Store depot.old)
+        (state S.Store depot.new) (H.state host.old) (H.state host.new)) }
     ensures survives { Survives (state S.Store depot.old) (state S.Store depot.new) (λ _. ⊥) }
 {
     match depot.program_of(saving.user)? {

@@ -8,21 +8,24 @@ use std::io::{ErrorKind, Read};
 
 /// What gives octets.
 ///
-/// A contract sees the octets that are left, where they are told, how many it gave, whether the last read met the end, and the
-/// number of reads that have failed.
+/// A contract sees the octets that are left, where they are told, how many it gave, whether the
+/// last read met the end, and the number of reads that have failed.
 pub trait Source {
     ghost supply: { Self → Supply };
 
-    /// Gives the next octets into the start of the room, and answers how many: none only at the end, or where there is no room.
+    /// Gives the next octets into the start of the room, and answers how many: none only at the
+    /// end, or where there is no room.
     ///
     /// # Errors
     ///
     /// The device failed. Nothing was given, and the failure is counted.
     fn read(&mut self, room: &mut [u8]) -> Result<usize, DeviceFailed>
         ensures bound { IfOk result (λ n. n ≤ length room.new) }
-        ensures ok { IfOk result (λ n. HasGiven (take n room.new) (supply self.old) (supply self.new)) }
+        ensures ok { IfOk result (λ n. HasGiven (take n room.new) (supply self.old)
+            (supply self.new)) }
         ensures goes_on { IfOk result (λ n. 0 < n → (supply self.new).has_ended ≡ false) }
-        ensures ended { IfOk result (λ n. n ≡ 0 → 0 < length room.new → HasEnded (supply self.new)) }
+        ensures ended { IfOk result (λ n. n ≡ 0 → 0 < length room.new
+            → HasEnded (supply self.new)) }
         ensures err { OnErr result (HasFailedToGive (supply self.old) (supply self.new)) };
 }
 
@@ -44,8 +47,15 @@ pub struct OfRead<R: Read + Drop> {
 impl<R: Read + Drop> OfRead<R> {
     /// The reader, of which nothing was read so far.
     pub fn new(inner: R) -> OfRead<R>
-        ensures fields { result ≡ record { inner = inner; given = 0; has_ended = false; faults = 0 } }
-        ensures supply { ⟦<OfRead<R> as Source>⟧.supply result ≡ record { left = R.remaining inner; given = 0; has_ended = false; faults = 0 } }
+        ensures fields { result ≡ record {
+          inner = inner;
+          given = 0;
+          has_ended = false;
+          faults =
+              0;
+        } }
+        ensures supply { ⟦<OfRead<R> as Source>⟧.supply result
+            ≡ record { left = R.remaining inner; given = 0; has_ended = false; faults = 0 } }
     {
         OfRead {
             inner,
@@ -57,7 +67,13 @@ impl<R: Read + Drop> OfRead<R> {
 }
 
 impl<R: Read + Drop> Source for OfRead<R> {
-    ghost supply = { λ s. record { left = R.remaining s.inner; given = s.given; has_ended = s.has_ended; faults = s.faults } };
+    ghost supply = { λ s. record {
+      left = R.remaining s.inner;
+      given = s.given;
+      has_ended =
+          s.has_ended;
+      faults = s.faults;
+    } };
 
     fn read(&mut self, room: &mut [u8]) -> Result<usize, DeviceFailed> {
         match read_some(&mut self.inner, room) {
@@ -77,8 +93,10 @@ impl<R: Read + Drop> Source for OfRead<R> {
 // One read, made again where a signal interrupts it.
 fn read_some<R: Read>(reader: &mut R, room: &mut [u8]) -> Result<usize, DeviceFailed>
     ensures bound { IfOk result (λ n. n ≤ length room.new) }
-    ensures ok { IfOk result (λ n. Consumes (R.remaining reader.old) (R.remaining reader.new) (take n room.new)) }
-    ensures end { IfOk result (λ n. n ≡ 0 → 0 < length room.new → IsAtEnd (R.remaining reader.new)) }
+    ensures ok { IfOk result (λ n. Consumes (R.remaining reader.old) (R.remaining reader.new)
+        (take n room.new)) }
+    ensures end { IfOk result (λ n. n ≡ 0 → 0 < length room.new
+        → IsAtEnd (R.remaining reader.new)) }
     ensures err { OnErr result (Keeps (R.remaining reader.old) (R.remaining reader.new)) }
 {
     for _ in 0..MAX_TRIES {

@@ -44,8 +44,8 @@ impl<F: Read, I: Read> Read for Stream<F, I> {
 }
 
 impl<'a, R: Files + io::Input> System<'a, R> {
-    /// The system of a runtime, of which nothing was asked so far. The number, as that of the process, is in the names of files that
-    /// are being made.
+    /// The system of a runtime, of which nothing was asked so far. The number, as that of the
+    /// process, is in the names of files that are being made.
     pub fn new(rt: &'a R, number: u32) -> System<'a, R>
         ensures given { result.given ≡ 0 }
         ensures faults { result.faults ≡ 0 }
@@ -60,7 +60,9 @@ impl<'a, R: Files + io::Input> System<'a, R> {
 
     // The refusal of a fault: want of memory, or this one, which counts as a failed call.
     fn refusal(&mut self, fault: &io::Error, other: Refusal) -> Refusal
-        ensures { ((result ≡ Memory) × (self.new ≡ self.old)) ⊎ ((result ≡ other) × (self.new ≡ record self.old { faults = counted 1 self.old.faults })) }
+        ensures { ((result ≡ Memory) × (self.new ≡ self.old))
+            ⊎ ((result ≡ other) × (self.new
+            ≡ record self.old { faults = counted 1 self.old.faults })) }
     {
         if fault.kind() == ErrorKind::OutOfMemory {
             return Refusal::Memory;
@@ -99,7 +101,8 @@ impl<R: Files + io::Input> Host for System<'_, R> {
             ≡ with_call (makes name.now script.now) (untold self.old.given self.old.faults)) }
         ensures err { IfErr result (λ e. HasNotMade e name.now script.now
             (untold self.old.given self.old.faults) (untold self.new.given self.new.faults)) }
-        ensures stands { IfOk result (λ file. IfSome file.paths (λ paths. IsReached name.now (path_buf_bytes paths.kept))) }
+        ensures stands { IfOk result (λ file. IfSome file.paths
+            (λ paths. IsReached name.now (path_buf_bytes paths.kept))) }
     {
         match begin(self.rt, alloc, self.number, name, script) {
             Ok(file) => Ok(file),

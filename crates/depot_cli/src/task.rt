@@ -54,13 +54,16 @@ pub enum Task<'a> {
     Migrate,
 }
 
-/// Has the depot do a task: writes its reply to `out` and gives 0, or writes the line of its refusal to `err` and gives 1.
+/// Has the depot do a task: writes its reply to `out` and gives 0, or writes the line of its
+/// refusal to `err` and gives 1.
 ///
-/// Writing follows the command and takes no memory, but for the text that an export writes a piece at a time. Where `out` fails, or memory
-/// is refused for a piece, a prefix of the reply is written there, what the depot did stands, the line of `Write` or of `Memory` is
-/// written to `err`, and the status is 1. As long as the disk returns what was written, `Write` is told in no other case.
+/// Writing follows the command and takes no memory, but for the text that an export writes a piece
+/// at a time. Where `out` fails, or memory is refused for a piece, a prefix of the reply is written
+/// there, what the depot did stands, the line of `Write` or of `Memory` is written to `err`, and
+/// the status is 1. As long as the disk returns what was written, `Write` is told in no other case.
 ///
-/// A crash, at any moment, leaves what it could have left before, or what the command makes of it, and never a part of that.
+/// A crash, at any moment, leaves what it could have left before, or what the command makes of it,
+/// and never a part of that.
 pub fn perform<S: Alter, O: Sink, E: Sink>(
     alloc: Global,
     task: Task<'_>,
@@ -69,8 +72,10 @@ pub fn perform<S: Alter, O: Sink, E: Sink>(
     err: &mut E,
 ) -> u8
     ensures performed { HasPerformed (command_of task.entry) result
-        (desk (state S.Store depot.old) (O.output out.old) (E.output err.old)) (desk (state S.Store depot.new) (O.output out.new) (E.output err.new)) }
-    ensures survives { Survives (state S.Store depot.old) (state S.Store depot.new) (MayAdd (command_of task.entry) (state S.Store depot.old)) }
+        (desk (state S.Store depot.old) (O.output out.old) (E.output err.old))
+        (desk (state S.Store depot.new) (O.output out.new) (E.output err.new)) }
+    ensures survives { Survives (state S.Store depot.old) (state S.Store depot.new)
+        (MayAdd (command_of task.entry) (state S.Store depot.old)) }
 {
     match task {
         Task::Script { user, script } => match depot.set_script(alloc, user, script) {
@@ -111,7 +116,8 @@ pub fn perform<S: Alter, O: Sink, E: Sink>(
 // The status of a command that was done, whose reply was written or broke off.
 pub(crate) fn finish<E: Sink>(err: &mut E, written: Result<(), DeviceFailed>) -> u8
     ensures ok { OnOk written ((result ≡ 0) × (E.output err.new ≡ E.output err.old)) }
-    ensures err { OnErr written ((result ≡ 1) × HasTold Write (E.output err.old) (E.output err.new)) }
+    ensures err { OnErr written ((result ≡ 1)
+        × HasTold Write (E.output err.old) (E.output err.new)) }
 {
     match written {
         Ok(()) => SUCCESS,
@@ -121,8 +127,10 @@ pub(crate) fn finish<E: Sink>(err: &mut E, written: Result<(), DeviceFailed>) ->
 
 // Writes the line of an entry that was removed.
 fn put_removed<O: Sink>(out: &mut O, number: u32) -> Result<(), DeviceFailed>
-    ensures ok { OnOk result (HasTaken (removed_text number) (O.output out.old) (O.output out.new)) }
-    ensures err { OnErr result (HasBroken (removed_text number) (O.output out.old) (O.output out.new)) }
+    ensures ok { OnOk result (HasTaken (removed_text number) (O.output out.old)
+        (O.output out.new)) }
+    ensures err { OnErr result (HasBroken (removed_text number) (O.output out.old)
+        (O.output out.new)) }
 {
     put_pieces(
         out,
@@ -136,8 +144,10 @@ fn put_removed<O: Sink>(out: &mut O, number: u32) -> Result<(), DeviceFailed>
 
 // Writes how many filters were given the latest version.
 fn put_migrated<O: Sink>(out: &mut O, count: usize) -> Result<(), DeviceFailed>
-    ensures ok { OnOk result (HasTaken (migrated_text count) (O.output out.old) (O.output out.new)) }
-    ensures err { OnErr result (HasBroken (migrated_text count) (O.output out.old) (O.output out.new)) }
+    ensures ok { OnOk result (HasTaken (migrated_text count) (O.output out.old)
+        (O.output out.new)) }
+    ensures err { OnErr result (HasBroken (migrated_text count) (O.output out.old)
+        (O.output out.new)) }
 {
     put_pieces(
         out,

@@ -4,7 +4,7 @@ use crate::listing::{listing_of, program};
 use crate::numbers::number_of;
 use crate::printed::Printed;
 use crate::refused::put_refusal;
-use bytecode_format::{Action, Program, final_actions};
+use bytecode_format::{Action, Instruction, Operation, Program, final_actions};
 use bytecode_verifier::{Verified, verify};
 use itoa::Buffer;
 use mime_decode::Message;
@@ -55,6 +55,9 @@ fn answer_octets(
 ) -> Result<bool, Refusal> {
     match arguments {
         [code, strings @ ..] if call == "spell" => put_spelled(alloc, code, strings, answer),
+        [version, variables, halts] if call == "build" => {
+            put_built(alloc, version, variables, halts, answer)
+        }
         [octets] if call == "read" => put_listing(alloc, octets, answer),
         [octets] if call == "beginnings" => put_beginnings(alloc, octets, answer),
         [octets, message] if call == "execute" => put_execution(alloc, octets, message, answer),
@@ -80,9 +83,7 @@ fn put_budget(
     strings: &[Vec<u8>],
     answer: &mut Printed,
 ) -> Result<bool, Refusal> {
-    let Some(program) = program(alloc, code, strings)? else {
-        return Ok(false);
-    };
+    let program = program(alloc, code, strings)?;
     let verified = accepted(alloc, program)?;
     answer.word(verified.budget().to_string(alloc)?.as_str())?;
     Ok(true)
@@ -99,9 +100,7 @@ fn put_limit(
     let (Some(octets), Some(parts)) = (number_of(octets), number_of(parts)) else {
         return Ok(false);
     };
-    let Some(program) = program(alloc, code, strings)? else {
-        return Ok(false);
-    };
+    let program = program(alloc, code, strings)?;
     if octets > 67_108_864 || parts > 4_096 {
         return Ok(false);
     }
@@ -128,9 +127,7 @@ fn put_actions_of(
     strings: &[Vec<u8>],
     answer: &mut Printed,
 ) -> Result<bool, Refusal> {
-    let Some(program) = program(alloc, code, strings)? else {
-        return Ok(false);
-    };
+    let program = program(alloc, code, strings)?;
     let Report { outcome, limit } = report(alloc, program, message)?;
     if outcome.charged > limit {
         answer.word("above")?;
@@ -146,9 +143,7 @@ fn put_run(
     strings: &[Vec<u8>],
     answer: &mut Printed,
 ) -> Result<bool, Refusal> {
-    let Some(program) = program(alloc, code, strings)? else {
-        return Ok(false);
-    };
+    let program = program(alloc, code, strings)?;
     put_execution(alloc, &program.write(alloc)?, message, answer)
 }
 
@@ -170,11 +165,52 @@ fn put_spelled(
     strings: &[Vec<u8>],
     answer: &mut Printed,
 ) -> Result<bool, Refusal> {
-    let Some(program) = program(alloc, code, strings)? else {
-        return Ok(false);
-    };
+    let program = program(alloc, code, strings)?;
     answer.text(&program.write(alloc)?)?;
     Ok(true)
+}
+
+// The octets of a program that is nothing but HALT, so many times.
+fn put_built(
+    alloc: Global,
+    version: &[u8],
+    variables: &[u8],
+    halts: &[u8],
+    answer: &mut Printed,
+) -> Result<bool, Refusal> {
+    let (Some(version), Some(variables), Some(halts)) = (
+        octet_of(version),
+        short_of(variables),
+        number_of(halts),
+    ) else {
+        return Ok(false);
+    };
+    let halt = Instruction {
+        op: Operation::Halt.octet(),
+        a: 0,
+        b: 0,
+        c: 0,
+    };
+    let instructions = vec![in alloc; halt; halts]?;
+    let program = Program::build(
+        version,
+        variables,
+        Vec::new(alloc),
+        Vec::new(alloc),
+        instructions,
+    )?;
+    answer.text(&program.write(alloc)?)?;
+    Ok(true)
+}
+
+// The number of 8 bits that digits are.
+fn octet_of(digits: &[u8]) -> Option<u8> {
+    u8::try_from(number_of(digits)?).ok()
+}
+
+// The number of 16 bits that digits are.
+fn short_of(digits: &[u8]) -> Option<u16> {
+    u16::try_from(number_of(digits)?).ok()
 }
 
 fn put_listing(alloc: Global, octets: &[u8], answer: &mut Printed) -> Result<bool, Refusal> {
@@ -236,10 +272,10 @@ fn put_final(
 }
 
 // A program that files into its one string, modified.
-fn modifying(alloc: Global, modifiers: &[u8], text: Vec<u8>) -> Result<Option<Program>, Refusal> {
-    let mut code = Vec::from_slice(alloc, b"variables 1; LIT; SET a")?;
+fn modifying(alloc: Global, modifiers: &[u8], text: Vec<u8>) -> Result<Program, Refusal> {
+    let mut code = Vec::from_slice(alloc, b"version 1 variables 1 LIT SET a ")?;
     code.extend_from_slice(modifiers)?;
-    code.extend_from_slice(b"; VAR; FILE; HALT")?;
+    code.extend_from_slice(b" VAR FILE HALT")?;
     program(alloc, &code, &vec![in alloc; text]?)
 }
 
@@ -250,9 +286,7 @@ fn put_modified(
     answer: &mut Printed,
 ) -> Result<bool, Refusal> {
     for text in texts {
-        let Some(program) = modifying(alloc, modifiers, text.clone()?)? else {
-            return Ok(false);
-        };
+        let program = modifying(alloc, modifiers, text.clone()?)?;
         match report(alloc, program, b"")?.outcome.actions.as_slice() {
             [Action::File(folder)] => answer.text(folder.as_slice())?,
             actions => put_actions(actions, answer)?,
@@ -266,9 +300,7 @@ fn put_modifiers(alloc: Global, answer: &mut Printed) -> Result<bool, Refusal> {
     for modifiers in 0..256u64 {
         let mut digits = Buffer::new();
         let digits = digits.format(modifiers).as_bytes();
-        let Some(program) = modifying(alloc, digits, Vec::new(alloc))? else {
-            return Ok(false);
-        };
+        let program = modifying(alloc, digits, Vec::new(alloc))?;
         match accepted(alloc, program) {
             Ok(_verified) => answer.number(modifiers)?,
             Err(Refusal::Form { place: 1 }) => {}
