@@ -1,8 +1,6 @@
 //! Bytecode that people can read and write: programs as listings.
 #![tactic(auto)]
 
-#[cfg(test)]
-mod ample;
 mod assembling;
 mod comments;
 mod drafts;

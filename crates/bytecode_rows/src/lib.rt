@@ -4,6 +4,8 @@
 #[cfg(test)]
 mod large;
 #[cfg(test)]
+mod listings;
+#[cfg(test)]
 mod plain_loops;
 #[cfg(test)]
 mod small_loops;

@@ -1,7 +1,7 @@
-// Listings with ample memory: none is refused.
-use crate::laws::read_again;
-use crate::{ListingError, assemble, disassemble};
+// Listings, with ample memory, so that none is refused.
 use bytecode_format::{Instruction, Operation, Program};
+use bytecode_listing::laws::read_again;
+use bytecode_listing::{ListingError, assemble, disassemble};
 use octets::Octets;
 use std::alloc::{AllocError, Global};
 use std::test::Fail;
