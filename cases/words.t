@@ -121,7 +121,7 @@ Help.
     2> With no words at all, a program that keeps every message runs on standard input.
     2> The help of a command has an example, and says with which refusals it may end.
     2>
-    2> depot 0.15.0
+    2> depot 0.16.0
     [2]
 
 ## help command
@@ -161,7 +161,7 @@ Help.
     2> With no words at all, a program that keeps every message runs on standard input.
     2> The help of a command has an example, and says with which refusals it may end.
     2>
-    2> depot 0.15.0
+    2> depot 0.16.0
     [2]
 
 ## help check

@@ -23,7 +23,7 @@ pub const ALL: &str = concat!(
     "With no words at all, a program that keeps every message runs on standard input.\n",
     "The help of a command has an example, and says with which refusals it may end.\n\n",
     // The version of the program; no other place of the code has it.
-    "depot 0.15.0"
+    "depot 0.16.0"
 );
 
 pub const CHECK: &str = ending!("depot check filter.sieve", "1, 2, 11 to 19, 45, 46");
