@@ -1,5 +1,5 @@
 -- A failure of one call of several is one of them all.
-use Rattle.std.proofs.Common.{◌≡◌, ◌≢◌, ◌⊎◌, inl, inr, ℕ, ◌<◌, false, List, length, sym, ap, subst, ◌∙◌, IsSome, IsTrue, arith}
+use Rattle.std.proofs.Common.{◌≡◌, ◌≢◌, inl, inr, ℕ, ◌<◌, length, sym, subst, ◌∙◌, IsSome, IsTrue, arith}
 use Rattle.std.proofs.lemmas.Bool.{cases_Bool, true≢false}
 use Rattle.sqlite_trees.specs.Tree.{Trees}
 use Rattle.sqlite_value.specs.Order.{Row}
@@ -10,11 +10,9 @@ use Rattle.sqlite.specs.Steps.{FailsToCommit}
 use Rattle.sqlite.specs.State.{State, HasCleanDisk, Survives}
 use Rattle.part_store.specs.Entries.{Entries}
 use Rattle.part_store.specs.Refusals.{refusal_of, HasFailed, Blames, Faults}
-use Rattle.part_store.specs.Standing.{Stands, Stays}
-use Rattle.part_store.specs.Tables.{store_schema}
+use Rattle.part_store.specs.Standing.{Stands}
 use Rattle.part_store.specs.declared.error.StoreError.{StoreError}
 use Rattle.part_store.specs.declared.error.StoreError.TheVariants.{Database}
-use Rattle.part_store.proofs.Entering.{stands_still}
 use Rattle.part_store.proofs.Faults.{failed, never}
 
 module _ {Q : Trees → Type 0} (old mid new : State) (two : Survives mid new Q) where

@@ -1,11 +1,9 @@
 -- Why a statement is refused.
-use Rattle.std.proofs.Common.{◌≡◌, ◌⊎◌, inl, inr, ℕ, ◌≤◌, true, false, List, [], length, append-nil, Option, None, Some, Ok, Err, Result, refl, sym, ap, subst, ◌∙◌, IsSome, IsTrue}
+use Rattle.std.proofs.Common.{◌≡◌, ◌⊎◌, inl, inr, ℕ, ◌≤◌, List, length, append-nil, Option, None, Some, Ok, Err, Result, refl, sym, ap, subst, ◌∙◌, IsSome}
 use Rattle.sqlite_trees.specs.declared.error.StoreError.{StoreError as Cause}
 use Rattle.sqlite_trees.specs.declared.error.StoreError.TheVariants.{OutOfMemory, Io, Corrupt, Full, Broken, Unstorable}
 use Rattle.sqlite_value.specs.Order.{Row}
 use Rattle.sqlite_sql.specs.Query.{Query}
-use Rattle.sqlite_schema.specs.declared.command.Returning.{Returning}
-use Rattle.sqlite_schema.specs.declared.command.Command.{Command}
 use Rattle.sqlite_schema.specs.declared.command.Command.TheVariants.{Select}
 use Rattle.sqlite_resolve.specs.declared.compiled.Compiled.{Compiled}
 use Rattle.sqlite_resolve.specs.declared.error.CompileError.{CompileError}
@@ -67,7 +65,6 @@ IsAnswered query params =
 
 module _ (sql : List ℕ) (params : Row) (query : Query) (names : List (List ℕ)) (means : Means store_schema sql (Select (alone query) names))
     (asked : IsAsked (understood store_schema sql) sql (length params)) (answers : IsAnswered query params) where
-
   not_shown : (old new : State) (c : Compiled) (it : IsStatement old sql params c) (e : Error) → old.now.schema ≡ store_schema
       → (returning : _) → returning ≡ c.returning → FailsToShow old new sql c (timed params c.formats it.now) e returning → HasFailed old new
   not_shown old new c it e has (Some what) same h =
@@ -79,7 +76,7 @@ module _ (sql : List ℕ) (params : Row) (query : Query) (names : List (List ℕ
       let bare = subst IsPlain (sym known) means.1 in
       let db : h.0 ≡ old.now = subst (λ b. IsSourceOf b old.now h.0) (ap (λ s. reads_listing s sql) has ∙ means.2) h.1 in
       let reads : RefusesToRead old.step_limit (Select (alone query) names) h.0 params e =
-          subst (λ k. RefusesToRead old.step_limit k h.0 params e) (ap command_of known ∙ means.0) (rw (bare.1, append-nil params) at h.2) in
+      subst (λ k. RefusesToRead old.step_limit k h.0 params e) (ap command_of known ∙ means.0) (rw (bare.1, append-nil params) at h.2) in
       inr (inr (answers old.step_limit h.0 e (ap (λ (d : Database). d.schema) db ∙ has) reads))
 
   pub query_faults : (old new : State) (e : Error) → FailsToQuery sql params old new e ⊎ IsTooLate sql params old new e → Faults old new e

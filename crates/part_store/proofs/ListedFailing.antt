@@ -1,5 +1,5 @@
 -- A listing that fails at a row.
-use Rattle.std.proofs.Common.{◌≡◌, inl, inr, ℕ, zero, suc, ◌<◌, ◌≤◌, List, [], ◌∷◌, length, get_or, refl, sym, ap, subst, ◌∙◌, bytes_eq, arith}
+use Rattle.std.proofs.Common.{◌≡◌, inl, inr, ℕ, zero, suc, ◌<◌, ◌≤◌, List, [], ◌∷◌, length, get_or, refl, sym, subst, ◌∙◌, bytes_eq, arith}
 use Rattle.std.specs.List.{AllZip}
 use Rattle.sqlite_value.specs.declared.value.Value.TheVariants.{Text}
 use Rattle.sqlite_value.specs.Order.{Row}
@@ -10,7 +10,7 @@ use Rattle.sqlite.specs.State.{State, HasCleanDisk, Survives}
 use Rattle.sqlite.proofs.StateLemmas.{survives_then}
 use Rattle.octets.specs.Limits.{max_entry_number}
 use Rattle.part_store.specs.Changes.{entries_tree, columns, equals, IsListed, Reads, Steps}
-use Rattle.part_store.specs.Entries.{Entry, Entries, entries_of}
+use Rattle.part_store.specs.Entries.{Entry, entries_of}
 use Rattle.part_store.specs.Refusals.{Blames}
 use Rattle.part_store.specs.Standing.{Shows, Stands, StandsFor}
 use Rattle.part_store.specs.declared.entry.EntryRow.{EntryRow}

@@ -1,18 +1,16 @@
 -- What was found in tables that stand for a state can be read.
-use Rattle.std.proofs.Common.{◌≡◌, ◌⊎◌, inl, inr, ℕ, ◌^◌, ◌<◌, ◌≤◌, pos, true, List, [], ◌∷◌, length, Option, Some, None, refl, sym, ap, subst, ◌∙◌, arith}
+use Rattle.std.proofs.Common.{◌≡◌, ◌⊎◌, inl, inr, ℕ, ◌^◌, ◌<◌, pos, true, List, [], ◌∷◌, length, Option, Some, None, refl, sym, ap, subst, ◌∙◌, arith}
 use Rattle.std.proofs.lemmas.Bool.{true≢false}
 use Rattle.sqlite_value.specs.declared.value.Value.TheVariants.{Null, Int, Text, Blob}
 use Rattle.sqlite_value.specs.Order.{Row, column}
 use Rattle.sqlite_sql.specs.declared.ops.UnaryOp.TheVariants.{Length}
 use Rattle.sqlite_sql.specs.Ops.{unary}
-use Rattle.sqlite_rules.specs.Lists.{Has}
 use Rattle.sqlite_rules.proofs.ListLemmas.{all_has}
 use Rattle.sqlite.specs.State.{State}
 use Rattle.sqlite.specs.Values.{or_null}
-use Rattle.octets.specs.Limits.{max_entry_number}
 use Rattle.part_store.specs.Changes.{users_tree, contents_tree, entries_tree, equals, is_entry, columns, length_at, IsFound, Steps, Reads}
-use Rattle.part_store.specs.Entries.{Entry, Entries}
-use Rattle.part_store.specs.Standing.{IsContentRow, HasContent, StandsFor, Stands}
+use Rattle.part_store.specs.Entries.{Entries}
+use Rattle.part_store.specs.Standing.{IsContentRow, HasContent, Stands}
 use Rattle.part_store.proofs.Equals.{equal_blobs}
 use Rattle.part_store.proofs.Finding.{zip_found}
 use Rattle.part_store.proofs.Programs.{bytes_same, found_user}
