@@ -14,6 +14,7 @@ use Rattle.sieve_engine.specs.Evaluation.{IsCompiled, IsScriptRefusal}
 use Rattle.part_store.specs.Entries.{Entries}
 use Rattle.part_store.specs.Filing.{Collides, HasRoom}
 use Rattle.part_store.specs.Opening.{IsUnready}
+use Rattle.part_store.specs.Refusals.{HasFailed}
 use Rattle.part_store.specs.Standing.{HasNone, Stands}
 use Rattle.part_store.specs.declared.error.StoreError.{StoreError}
 use Rattle.part_store.specs.declared.error.StoreError.TheVariants as store
@@ -106,6 +107,10 @@ HasCause refusal command state = IsNamed command × IsUnsound command refusal
 abbrev pub HasOpenCause : {D : Type 0} {g : Ghosts D} → Image → Result (Held (FileStore D g)) Refusal → Type 0
 HasOpenCause image (Ok depot) = ⊤
 HasOpenCause {D} {g} image (Err refusal) = refusal ≡ Database → IsUnready g image
+
+-- Where the tables stand for a state, a command that only reads them is refused `Database` only if the database can't work.
+abbrev pub IsStoreFault : State → State → Refusal → Type 0
+IsStoreFault old new refusal = refusal ≡ Database → (before : Entries) → Stands old.now before → HasFailed old new
 
 -- ---- which refusals a command may get, whatever the disk does
 

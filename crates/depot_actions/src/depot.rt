@@ -5,11 +5,10 @@ ghost use Rattle.sqlite.specs.State.{HasCleanDisk, Survives};
 ghost use Rattle.sqlite.specs.Steps.{over_memory};
 ghost use Rattle.part_store.specs.Entries.{Entries, no_entries};
 ghost use Rattle.part_store.specs.Opening.{HoldsNoTables, HoldsStore, IsAt, IsReady, IsReadyFrom, TellsWhy};
-ghost use Rattle.sqlite.specs.Recovery.{Image};
 ghost use Rattle.sqlite.specs.WalFiles.{image_at};
-ghost use Rattle.part_store.specs.Standing.{Spares, Stands, listed};
+ghost use Rattle.part_store.specs.Standing.{HasNone, Spares, Stands, listed};
 ghost use Rattle.refusals.specs.declared.refusal.Refusal.TheVariants.{Memory, Database, Write};
-ghost use Rattle.depot_actions.specs.Causes.{HasCause, HasOpenCause, MayRefuse};
+ghost use Rattle.depot_actions.specs.Causes.{HasCause, IsStoreFault, HasOpenCause, MayRefuse};
 ghost use Rattle.depot_actions.specs.DepotState.{Deliver, Does, Done, Export, ListAll, Listed, MayLeave, Migrate, Migrated, Program, ProgramOf, Remove, SetCode, SetScript, Text};
 ghost use Rattle.depot_actions.specs.Overviews.{IsOverview};
 ghost use Rattle.sqlite.specs.Files.{file_state, IsOpened};
@@ -152,6 +151,8 @@ impl<S: Alter> Depot<S> {
         ensures spared { HasCleanDisk (state S.Store self.new) → Spares (state S.Store self.old) (state S.Store self.new) }
         ensures which { IfErr result (MayRefuse (ListAll user.now)) }
         ensures refused { HasCleanDisk (state S.Store self.new) → IfErr result (λ e. HasCause e (ListAll user.now) (state S.Store self.old)) }
+        ensures cause { HasCleanDisk (state S.Store self.new) → IfErr result
+            (IsStoreFault (state S.Store self.old) (state S.Store self.new)) }
         ensures survives { Survives (state S.Store self.old) (state S.Store self.new) (λ _. ⊥) }
     {
         if !is_user_name(user) {
@@ -170,6 +171,8 @@ impl<S: Alter> Depot<S> {
         ensures spared { HasCleanDisk (state S.Store self.new) → Spares (state S.Store self.old) (state S.Store self.new) }
         ensures which { IfErr result (MayRefuse (ProgramOf user.now)) }
         ensures refused { HasCleanDisk (state S.Store self.new) → IfErr result (λ e. HasCause e (ProgramOf user.now) (state S.Store self.old)) }
+        ensures cause { HasCleanDisk (state S.Store self.new) → IfErr result
+            (IsStoreFault (state S.Store self.old) (state S.Store self.new)) }
         ensures survives { Survives (state S.Store self.old) (state S.Store self.new) (λ _. ⊥) }
     {
         if !is_user_name(user) {
@@ -203,6 +206,8 @@ impl<S: Alter> Depot<S> {
         ensures spared { HasCleanDisk (state S.Store self.new) → Spares (state S.Store self.old) (state S.Store self.new) }
         ensures which { IfErr result (MayRefuse (Export user.now number encoding)) }
         ensures refused { HasCleanDisk (state S.Store self.new) → IfErr result (λ e. HasCause e (Export user.now number encoding) (state S.Store self.old)) }
+        ensures cause { HasCleanDisk (state S.Store self.new) → IfErr result
+            (IsStoreFault (state S.Store self.old) (state S.Store self.new)) }
         ensures survives { Survives (state S.Store self.old) (state S.Store self.new) (λ _. ⊥) }
     {
         if !is_user_name(user) {
@@ -222,6 +227,9 @@ impl<S: Alter> Depot<S> {
         ensures spared { HasCleanDisk (state S.Store self.new) → OnErr result (Spares (state S.Store self.old) (state S.Store self.new)) }
         ensures which { IfErr result (MayRefuse (Remove user.now number)) }
         ensures refused { HasCleanDisk (state S.Store self.new) → IfErr result (λ e. HasCause e (Remove user.now number) (state S.Store self.old)) }
+        ensures cause { HasCleanDisk (state S.Store self.new) → IfErr result (λ e. (before : _)
+            → Stands (state S.Store self.old).now before → HasNone before user.now number
+            → IsStoreFault (state S.Store self.old) (state S.Store self.new) e) }
         ensures survives { Survives (state S.Store self.old) (state S.Store self.new) (MayLeave (Remove user.now number) (state S.Store self.old)) }
     {
         if !is_user_name(user) {
@@ -362,7 +370,6 @@ impl Depot<FileStore<File>> {
     pub fn look(rt: &HostRuntime, path: &str) -> Result<Depot<FileStore<File>>, Unopened>
         ensures opened { IfOk result (λ d. HasCleanDisk (file_state d) → IsOpened d) }
         ensures tables { IfOk result (λ d. are_tables (file_state d).now.schema.tables ≡ true) }
-        ensures cause { (image : Image) × TellsWhy image result }
     {
         Depot::look_from(rt, path, Unknown)
     }

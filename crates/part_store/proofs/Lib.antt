@@ -27,6 +27,12 @@ mod Looks
 mod Sums
 mod Replacing
 mod Showing
+mod ListedFailing
 mod Opened
 pub mod Stored
 mod Crashed
+mod Faults
+mod Asked
+mod Failing
+mod Readable
+mod Shown

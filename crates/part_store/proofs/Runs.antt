@@ -1,5 +1,5 @@
 -- What a statement in a transaction leaves, and what it was.
-use Rattle.std.proofs.Common.{◌≡◌, ◌⊎◌, inl, inr, ℕ, Bool, true, false, ◌&&◌, List, [], ◌∷◌, Option, Some, None, Ok, Err, Result, refl, sym, ap, subst, ◌∙◌, IsTrue, slice_get, OnOk, OnErr, IfOk, IfErr, not}
+use Rattle.std.proofs.Common.{◌≡◌, ◌⊎◌, inl, inr, ℕ, Bool, true, false, ◌&&◌, List, [], ◌∷◌, Option, Some, None, Ok, Err, Result, refl, sym, ap, subst, ◌∙◌, IsTrue, slice_get, OnOk, OnErr, IfOk, IfErr, IsErrAnd, not}
 use Rattle.std.proofs.lemmas.Bool.{cases_Bool, false_from_ne_true}
 use Rattle.sqlite_trees.specs.declared.store.Store as store
 use Rattle.sqlite_trees.specs.Tree.{Trees}
@@ -161,3 +161,12 @@ if_err (Err e) P Q f h = f e h
 pub ok_then : {B E : Type 0} (r : Result B E) (P : B → Type 0) (Q : Type 0) → ((b : B) → P b → Q) → IfOk r P → OnOk r Q
 ok_then (Ok b) P Q f h = f b h
 ok_then (Err e) P Q f h = tt
+
+pub err_then : {B E : Type 0} (r : Result B E) (P Q : E → Type 0) → ((e : E) → P e → Q e) → IfErr r P → IfErr r Q
+err_then (Ok b) P Q f h = tt
+err_then (Err e) P Q f h = f e h
+
+-- an error that `?` passes on
+pub passed : {B E : Type 0} (r : Result B E) (given : E) (P : E → Type 0) → IsErrAnd r (λ e. e ≡ given) → P given → IfErr r P
+passed (Ok b) given P h holds = tt
+passed (Err e) given P h holds = subst P (sym h) holds

@@ -11,7 +11,7 @@ use Rattle.sqlite.specs.State.{State}
 use Rattle.part_store.specs.Changes.{contents_tree, every, sized, IsListed, Reads, Steps}
 use Rattle.part_store.specs.Entries.{Entries}
 use Rattle.part_store.specs.Standing.{IsContentRow, Stands}
-use Rattle.part_store.specs.Totals.{IsTotalOf, number_of, octets_in}
+use Rattle.part_store.specs.Totals.{IsTotalOf, number_of, octets_in, octets_of}
 use Rattle.part_store.specs.declared.totals.ContentTotal.{ContentTotal}
 
 abbrev shown : Row → ℕ
@@ -53,3 +53,10 @@ is_total old new rows total reads number octets before stands =
       contents = number ∙ sym (counted rows) ∙ same one ∙ counted_shown table;
       octets = octets ∙ same shown ∙ sizes table stands.tables.contents;
     }
+
+-- the octets that the rows show are those of the table
+pub octets_shown : (old new : State) (rows : List Row) → Steps (Reads (IsListed contents_tree every sized rows)) old new → (before : Entries) → Stands old.now before
+    → sum_by shown rows ≡ octets_of (old.now.trees contents_tree)
+octets_shown old new rows reads before stands =
+    let table = old.now.trees contents_tree in
+    sum_by-IsPermutation shown (map sized (filter every table)) rows ((reads stands.schema).change.1).same ∙ sizes table stands.tables.contents

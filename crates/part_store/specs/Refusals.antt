@@ -1,7 +1,18 @@
--- How the database's errors are answered.
+-- How the database's errors are answered, and where it refuses.
+use Rattle.std.specs.Prelude.{◌≡◌, ◌⊎◌, ℕ, ◌^◌, ◌<◌, ◌≤◌, pos, false, List, [], ◌∷◌, Option, IsSome, IsUtf8}
+use Rattle.std.specs.List.{AllByRecursion}
+use Rattle.sqlite_value.specs.declared.value.Value.TheVariants.{Int, Text, Blob}
+use Rattle.sqlite_value.specs.Order.{Row, column}
+use Rattle.sqlite_trees.specs.Tree.{Trees}
+use Rattle.sqlite.specs.Values.{or_null}
 use Rattle.sqlite.specs.declared.error.ErrorCode.TheVariants.{OutOfMemory}
 use Rattle.sqlite.specs.declared.error.Error.{Error}
 use Rattle.sqlite.specs.declared.error.Error.TheVariants.{SqliteFailure}
+use Rattle.sqlite.specs.State.{State}
+use Rattle.part_store.specs.Changes.{users_tree}
+use Rattle.part_store.specs.Entries.{Entries}
+use Rattle.part_store.specs.Standing.{DiskFailed, Stands}
+use Rattle.part_store.specs.Tables.{store_schema}
 use Rattle.part_store.specs.declared.error.StoreError.{StoreError}
 use Rattle.part_store.specs.declared.error.StoreError.TheVariants.{Memory, Database}
 
@@ -9,3 +20,43 @@ use Rattle.part_store.specs.declared.error.StoreError.TheVariants.{Memory, Datab
 abbrev pub refusal_of : Error → StoreError
 refusal_of (SqliteFailure OutOfMemory) = Memory
 refusal_of _ = Database
+
+-- the database can't work: its disk failed in the call, an earlier failure had shut it, or its statements may take only so many steps
+abbrev pub HasFailed : State → State → Type 0
+HasFailed old new = DiskFailed old new ⊎ ((old.is_open ≡ false) ⊎ IsSome old.step_limit)
+
+-- where the tables stand for a state, `Database` is told only of a database that can't work
+abbrev pub Blames : State → State → StoreError → Type 0
+Blames old new e = e ≡ Database → (before : Entries) → Stands old.now before → HasFailed old new
+
+-- where there are the three tables, a statement is refused for no other cause
+abbrev pub Faults : State → State → Error → Type 0
+Faults old new e = refusal_of e ≡ Database → old.now.schema ≡ store_schema → HasFailed old new
+
+-- each user's name is UTF-8, as is each that a store was given
+abbrev pub AreNamed : Trees → Type 0
+AreNamed db = AllByRecursion (λ r. (user : List ℕ) → column r 1 ≡ Text user → IsUtf8 user) (db users_tree)
+
+-- the same where the users' names are read, too
+abbrev pub BlamesNamed : State → State → StoreError → Type 0
+BlamesNamed old new e = e ≡ Database → (before : Entries) → Stands old.now before → AreNamed old.now.trees → HasFailed old new
+
+-- the row of an answer can be read: a user and his program
+abbrev pub ShowsProgram : Row → Type 0
+ShowsProgram r = (user : List ℕ) × IsUtf8 user × (program : List ℕ) × (r ≡ Text user ∷ Blob program ∷ [])
+
+-- a user, his last number and his program
+abbrev pub ShowsUser : Row → Type 0
+ShowsUser r =
+    (user : List ℕ) × IsUtf8 user × (last : ℕ) × (last < 2 ^ 32) × (program : Option (List ℕ))
+    × (r ≡ Text user ∷ Int (pos last) ∷ or_null Blob program ∷ [])
+
+-- a digest, and how many octets are under it
+abbrev pub ShowsSize : Row → Type 0
+ShowsSize r = (digest : List ℕ) × (size : ℕ) × (r ≡ Blob digest ∷ Int (pos size) ∷ [])
+
+-- what a listing shows of an entry
+abbrev pub IsReadable : Row → Type 0
+IsReadable r =
+    (number : ℕ) × (kind : ℕ) × (folder : List ℕ) × (name : List ℕ) × (media : List ℕ) × (digest : List ℕ) × (number < 2 ^ 32) × (kind < 2 ^ 32)
+    × (r ≡ Int (pos number) ∷ Int (pos kind) ∷ Blob folder ∷ Blob name ∷ Blob media ∷ Blob digest ∷ [])

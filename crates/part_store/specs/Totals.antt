@@ -17,7 +17,11 @@ abbrev pub number_of : Value → ℕ
 number_of (Int number) = nat_abs number
 number_of _ = 0
 
+-- how many octets the contents of a table have
+abbrev pub octets_of : List Row → ℕ
+octets_of table = sum_by (λ r. octets_in (column r 2)) table
+
 -- the number of the rows of the table of contents, and the sum of their octets
 pub record IsTotalOf (table : List Row) (total : ContentTotal) : Type 0 where
   pub contents : total.contents ≡ length table
-  pub octets : total.octets ≡ sum_by (λ r. octets_in (column r 2)) table
+  pub octets : total.octets ≡ octets_of table

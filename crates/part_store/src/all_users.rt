@@ -6,6 +6,8 @@ ghost use Rattle.part_store.specs.Changes.{columns, users_tree};
 ghost use Rattle.part_store.specs.Tables.{store_schema};
 ghost use Rattle.part_store.specs.Standing.{Stands};
 ghost use Rattle.part_store.specs.UserLines.{AreUsersOf, answer_of, line_of};
+ghost use Rattle.std.specs.List.{AllByRecursion};
+ghost use Rattle.part_store.specs.Refusals.{refusal_of, BlamesNamed, ShowsUser};
 ghost use Rattle.part_store.specs.declared.error.StoreError.TheVariants.{Memory, Database};
 
 use crate::error::StoreError;
@@ -25,6 +27,8 @@ pub(crate) fn list_users<S: Alter>(tx: &mut Transaction<'_, S>) -> Result<Vec<Us
     ensures kept { HasCleanDisk (state S.Store tx.new.conn.now) → (state S.Store tx.old.conn.now).now.schema ≡ store_schema
         → KeepsCommit (state S.Store tx.old.conn.now) (state S.Store tx.new.conn.now) }
     ensures refused { IfErr result (λ e. (e ≡ Memory) ⊎ (e ≡ Database)) }
+    ensures cause { HasCleanDisk (state S.Store tx.new.conn.now) → IfErr result
+        (BlamesNamed (state S.Store tx.old.conn.now) (state S.Store tx.new.conn.now)) }
     ensures survives { Survives (state S.Store tx.old.conn.now) (state S.Store tx.new.conn.now) (λ _. ⊥) }
 {
     let rows = users::list(tx)?;
@@ -35,6 +39,8 @@ pub(crate) fn list_users<S: Alter>(tx: &mut Transaction<'_, S>) -> Result<Vec<Us
 fn users_in(rows: &Vec<Row>) -> Result<Vec<UserRow>, StoreError>
     ensures shown { IfOk result (λ users. map answer_of users.items ≡ map (columns (0 ∷ 1 ∷ 2 ∷ [])) rows.now.items) }
     ensures refused { IfErr result (λ e. (e ≡ Memory) ⊎ (e ≡ Database)) }
+    ensures cause { IfErr result (λ e. e ≡ Database
+        → AllByRecursion ShowsUser rows.now.items → ⊥) }
 {
     let mut users = Vec::with_capacity(*rows.allocator(), rows.len())?;
     for row in rows {
@@ -45,7 +51,8 @@ fn users_in(rows: &Vec<Row>) -> Result<Vec<UserRow>, StoreError>
 
 /// The user that a row of an answer shows.
 fn user_in(row: &Row) -> Result<UserRow, Error>
-    ensures { IfOk result (λ user. answer_of user ≡ columns (0 ∷ 1 ∷ 2 ∷ []) row.now) }
+    ensures shown { IfOk result (λ user. answer_of user ≡ columns (0 ∷ 1 ∷ 2 ∷ []) row.now) }
+    ensures cause { IfErr result (λ e. refusal_of e ≡ Database → ShowsUser row.now → ⊥) }
 {
     Ok(UserRow {
         user: row.get(0)?,

@@ -1,9 +1,10 @@
 //! The table of contents: the octets of each digest.
-ghost use Rattle.std.specs.Prelude.{◌≡◌, [], ◌∷◌, pos, IsTrue, IfOk, OnOk, OnErr};
+ghost use Rattle.std.specs.Prelude.{◌≡◌, [], ◌∷◌, pos, IsTrue, IfOk, IfErr, OnOk, OnErr};
 ghost use Rattle.sqlite_value.specs.declared.value.Value.TheVariants.{Blob};
 ghost use Rattle.sqlite.specs.Held.{state};
 ghost use Rattle.sqlite.specs.State.{HasCleanDisk, KeepsCommit, Survives};
 ghost use Rattle.part_store.specs.Changes.{Steps, Reads, IsFound, IsAdded, IsTaken, contents_tree, IsListed, equals, every, columns, length_at, sized};
+ghost use Rattle.part_store.specs.Refusals.{Faults};
 
 use crate::users::first_of;
 use sqlite::{Alter, Error, Row, Transaction, params};
@@ -16,6 +17,8 @@ pub(crate) fn find<S: Alter>(
     ensures same_reference { tx.new.conn.ghost_name ≡ tx.old.conn.ghost_name }
     ensures step { HasCleanDisk (state S.Store tx.new.conn.now) → IfOk result (λ found. Steps (Reads (λ db. IsFound contents_tree (equals 1 (Blob digest.now)) (columns (2 ∷ [])) db found)) (state S.Store tx.old.conn.now) (state S.Store tx.new.conn.now)) }
     ensures kept { HasCleanDisk (state S.Store tx.new.conn.now) → OnErr result (KeepsCommit (state S.Store tx.old.conn.now) (state S.Store tx.new.conn.now)) }
+    ensures fault { HasCleanDisk (state S.Store tx.new.conn.now) → IfErr result
+        (Faults (state S.Store tx.old.conn.now) (state S.Store tx.new.conn.now)) }
     ensures survives { Survives (state S.Store tx.old.conn.now) (state S.Store tx.new.conn.now) (λ _. ⊥) }
 {
     let rows = tx.query_all(
@@ -33,6 +36,8 @@ pub(crate) fn size<S: Alter>(
     ensures same_reference { tx.new.conn.ghost_name ≡ tx.old.conn.ghost_name }
     ensures step { HasCleanDisk (state S.Store tx.new.conn.now) → IfOk result (λ found. Steps (Reads (λ db. IsFound contents_tree (equals 1 (Blob digest.now)) (length_at 2) db found)) (state S.Store tx.old.conn.now) (state S.Store tx.new.conn.now)) }
     ensures kept { HasCleanDisk (state S.Store tx.new.conn.now) → OnErr result (KeepsCommit (state S.Store tx.old.conn.now) (state S.Store tx.new.conn.now)) }
+    ensures fault { HasCleanDisk (state S.Store tx.new.conn.now) → IfErr result
+        (Faults (state S.Store tx.old.conn.now) (state S.Store tx.new.conn.now)) }
     ensures survives { Survives (state S.Store tx.old.conn.now) (state S.Store tx.new.conn.now) (λ _. ⊥) }
 {
     let rows = tx.query_all(
@@ -50,6 +55,8 @@ pub(crate) fn list<S: Alter>(tx: &mut Transaction<'_, S>) -> Result<Vec<Row>, Er
     ensures open { HasCleanDisk (state S.Store tx.new.conn.now) → OnOk result (IsTrue (state S.Store tx.old.conn.now).is_open) }
     ensures kept { HasCleanDisk (state S.Store tx.new.conn.now) → OnErr result
         (KeepsCommit (state S.Store tx.old.conn.now) (state S.Store tx.new.conn.now)) }
+    ensures fault { HasCleanDisk (state S.Store tx.new.conn.now) → IfErr result
+        (Faults (state S.Store tx.old.conn.now) (state S.Store tx.new.conn.now)) }
     ensures survives { Survives (state S.Store tx.old.conn.now) (state S.Store tx.new.conn.now) (λ _. ⊥) }
 {
     tx.query_all(

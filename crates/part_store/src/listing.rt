@@ -1,5 +1,5 @@
 //! How a user's entries are listed.
-ghost use Rattle.std.specs.Prelude.{◌≡◌, ◌⊎◌, ℕ, pos, IsTrue, List, length, map, IfOk, IfErr, OnOk};
+ghost use Rattle.std.specs.Prelude.{◌≡◌, ◌⊎◌, ◌≤◌, ℕ, pos, IsTrue, List, length, map, IfOk, IfErr, OnOk};
 ghost use Rattle.sqlite_value.specs.declared.value.Value.TheVariants.{Int};
 ghost use Rattle.sqlite_value.specs.Order.{column};
 ghost use Rattle.sqlite.specs.Held.{state};
@@ -9,6 +9,8 @@ ghost use Rattle.part_store.specs.Tables.{store_schema};
 ghost use Rattle.part_store.specs.Entries.{entries_of, listing_of};
 ghost use Rattle.part_store.specs.Standing.{HasContent, IsParts, Shows, Stands, Stays, kind_number, listed};
 ghost use Rattle.part_store.specs.declared.entry.Kind.{Kind};
+ghost use Rattle.octets.specs.Limits.{max_entry_number};
+ghost use Rattle.part_store.specs.Refusals.{refusal_of, Blames, IsReadable};
 ghost use Rattle.part_store.specs.declared.error.StoreError.TheVariants.{Memory, Database};
 
 use crate::entry::{EntryRow, Kind};
@@ -28,7 +30,8 @@ struct Parts {
 }
 
 fn parts_of(row: &Row) -> Result<Parts, Error>
-    ensures { IfOk result (IsParts row.now) }
+    ensures parts { IfOk result (IsParts row.now) }
+    ensures cause { IfErr result (λ e. refusal_of e ≡ Database → IsReadable row.now → ⊥) }
 {
     Ok(Parts {
         number: row.get(0)?,
@@ -41,7 +44,8 @@ fn parts_of(row: &Row) -> Result<Parts, Error>
 }
 
 fn kind_of(row: &Row) -> Result<Kind, Error>
-    ensures { IfOk result (λ kind. (k : Kind) → column row.now 1 ≡ Int (pos (kind_number k)) → kind ≡ k) }
+    ensures kind { IfOk result (λ kind. (k : Kind) → column row.now 1 ≡ Int (pos (kind_number k)) → kind ≡ k) }
+    ensures cause { IfErr result (λ e. refusal_of e ≡ Database → IsReadable row.now → ⊥) }
 {
     let number: u32 = row.get(1)?;
     Ok(if number == 0 {
@@ -57,6 +61,9 @@ fn size_of<S: Alter>(tx: &mut Transaction<'_, S>, digest: &[u8]) -> Result<u64, 
     ensures told { HasCleanDisk (state S.Store tx.new.conn.now) → IfOk result (λ size. (before : _) → Stands (state S.Store tx.old.conn.now).now before → (octets : List ℕ) → HasContent ((state S.Store tx.old.conn.now).now.trees contents_tree) digest.now octets → size ≡ length octets) }
     ensures same { HasCleanDisk (state S.Store tx.new.conn.now) → OnOk result (Stays (state S.Store tx.old.conn.now) (state S.Store tx.new.conn.now)) }
     ensures kept { HasCleanDisk (state S.Store tx.new.conn.now) → (state S.Store tx.old.conn.now).now.schema ≡ store_schema → KeepsCommit (state S.Store tx.old.conn.now) (state S.Store tx.new.conn.now) }
+    ensures cause { HasCleanDisk (state S.Store tx.new.conn.now) → IfErr result (λ e. (octets : List ℕ)
+        → HasContent ((state S.Store tx.old.conn.now).now.trees contents_tree) digest.now octets
+        → Blames (state S.Store tx.old.conn.now) (state S.Store tx.new.conn.now) (refusal_of e)) }
     ensures survives { Survives (state S.Store tx.old.conn.now) (state S.Store tx.new.conn.now) (λ _. ⊥) }
 {
     match contents::size(tx, digest)? {
@@ -71,6 +78,9 @@ fn read_row<S: Alter>(tx: &mut Transaction<'_, S>, row: &Row) -> Result<EntryRow
     ensures told { HasCleanDisk (state S.Store tx.new.conn.now) → IfOk result (λ entry. (before : _) → Stands (state S.Store tx.old.conn.now).now before → (x : _) → Shows (state S.Store tx.old.conn.now).now.trees row.now x → listed entry ≡ listing_of x) }
     ensures same { HasCleanDisk (state S.Store tx.new.conn.now) → OnOk result (Stays (state S.Store tx.old.conn.now) (state S.Store tx.new.conn.now)) }
     ensures kept { HasCleanDisk (state S.Store tx.new.conn.now) → (state S.Store tx.old.conn.now).now.schema ≡ store_schema → KeepsCommit (state S.Store tx.old.conn.now) (state S.Store tx.new.conn.now) }
+    ensures cause { HasCleanDisk (state S.Store tx.new.conn.now) → IfErr result (λ e. (x : _)
+        → Shows (state S.Store tx.old.conn.now).now.trees row.now x → x.number ≤ max_entry_number
+        → Blames (state S.Store tx.old.conn.now) (state S.Store tx.new.conn.now) (refusal_of e)) }
     ensures survives { Survives (state S.Store tx.old.conn.now) (state S.Store tx.new.conn.now) (λ _. ⊥) }
 {
     let Parts {
@@ -103,6 +113,8 @@ pub(crate) fn list_all<S: Alter>(
     ensures shut { HasCleanDisk (state S.Store tx.new.conn.now) → IsTrue (state S.Store tx.new.conn.now).is_open → IsTrue (state S.Store tx.old.conn.now).is_open }
     ensures kept { HasCleanDisk (state S.Store tx.new.conn.now) → (state S.Store tx.old.conn.now).now.schema ≡ store_schema → KeepsCommit (state S.Store tx.old.conn.now) (state S.Store tx.new.conn.now) }
     ensures refused { IfErr result (λ e. (e ≡ Memory) ⊎ (e ≡ Database)) }
+    ensures cause { HasCleanDisk (state S.Store tx.new.conn.now) → IfErr result
+        (Blames (state S.Store tx.old.conn.now) (state S.Store tx.new.conn.now)) }
     ensures survives { Survives (state S.Store tx.old.conn.now) (state S.Store tx.new.conn.now) (λ _. ⊥) }
 {
     let rows = entries::list(tx, user)?;

@@ -1,14 +1,15 @@
 //! The store and its calls.
-ghost use Rattle.std.specs.Prelude.{◌≡◌, ◌≢◌, ◌⊎◌, ◌↔◌, ◌+◌, ◌<◌, length, map, true, false, IsTrue, option_map, MatchOption, Err, IfOk, IfErr, IsErrAnd, OnOk, OnErr};
+ghost use Rattle.std.specs.Prelude.{◌≡◌, ◌≢◌, ◌⊎◌, ◌↔◌, ◌+◌, ◌^◌, ◌<◌, ◌≤◌, length, map, true, false, IsTrue, option_map, MatchOption, Err, IfOk, IfErr, IsErrAnd, OnOk, OnErr};
 ghost use Rattle.sqlite.specs.Held.{state};
 ghost use Rattle.sqlite.specs.State.{HasCleanDisk, KeepsCommit, Survives};
 ghost use Rattle.part_store.specs.Tables.{no_schema, store_schema};
 ghost use Rattle.part_store.specs.Entries.{AreProgramsOf, entries_of, listing_of, no_entries, with_entries, with_program, with_programs, without_entry};
 ghost use Rattle.part_store.specs.Standing.{Brings, IsStored, Makes, MayMake, Spares, Stays, Stands, HasContent, IsEntryAt, HasNone, NamesDigest, IsTidied, draft_of, listed, pair_of};
+ghost use Rattle.part_store.specs.Refusals.{refusal_of, Blames, BlamesNamed, HasFailed};
 ghost use Rattle.part_store.specs.declared.error.StoreError.TheVariants.{Memory, NoSuchEntry, NumberFull, Collision, Database};
 ghost use Rattle.part_store.specs.Changes.{contents_tree, users_tree};
 ghost use Rattle.part_store.specs.Looking.{are_tables};
-ghost use Rattle.part_store.specs.Totals.{IsTotalOf};
+ghost use Rattle.part_store.specs.Totals.{IsTotalOf, octets_of};
 ghost use Rattle.part_store.specs.UserLines.{AreUsersOf, line_of};
 ghost use Rattle.sqlite.specs.Files.{file_state, IsClosed, IsOpened};
 ghost use Rattle.sqlite.specs.WalReads.{AreClean};
@@ -16,7 +17,6 @@ ghost use Rattle.part_store.specs.Filing.{Collides, HasRoom};
 ghost use Rattle.sqlite.specs.Steps.{over_memory};
 ghost use Rattle.part_store.specs.Opening.{HasCause, HasOtherTables, HoldsNoTables, HoldsStore, IsAt, IsBare, IsEmptied, IsKept, IsReady, IsReadyFrom, KeepsStore, MakesEmpty, OpensOrTells, TellsWhy};
 ghost use Rattle.sqlite.specs.WalFiles.{image_at};
-ghost use Rattle.sqlite.specs.Recovery.{Image};
 
 use crate::adding::{Adding, put_entries};
 use crate::all_users::list_users;
@@ -129,6 +129,8 @@ fn digest_of<S: Alter>(
     ensures shut { HasCleanDisk (state S.Store tx.new.conn.now) → IsTrue (state S.Store tx.new.conn.now).is_open → IsTrue (state S.Store tx.old.conn.now).is_open }
     ensures same { HasCleanDisk (state S.Store tx.new.conn.now) → OnOk result (Stays (state S.Store tx.old.conn.now) (state S.Store tx.new.conn.now)) }
     ensures kept { HasCleanDisk (state S.Store tx.new.conn.now) → (state S.Store tx.old.conn.now).now.schema ≡ store_schema → KeepsCommit (state S.Store tx.old.conn.now) (state S.Store tx.new.conn.now) }
+    ensures cause { HasCleanDisk (state S.Store tx.new.conn.now) → IfErr result (λ e.
+        Blames (state S.Store tx.old.conn.now) (state S.Store tx.new.conn.now) (refusal_of e)) }
     ensures survives { Survives (state S.Store tx.old.conn.now) (state S.Store tx.new.conn.now) (λ _. ⊥) }
 {
     match entries::find(tx, user, number)? {
@@ -143,6 +145,9 @@ fn content_of<S: Alter>(tx: &mut Transaction<'_, S>, digest: &[u8]) -> Result<Ve
     ensures told { HasCleanDisk (state S.Store tx.new.conn.now) → IfOk result (λ octets. (before : _) → Stands (state S.Store tx.old.conn.now).now before → HasContent ((state S.Store tx.old.conn.now).now.trees contents_tree) digest.now octets.items) }
     ensures same { HasCleanDisk (state S.Store tx.new.conn.now) → OnOk result (Stays (state S.Store tx.old.conn.now) (state S.Store tx.new.conn.now)) }
     ensures kept { HasCleanDisk (state S.Store tx.new.conn.now) → (state S.Store tx.old.conn.now).now.schema ≡ store_schema → KeepsCommit (state S.Store tx.old.conn.now) (state S.Store tx.new.conn.now) }
+    ensures cause { HasCleanDisk (state S.Store tx.new.conn.now) → IfErr result (λ e. (octets : _)
+        → HasContent ((state S.Store tx.old.conn.now).now.trees contents_tree) digest.now octets
+        → Blames (state S.Store tx.old.conn.now) (state S.Store tx.new.conn.now) (refusal_of e)) }
     ensures survives { Survives (state S.Store tx.old.conn.now) (state S.Store tx.new.conn.now) (λ _. ⊥) }
 {
     match contents::find(tx, digest)? {
@@ -161,6 +166,8 @@ fn read_bytes<S: Alter>(
     ensures open { HasCleanDisk (state S.Store tx.new.conn.now) → OnOk result (IsTrue (state S.Store tx.old.conn.now).is_open) }
     ensures shut { HasCleanDisk (state S.Store tx.new.conn.now) → IsTrue (state S.Store tx.new.conn.now).is_open → IsTrue (state S.Store tx.old.conn.now).is_open }
     ensures kept { HasCleanDisk (state S.Store tx.new.conn.now) → (state S.Store tx.old.conn.now).now.schema ≡ store_schema → KeepsCommit (state S.Store tx.old.conn.now) (state S.Store tx.new.conn.now) }
+    ensures cause { HasCleanDisk (state S.Store tx.new.conn.now) → IfErr result (λ e.
+        Blames (state S.Store tx.old.conn.now) (state S.Store tx.new.conn.now) (refusal_of e)) }
     ensures survives { Survives (state S.Store tx.old.conn.now) (state S.Store tx.new.conn.now) (λ _. ⊥) }
 {
     let Some(digest) = digest_of(tx, user, number)? else {
@@ -194,6 +201,9 @@ fn take_entry<S: Alter>(tx: &mut Transaction<'_, S>, user: &str, number: u32) ->
     ensures inside { HasCleanDisk (state S.Store tx.new.conn.now) → IfOk result (λ done. done ≡ true → (state S.Store tx.old.conn.now).now.schema ≡ store_schema → IsTrue (state S.Store tx.new.conn.now).in_transaction) }
     ensures shut { HasCleanDisk (state S.Store tx.new.conn.now) → IsTrue (state S.Store tx.new.conn.now).is_open → IsTrue (state S.Store tx.old.conn.now).is_open }
     ensures kept { HasCleanDisk (state S.Store tx.new.conn.now) → (state S.Store tx.old.conn.now).now.schema ≡ store_schema → KeepsCommit (state S.Store tx.old.conn.now) (state S.Store tx.new.conn.now) }
+    ensures absent { HasCleanDisk (state S.Store tx.new.conn.now) → IfErr result (λ e. (before : _)
+        → Stands (state S.Store tx.old.conn.now).now before → HasNone before user.now number
+        → Blames (state S.Store tx.old.conn.now) (state S.Store tx.new.conn.now) (refusal_of e)) }
     ensures survives { Survives (state S.Store tx.old.conn.now) (state S.Store tx.new.conn.now) (λ _. ⊥) }
 {
     let Some(digest) = digest_of(tx, user, number)? else {
@@ -274,6 +284,8 @@ impl<S: Alter> PartStore<S> {
         ensures spared { HasCleanDisk (state S.Store self.new) → Spares (state S.Store self.old) (state S.Store self.new) }
         ensures settled { HasCleanDisk (state S.Store self.new) → IsTrue (state S.Store self.new).is_open → (state S.Store self.new).committed ≡ (state S.Store self.new).now }
         ensures refused { IfErr result (λ e. (e ≡ Memory) ⊎ (e ≡ Database)) }
+        ensures cause { HasCleanDisk (state S.Store self.new) → IfErr result
+            (Blames (state S.Store self.old) (state S.Store self.new)) }
         ensures survives { Survives (state S.Store self.old) (state S.Store self.new) (λ _. ⊥) }
     {
         let mut tx = begin(&mut self.conn);
@@ -289,6 +301,8 @@ impl<S: Alter> PartStore<S> {
         ensures settled { HasCleanDisk (state S.Store self.new) → IsTrue (state S.Store self.new).is_open
             → (state S.Store self.new).committed ≡ (state S.Store self.new).now }
         ensures refused { IfErr result (λ e. (e ≡ Memory) ⊎ (e ≡ Database)) }
+        ensures cause { HasCleanDisk (state S.Store self.new) → IfErr result
+            (BlamesNamed (state S.Store self.old) (state S.Store self.new)) }
         ensures survives { Survives (state S.Store self.old) (state S.Store self.new) (λ _. ⊥) }
     {
         let mut tx = begin(&mut self.conn);
@@ -304,6 +318,8 @@ impl<S: Alter> PartStore<S> {
         ensures settled { HasCleanDisk (state S.Store self.new) → IsTrue (state S.Store self.new).is_open
             → (state S.Store self.new).committed ≡ (state S.Store self.new).now }
         ensures refused { IfErr result (λ e. (e ≡ Memory) ⊎ (e ≡ Database)) }
+        ensures cause { HasCleanDisk (state S.Store self.new) → IfErr result
+            (BlamesNamed (state S.Store self.old) (state S.Store self.new)) }
         ensures survives { Survives (state S.Store self.old) (state S.Store self.new) (λ _. ⊥) }
     {
         let mut tx = begin(&mut self.conn);
@@ -320,6 +336,10 @@ impl<S: Alter> PartStore<S> {
         ensures settled { HasCleanDisk (state S.Store self.new) → IsTrue (state S.Store self.new).is_open
             → (state S.Store self.new).committed ≡ (state S.Store self.new).now }
         ensures refused { IfErr result (λ e. (e ≡ Memory) ⊎ (e ≡ Database)) }
+        ensures cause { HasCleanDisk (state S.Store self.new) → IfErr result (λ e. e ≡ Database
+            → (before : _) → Stands (state S.Store self.old).now before
+            → HasFailed (state S.Store self.old) (state S.Store self.new)
+            ⊎ (2 ^ 64 ≤ octets_of ((state S.Store self.old).now.trees contents_tree))) }
         ensures survives { Survives (state S.Store self.old) (state S.Store self.new) (λ _. ⊥) }
     {
         let mut tx = begin(&mut self.conn);
@@ -381,6 +401,8 @@ impl<S: Alter> PartStore<S> {
         ensures spared { HasCleanDisk (state S.Store self.new) → Spares (state S.Store self.old) (state S.Store self.new) }
         ensures settled { HasCleanDisk (state S.Store self.new) → IsTrue (state S.Store self.new).is_open → (state S.Store self.new).committed ≡ (state S.Store self.new).now }
         ensures refused { IfErr result (λ e. (e ≡ Memory) ⊎ (e ≡ Database)) }
+        ensures cause { HasCleanDisk (state S.Store self.new) → IfErr result
+            (Blames (state S.Store self.old) (state S.Store self.new)) }
         ensures survives { Survives (state S.Store self.old) (state S.Store self.new) (λ _. ⊥) }
     {
         let mut tx = begin(&mut self.conn);
@@ -396,6 +418,8 @@ impl<S: Alter> PartStore<S> {
         ensures spared { HasCleanDisk (state S.Store self.new) → Spares (state S.Store self.old) (state S.Store self.new) }
         ensures settled { HasCleanDisk (state S.Store self.new) → IsTrue (state S.Store self.new).is_open → (state S.Store self.new).committed ≡ (state S.Store self.new).now }
         ensures refused { IfErr result (λ e. (e ≡ Memory) ⊎ ((e ≡ NoSuchEntry) ⊎ (e ≡ Database))) }
+        ensures cause { HasCleanDisk (state S.Store self.new) → IfErr result
+            (Blames (state S.Store self.old) (state S.Store self.new)) }
         ensures survives { Survives (state S.Store self.old) (state S.Store self.new) (λ _. ⊥) }
     {
         let mut tx = begin(&mut self.conn);
@@ -413,6 +437,9 @@ impl<S: Alter> PartStore<S> {
         ensures absent { HasCleanDisk (state S.Store self.new) → IfErr result (λ e. e ≡ NoSuchEntry → (before : _) → Stands (state S.Store self.old).now before → HasNone before user.now number) }
         ensures spared { HasCleanDisk (state S.Store self.new) → OnErr result (Spares (state S.Store self.old) (state S.Store self.new)) }
         ensures refused { IfErr result (λ e. (e ≡ Memory) ⊎ ((e ≡ NoSuchEntry) ⊎ (e ≡ Database))) }
+        ensures cause { HasCleanDisk (state S.Store self.new) → IfErr result (λ e. (before : _)
+            → Stands (state S.Store self.old).now before → HasNone before user.now number
+            → Blames (state S.Store self.old) (state S.Store self.new) e) }
         ensures survives { Survives (state S.Store self.old) (state S.Store self.new) (λ trees. (before : _) → Stands (state S.Store self.old).now before → ((x : _) × IsEntryAt before user.now number x) × IsStored trees (without_entry user.now number before)) }
     {
         let mut tx = begin(&mut self.conn);
@@ -529,7 +556,6 @@ impl PartStore<FileStore<File>> {
     pub fn open(rt: &HostRuntime, path: &str) -> Result<PartStore<FileStore<File>>, StoreError>
         ensures ready { IfOk result IsReady }
         ensures refused { IfErr result (λ e. (e ≡ Memory) ⊎ (e ≡ Database)) }
-        ensures cause { (image : Image) × HasCause image result }
     {
         PartStore::open_from(rt, path, Unknown)
     }
@@ -543,7 +569,6 @@ impl PartStore<FileStore<File>> {
         ensures opened { IfOk result (λ s. HasCleanDisk (file_state s) → IsOpened s) }
         ensures tables { IfOk result (λ s. are_tables (file_state s).now.schema.tables ≡ true) }
         ensures settled { IfOk result (λ s. (file_state s).in_transaction ≡ false) }
-        ensures cause { (image : Image) × TellsWhy image result }
     {
         PartStore::look_from(rt, path, Unknown)
     }

@@ -6,6 +6,8 @@ ghost use Rattle.part_store.specs.Changes.{columns};
 ghost use Rattle.part_store.specs.Tables.{store_schema};
 ghost use Rattle.part_store.specs.Entries.{AreProgramsOf, with_program, with_programs};
 ghost use Rattle.part_store.specs.Standing.{Brings, Stands, Stays, last_in, pair_of, row_of};
+ghost use Rattle.std.specs.List.{AllByRecursion};
+ghost use Rattle.part_store.specs.Refusals.{refusal_of, Blames, BlamesNamed, ShowsProgram};
 ghost use Rattle.part_store.specs.declared.error.StoreError.TheVariants.{Memory, Database};
 
 use crate::error::StoreError;
@@ -58,6 +60,8 @@ pub(crate) fn read_program<S: Alter>(
         → IsTrue (state S.Store tx.old.conn.now).in_transaction → IsTrue (state S.Store tx.new.conn.now).in_transaction) }
     ensures shut { HasCleanDisk (state S.Store tx.new.conn.now) → IsTrue (state S.Store tx.new.conn.now).is_open → IsTrue (state S.Store tx.old.conn.now).is_open }
     ensures kept { HasCleanDisk (state S.Store tx.new.conn.now) → (state S.Store tx.old.conn.now).now.schema ≡ store_schema → KeepsCommit (state S.Store tx.old.conn.now) (state S.Store tx.new.conn.now) }
+    ensures cause { HasCleanDisk (state S.Store tx.new.conn.now) → IfErr result (λ e.
+        Blames (state S.Store tx.old.conn.now) (state S.Store tx.new.conn.now) (refusal_of e)) }
     ensures survives { Survives (state S.Store tx.old.conn.now) (state S.Store tx.new.conn.now) (λ _. ⊥) }
 {
     match users::find(tx, user)? {
@@ -77,6 +81,8 @@ pub(crate) fn list_programs<S: Alter>(
     ensures shut { HasCleanDisk (state S.Store tx.new.conn.now) → IsTrue (state S.Store tx.new.conn.now).is_open → IsTrue (state S.Store tx.old.conn.now).is_open }
     ensures kept { HasCleanDisk (state S.Store tx.new.conn.now) → (state S.Store tx.old.conn.now).now.schema ≡ store_schema → KeepsCommit (state S.Store tx.old.conn.now) (state S.Store tx.new.conn.now) }
     ensures refused { IfErr result (λ e. (e ≡ Memory) ⊎ (e ≡ Database)) }
+    ensures cause { HasCleanDisk (state S.Store tx.new.conn.now) → IfErr result
+        (BlamesNamed (state S.Store tx.old.conn.now) (state S.Store tx.new.conn.now)) }
     ensures survives { Survives (state S.Store tx.old.conn.now) (state S.Store tx.new.conn.now) (λ _. ⊥) }
 {
     let rows = users::list_programs(tx)?;
@@ -87,6 +93,8 @@ pub(crate) fn list_programs<S: Alter>(
 fn programs_in(rows: &Vec<Row>) -> Result<Vec<(String, Vec<u8>)>, StoreError>
     ensures shown { IfOk result (λ programs. map row_of programs.items ≡ map (columns (0 ∷ 1 ∷ [])) rows.now.items) }
     ensures refused { IfErr result (λ e. (e ≡ Memory) ⊎ (e ≡ Database)) }
+    ensures cause { IfErr result (λ e. e ≡ Database
+        → AllByRecursion ShowsProgram rows.now.items → ⊥) }
 {
     let mut programs = Vec::with_capacity(*rows.allocator(), rows.len())?;
     for row in rows {

@@ -1,13 +1,14 @@
 //! How much a store holds.
-ghost use Rattle.std.specs.Prelude.{◌≡◌, ◌⊎◌, ◌+◌, length, IsTrue, IfOk, IfErr, OnOk};
-ghost use Rattle.std.specs.List.{sum_by};
+ghost use Rattle.std.specs.Prelude.{◌≡◌, ◌⊎◌, ◌+◌, ◌^◌, ◌≤◌, length, IsTrue, IfOk, IfErr, OnOk};
+ghost use Rattle.std.specs.List.{AllByRecursion, sum_by};
 ghost use Rattle.sqlite_value.specs.Order.{column};
 ghost use Rattle.sqlite.specs.Held.{state};
 ghost use Rattle.sqlite.specs.State.{HasCleanDisk, KeepsCommit, Survives};
 ghost use Rattle.part_store.specs.Changes.{contents_tree};
 ghost use Rattle.part_store.specs.Tables.{store_schema};
 ghost use Rattle.part_store.specs.Standing.{Stands};
-ghost use Rattle.part_store.specs.Totals.{IsTotalOf, number_of};
+ghost use Rattle.part_store.specs.Totals.{IsTotalOf, number_of, octets_of};
+ghost use Rattle.part_store.specs.Refusals.{HasFailed, ShowsSize};
 ghost use Rattle.part_store.specs.declared.error.StoreError.TheVariants.{Memory, Database};
 
 use crate::contents;
@@ -36,6 +37,10 @@ pub(crate) fn count_contents<S: Alter>(
     ensures kept { HasCleanDisk (state S.Store tx.new.conn.now) → (state S.Store tx.old.conn.now).now.schema ≡ store_schema
         → KeepsCommit (state S.Store tx.old.conn.now) (state S.Store tx.new.conn.now) }
     ensures refused { IfErr result (λ e. (e ≡ Memory) ⊎ (e ≡ Database)) }
+    ensures cause { HasCleanDisk (state S.Store tx.new.conn.now) → IfErr result (λ e. e ≡ Database
+        → (before : _) → Stands (state S.Store tx.old.conn.now).now before
+        → HasFailed (state S.Store tx.old.conn.now) (state S.Store tx.new.conn.now)
+        ⊎ (2 ^ 64 ≤ octets_of ((state S.Store tx.old.conn.now).now.trees contents_tree))) }
     ensures survives { Survives (state S.Store tx.old.conn.now) (state S.Store tx.new.conn.now) (λ _. ⊥) }
 {
     let rows = contents::list(tx)?;
@@ -47,6 +52,9 @@ fn total_of(rows: &Vec<Row>) -> Result<ContentTotal, StoreError>
     ensures total { IfOk result (λ total. (total.contents ≡ length rows.now.items)
         × (total.octets ≡ sum_by (λ r. number_of (column r 1)) rows.now.items)) }
     ensures refused { IfErr result (λ e. (e ≡ Memory) ⊎ (e ≡ Database)) }
+    ensures cause { IfErr result (λ e. e ≡ Database
+        → AllByRecursion ShowsSize rows.now.items
+        → 2 ^ 64 ≤ sum_by (λ r. number_of (column r 1)) rows.now.items) }
 {
     let mut octets = 0;
     for row in rows {
@@ -62,6 +70,8 @@ fn total_of(rows: &Vec<Row>) -> Result<ContentTotal, StoreError>
 fn with_size(octets: u64, row: &Row) -> Result<u64, StoreError>
     ensures sum { IfOk result (λ sum. sum ≡ octets + number_of (column row.now 1)) }
     ensures refused { IfErr result (λ e. (e ≡ Memory) ⊎ (e ≡ Database)) }
+    ensures cause { IfErr result (λ e. e ≡ Database → ShowsSize row.now
+        → 2 ^ 64 ≤ octets + number_of (column row.now 1)) }
 {
     let size: u64 = row.get(1)?;
     match octets.checked_add(size) {

@@ -1,6 +1,7 @@
 use Rattle.sqlite.specs.Held.{state}
-use Rattle.part_store.proofs.Runs.{query_keeps, on_err, shown_open}
+use Rattle.part_store.proofs.Runs.{passed, query_keeps, on_err, shown_open}
 use Rattle.part_store.proofs.EntryRows.{entry_found}
+use Rattle.part_store.proofs.Asked.{find_entry_faults}
 use Rattle.part_store.proofs.entries.find.Goals as goal
 
 pub returns-in_err-rows-clause-kept : goal.returns-in_err-rows-clause-kept
@@ -15,3 +16,8 @@ pub returns-clause-open : goal.returns-clause-open
 returns-clause-open g c clean =
     let shown = c.in_ok-rows.ensures.ok clean in
     shown_open _ _ (state g.S.Store c.args.tx.now.conn.now) (state g.S.Store c.query_all.new.self.conn.now) _ shown
+
+pub returns-in_err-rows-clause-fault : goal.returns-in_err-rows-clause-fault
+returns-in_err-rows-clause-fault g c clean =
+    let failed = rw (c.params-to_sql.ensures, c.params-to_sql-2.ensures) at (c.in_err-rows.ensures.err clean) in
+    passed c.from_residual.result _ _ c.from_residual.ensures.1 (find_entry_faults (state g.S.Store c.args.tx.now.conn.now) (state g.S.Store c.query_all.new.self.conn.now) c.args.user.now c.args.number _ failed)

@@ -1,0 +1,52 @@
+-- A failure of one call of several is one of them all.
+use Rattle.std.proofs.Common.{◌≡◌, ◌≢◌, inl, inr, ℕ, ◌<◌, length, sym, subst, ◌∙◌, IsSome, IsTrue, arith}
+use Rattle.std.proofs.lemmas.Bool.{cases_Bool, true≢false}
+use Rattle.sqlite_trees.specs.Tree.{Trees}
+use Rattle.sqlite_value.specs.Order.{Row}
+use Rattle.sqlite.specs.declared.error.Error.{Error}
+use Rattle.sqlite.specs.declared.error.Error.TheVariants.{SqliteFailure}
+use Rattle.sqlite.specs.declared.error.ErrorCode.TheVariants.{OutOfMemory}
+use Rattle.sqlite.specs.Steps.{FailsToCommit}
+use Rattle.sqlite.specs.State.{State, HasCleanDisk, Survives}
+use Rattle.part_store.specs.Entries.{Entries}
+use Rattle.part_store.specs.Refusals.{refusal_of, HasFailed, Blames, Faults}
+use Rattle.part_store.specs.Standing.{Stands}
+use Rattle.part_store.specs.declared.error.StoreError.{StoreError}
+use Rattle.part_store.specs.declared.error.StoreError.TheVariants.{Database}
+use Rattle.part_store.proofs.Faults.{failed, never}
+
+module _ {Q : Trees → Type 0} (old mid new : State) (two : Survives mid new Q) where
+  pub first_failed : HasFailed old mid → HasFailed old new
+  first_failed (inl disk) = inl (omega (arith, disk, two.counts))
+  first_failed (inr other) = inr other
+
+  pub blamed_first : (e : StoreError) → Blames old mid e → Blames old new e
+  blamed_first e h is before stands = first_failed (h is before stands)
+
+module _ {P Q : Trees → Type 0} (old mid new : State) (one : Survives old mid P) (two : Survives mid new Q) (clean : HasCleanDisk new) where
+  pub later_failed : HasFailed mid new → HasFailed old new
+  later_failed (inl disk) = inl (omega (arith, disk, one.counts))
+  later_failed (inr (inl shut)) = elim (cases_Bool old.is_open) [
+    | inl on ↦ elim (one.closes (omega (arith, clean, two.clean)) on) [
+      | inl still ↦ absurd (true≢false (sym still ∙ shut))
+      | inr more ↦ inl (omega (arith, more, two.counts))
+    ]
+    | inr off ↦ inr (inl off)
+  ]
+  later_failed (inr (inr limited)) = inr (inr (subst IsSome one.limit limited))
+
+  pub blamed_later : (e : StoreError) → ((before : Entries) → Stands old.now before → Stands mid.now before) → Blames mid new e → Blames old new e
+  blamed_later e on h is before stands = later_failed (h is before (on before stands))
+
+-- where the tables stand for a state they are the three
+pub faulted : (old new : State) (e : Error) → Faults old new e → Blames old new (refusal_of e)
+faulted old new e h is before stands = h is stands.schema
+
+-- what is readable is refused for want of memory alone
+pub unread : {R : Type 0} (row : Row) (at : ℕ) (e : Error) → (e ≢ SqliteFailure OutOfMemory → at < length row → ¬ R) → at < length row → R → refusal_of e ≡ Database → ⊥
+unread row at e kind within reads is = kind (λ same. absurd (let no = subst (λ x. refusal_of x ≡ Database) same is in cc)) within reads
+
+-- a transaction that still goes on is committed unless the database fails
+pub commit_blamed : (old new : State) (e : Error) → IsTrue old.in_transaction → FailsToCommit old new e → refusal_of e ≡ Database → HasFailed old new
+commit_blamed old new e inside (inl h) is = never (failed old new ⊥ e is h)
+commit_blamed old new e inside (inr h) is = absurd (true≢false (sym inside ∙ h.1))
