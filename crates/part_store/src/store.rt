@@ -38,6 +38,10 @@ use std::alloc::Global;
 use std::marker::Model;
 
 /// Entries, programs and last numbers in the three tables of a database. No call leaves a transaction open.
+///
+/// Where the tables stand for a state, a call that reads is refused `Database` only by a database that can't work: its disk failed
+/// in the call, a failure had shut it before, or its connection has a limit on steps (`cause`). So is the removal of an entry that
+/// isn't there. Of any other write no clause says why it was refused `Database`.
 pub struct PartStore<S: Alter> {
     conn: Connection<S>,
 }
@@ -292,7 +296,8 @@ impl<S: Alter> PartStore<S> {
         Ok(read_program(&mut tx, user)?)
     }
 
-    /// The users that have a program, in the order of their names, with their programs. Refuses `Memory` and `Database`.
+    /// The users that have a program, in the order of their names, with their programs. Refuses `Memory`, and `Database` also where
+    /// a user's name in the table isn't UTF-8.
     pub fn programs(&mut self) -> Result<Vec<(String, Vec<u8>)>, StoreError>
         ensures told { HasCleanDisk (state S.Store self.new) → IfOk result (λ programs.
             (before : _) → Stands (state S.Store self.old).now before → AreProgramsOf before (map pair_of programs.items)) }
@@ -309,7 +314,8 @@ impl<S: Alter> PartStore<S> {
         list_programs(&mut tx)
     }
 
-    /// All users, each with the last number and the program, in the order of their names. Refuses `Memory` and `Database`.
+    /// All users, each with the last number and the program, in the order of their names. Refuses `Memory`, and `Database` also where
+    /// a user's name in the table isn't UTF-8.
     pub fn users(&mut self) -> Result<Vec<UserRow>, StoreError>
         ensures told { HasCleanDisk (state S.Store self.new) → IfOk result (λ users. (before : _) → Stands (state S.Store self.old).now before
             → AreUsersOf ((state S.Store self.old).now.trees users_tree) before (map line_of users.items)) }
@@ -326,8 +332,8 @@ impl<S: Alter> PartStore<S> {
         list_users(&mut tx)
     }
 
-    /// How many contents there are and how many octets they have; what several entries have is counted once. Refuses `Memory` and
-    /// `Database`.
+    /// How many contents there are and how many octets they have; what several entries have is counted once. Refuses `Memory`, and
+    /// `Database` also where the octets are more than 64 bits can count.
     pub fn contents(&mut self) -> Result<ContentTotal, StoreError>
         ensures told { HasCleanDisk (state S.Store self.new) → IfOk result (λ total. (before : _) → Stands (state S.Store self.old).now before
             → IsTotalOf ((state S.Store self.old).now.trees contents_tree) total) }
