@@ -44,6 +44,29 @@ What a reader of mail did stays, and a second run adds what is new.
     7.depot-ann
     $ rm -r Mail Mail-parts
 
+## a depot whose first entry is a part
+    $ depot script mail.depot ann examples/documents.sieve
+    stored
+    $ depot deliver mail.depot ann examples/invoice.eml
+    1 part "Documents"
+    2 message "INBOX"
+    $ "$TOP/contrib/to_maildir" mail.depot ann Mail
+    1 Mail-parts/Documents/1-rechnung-2026-0417.pdf
+    2 Mail/new/2.depot-ann
+    $ "$TOP/contrib/to_maildir" mail.depot ann Mail
+    $ depot export mail.depot ann 1 raw | cmp - Mail-parts/Documents/1-rechnung-2026-0417.pdf
+    $ cmp examples/invoice.eml Mail/new/2.depot-ann
+    $ rm -r Mail Mail-parts
+
+## a user without entries makes no Maildir
+    $ "$TOP/contrib/to_maildir" mail.depot ann Mail
+    2> to_maildir: there is no file mail.depot
+    [1]
+    $ depot list mail.depot ann
+    none
+    $ "$TOP/contrib/to_maildir" mail.depot ann Mail
+    $ test ! -e Mail
+
 ## a depot that isn't there makes no Maildir
     $ "$TOP/contrib/to_maildir" none.depot ann Mail
     2> to_maildir: there is no file none.depot

@@ -156,6 +156,30 @@ Only if: command -v sqlite3 # there is no sqlite3
     no depot: its tables are others
     [1]
 
+## another process holds it
+Only if: command -v sqlite3 # there is no sqlite3
+    $ depot list mail.depot ann
+    none
+    $ sqlite3 mail.depot 'BEGIN EXCLUSIVE' '.shell depot inspect mail.depot; echo $?'
+    no depot: another process holds it
+    1
+    $ depot inspect mail.depot | grep -v '^log '
+    depot
+    no log
+    contents 0 octets 0
+
+## a log or a journal that can't be opened
+    $ depot list mail.depot ann
+    none
+    $ rm mail.depot-wal && mkdir mail.depot-wal
+    $ depot inspect mail.depot
+    no depot: its log or its journal can't be opened
+    [1]
+    $ rmdir mail.depot-wal && mkdir mail.depot-journal
+    $ depot inspect mail.depot
+    no depot: its log or its journal can't be opened
+    [1]
+
 ## no rights
 Only if: [ "$(id -u)" != 0 ] # this user may read and write every file
     $ depot list mail.depot ann
