@@ -69,9 +69,9 @@ one_more code place share old new before same grown =
     rw last (record {
       number = length-append old (share_at code place ∷ []) ∙ omega (arith, before.number);
       each = λ p below. elim (cases_eq p place) [
-          | inl same ↦ rw same (get_last old (share_at code place) place before.number)
-          | inr differ ↦ get_kept old (share_at code place) (share_at code p) p (before.each p (omega arith))
-        ];
+        | inl same ↦ rw same (get_last old (share_at code place) place before.number)
+        | inr differ ↦ get_kept old (share_at code place) (share_at code p) p (before.each p (omega arith))
+      ];
     })
 
 -- the share that was found is that at the place

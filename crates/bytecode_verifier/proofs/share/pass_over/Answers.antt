@@ -1,4 +1,3 @@
-use Rattle.std.proofs.Common.{sym, ◌∙◌}
 use Rattle.bytecode_verifier.proofs.Shares.{shape_goes_on, share_found}
 use Rattle.bytecode_verifier.proofs.share.pass_over.Goals as goal
 
