@@ -9,6 +9,7 @@ pub mod Accepted
 pub mod Consequences
 pub mod Examples
 pub mod Budgets
+pub mod Shares
 pub mod Closing
 pub mod Nests
 pub mod Open

@@ -12,6 +12,7 @@ use Rattle.bytecode_verifier.specs.Loops.{open_loops}
 use Rattle.bytecode_verifier.specs.Rows.{keys_in, params_in}
 use Rattle.bytecode_verifier.specs.Shape.{Entries, Texts, Lists, take_texts, take_lists, shape_at}
 use Rattle.bytecode_verifier.specs.declared.cap.Cap.{Cap}
+use Rattle.bytecode_verifier.specs.declared.share.Share.{Share}
 
 abbrev pub no_cap : Cap
 no_cap = record { fixed = 0; scaled = 0 }
@@ -97,6 +98,10 @@ cap_found (Some i) (Some entries) = cap_of (operation_of i.op) i entries
 -- the cap of the instruction at a place
 abbrev pub cap_at : Code → ℕ → Cap
 cap_at code place = cap_found (slice_get code.instructions place) (shape_at code place)
+
+-- what the instruction at a place adds to the budget: its cap, inside so many open loops
+abbrev pub share_at : Code → ℕ → Share
+share_at code place = record { loops = length (open_loops code place); cap = cap_at code place }
 
 -- the sum over the instructions that stand inside k open loops
 abbrev pub sum_inside : (Cap → ℕ) → Code → ℕ → ℕ

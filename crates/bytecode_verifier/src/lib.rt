@@ -15,8 +15,11 @@ mod places;
 mod row;
 mod rules;
 mod shape;
+mod share;
 mod targets;
 mod verified;
 
+pub use cap::Cap;
 pub use error::Refusal;
+pub use share::Share;
 pub use verified::{Verified, verify};

@@ -1,7 +1,7 @@
 // Programs that are accepted.
-ghost use Rattle.std.specs.Prelude.{◌≡◌, ◌≢◌, length, IfOk, IfErr, Some, None};
+ghost use Rattle.std.specs.Prelude.{◌≡◌, ◌≢◌, ◌<◌, ℕ, length, slice_get, IfOk, IfErr, Some, None};
 ghost use Rattle.bytecode_verifier.specs.Acceptance.{IsAccepted, refusal_of};
-ghost use Rattle.bytecode_verifier.specs.Budget.{budget_of};
+ghost use Rattle.bytecode_verifier.specs.Budget.{budget_of, share_at};
 ghost use Rattle.bytecode_verifier.specs.Pass.{HasPassed};
 ghost use Rattle.bytecode_verifier.specs.Places.{least_place};
 ghost use Rattle.bytecode_verifier.specs.Rules.{breaks_end};
@@ -11,10 +11,11 @@ use crate::error::Refusal;
 use crate::nest::nests_of;
 use crate::pass::Pass;
 use crate::rules::is_halt;
+use crate::share::{Share, shares_of};
 use crate::targets::targets_of;
 use bytecode_cost::Budget;
 use bytecode_format::{Operation, Program};
-use std::alloc::Global;
+use std::alloc::{AllocError, Global};
 use std::marker::Model;
 
 /// A program that is accepted. A contract sees its code.
@@ -43,6 +44,20 @@ impl Verified {
         ensures { result.now ≡ budget_of self.now }
     {
         &self.budget
+    }
+
+    /// What each instruction adds to the budget, in the order of their places: the sums of the budget
+    /// are those of these.
+    ///
+    /// An error comes only where memory was refused. The time is linear in the number of
+    /// instructions.
+    pub fn shares(&self, alloc: Global) -> Result<Vec<Share>, AllocError>
+        ensures number { IfOk result
+            (λ shares. length shares.items ≡ length self.now.instructions) }
+        ensures each { IfOk result (λ shares. (place : ℕ) → place < length self.now.instructions
+            → slice_get shares.items place ≡ Some (share_at self.now place)) }
+    {
+        shares_of(alloc, &self.program)
     }
 
     /// The program.
