@@ -15,7 +15,7 @@ use Rattle.header_fields.proofs.Continuations.{not_field}
 use Rattle.header_fields.proofs.FieldLines.{field_line_longer}
 use Rattle.header_fields.proofs.Trimming.{trimmed_fits}
 
-value_fits : (text : List ℕ) → length (without_outer_blanks text) ≤ length text
+pub value_fits : (text : List ℕ) → length (without_outer_blanks text) ≤ length text
 value_fits text =
     let leading = without_leading_blanks text in
     omega (arith, trimmed_fits text, trimmed_fits (reverse leading), length-reverse leading, length-reverse (without_leading_blanks (reverse leading)))

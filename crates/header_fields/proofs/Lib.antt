@@ -6,4 +6,5 @@ pub mod Trimming
 pub mod Lengths
 pub mod Measuring
 pub mod Alone
+pub mod Starts
 mod Examples

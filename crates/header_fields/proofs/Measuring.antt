@@ -15,14 +15,14 @@ pub record Measured (joined kept : ℕ) (left whole : List ℕ) : Type 0 where
   pub trimmed : without_leading_blanks value ≡ value
   pub so_far : without_leading_blanks (value ++ left) ≡ without_leading_blanks whole
 
-leading_none : (text more : List ℕ) → length (without_leading_blanks text) ≡ 0 → without_leading_blanks (text ++ more) ≡ without_leading_blanks more
+pub leading_none : (text more : List ℕ) → length (without_leading_blanks text) ≡ 0 → without_leading_blanks (text ++ more) ≡ without_leading_blanks more
 leading_none [] more none = refl
 leading_none (octet ∷ text) more none = elim (cases_Bool (is_blank octet)) [
   | inl blank ↦ rw blank (leading_none text more (rw blank at none))
   | inr other ↦ absurd (omega (arith, rw other at none))
 ]
 
-leading_some : (text more : List ℕ) → 0 < length (without_leading_blanks text) → without_leading_blanks (text ++ more) ≡ without_leading_blanks text ++ more
+pub leading_some : (text more : List ℕ) → 0 < length (without_leading_blanks text) → without_leading_blanks (text ++ more) ≡ without_leading_blanks text ++ more
 leading_some [] more some = absurd (omega arith)
 leading_some (octet ∷ text) more some = elim (cases_Bool (is_blank octet)) [
   | inl blank ↦ rw blank (leading_some text more (rw blank at some))

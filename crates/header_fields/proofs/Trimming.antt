@@ -21,10 +21,10 @@ trimmed_first (octet ∷ text) more = elim (cases_Bool (is_blank octet)) [
   | inr other ↦ rw (other, other) refl
 ]
 
-trimmed_again : (text : List ℕ) → without_leading_blanks (without_leading_blanks text) ≡ without_leading_blanks text
+pub trimmed_again : (text : List ℕ) → without_leading_blanks (without_leading_blanks text) ≡ without_leading_blanks text
 trimmed_again text = sym (ap without_leading_blanks (append-nil (without_leading_blanks text))) ∙ trimmed_first text [] ∙ ap without_leading_blanks (append-nil text)
 
-trimmed_with : (text more : List ℕ) → 0 < length text → without_leading_blanks text ≡ text → without_leading_blanks (text ++ more) ≡ text ++ more
+pub trimmed_with : (text more : List ℕ) → 0 < length text → without_leading_blanks text ≡ text → without_leading_blanks (text ++ more) ≡ text ++ more
 trimmed_with [] more some is = absurd (omega arith)
 trimmed_with (octet ∷ text) more some is = elim (cases_Bool (is_blank octet)) [
   | inl blank ↦ absurd (omega (arith, trimmed_fits text, ap length (rw blank at is)))

@@ -1,7 +1,7 @@
-use Rattle.std.specs.Prelude.{ℕ, ◌+◌, Bool, false, not, ◌==◌, ◌&&◌, nat_lt, if◌then◌else◌, List, [], ◌∷◌, ◌++◌, length, drop, flat_map}
+use Rattle.std.specs.Prelude.{ℕ, ◌+◌, Bool, false, not, ◌==◌, ◌&&◌, nat_lt, if◌then◌else◌, List, [], ◌∷◌, ◌++◌, length, drop, flat_map, take}
 use Rattle.std.specs.List.{list_any, prefix_len, take_while}
 use Rattle.std.specs.Char.{is_ascii_graphic}
-use Rattle.octets.specs.Blank.{is_blank, without_leading_blanks, without_outer_blanks}
+use Rattle.octets.specs.Blank.{is_blank, without_leading_blanks, without_outer_blanks, without_trailing_blanks}
 use Rattle.text_lines.specs.Lines.{TextLine, lines_of}
 use Rattle.header_fields.specs.Fields.{Field}
 
@@ -105,3 +105,7 @@ contents lines = flat_map (λ line. line.content) lines
 -- a text without its line breaks
 abbrev pub without_breaks : List ℕ → List ℕ
 without_breaks text = contents (lines_of text)
+
+-- the first octets of a text, at most so many, without the blanks that they end with
+abbrev pub beginning_of : ℕ → List ℕ → List ℕ
+beginning_of most text = without_trailing_blanks (take most text)

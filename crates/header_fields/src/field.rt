@@ -2,8 +2,8 @@
 ghost use Rattle.std.specs.Prelude.{◌≡◌, ◌↔◌, false, IsTrue, IfOk, IsOk, length};
 ghost use Rattle.std.specs.Cow.{cow_slice_items, IsBorrowedSlice};
 ghost use Rattle.octets.specs.Ascii.{EqualIgnoringCase};
-ghost use Rattle.octets.specs.Blank.{without_outer_blanks};
-ghost use Rattle.header_fields.specs.Header.{after_colon, has_feed, name_of, without_breaks};
+ghost use Rattle.octets.specs.Blank.{without_outer_blanks, without_trailing_blanks};
+ghost use Rattle.header_fields.specs.Header.{after_colon, beginning_of, has_feed, name_of, without_breaks};
 
 use crate::error::HeaderError;
 use crate::field_line::{after_colon, name_length, name_of_length};
@@ -68,11 +68,30 @@ pub fn unfold<'a>(alloc: Global, field: &Field<'a>) -> Result<CowSlice<'a, u8>, 
     ensures lent { field.now.folded ≡ false → IfOk result (λ value. IsBorrowedSlice value) }
     ensures told { field.now.folded ≡ false → IsOk result }
 {
+    unfold_start(alloc, field, field.lines.len())
+}
+
+/// The first octets of the field's value, unfolded: so many, or all where it has fewer, without the SP and TAB that they end
+/// with. No line is gone over that begins after them.
+///
+/// Where the value isn't folded they are lent, and take no memory. [`HeaderError::Memory`] comes only where memory was refused.
+pub fn unfold_start<'a>(
+    alloc: Global,
+    field: &Field<'a>,
+    most: usize,
+) -> Result<CowSlice<'a, u8>, HeaderError>
+    ensures start { IfOk result (λ start. cow_slice_items start ≡ beginning_of most field.now.value) }
+    ensures lent { field.now.folded ≡ false → IfOk result (λ start. IsBorrowedSlice start) }
+    ensures told { field.now.folded ≡ false → IsOk result }
+{
     let text = after_colon(field.lines);
     match Lines::new(text).next() {
-        Some(line) if line.stop < text.len() => Ok(CowSlice::Owned(joined(alloc, text)?)),
-        Some(line) => Ok(CowSlice::Borrowed(trim_blanks(&text[..line.end]))),
-        None => Ok(CowSlice::Borrowed(text)),
+        Some(line) if line.stop < text.len() => Ok(CowSlice::Owned(joined(alloc, text, most)?)),
+        Some(line) => {
+            let value = trim_blanks(&text[..line.end]);
+            Ok(CowSlice::Borrowed(beginning(value, most)))
+        }
+        None => Ok(CowSlice::Borrowed(beginning(text, most))),
     }
 }
 
@@ -83,21 +102,39 @@ pub fn unfolded_length(field: &Field) -> usize
     joined_length(after_colon(field.lines))
 }
 
-// The text without its line breaks, and then without outer blanks.
-fn joined(alloc: Global, text: &[u8]) -> Result<Vec<u8>, HeaderError>
-    ensures { IfOk result (λ value. value.items ≡ without_outer_blanks (without_breaks text.now)) }
+// The first octets of the text without its line breaks and outer blanks: so many, without the blanks that they end with.
+fn joined(alloc: Global, text: &[u8], most: usize) -> Result<Vec<u8>, HeaderError>
+    ensures { IfOk result (λ start. start.items ≡ beginning_of most (without_outer_blanks (without_breaks text.now))) }
 {
-    let mut value = Vec::with_capacity(alloc, text.len())?;
+    let mut start = Vec::with_capacity(alloc, text.len().min(most))?;
     for line in Lines::new(text) {
         let content = &text[line.start..line.end];
-        let more = if value.is_empty() {
+        let more = if start.is_empty() {
             trim_leading_blanks(content)
         } else {
             content
         };
-        value.extend_from_slice(more)?;
+        let (taken, _) = more.split_at(more.len().min(most - start.len()));
+        start.extend_from_slice(taken)?;
+        if start.len() == most {
+            return Ok(without_last_blanks(start));
+        }
     }
-    let length = trim_trailing_blanks(&value).len();
-    value.truncate(length);
-    Ok(value)
+    Ok(without_last_blanks(start))
+}
+
+// The octets without the blanks that they end with.
+fn without_last_blanks(mut octets: Vec<u8>) -> Vec<u8>
+    ensures { result.items ≡ without_trailing_blanks octets.items }
+{
+    let length = trim_trailing_blanks(&octets).len();
+    octets.truncate(length);
+    octets
+}
+
+// The first octets of the text: so many, without the blanks that they end with.
+fn beginning(text: &[u8], most: usize) -> &[u8]
+    ensures { result.now ≡ beginning_of most text.now }
+{
+    trim_trailing_blanks(&text[..text.len().min(most)])
 }

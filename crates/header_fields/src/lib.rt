@@ -12,5 +12,5 @@ pub mod laws;
 mod unfolding;
 
 pub use error::HeaderError;
-pub use field::{Field, name_is, unfold, unfolded_length};
+pub use field::{Field, name_is, unfold, unfold_start, unfolded_length};
 pub use header::Header;

@@ -9,7 +9,7 @@ use Rattle.octets.specs.Ascii.{lowercase_of}
 use Rattle.mime_params.specs.declared.params.Parameter.{Parameter}
 use Rattle.mime_params.specs.Gaps.{after_gap}
 use Rattle.mime_params.specs.Words.{Word, with_octet, quoted, word, value, is_value_octet, is_token_octet}
-use Rattle.mime_params.specs.Reading.{IsPassed, after_word, with_prefix, is_empty_param}
+use Rattle.mime_params.specs.Reading.{after_word, with_prefix, is_empty_param}
 use Rattle.mime_params.specs.MediaValue.{◌>>=◌, ReadParam, after_octet, token, param_at, before_others, after_semicolon, params_of, params_in, value_named}
 use Rattle.mime_params.proofs.Gaps.{gap_shorter}
 
@@ -199,47 +199,7 @@ named_after name ps i p lt e other =
 pub params_other : (c : ℕ) (more : List ℕ) → c ≢ 59 → params_in (c ∷ more) ≡ []
 params_other c more other = rw (ne_eqb c 59 other) refl
 
--- ---- parameters that are passed over
-
 -- what follows a quoted string is the same after one more octet
 pub after_octet_of : (o : Option Word) (c : ℕ) → after_word (option_map (with_octet c) o) ≡ after_word o
 after_octet_of None c = refl
 after_octet_of (Some w) c = refl
-
--- a word that something follows is one
-pub word_after : (o : Option Word) (rest : List ℕ) → after_word o ≡ Some rest → (octets : List ℕ) × (o ≡ Some (record { octets = octets; rest = rest }))
-word_after None rest e = absurd (cc)
-word_after (Some w) rest e = (w.octets, ap (λ r. Some (record { octets = w.octets; rest = r })) (some_same e))
-  where
-    some_same : Some w.rest ≡ Some rest → w.rest ≡ rest
-    some_same same = cc
-
-pub nothing_after : (o : Option Word) → after_word o ≡ None → o ≡ None
-nothing_after None e = refl
-nothing_after (Some w) e = absurd (cc)
-
-param_from : (text : List ℕ) (name : Word) (after : List ℕ) (given : Word) → token text ≡ Some name → after_octet 61 (after_gap name.rest) ≡ Some after → value (after_gap after) ≡ Some given
-    → param_at text ≡ Some (record { param = record { name = name.octets; value = given.octets }; rest = given.rest })
-unfolding param_at
-param_from text name after given named sign read =
-    ap (λ o. o >>= λ name. after_octet 61 (after_gap name.rest) >>= λ after. value (after_gap after) >>= λ given. Some (record { param = record { name = name.octets; value = given.octets }; rest = given.rest })) named
-    ∙ ap (λ o. o >>= λ after. value (after_gap after) >>= λ given. Some (record { param = record { name = name.octets; value = given.octets }; rest = given.rest })) sign
-    ∙ ap (λ o. o >>= λ given. Some (record { param = record { name = name.octets; value = given.octets }; rest = given.rest })) read
-
--- a parameter whose value's end is known
-pub passes : (text : List ℕ) (name : Word) (after rest : List ℕ) → token text ≡ Some name → after_octet 61 (after_gap name.rest) ≡ Some after → after_word (value (after_gap after)) ≡ Some rest
-    → IsPassed text name.octets (after_gap after) rest
-passes text name after rest named sign ends =
-    let read = word_after (value (after_gap after)) rest ends in
-    record { octets = read.0; begins = read.1; param = param_from text name after (record { octets = read.0; rest = rest }) named sign read.1 }
-
--- one of another name isn't
-pub given_later : (name more named given after : List ℕ) → is_empty_param (after_gap more) ≡ false → IsPassed (after_gap more) named given after → (lowercase_of named ≡ lowercase_of name → ⊥)
-    → value_named name (params_in (59 ∷ more)) ≡ value_named name (params_in (after_gap after))
-given_later name more named given after some passed other =
-    ap (value_named name) (params_one more (record { param = record { name = named; value = passed.octets }; rest = after }) some passed.param)
-    ∙ named_later name (record { name = named; value = passed.octets }) (params_in (after_gap after)) other
-
--- what follows it is shorter
-pub passed_shorter : (more named given after : List ℕ) → IsPassed (after_gap more) named given after → length (after_gap after) ≤ length more
-passed_shorter more named given after passed = param_shorter more (record { param = record { name = named; value = passed.octets }; rest = after }) passed.param

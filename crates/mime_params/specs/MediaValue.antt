@@ -1,6 +1,7 @@
 -- Media types, dispositions and parameters (RFC 2045, section 5.1; RFC 2183, section 2).
 use Rattle.std.specs.Prelude.{ℕ, zero, suc, Bool, not, ◌==◌, List, [], ◌∷◌, Option, Some, None, option_map, length, drop, if◌then◌else◌}
 use Rattle.std.specs.List.{take_while, find}
+use Rattle.std.specs.Option.{option_map_or}
 use Rattle.octets.specs.Ascii.{lowercase_of}
 use Rattle.mime_params.specs.declared.params.Parameter.{Parameter}
 use Rattle.mime_params.specs.declared.media.MediaType.{MediaType}
@@ -101,3 +102,11 @@ type_param name text = media_type_of text >>= λ media. value_named name media.p
 -- that of a disposition
 abbrev pub disposition_param : List ℕ → List ℕ → Option (List ℕ)
 disposition_param name text = disposition_of text >>= λ disposition. value_named name disposition.params
+
+-- the parameters of a media type; none where there is none
+abbrev pub type_params : List ℕ → List Parameter
+type_params text = option_map_or (λ (media : MediaType). media.params) (media_type_of text) []
+
+-- those of a disposition
+abbrev pub disposition_params : List ℕ → List Parameter
+disposition_params text = option_map_or (λ (disposition : Disposition). disposition.params) (disposition_of text) []

@@ -1,8 +1,9 @@
 -- What the readers give.
-use Rattle.std.specs.Prelude.{◌≡◌, ℕ, List, [], ◌∷◌, ◌++◌, Option, Some, None, MatchOption, option_map, Bool, true, ◌==◌}
+use Rattle.std.specs.Prelude.{◌≡◌, ◌≢◌, ℕ, List, [], ◌∷◌, ◌++◌, Option, Some, None, MatchOption, option_map, Bool, true, ◌==◌}
 use Rattle.std.specs.Borrow.{Bor}
+use Rattle.mime_params.specs.Gaps.{after_gap}
+use Rattle.mime_params.specs.MediaValue.{disposition_name, token, type_names}
 use Rattle.mime_params.specs.Words.{Word, value}
-use Rattle.mime_params.specs.MediaValue.{param_at}
 
 -- a word that was read with what follows it, or nothing where none begins
 abbrev pub GivesWord : Option Word → Option (List ℕ × Bor (List ℕ)) → Type 0
@@ -21,14 +22,34 @@ is_empty_param (c ∷ rest) = c == 59
 abbrev pub after_word : Option Word → Option (List ℕ)
 after_word word = option_map (λ w. w.rest) word
 
--- a text begins with a parameter of this name, whose value this other text begins with; this follows it
-pub record IsPassed (text name given rest : List ℕ) : Type 0 where
-  pub octets : List ℕ
-  pub begins : value given ≡ Some (record { octets = octets; rest = rest })
-  pub param : param_at text ≡ Some (record { param = record { name = name; value = octets }; rest = rest })
+-- the octets of a word, or none
+abbrev pub octets_of : Option Word → List ℕ
+octets_of None = []
+octets_of (Some w) = w.octets
 
--- a text begins with this value
-pub record IsGiven (wanted : Option (List ℕ)) (given : List ℕ) : Type 0 where
-  pub word : Word
-  pub begins : value given ≡ Some word
-  pub same : wanted ≡ Some word.octets
+-- those of the value that a text begins with
+abbrev pub value_octets : List ℕ → List ℕ
+value_octets text = octets_of (value text)
+
+-- ---- texts that may go on
+
+-- a word with more after what follows it
+abbrev pub with_rest : List ℕ → Word → Word
+with_rest more w = record w { rest = w.rest ++ more }
+
+-- the gap that a text begins with ends in the text, before this rest of it, whatever follows the text
+pub record GapEnds (text rest : List ℕ) : Type 0 where
+  pub some : rest ≢ []
+  pub after : (more : List ℕ) → after_gap (text ++ more) ≡ rest ++ more
+
+-- the token that a text begins with ends in the text, or there is none, whatever follows the text
+abbrev pub TokenEnds : List ℕ → Type 0
+TokenEnds text = (more : List ℕ) → token (text ++ more) ≡ option_map (with_rest more) (token text)
+
+-- a text has the same type and subtype, as the beginning of a value, whatever follows it
+abbrev pub SettlesType : List ℕ → Type 0
+SettlesType text = (more : List ℕ) → type_names (text ++ more) ≡ type_names text
+
+-- the same of a disposition
+abbrev pub SettlesDisposition : List ℕ → Type 0
+SettlesDisposition text = (more : List ℕ) → disposition_name (text ++ more) ≡ disposition_name text

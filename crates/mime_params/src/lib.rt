@@ -5,19 +5,24 @@
 //! of any field's value, [`param`] the value of one. Comments may be nested to any depth.
 //!
 //! A value may have millions of parameters. [`type_names`] and [`disposition_name`] read none of them, and [`type_param`],
-//! [`disposition_param`] and [`param_of`] keep one alone.
+//! [`disposition_param`] and [`param_of`] keep one alone; [`LentParameters`] gives them one after the other, as they are written.
+//! Of a long value the beginning may be enough: [`settles_type`] and [`settles_disposition`] say whether it is.
 #![tactic(auto)]
 
+mod beginning;
 mod encoding;
 mod error;
 mod gap;
+mod lent;
 mod lookup;
 mod media;
 mod params;
 mod words;
 
+pub use beginning::{settles_disposition, settles_type};
 pub use encoding::TransferEncoding;
 pub use error::ValueError;
+pub use lent::{LentParameter, LentParameters};
 pub use media::{
     Disposition, MediaType, disposition_name, disposition_param, read_disposition, read_type,
     type_names, type_param,

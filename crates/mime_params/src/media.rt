@@ -5,6 +5,7 @@ ghost use Rattle.mime_params.specs.MediaValue.{disposition_name, disposition_of,
 
 use crate::error::ValueError;
 use crate::gap::{after_gap, first};
+use crate::lent::LentParameters;
 use crate::lookup::first_named;
 use crate::params::{Params, read_params};
 use crate::words::token;
@@ -59,15 +60,12 @@ pub fn type_names(text: &[u8]) -> Option<(&[u8], &[u8])>
 pub fn type_param(alloc: Global, text: &[u8], name: &[u8]) -> Result<Option<Octets>, ValueError>
     ensures { IfOk result (λ value. value ≡ type_param name.now text.now) }
 {
-    let Some((_main, _sub, after)) = names_at(text) else {
-        return Ok(None);
-    };
-    Ok(first_named(alloc, after_gap(after), name)?)
+    first_named(alloc, LentParameters::of_type(text), name)
 }
 
-// The type and the subtype that the value of a Content-Type has, and what follows them.
+/// The type and the subtype that the value of a Content-Type has, and what follows them.
 #[tactic(auto, unfolding(crate::specs::MediaValue::media_type_of))]
-fn names_at(text: &[u8]) -> Option<(&[u8], &[u8], &[u8])>
+pub(crate) fn names_at(text: &[u8]) -> Option<(&[u8], &[u8], &[u8])>
     ensures { MatchOption result (media_type_of text.now ≡ None)
         (λ read. media_type_of text.now ≡ Some (record { main = read.0.now; sub = read.1.now; params = params_in (after_gap read.2.now) })) }
 {
@@ -114,15 +112,12 @@ pub fn disposition_param(
 ) -> Result<Option<Octets>, ValueError>
     ensures { IfOk result (λ value. value ≡ disposition_param name.now text.now) }
 {
-    let Some((_main, after)) = disposition_at(text) else {
-        return Ok(None);
-    };
-    Ok(first_named(alloc, after_gap(after), name)?)
+    first_named(alloc, LentParameters::of_disposition(text), name)
 }
 
-// The disposition that a value has, and what follows it.
+/// The disposition that a value has, and what follows it.
 #[tactic(auto, unfolding(crate::specs::MediaValue::disposition_of))]
-fn disposition_at(text: &[u8]) -> Option<(&[u8], &[u8])>
+pub(crate) fn disposition_at(text: &[u8]) -> Option<(&[u8], &[u8])>
     ensures { MatchOption result (disposition_of text.now ≡ None)
         (λ read. disposition_of text.now ≡ Some (record { main = read.0.now; params = params_in (after_gap read.1.now) })) }
 {

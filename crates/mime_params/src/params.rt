@@ -6,6 +6,7 @@ ghost use Rattle.mime_params.specs.MediaValue.{param_at, params_in, parameters_o
 
 use crate::error::ValueError;
 use crate::gap::{after_gap, first};
+use crate::lent::LentParameters;
 use crate::lookup::first_named;
 use crate::words::{token, value};
 use octets::{Octets, equal_ignoring_case};
@@ -84,11 +85,11 @@ pub fn param<'a>(params: &'a Params, name: &[u8]) -> Option<&'a [u8]>
 pub fn param_of(alloc: Global, text: &[u8], name: &[u8]) -> Result<Option<Octets>, ValueError>
     ensures { IfOk result (λ value. value ≡ value_named name.now (parameters_of text.now)) }
 {
-    Ok(first_named(alloc, &text[semicolon_at(text)..], name)?)
+    first_named(alloc, LentParameters::of(text), name)
 }
 
-// Where the first semicolon stands, or the text ends.
-fn semicolon_at(text: &[u8]) -> usize
+/// Where the first semicolon stands, or the text ends.
+pub(crate) fn semicolon_at(text: &[u8]) -> usize
     ensures { result ≡ length (take_while (λ c. not (c == 59)) text.now) }
 {
     text.iter().take_while(|octet| **octet != b';').count()

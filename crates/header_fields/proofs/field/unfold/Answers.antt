@@ -1,20 +1,15 @@
-use Rattle.std.proofs.Common.{◌≡◌, ◌∙◌, true, sym, ap}
-use Rattle.std.proofs.lemmas.Bool.{true≢false}
+use Rattle.std.proofs.Common.{◌≡◌, ◌∙◌, ap, length, sym}
+use Rattle.std.specs.Cow.{cow_slice_items}
+use Rattle.std.proofs.lemmas.Result.{IfOk-weaker}
 use Rattle.header_fields.specs.Fields.{Field}
-use Rattle.header_fields.specs.Header.{has_feed}
-use Rattle.header_fields.proofs.Continuations.{feed_after}
+use Rattle.header_fields.specs.Header.{after_colon, beginning_of, without_breaks}
+use Rattle.header_fields.proofs.Starts.{beginning_all, value_within}
 use Rattle.header_fields.proofs.field.unfold.Goals as goal
 
-pub returns-in_err-joined-in-Some-clause-told : goal.returns-in_err-joined-in-Some-clause-told
-returns-in_err-joined-in-Some-clause-told c = λ plain.
-    let text = c.after_colon-text.result.now in
-    let here = rw (ap (λ u. u.text) c.new.ensures) at c.in-Some.ensures.steps.here in
-    let feed : has_feed text ≡ true = feed_after text _ c.in-Some.line here c.if-line-text.true in
-    absurd (true≢false (sym feed ∙ ap has_feed c.after_colon-text.ensures ∙ ap (λ (f : Field). f.folded) c.field.view_is ∙ plain))
-
-pub returns-in_ok-joined-in-Some-clause-lent : goal.returns-in_ok-joined-in-Some-clause-lent
-returns-in_ok-joined-in-Some-clause-lent c = λ plain.
-    let text = c.after_colon-text.result.now in
-    let here = rw (ap (λ u. u.text) c.new.ensures) at c.in-Some.ensures.steps.here in
-    let feed : has_feed text ≡ true = feed_after text _ c.in-Some.line here c.if-line-text.true in
-    absurd (true≢false (sym feed ∙ ap has_feed c.after_colon-text.ensures ∙ ap (λ (f : Field). f.folded) c.field.view_is ∙ plain))
+pub returns-clause-value : goal.returns-clause-value
+returns-clause-value c =
+    let lines = c.field.inside.lines.now in
+    let value = ap (λ (f : Field). f.value) c.field.view_is in
+    let all = ap (beginning_of (length lines)) (sym value) ∙ beginning_all (length lines) (without_breaks (after_colon lines)) (value_within lines) ∙ value in
+    IfOk-weaker c.unfold_start.result (λ start. cow_slice_items start ≡ beginning_of (length lines) c.args.field.now.value) (λ start. cow_slice_items start ≡ c.args.field.now.value) (λ start is. is ∙ all)
+    c.unfold_start.ensures.start

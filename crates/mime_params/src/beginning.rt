@@ -1,0 +1,75 @@
+// Values of which only the beginning is at hand.
+ghost use Rattle.std.specs.Prelude.{◌≡◌, IsTrue, MatchOption, None, Some};
+ghost use Rattle.mime_params.specs.MediaValue.{after_octet};
+ghost use Rattle.mime_params.specs.Reading.{GapEnds, SettlesDisposition, SettlesType, TokenEnds};
+
+use crate::gap::{after_gap, first};
+use crate::words::token;
+
+/// Whether a value of a Content-Type that begins so has the type and the subtype of this text, or none as it, whatever follows.
+///
+/// It is so where the reading of the two ends before the text does: a token at its end may go on, and a comment that is open
+/// there may be closed. No more is looked at than that reading needs.
+pub fn settles_type(start: &[u8]) -> bool
+    ensures { IsTrue result → SettlesType start.now }
+{
+    let Some(name) = gap_end(start) else {
+        return false;
+    };
+    if !ends_token(name) {
+        return false;
+    }
+    let Some((_main, after)) = token(name) else {
+        return true;
+    };
+    let Some(slash) = gap_end(after) else {
+        return false;
+    };
+    let Some(after) = after_slash(slash) else {
+        return true;
+    };
+    let Some(name) = gap_end(after) else {
+        return false;
+    };
+    ends_token(name)
+}
+
+/// Whether a value of a Content-Disposition that begins so has the disposition of this text, or none as it, whatever follows.
+///
+/// It is so where the reading of it ends before the text does.
+pub fn settles_disposition(start: &[u8]) -> bool
+    ensures { IsTrue result → SettlesDisposition start.now }
+{
+    let Some(name) = gap_end(start) else {
+        return false;
+    };
+    ends_token(name)
+}
+
+// What follows the slash that the text begins with.
+fn after_slash(text: &[u8]) -> Option<&[u8]>
+    ensures { MatchOption result (after_octet 47 text.now ≡ None) (λ after. after_octet 47 text.now ≡ Some after.now) }
+{
+    let (octet, after) = first(text)?;
+    if octet == b'/' { Some(after) } else { None }
+}
+
+// What follows the gap that the text begins with, where the gap ends in the text.
+fn gap_end(text: &[u8]) -> Option<&[u8]>
+    ensures { MatchOption result (Unit {0}) (λ rest. GapEnds text.now rest.now) }
+{
+    let rest = after_gap(text);
+    let (octet, _more) = first(rest)?;
+    // a comment that is open here may be closed
+    if octet == b'(' { None } else { Some(rest) }
+}
+
+// Whether the token that the text begins with ends in the text, or there is none.
+fn ends_token(text: &[u8]) -> bool
+    ensures { IsTrue result → TokenEnds text.now }
+{
+    match token(text) {
+        Some((_octets, rest)) => !rest.is_empty(),
+        None => !text.is_empty(),
+    }
+}
