@@ -5,3 +5,5 @@ pub mod Lengths
 pub mod Onward
 pub mod Scopes
 pub mod TenCaptures
+pub mod AskedFor
+pub mod TypeTexts

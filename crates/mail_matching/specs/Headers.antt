@@ -1,5 +1,6 @@
 -- The headers of the parts in scope.
-use Rattle.std.specs.Prelude.{◌≡◌, ℕ, ◌≤◌, false, true, All, List, length, map, flat_map, take, drop, Option}
+use Rattle.std.specs.Prelude.{◌≡◌, ℕ, ◌≤◌, ◌&&◌, Bool, false, true, is_none, All, List, length, map, flat_map, take, drop, Option}
+use Rattle.std.specs.List.{list_any}
 use Rattle.header_fields.specs.Fields.{Field}
 use Rattle.mime_tree.specs.PartTree.{is_word}
 use Rattle.mime_decode.specs.Mail.{Mail, Part}
@@ -46,3 +47,17 @@ AreUnfolded names fields = All (λ name. All (IsUnfolded name) fields) names
 -- no parameter's value is longer than this
 abbrev pub AreWithin : ℕ → List Parameter → Type 0
 AreWithin limit params = All (λ (p : Parameter). length p.value ≤ limit) params
+
+-- ---- the parameters that are asked for
+
+-- one of the names is this, but for ASCII case
+abbrev pub is_asked : List (List ℕ) → List ℕ → Bool
+is_asked names name = list_any (λ asked. is_word asked name) names
+
+-- a parameter of this name is asked for, and none was found
+abbrev pub is_wanted : List (List ℕ) → List Parameter → List ℕ → Bool
+is_wanted names found name = is_asked names name && is_none (value_named name found)
+
+-- of each of the names the first of these parameters is the first of those that were found
+abbrev pub HaveFirsts : List (List ℕ) → List Parameter → List Parameter → Type 0
+HaveFirsts names params found = All (λ name. value_named name found ≡ value_named name params) names

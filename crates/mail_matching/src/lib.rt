@@ -8,6 +8,7 @@
 //! value that isn't lent by the message only what it captures is.
 #![tactic(auto)]
 
+mod asked;
 mod comparing;
 mod cost;
 mod existence;

@@ -11,10 +11,11 @@ ghost use Rattle.mail_matching.specs.Selection.{selector_of};
 ghost use Rattle.mail_matching.specs.Texts.{AreTexts};
 ghost use Rattle.mail_matching.specs.declared.selection.Selector.TheVariants.{Value};
 
+use crate::asked::{asked_params, asked_value};
 use crate::comparing::{first_key, first_key_of_lent};
 use crate::existence::is_named;
 use crate::outcome::Outcome;
-use crate::reading::{content_type_of, main_of, param_in, sub_of, type_text};
+use crate::reading::{content_type_of, main_of, params_in, sub_of, type_text};
 use crate::selection::Selector;
 use crate::texts::Texts;
 use glob_match::Match;
@@ -179,9 +180,10 @@ impl<'m> Progress<'m> {
         requires room { self.old.extent + extent_of (values_of_params (params_of (reading_of field.now)) (P.texts test.now.params.now)) < 2 ^ 64 }
         ensures { OnOk result (GoesOn test.now.how (values_of_params (params_of (reading_of field.now)) (P.texts test.now.params.now)) (K.texts test.now.keys.now) self.old self.new) }
     {
+        let found = asked_params(alloc, params_in(field, value), test.params)?;
         for place in 0..test.params.count() {
             let name = test.params.text(place);
-            let param = param_in(alloc, field, value, name)?;
+            let param = asked_value(alloc, &found, name)?;
             self.take_param(alloc, param, test.keys, test.how)?;
         }
         Ok(())

@@ -1,19 +1,25 @@
 // What a field's value is read as: no more of it is than is asked for.
 ghost use Rattle.std.specs.Prelude.{◌≡◌, IfOk, codes};
 ghost use Rattle.std.specs.Cow.{cow_slice_items};
-ghost use Rattle.mime_params.specs.MediaValue.{disposition_of, media_type_of, value_named};
+ghost use Rattle.mime_params.specs.MediaValue.{disposition_name, disposition_of, media_type_of, type_names};
 ghost use Rattle.mime_tree.specs.PartTree.{is_word};
 ghost use Rattle.mime_decode.specs.Scope.{as_disposition, as_media, content_type_of, main_of, params_of, reading_of, sub_of};
 ghost use Rattle.mail_matching.specs.Readings.{IsTypeText};
 
 use crate::existence::is_named;
-use header_fields::{Field, unfold};
-use mime_params::{disposition_name, disposition_param, param_of, type_names, type_param};
-use octets::Octets;
+use header_fields::{Field, unfold, unfold_start};
+use mime_params::{
+    LentParameters, disposition_name, settles_disposition, settles_type, type_names,
+};
 use std::alloc::{AllocError, Global};
 use std::borrow::CowSlice;
 
-/// The text that the field's type stands in: its value, if it is one of the two fields that have a type.
+/// How many octets of a folded value are unfolded at first, where its type is read: more than a type has that isn't made to take
+/// time.
+const TYPE_START: usize = 1024;
+
+/// A text that the field's type is read in: a beginning of its value that settles it, or the whole of it; an empty one if the
+/// field is none of the two that have a type.
 ///
 /// An error comes only where memory was refused.
 pub(crate) fn type_text<'a>(
@@ -22,11 +28,35 @@ pub(crate) fn type_text<'a>(
 ) -> Result<CowSlice<'a, u8>, AllocError>
     ensures { IfOk result (λ text. IsTypeText field.now (cow_slice_items text)) }
 {
-    if is_content_type(field) || is_content_disposition(field) {
-        Ok(unfold(alloc, field)?)
+    if is_content_type(field) {
+        media_text(alloc, field)
+    } else if is_content_disposition(field) {
+        disposition_text(alloc, field)
     } else {
         Ok(CowSlice::Borrowed(b""))
     }
+}
+
+// A text with the type and the subtype of the field's value, as that of a Content-Type.
+fn media_text<'a>(alloc: Global, field: &Field<'a>) -> Result<CowSlice<'a, u8>, AllocError>
+    ensures { IfOk result (λ text. type_names (cow_slice_items text) ≡ type_names field.now.value) }
+{
+    let start = unfold_start(alloc, field, TYPE_START)?;
+    if settles_type(start.as_slice()) {
+        return Ok(start);
+    }
+    Ok(unfold(alloc, field)?)
+}
+
+// A text with the disposition of the field's value, as that of a Content-Disposition.
+fn disposition_text<'a>(alloc: Global, field: &Field<'a>) -> Result<CowSlice<'a, u8>, AllocError>
+    ensures { IfOk result (λ text. disposition_name (cow_slice_items text) ≡ disposition_name field.now.value) }
+{
+    let start = unfold_start(alloc, field, TYPE_START)?;
+    if settles_disposition(start.as_slice()) {
+        return Ok(start);
+    }
+    Ok(unfold(alloc, field)?)
 }
 
 /// The type, or the disposition, that stands in the text; an empty one where there is none.
@@ -72,24 +102,17 @@ pub(crate) fn content_type_of<'v>(
     }
 }
 
-/// The value of the first parameter of this name in the field's value.
-///
-/// An error comes only where memory was refused.
-pub(crate) fn param_in(
-    alloc: Global,
-    field: &Field,
-    value: &[u8],
-    name: &[u8],
-) -> Result<Option<Octets>, AllocError>
+/// The parameters of the field's value.
+pub(crate) fn params_in<'v>(field: &Field, value: &'v [u8]) -> LentParameters<'v>
     requires { value.now ≡ field.now.value }
-    ensures { IfOk result (λ param. param ≡ value_named name.now (params_of (reading_of field.now))) }
+    ensures { result ≡ params_of (reading_of field.now) }
 {
     if is_content_type(field) {
-        Ok(type_param(alloc, value, name)?)
+        LentParameters::of_type(value)
     } else if is_content_disposition(field) {
-        Ok(disposition_param(alloc, value, name)?)
+        LentParameters::of_disposition(value)
     } else {
-        Ok(param_of(alloc, value, name)?)
+        LentParameters::of(value)
     }
 }
 
