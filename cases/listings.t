@@ -7,19 +7,56 @@ Listings of programs.
     version 2
     variables 0
     number 50000
-    0 SIZE ; 50000
-    1 JF c 3 ; to 3
-    2 DISCARD
-    3 HALT
+    0 SIZE ; 50000 ; A0+1
+    1 JF c 3 ; to 3 ; A0+1
+    2 DISCARD ; A0+1
+    3 HALT ; A0+1
     ; A0=4 B0=0 A1=0 B1=0 A2=0 B2=0 A3=0 B3=0 by chains
 
 ## a program that isn't accepted
     $ depot disassemble examples/endless.svbc
     version 1
     variables 0
-    0 JMP ; to 0
+    0 JMP ; to 0 ; refused 25 Jump
     1 HALT
     ; refused 25 Jump at 0
+
+## what a loop adds to the budget
+    $ sed -n '/^    version 2 variables 0$/,/^    HALT$/s/^    //p' "$TOP/docs/BYTECODE.md" > listing
+    $ depot assemble listing out
+    wrote 87 octets
+    $ depot disassemble out
+    version 2
+    variables 0
+    string "abc"
+    string "x"
+    0 EACH c 6 ; A0+1
+    1 LIT ; "abc" ; A1+1
+    2 PARTBODY a 1 c 1 ; a contains casemap ; A1+1 B1+4
+    3 JF c 6 ; to 6 ; A1+1
+    4 LIT c 1 ; "x" ; A1+1
+    5 STORE ; A1+2
+    6 NEXT ; A1+1
+    7 HALT ; A0+1
+    ; A0=2 B0=0 A1=7 B1=4 A2=0 B2=0 A3=0 B3=0 by chains
+
+## what the instructions of all examples add, and the sums
+    $ cat > sums << 'END'
+    > { for (i = NF; i > 1 && split($i, part, "+") == 2; i--) sum[part[1]] += part[2] }
+    > /^; A0=/ { for (i = 2; i <= 9; i++) { split($i, want, "="); print (sum[want[1]] + 0 == want[2]) ? "same" : "differs" } }
+    > END
+    $ for name in examples/*.sieve examples/gallery/*.sieve; do depot compile "$name" out > said && depot disassemble out | awk -f sums; done | sort -u
+    same
+    $ rm -f said sums
+
+## a program without an instruction
+    $ printf 'version 1 variables 0' > listing
+    $ depot assemble listing out
+    wrote 15 octets
+    $ depot disassemble out
+    version 1
+    variables 0
+    ; refused 23 End at 0
 
 ## octets that are no operation, and fields that are none
     $ printf 'SVBC\1\0\1\0\0\0\1\0\0\0\2' > program
@@ -31,7 +68,7 @@ Listings of programs.
     variables 1
     string "a\22\5c\ff"
     0 OP ff a 1 b 2 c 3
-    1 LIT c 1
+    1 LIT c 1 ; refused 21 Index
     ; refused 21 Index at 1
     $ depot disassemble program > listing
     $ depot assemble listing again
@@ -52,9 +89,9 @@ Listings of programs.
     version 2
     variables 0
     string "0123456789012345678901234567890123456789x"
-    0 LIT ; "0123456789012345678901234567890123456789"...
-    1 FILE
-    2 HALT
+    0 LIT ; "0123456789012345678901234567890123456789"... ; A0+1
+    1 FILE ; A0+42
+    2 HALT ; A0+1
     ; A0=44 B0=0 A1=0 B1=0 A2=0 B2=0 A3=0 B3=0 by chains
 
 ## octets that spell no program
@@ -88,11 +125,11 @@ Listings by hand.
     variables 0
     number 50000
     string "Large"
-    0 SIZE ; 50000
-    1 JF c 4 ; to 4
-    2 LIT ; "Large"
-    3 FILE
-    4 HALT
+    0 SIZE ; 50000 ; A0+1
+    1 JF c 4 ; to 4 ; A0+1
+    2 LIT ; "Large" ; A0+1
+    3 FILE ; A0+6
+    4 HALT ; A0+1
     ; A0=10 B0=0 A1=0 B1=0 A2=0 B2=0 A3=0 B3=0 by chains
     $ depot run out examples/newsletter.eml
     fileinto "Large"
@@ -131,13 +168,13 @@ Listings by hand.
     string "Content-Type"
     string "name"
     string ".exe"
-    0 LIT ; "Content-Type"
-    1 LIT c 1 ; "name"
-    2 LIT c 2 ; ".exe"
-    3 HEADER a 145 b 1 c 65537 ; a contains casemap below param c 1 params 1 keys
-    4 JF c 6 ; to 6
-    5 KEEP
-    6 HALT
+    0 LIT ; "Content-Type" ; A0+1
+    1 LIT c 1 ; "name" ; A0+1
+    2 LIT c 2 ; ".exe" ; A0+1
+    3 HEADER a 145 b 1 c 65537 ; a contains casemap below param c 1 params 1 keys ; A0+1 B0+18
+    4 JF c 6 ; to 6 ; A0+1
+    5 KEEP ; A0+1
+    6 HALT ; A0+1
     ; A0=7 B0=18 A1=0 B1=0 A2=0 B2=0 A3=0 B3=0 by chains
 
 ## the examples that no script says
@@ -189,7 +226,7 @@ Faults of listings.
 ## a word that is no operation
     $ printf 'version 1\nvariables 0\nKEEP\nDISCRAD ; a typing error\nHALT\n' > listing
     $ depot assemble listing out
-    listing:4:1: error: `DISCRAD` can't stand here: after version and variables stand numbers, strings, and then instructions with their fields; a label stands once, and a name is that of a label
+    listing:4:1: error: `DISCRAD` can't stand here: after version and variables stand numbers, strings, and then instructions with their fields
     DISCRAD ; a typing error
     ^
     2> refused 28 Listing at 27
@@ -198,7 +235,7 @@ Faults of listings.
 ## a word that says nothing of a test
     $ printf 'version 1\nvariables 0\nHEADER a contain b 1 c 1\nHALT\n' > listing
     $ depot assemble listing out
-    listing:3:10: error: `contain` can't stand here: after version and variables stand numbers, strings, and then instructions with their fields; a label stands once, and a name is that of a label
+    listing:3:10: error: `contain` can't stand here: after version and variables stand numbers, strings, and then instructions with their fields
     HEADER a contain b 1 c 1
              ^
     2> refused 28 Listing at 31
@@ -207,7 +244,7 @@ Faults of listings.
 ## a label that is there twice
     $ printf 'version 1 variables 0\nlabel a KEEP\nlabel a HALT\n' > listing
     $ depot assemble listing out
-    listing:3:7: error: `a` can't stand here: after version and variables stand numbers, strings, and then instructions with their fields; a label stands once, and a name is that of a label
+    listing:3:7: error: the label `a` is there a second time: a label stands once
     label a HALT
           ^
     2> refused 28 Listing at 41
@@ -216,7 +253,7 @@ Faults of listings.
 ## a label that is missing
     $ printf 'version 1 variables 0\nJMP c there\nHALT\n' > listing
     $ depot assemble listing out
-    listing:2:7: error: `there` can't stand here: after version and variables stand numbers, strings, and then instructions with their fields; a label stands once, and a name is that of a label
+    listing:2:7: error: `there` is no number, and no label of this listing
     JMP c there
           ^
     2> refused 28 Listing at 28
@@ -233,7 +270,7 @@ Faults of listings.
 
 ## an empty file
     $ depot assemble /dev/null out
-    /dev/null:1:1: error: the listing ends before its program does, or the program exceeds the limits of programs
+    /dev/null:1:1: error: the listing ends before its program does
     
     ^
     2> refused 28 Listing at 0
@@ -270,7 +307,10 @@ Faults of listings.
     $ depot assemble listing out
     wrote 524303 octets
     $ { echo version 1 variables 0; yes HALT | head -n 65537; } > listing
-    $ depot assemble listing out > /dev/null
+    $ depot assemble listing out
+    listing:65539:1: error: the program exceeds the limits of programs
+    
+    ^
     2> refused 28 Listing at 327707
     [1]
 
@@ -287,7 +327,7 @@ Faults of listings.
     $ depot assemble listing out
     wrote 540689 octets
     $ depot disassemble out | wc -c
-    3806374
+    3806393
 
 The program of a user.
 

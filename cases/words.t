@@ -121,7 +121,7 @@ Help.
     2> With no words at all, a program that keeps every message runs on standard input.
     2> The help of a command has an example, and says with which refusals it may end.
     2>
-    2> depot 0.16.0
+    2> depot 0.16.0, proved with rattle-kit-13f
     [2]
 
 ## help command
@@ -161,7 +161,7 @@ Help.
     2> With no words at all, a program that keeps every message runs on standard input.
     2> The help of a command has an example, and says with which refusals it may end.
     2>
-    2> depot 0.16.0
+    2> depot 0.16.0, proved with rattle-kit-13f
     [2]
 
 ## help check
@@ -182,6 +182,7 @@ Help.
     2> Status 0: done. 1: refused, or the answer broke off, with one line on standard error.
     2> 2: the words aren't those of a command.
     2> Refusals: 1, 2, 11 to 19, 45, 46. docs/SPECIFICATION.md says what each means, and what to do.
+    2> What is wrong with a script, `depot explain SCRIPT` says in words.
     [2]
 
 ## help explain
@@ -223,6 +224,7 @@ Help.
     2> Status 0: done. 1: refused, or the answer broke off, with one line on standard error.
     2> 2: the words aren't those of a command.
     2> Refusals: 1, 2, 11 to 19, 45, 46. docs/SPECIFICATION.md says what each means, and what to do.
+    2> What is wrong with a script, `depot explain SCRIPT` says in words.
     [2]
 
 ## help verify
@@ -326,6 +328,7 @@ Help.
     2> Status 0: done. 1: refused, or the answer broke off, with one line on standard error.
     2> 2: the words aren't those of a command.
     2> Refusals: 1 to 3, 11 to 19, 45, 46. docs/SPECIFICATION.md says what each means, and what to do.
+    2> What is wrong with a script, `depot explain SCRIPT` says in words.
     [2]
 
 ## help parts
@@ -368,6 +371,7 @@ Help.
     2> Status 0: done. 1: refused, or the answer broke off, with one line on standard error.
     2> 2: the words aren't those of a command.
     2> Refusals: 1, 2, 11 to 19, 43 to 46. docs/SPECIFICATION.md says what each means, and what to do.
+    2> What is wrong with a script, `depot explain SCRIPT` says in words.
     [2]
 
 ## help code

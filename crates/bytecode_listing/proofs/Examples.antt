@@ -8,7 +8,8 @@ use Rattle.bytecode_listing.specs.declared.drafts.Target.TheVariants.{Number, Na
 use Rattle.bytecode_listing.specs.declared.drafts.Line.{Line}
 use Rattle.bytecode_listing.specs.declared.drafts.Line.TheVariants.{Label, Step}
 use Rattle.bytecode_listing.specs.Labels.{resolved}
-use Rattle.bytecode_listing.specs.Listing.{listing_of, quoted, operation_text, fields_text, instruction_text, comment, meant}
+use Rattle.bytecode_verifier.specs.declared.error.Refusal.TheVariants.{Jump as JumpRefused}
+use Rattle.bytecode_listing.specs.Listing.{listing_of, quoted, operation_text, fields_text, instruction_text, comment, meant, share_text, accepted_listing, refused_listing}
 
 -- a quote, a backslash and what isn't printed are told by their digits
 quotes : quoted (97 ∷ 0 ∷ 97 ∷ 34 ∷ 98 ∷ 92 ∷ 126 ∷ 127 ∷ 255 ∷ []) ≡ codes "\"a\\00a\\22b\\5c~\\7f\\ff\""
@@ -100,3 +101,26 @@ no_label = refl
 strings_of_lines : resolved (codes "a" ∷ codes "b" ∷ codes "a" ∷ []) (jump_to (Quoted (codes "b") 90) ∷ jump_to (Quoted (codes "new") 80) ∷ jump_to (Quoted (codes "a") 70) ∷ jump_to (Quoted (codes "new") 60) ∷ [])
     ≡ Ok (codes "a" ∷ codes "b" ∷ codes "a" ∷ codes "new" ∷ [], jumps 1 ∷ jumps 3 ∷ jumps 0 ∷ jumps 3 ∷ [])
 strings_of_lines = refl
+
+-- what instructions add to the budget, and where a program is refused
+share : share_text (record { loops = 1; cap = record { fixed = 16; scaled = 29 } }) ≡ codes "A1+16 B1+29"
+unfolding digits
+share = refl
+
+fixed_share : share_text (record { loops = 0; cap = record { fixed = 4097; scaled = 0 } }) ≡ codes "A0+4097"
+unfolding digits
+fixed_share = refl
+
+halt : Code
+halt = record { version = 2; variables = 0; numbers = []; strings = []; instructions = (record { op = 0x01; a = 0; b = 0; c = 0 }) ∷ [] }
+
+accepted : accepted_listing halt ≡ codes "version 2\nvariables 0\n0 HALT ; A0+1\n"
+unfolding halt digits
+accepted = refl
+
+endless : Code
+endless = record { version = 1; variables = 0; numbers = []; strings = []; instructions = (record { op = 0x09; a = 0; b = 0; c = 0 }) ∷ (record { op = 0x01; a = 0; b = 0; c = 0 }) ∷ [] }
+
+refused : refused_listing (JumpRefused 0) endless ≡ codes "version 1\nvariables 0\n0 JMP ; to 0 ; refused 25 Jump\n1 HALT\n"
+unfolding endless digits
+refused = refl

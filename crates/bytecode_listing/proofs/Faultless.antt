@@ -1,6 +1,7 @@
 -- A listing of a program has no fault.
 use Rattle.std.proofs.Common.{◌≡◌, ℕ, List, ◌-◌, length, Result, MatchResult, refl, subst}
 use Rattle.bytecode_format.specs.Code.{Code}
+use Rattle.bytecode_listing.specs.declared.error.FaultKind.{FaultKind}
 use Rattle.bytecode_listing.specs.declared.error.ListingError.{ListingError}
 use Rattle.bytecode_listing.specs.declared.error.ListingError.TheVariants.{Memory, Fault}
 use Rattle.bytecode_listing.specs.Items.{ExceedsAt, FaultsAt, Lists}
@@ -11,6 +12,6 @@ no_fault listing code lists place fault =
     exceeds.1 lists.within
 
 -- so memory was refused, where it isn't read
-pub only_memory : (listing : List ℕ) (code : Code) → Lists listing code → (e : ListingError) → ((place : ℕ) → e ≡ Fault place → FaultsAt listing place) → e ≡ Memory
+pub only_memory : (listing : List ℕ) (code : Code) → Lists listing code → (e : ListingError) → ((place : ℕ) (kind : FaultKind) → e ≡ Fault place kind → FaultsAt listing place) → e ≡ Memory
 only_memory listing code lists Memory fault = refl
-only_memory listing code lists (Fault place) fault = absurd (no_fault listing code lists place (fault place refl))
+only_memory listing code lists (Fault place kind) fault = absurd (no_fault listing code lists place (fault place kind refl))

@@ -7,6 +7,7 @@ mod Loop
 mod Words
 mod Written
 mod Skipped
+mod Noting
 mod Short
 mod Faultless
 mod Lines

@@ -10,7 +10,7 @@ use Rattle.bytecode_format.specs.Code.{Code}
 use Rattle.bytecode_format.specs.Operations.{operation_of}
 use Rattle.bytecode_format.specs.Spelling.{Fits, IsProgram}
 use Rattle.bytecode_format.specs.declared.instruction.Instruction.{Instruction}
-use Rattle.bytecode_listing.specs.Listing.{line, quoted, operation_text, field_text, fields_text, instruction_text, comment, meant, instruction_line, instruction_lines, number_line, string_line, listing_of, AreOctets}
+use Rattle.bytecode_listing.specs.Listing.{line, quoted, operation_text, field_text, fields_text, instruction_text, comment, meant, instruction_line, instruction_lines, number_line, string_line, Notes, listing_with, AreOctets}
 use Rattle.bytecode_listing.specs.Tokens.{is_word_octet, tokens_from, tokens_of}
 use Rattle.bytecode_listing.specs.Labels.{◌>>=◌, count, double_after, instructions_of, unless_double, instructions_in, strings_in}
 use Rattle.bytecode_listing.specs.declared.drafts.Target.{Target}
@@ -23,7 +23,7 @@ use Rattle.bytecode_listing.proofs.Lexing.{after_white}
 use Rattle.bytecode_listing.proofs.Loop.{IsItem, from_place, unrolled, stops}
 use Rattle.bytecode_listing.proofs.Shorter.{line_leaves, number_item_leaves, string_item_leaves}
 use Rattle.bytecode_listing.proofs.Words.{Stops, IsWord, word_reads, word_then, same_word, keyword_reads, number_word, number_reads, number_begins, number_is_other}
-use Rattle.bytecode_listing.proofs.Skipped.{comment_skipped, comment_stops}
+use Rattle.bytecode_listing.proofs.Skipped.{AreLines, comments_skipped, comments_stop}
 use Rattle.bytecode_listing.proofs.Written.{read_on, operation_reads, text_reads}
 
 -- ---- fields
@@ -337,27 +337,29 @@ instruction_here place i rest small =
     let regrouped : instruction_text place i ++ rest ≡ decimal place ++ 32 ∷ (operation_text i.op ++ (fields_text i ++ rest)) = simp append_assoc in
     ap (λ (t : List ℕ). word_at (tokens_of t)) regrouped ∙ word_then (decimal place) 32 (operation_text i.op ++ (fields_text i ++ rest)) (number_word place small) refl refl
 
--- a line: its instruction, its comment and LF
-one_line : (code : Code) (place : ℕ) (i : Instruction) (rest : List ℕ) → instruction_line code place i ++ rest ≡ instruction_text place i ++ (comment (meant code i) ++ 10 ∷ rest)
-one_line code place i rest =
-    append_assoc (instruction_text place i ++ comment (meant code i)) (10 ∷ []) rest ∙ append_assoc (instruction_text place i) (comment (meant code i)) (10 ∷ rest)
+-- a line: its instruction, its comments and LF
+one_line : (code : Code) (place : ℕ) (i : Instruction) (note : Option (List ℕ)) (rest : List ℕ) → instruction_line code place i note ++ rest ≡ instruction_text place i ++ (comment (meant code i) ++ (comment note ++ 10 ∷ rest))
+one_line code place i note rest =
+    append_assoc (instruction_text place i ++ comment (meant code i) ++ comment note) (10 ∷ []) rest
+    ∙ append_assoc (instruction_text place i ++ comment (meant code i)) (comment note) (10 ∷ rest)
+    ∙ append_assoc (instruction_text place i) (comment (meant code i)) (comment note ++ 10 ∷ rest)
 
 -- instructions begin with a number, if there are any
-lines_other : (code : Code) (x : ℕ) (name : List ℕ) → is_ascii_digit x ≡ false → (is : List Instruction) (place : ℕ) → place + length is < 2 ^ 64 → begins_with (x ∷ name) (tokens_of (instruction_lines code place is)) ≡ false
+lines_other : (notes : Notes) (code : Code) (x : ℕ) (name : List ℕ) → is_ascii_digit x ≡ false → (is : List Instruction) (place : ℕ) → place + length is < 2 ^ 64 → begins_with (x ∷ name) (tokens_of (instruction_lines notes code place is)) ≡ false
 unfolding tokens_from
-lines_other code x name other [] place small = refl
-lines_other code x name other (i ∷ is) place small =
-    let rest : List ℕ = instruction_lines code (suc place) is in
-    ap (λ (t : List ℕ). begins_with (x ∷ name) (tokens_of t)) (one_line code place i rest)
-    ∙ ap (is_word (x ∷ name)) (instruction_here place i (comment (meant code i) ++ 10 ∷ rest) (omega arith))
+lines_other notes code x name other [] place small = refl
+lines_other notes code x name other (i ∷ is) place small =
+    let rest : List ℕ = instruction_lines notes code (suc place) is in
+    ap (λ (t : List ℕ). begins_with (x ∷ name) (tokens_of t)) (one_line code place i (notes place) rest)
+    ∙ ap (is_word (x ∷ name)) (instruction_here place i (comment (meant code i) ++ (comment (notes place) ++ 10 ∷ rest)) (omega arith))
     ∙ number_is_other place x name (omega arith) other
 
-line_ends : (code : Code) (i : Instruction) (is : List Instruction) (place : ℕ) → place + length is < 2 ^ 64 → Ends (comment (meant code i) ++ 10 ∷ instruction_lines code place is)
-line_ends code i is place small =
-    let rest : List ℕ = instruction_lines code place is in
-    let end : List ℕ = comment (meant code i) ++ 10 ∷ rest in
-    let other : (x : ℕ) (name : List ℕ) → is_ascii_digit x ≡ false → begins_with (x ∷ name) (tokens_of end) ≡ false = λ x name h. ap (begins_with (x ∷ name)) (comment_skipped code i rest) ∙ lines_other code x name h is place small in
-    record { stops = comment_stops (meant code i) rest; a = other 97 [] refl; b = other 98 [] refl; c = other 99 [] refl; counts = record { params = other 112 (codes "arams") refl; keys = other 107 (codes "eys") refl } }
+line_ends : (notes : Notes) (code : Code) (i : Instruction) (note : Option (List ℕ)) → AreLines note → (is : List Instruction) (place : ℕ) → place + length is < 2 ^ 64 → Ends (comment (meant code i) ++ (comment note ++ 10 ∷ instruction_lines notes code place is))
+line_ends notes code i note one is place small =
+    let rest : List ℕ = instruction_lines notes code place is in
+    let end : List ℕ = comment (meant code i) ++ (comment note ++ 10 ∷ rest) in
+    let other : (x : ℕ) (name : List ℕ) → is_ascii_digit x ≡ false → begins_with (x ∷ name) (tokens_of end) ≡ false = λ x name h. ap (begins_with (x ∷ name)) (comments_skipped code i note rest one) ∙ lines_other notes code x name h is place small in
+    record { stops = comments_stop (meant code i) note rest; a = other 97 [] refl; b = other 98 [] refl; c = other 99 [] refl; counts = record { params = other 112 (codes "arams") refl; keys = other 107 (codes "eys") refl } }
 
 -- instructions as lines without labels
 abbrev pub steps_of : List Instruction → List Line
@@ -379,21 +381,21 @@ line_reads before place i rest counted small fits ends =
     ∙ ap (λ n. draft_at n tokens >>= step) counted
     ∙ ap (λ r. r >>= step) (draft_reads place i rest small fits ends)
 
-lines_read : (code : Code) (is : List Instruction) (before : List Line) (place : ℕ) → count before ≡ place → place + length is < 2 ^ 64 → AllByRecursion Fits is → from_place is_left line_at before (tokens_of (instruction_lines code place is)) ≡ Ok (steps_of is, [])
+lines_read : (notes : Notes) → ((place : ℕ) → AreLines (notes place)) → (code : Code) (is : List Instruction) (before : List Line) (place : ℕ) → count before ≡ place → place + length is < 2 ^ 64 → AllByRecursion Fits is → from_place is_left line_at before (tokens_of (instruction_lines notes code place is)) ≡ Ok (steps_of is, [])
 unfolding tokens_from many_at
-lines_read code [] before place counted small fits = refl
-lines_read code (i ∷ is) before place counted small fits =
-    let rest : List ℕ = instruction_lines code (suc place) is in
-    let end : List ℕ = comment (meant code i) ++ 10 ∷ rest in
+lines_read notes one code [] before place counted small fits = refl
+lines_read notes one code (i ∷ is) before place counted small fits =
+    let rest : List ℕ = instruction_lines notes code (suc place) is in
+    let end : List ℕ = comment (meant code i) ++ (comment (notes place) ++ 10 ∷ rest) in
     let text : List ℕ = instruction_text place i ++ end in
     let fewer : suc place + length is < 2 ^ 64 = omega arith in
     let more : List Line = before ++ Step (draft_of i) ∷ [] in
-    ap (λ (t : List ℕ). from_place is_left line_at before (tokens_of t)) (one_line code place i rest)
+    ap (λ (t : List ℕ). from_place is_left line_at before (tokens_of t)) (one_line code place i (notes place) rest)
     ∙ unrolled is_left line_at (record { none = refl; leaves = line_leaves }) before (tokens_of text) (tokens_of end) (Step (draft_of i))
     (word_is_left (tokens_of text) _ (instruction_here place i end (omega arith)))
-    (line_reads before place i end counted (omega arith) fits.0 (line_ends code i is (suc place) fewer))
-    ∙ ap (λ t. onto (Step (draft_of i)) (from_place is_left line_at more t)) (comment_skipped code i rest)
-    ∙ ap (onto (Step (draft_of i))) (lines_read code is more (suc place) (count_more before (draft_of i) ∙ ap suc counted) fewer fits.1)
+    (line_reads before place i end counted (omega arith) fits.0 (line_ends notes code i (notes place) (one place) is (suc place) fewer))
+    ∙ ap (λ t. onto (Step (draft_of i)) (from_place is_left line_at more t)) (comments_skipped code i (notes place) rest (one place))
+    ∙ ap (onto (Step (draft_of i))) (lines_read notes one code is more (suc place) (count_more before (draft_of i) ∙ ap suc counted) fewer fits.1)
 
 -- steps without labels have no double label, and are the instructions that they were
 steps_single : (before : List Line) (is : List Instruction) → double_after before (steps_of is) ≡ None
@@ -416,11 +418,11 @@ steps_strings table (i ∷ is) = steps_strings table is
 -- ---- the whole
 
 -- strings begin with their word, or the instructions follow
-strings_other : (code : Code) (texts : List (List ℕ)) (is : List Instruction) → length is < 2 ^ 64 → begins_with (codes "number") (tokens_of (flat_map string_line texts ++ instruction_lines code 0 is)) ≡ false
-strings_other code [] is small = lines_other code 110 (codes "umber") refl is 0 (omega arith)
-strings_other code (text ∷ texts) is small =
-    let rest : List ℕ = flat_map string_line texts ++ instruction_lines code 0 is in
-    ap (λ (t : List ℕ). begins_with (codes "number") (tokens_of t)) (append_assoc (string_line text) (flat_map string_line texts) (instruction_lines code 0 is))
+strings_other : (notes : Notes) (code : Code) (texts : List (List ℕ)) (is : List Instruction) → length is < 2 ^ 64 → begins_with (codes "number") (tokens_of (flat_map string_line texts ++ instruction_lines notes code 0 is)) ≡ false
+strings_other notes code [] is small = lines_other notes code 110 (codes "umber") refl is 0 (omega arith)
+strings_other notes code (text ∷ texts) is small =
+    let rest : List ℕ = flat_map string_line texts ++ instruction_lines notes code 0 is in
+    ap (λ (t : List ℕ). begins_with (codes "number") (tokens_of t)) (append_assoc (string_line text) (flat_map string_line texts) (instruction_lines notes code 0 is))
     ∙ ap (is_word (codes "number")) (string_here text rest)
 
 -- the parts of a listing, each before the next
@@ -446,24 +448,24 @@ record IsListed (code : Code) : Type 0 where
   pub instructions : AllByRecursion Fits code.instructions
   pub places : length code.instructions < 2 ^ 64
 
-says_itself : (code : Code) → IsListed code → said_by (listing_of code) ≡ Ok code
+says_itself : (notes : Notes) → ((place : ℕ) → AreLines (notes place)) → (code : Code) → IsListed code → said_by (listing_with notes code) ≡ Ok code
 unfolding items_at
-says_itself code is =
-    let at_instructions : List ℕ = instruction_lines code 0 code.instructions in
+says_itself notes one code is =
+    let at_instructions : List ℕ = instruction_lines notes code 0 code.instructions in
     let at_strings : List ℕ = flat_map string_line code.strings ++ at_instructions in
     let at_numbers : List ℕ = flat_map number_line code.numbers ++ at_strings in
     let at_count : List ℕ = decimal code.variables ++ 10 ∷ at_numbers in
     let at_variables : List ℕ = codes "variables" ++ 32 ∷ at_count in
     let at_version : List ℕ = decimal code.version ++ 10 ∷ at_variables in
-    let regrouped : listing_of code ≡ codes "version" ++ 32 ∷ at_version = parts_of_listing (decimal code.version) (decimal code.variables) (flat_map number_line code.numbers) (flat_map string_line code.strings) at_instructions in
+    let regrouped : listing_with notes code ≡ codes "version" ++ 32 ∷ at_version = parts_of_listing (decimal code.version) (decimal code.variables) (flat_map number_line code.numbers) (flat_map string_line code.strings) at_instructions in
     let whole : List ℕ = codes "version" ++ 32 ∷ at_version in
     let version_word : keyword_at (codes "version") (tokens_of whole) ≡ Ok (tokens_of at_version) = keyword_reads (codes "version") (tokens_of whole) (tokens_of at_version) (word_then (codes "version") 32 at_version (record { some = omega arith; octets = refl }) refl refl) in
     let version : number_at 1 2 (tokens_of at_version) ≡ Ok (code.version, tokens_of at_variables) = number_reads 1 2 code.version (tokens_of at_version) (tokens_of at_variables) is.low is.high (omega arith) (word_then (decimal code.version) 10 at_variables (number_word code.version (omega (arith, is.high))) refl refl) in
     let variables_word : keyword_at (codes "variables") (tokens_of at_variables) ≡ Ok (tokens_of at_count) = keyword_reads (codes "variables") (tokens_of at_variables) (tokens_of at_count) (word_then (codes "variables") 32 at_count (record { some = omega arith; octets = refl }) refl refl) in
     let variables : number_at 0 128 (tokens_of at_count) ≡ Ok (code.variables, tokens_of at_numbers) = number_reads 0 128 code.variables (tokens_of at_count) (tokens_of at_numbers) (omega arith) is.variables (omega arith) (word_then (decimal code.variables) 10 at_numbers (number_word code.variables (omega (arith, is.variables))) refl refl) in
-    let all_numbers : all_at (begins_with (codes "number")) number_item (tokens_of at_numbers) ≡ Ok (code.numbers, tokens_of at_strings) = many_read (begins_with (codes "number")) number_item number_line (λ n. n < 2 ^ 64) numbers code.numbers [] at_strings is.numbers (strings_other code code.strings code.instructions is.places) in
-    let all_strings : all_at (begins_with (codes "string")) string_item (tokens_of at_strings) ≡ Ok (code.strings, tokens_of at_instructions) = many_read (begins_with (codes "string")) string_item string_line IsText strings code.strings [] at_instructions is.strings (lines_other code 115 (codes "tring") refl code.instructions 0 (omega (arith, is.places))) in
-    let all_lines : all_at is_left line_at (tokens_of at_instructions) ≡ Ok (steps_of code.instructions, []) = lines_read code code.instructions [] 0 refl (omega (arith, is.places)) is.instructions in
+    let all_numbers : all_at (begins_with (codes "number")) number_item (tokens_of at_numbers) ≡ Ok (code.numbers, tokens_of at_strings) = many_read (begins_with (codes "number")) number_item number_line (λ n. n < 2 ^ 64) numbers code.numbers [] at_strings is.numbers (strings_other notes code code.strings code.instructions is.places) in
+    let all_strings : all_at (begins_with (codes "string")) string_item (tokens_of at_strings) ≡ Ok (code.strings, tokens_of at_instructions) = many_read (begins_with (codes "string")) string_item string_line IsText strings code.strings [] at_instructions is.strings (lines_other notes code 115 (codes "tring") refl code.instructions 0 (omega (arith, is.places))) in
+    let all_lines : all_at is_left line_at (tokens_of at_instructions) ≡ Ok (steps_of code.instructions, []) = lines_read notes one code code.instructions [] 0 refl (omega (arith, is.places)) is.instructions in
     let drafted : Drafted = record { version = code.version; variables = code.variables; numbers = code.numbers; strings = code.strings; lines = steps_of code.instructions } in
     let read : items_at (tokens_of whole) ≡ Ok drafted = rw (version_word, version, variables_word, variables, all_numbers, all_strings, all_lines) refl in
     ap said_by regrouped ∙ ap (λ r. r >>= code_from) read ∙ rw (steps_strings code.strings code.instructions, steps_read code.strings code.instructions) refl
@@ -485,5 +487,5 @@ is_listed code program octets = record {
   places = omega (arith, program.instructions);
 }
 
-pub lists_itself : (code : Code) → IsProgram code → All AreOctets code.strings → Lists (listing_of code) code
-lists_itself code program octets = record { says = says_itself code (is_listed code program octets); within = program }
+pub lists_itself : (notes : Notes) → ((place : ℕ) → AreLines (notes place)) → (code : Code) → IsProgram code → All AreOctets code.strings → Lists (listing_with notes code) code
+lists_itself notes one code program octets = record { says = says_itself notes one code (is_listed code program octets); within = program }

@@ -1,21 +1,29 @@
 -- Comments are short.
-use Rattle.std.proofs.Common.{◌≡◌, ℕ, zero, suc, ◌/◌, ◌%◌, ◌+◌, ◌*◌, ◌<◌, ◌≤◌, ◌==◌, Bool, true, false, if◌then◌else◌, List, [], ◌∷◌, ◌++◌, length, take, Option, Some, None, refl, arith, leb-true, codes}
+use Rattle.std.proofs.Common.{◌≡◌, ℕ, zero, suc, ◌/◌, ◌%◌, ◌+◌, ◌*◌, ◌^◌, ◌<◌, ◌≤◌, ◌==◌, Bool, true, false, if◌then◌else◌, List, [], ◌∷◌, ◌++◌, length, take, Option, Some, None, refl, arith, leb-true, codes}
 use Rattle.std.specs.Prelude.{nat_lt, nat_le, slice_get, option_map, option_and_then}
-use Rattle.std.specs.List.{flat_map, list_all}
+use Rattle.std.specs.List.{flat_map, list_all, filter_map, cons_option, enumerate_from}
 use Rattle.std.specs.Fmt.{decimal, digit_glyph, digits, digits_onto}
 use Rattle.std.proofs.lemmas.Bool.{and_parts}
 use Rattle.std.proofs.lemmas.Fmt.{length-decimal-le}
 use Rattle.std.proofs.lemmas.List.{length-append, length-take}
+use Rattle.std.proofs.lemmas.List.Sums.{length-filter, count_by-le-length}
 use Rattle.bytecode_format.specs.Code.{Code}
 use Rattle.bytecode_format.specs.Operations.{operation_of}
 use Rattle.bytecode_format.specs.declared.instruction.Instruction.{Instruction}
 use Rattle.bytecode_format.specs.declared.operation.Operation.{Operation}
 use Rattle.bytecode_format.specs.declared.operation.Operation.TheVariants.{Header, Exists, String, PartBody}
+use Rattle.bytecode_format.specs.Spelling.{IsProgram}
+use Rattle.bytecode_verifier.specs.Budget.{share_at}
+use Rattle.bytecode_verifier.specs.Loops.{Loop as Pair, is_open, loop_from, loops, open_loops}
+use Rattle.bytecode_verifier.specs.declared.error.Refusal.{Refusal}
+use Rattle.bytecode_verifier.specs.declared.error.Refusal.TheVariants.{Memory, Index, Form, End, Loop, Jump, NoPart, Stack}
+use Rattle.bytecode_verifier.specs.declared.share.Share.{Share}
+use Rattle.bytecode_verifier.proofs.Budgets.{cap_at_fits}
 use Rattle.bytecode_listing.specs.declared.wording.Facet.TheVariants.{Match, Comparator, Scope, Selector}
 use Rattle.bytecode_listing.specs.Wording.{words, word_of, both, match_words, scope_words, selection_words, counts_words, said_a}
 use Rattle.bytecode_listing.specs.declared.comments.Table.{Table}
 use Rattle.bytecode_listing.specs.declared.comments.Table.TheVariants.{Strings, Numbers, Instructions}
-use Rattle.bytecode_listing.specs.Listing.{is_plain, two_digits, escaped_octet, quoted, shown, table_of, entry_text, in_words, told, meant, comment}
+use Rattle.bytecode_listing.specs.Listing.{is_plain, two_digits, escaped_octet, quoted, shown, table_of, entry_text, in_words, told, meant, comment, added, scaled_text, share_notes, refused_at, refusal_notes}
 
 abbrev IsShort : Option (List ℕ) → Type 0
 IsShort None = Unit {0}
@@ -135,3 +143,74 @@ comment_length code i = by_text (meant code i) (meant_length code i)
     by_text : (text : Option (List ℕ)) → IsShort text → length (comment text) ≤ 128
     by_text None h = omega arith
     by_text (Some text) h = omega arith
+
+-- ---- notes
+
+-- no more loops are open than there are instructions
+found_few : (f : ℕ × Instruction → Option Pair) (n : ℕ) (xs : List Instruction) → length (filter_map f (enumerate_from n xs)) ≤ length xs
+found_few f n [] = omega arith
+found_few f n (x ∷ xs) = by_found (f (n, x)) (filter_map f (enumerate_from (n + 1) xs)) (found_few f (n + 1) xs)
+  where
+    by_found : (o : Option Pair) (rest : List Pair) → length rest ≤ length xs → length (cons_option o rest) ≤ suc (length xs)
+    by_found None rest h = omega arith
+    by_found (Some y) rest h = omega arith
+
+open_few : (code : Code) (place : ℕ) → length (open_loops code place) ≤ length code.instructions
+open_few code place =
+    omega (arith, length-filter (is_open place) (loops code), count_by-le-length (is_open place) (loops code), found_few (λ at. loop_from code.instructions at.0 at.1) 0 code.instructions)
+
+added_length : (letter : List ℕ) (loops number : ℕ) → length letter ≡ 1 → loops < 10 ^ 5 → number < 10 ^ 15 → length (added letter loops number) ≤ 22
+added_length letter loops number one few small =
+    omega (
+      arith,
+      one,
+      length-decimal-le 5 loops (omega arith) few (omega (arith, few)),
+      length-decimal-le 15 number (omega arith) small (omega (arith, small)),
+      length-append letter (decimal loops),
+      length-append (letter ++ decimal loops) (codes "+"),
+      length-append (letter ++ decimal loops ++ codes "+") (decimal number),
+    )
+
+scaled_length : (loops number : ℕ) → loops < 10 ^ 5 → number < 10 ^ 15 → length (scaled_text loops number) ≤ 23
+scaled_length loops number few small = by_zero (number == 0) (added_length (codes "B") loops number refl few small)
+  where
+    by_zero : (b : Bool) → length (added (codes "B") loops number) ≤ 22 → length (if b then [] else codes " " ++ added (codes "B") loops number) ≤ 23
+    by_zero true h = omega arith
+    by_zero false h = omega (arith, h)
+
+pub share_length : (code : Code) (place : ℕ) → IsProgram code → length (comment (share_notes code place)) ≤ 64
+share_length code place program =
+    let share : Share = share_at code place in
+    let fits = cap_at_fits code program place in
+    let few : share.loops < 10 ^ 5 = omega (arith, open_few code place, program.instructions) in
+    omega (
+      arith,
+      length-append (added (codes "A") share.loops share.cap.fixed) (scaled_text share.loops share.cap.scaled),
+      added_length (codes "A") share.loops share.cap.fixed refl few (omega (arith, fits.0)),
+      scaled_length share.loops share.cap.scaled few (omega (arith, fits.1)),
+    )
+
+pub refusal_length : (refusal : Refusal) (place : ℕ) → length (comment (refusal_notes refusal place)) ≤ 64
+refusal_length refusal place = by_place (refused_at refusal) (words_brief refusal)
+  where
+    AreBrief : Option (ℕ × List ℕ) → Type 0
+    AreBrief None = Unit {0}
+    AreBrief (Some at) = length at.1 ≤ 61
+
+    words_brief : (refusal : Refusal) → AreBrief (refused_at refusal)
+    words_brief Memory = tt
+    words_brief (Index at) = omega arith
+    words_brief (Form at) = omega arith
+    words_brief (End at) = omega arith
+    words_brief (Loop at) = omega arith
+    words_brief (Jump at) = omega arith
+    words_brief (NoPart at) = omega arith
+    words_brief (Stack at) = omega arith
+
+    by_place : (o : Option (ℕ × List ℕ)) → AreBrief o → length (comment (option_and_then (λ at. if at.0 == place then Some at.1 else None) o)) ≤ 64
+    by_place None h = omega arith
+    by_place (Some at) h = chosen (at.0 == place)
+      where
+        chosen : (b : Bool) → length (comment (if b then Some at.1 else None)) ≤ 64
+        chosen true = omega (arith, h)
+        chosen false = omega arith

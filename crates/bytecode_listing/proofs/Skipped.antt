@@ -1,5 +1,5 @@
 -- Comments are skipped: what they say stands on one line.
-use Rattle.std.proofs.Common.{◌≡◌, ℕ, zero, suc, ◌/◌, ◌%◌, ◌+◌, ◌==◌, ◌&&◌, ◌<◌, Bool, true, false, if◌then◌else◌, List, [], ◌∷◌, ◌++◌, length, take, Option, Some, None, refl, ap, ◌∙◌, arith, codes}
+use Rattle.std.proofs.Common.{◌≡◌, ℕ, zero, suc, ◌/◌, ◌%◌, ◌+◌, ◌==◌, ◌&&◌, ◌<◌, Bool, true, false, if◌then◌else◌, List, [], ◌∷◌, ◌++◌, length, take, Option, Some, None, refl, sym, ap, ◌∙◌, append_assoc, arith, codes}
 use Rattle.std.specs.Prelude.{not, nat_lt, nat_le, slice_get, option_map, option_and_then}
 use Rattle.std.specs.List.{flat_map, list_all}
 use Rattle.std.specs.Fmt.{decimal, digit_glyph, digits, digits_onto}
@@ -11,12 +11,16 @@ use Rattle.bytecode_format.specs.Operations.{operation_of}
 use Rattle.bytecode_format.specs.declared.instruction.Instruction.{Instruction}
 use Rattle.bytecode_format.specs.declared.operation.Operation.{Operation}
 use Rattle.bytecode_format.specs.declared.operation.Operation.TheVariants.{Header, Exists, String, PartBody}
+use Rattle.bytecode_verifier.specs.Budget.{share_at}
+use Rattle.bytecode_verifier.specs.declared.error.Refusal.{Refusal}
+use Rattle.bytecode_verifier.specs.declared.error.Refusal.TheVariants.{Memory, Index, Form, End, Loop, Jump, NoPart, Stack}
+use Rattle.bytecode_verifier.specs.declared.share.Share.{Share}
 use Rattle.bytecode_listing.specs.declared.wording.Facet.{Facet}
 use Rattle.bytecode_listing.specs.declared.wording.Facet.TheVariants.{Match, Comparator, Scope, Selector}
 use Rattle.bytecode_listing.specs.Wording.{words, word_of, both, match_words, scope_words, selection_words, counts_words, said_a}
 use Rattle.bytecode_listing.specs.declared.comments.Table.{Table}
 use Rattle.bytecode_listing.specs.declared.comments.Table.TheVariants.{Strings, Numbers, Instructions}
-use Rattle.bytecode_listing.specs.Listing.{is_plain, two_digits, escaped_octet, quoted, max_shown, shown, table_of, entry_text, in_words, told, meant, comment}
+use Rattle.bytecode_listing.specs.Listing.{is_plain, two_digits, escaped_octet, quoted, max_shown, shown, table_of, entry_text, in_words, told, meant, comment, added, scaled_text, share_text, share_notes, refused_at, refusal_notes}
 use Rattle.bytecode_listing.specs.Tokens.{Comment, tokens_from, tokens_of}
 use Rattle.bytecode_listing.proofs.Lexing.{after_white, after_semicolon, comment_ends, comment_goes_on}
 use Rattle.bytecode_listing.proofs.Words.{Stops}
@@ -25,10 +29,10 @@ use Rattle.bytecode_listing.proofs.Words.{Stops}
 abbrev goes_on : ℕ → Bool
 goes_on octet = not (octet == 10)
 
-abbrev IsLine : List ℕ → Type 0
+abbrev pub IsLine : List ℕ → Type 0
 IsLine text = list_all goes_on text ≡ true
 
-abbrev AreLines : Option (List ℕ) → Type 0
+abbrev pub AreLines : Option (List ℕ) → Type 0
 AreLines None = Unit {0}
 AreLines (Some text) = IsLine text
 
@@ -171,9 +175,69 @@ skipped (Some text) rest h =
     let said : List ℕ = 32 ∷ (text ++ 10 ∷ rest) in
     after_white 32 (59 ∷ said) refl ∙ after_semicolon said ∙ in_comment (32 ∷ text) rest h
 
-pub comment_skipped : (code : Code) (i : Instruction) (rest : List ℕ) → tokens_of (comment (meant code i) ++ 10 ∷ rest) ≡ tokens_of rest
-comment_skipped code i rest = skipped (meant code i) rest (meant_line code i)
+comment_line : (text : Option (List ℕ)) → AreLines text → IsLine (comment text)
+comment_line None h = refl
+comment_line (Some text) h = h
 
-pub comment_stops : (text : Option (List ℕ)) (rest : List ℕ) → Stops (comment text ++ 10 ∷ rest)
-comment_stops None rest = refl
-comment_stops (Some text) rest = refl
+-- two comments are one, since the second stands on the line of the first
+both_skipped : (first second : Option (List ℕ)) (rest : List ℕ) → AreLines first → AreLines second → tokens_of (comment first ++ (comment second ++ 10 ∷ rest)) ≡ tokens_of rest
+both_skipped None second rest h k = skipped second rest k
+both_skipped (Some text) second rest h k =
+    ap (λ (t : List ℕ). tokens_of (codes " ; " ++ t)) (sym (append_assoc text (comment second) (10 ∷ rest)))
+    ∙ skipped (Some (text ++ comment second)) rest (appended text (comment second) h (comment_line second k))
+
+pub comments_skipped : (code : Code) (i : Instruction) (note : Option (List ℕ)) (rest : List ℕ) → AreLines note → tokens_of (comment (meant code i) ++ (comment note ++ 10 ∷ rest)) ≡ tokens_of rest
+comments_skipped code i note rest one = both_skipped (meant code i) note rest (meant_line code i) one
+
+pub comments_stop : (first second : Option (List ℕ)) (rest : List ℕ) → Stops (comment first ++ (comment second ++ 10 ∷ rest))
+comments_stop None None rest = refl
+comments_stop None (Some text) rest = refl
+comments_stop (Some text) second rest = refl
+
+-- ---- notes
+
+added_line : (letter : List ℕ) (loops number : ℕ) → IsLine letter → IsLine (added letter loops number)
+added_line letter loops number h =
+    appended (letter ++ decimal loops ++ codes "+") (decimal number)
+    (appended (letter ++ decimal loops) (codes "+") (appended letter (decimal loops) h (decimal_line loops)) refl)
+    (decimal_line number)
+
+scaled_line : (loops number : ℕ) → IsLine (scaled_text loops number)
+scaled_line loops number = by_zero (number == 0)
+  where
+    by_zero : (b : Bool) → IsLine (if b then [] else codes " " ++ added (codes "B") loops number)
+    by_zero true = refl
+    by_zero false = added_line (codes "B") loops number refl
+
+pub share_text_line : (share : Share) → IsLine (share_text share)
+share_text_line share =
+    appended (added (codes "A") share.loops share.cap.fixed) (scaled_text share.loops share.cap.scaled)
+    (added_line (codes "A") share.loops share.cap.fixed refl) (scaled_line share.loops share.cap.scaled)
+
+pub share_line : (code : Code) (place : ℕ) → AreLines (share_notes code place)
+share_line code place = share_text_line (share_at code place)
+
+pub refusal_line : (refusal : Refusal) (place : ℕ) → AreLines (refusal_notes refusal place)
+refusal_line refusal place = by_place (refused_at refusal) (words_line_of refusal)
+  where
+    AreWords : Option (ℕ × List ℕ) → Type 0
+    AreWords None = Unit {0}
+    AreWords (Some at) = IsLine at.1
+
+    words_line_of : (refusal : Refusal) → AreWords (refused_at refusal)
+    words_line_of Memory = tt
+    words_line_of (Index at) = refl
+    words_line_of (Form at) = refl
+    words_line_of (End at) = refl
+    words_line_of (Loop at) = refl
+    words_line_of (Jump at) = refl
+    words_line_of (NoPart at) = refl
+    words_line_of (Stack at) = refl
+
+    by_place : (o : Option (ℕ × List ℕ)) → AreWords o → AreLines (option_and_then (λ at. if at.0 == place then Some at.1 else None) o)
+    by_place None h = tt
+    by_place (Some at) h = chosen (at.0 == place)
+      where
+        chosen : (b : Bool) → AreLines (if b then Some at.1 else None)
+        chosen true = h
+        chosen false = tt

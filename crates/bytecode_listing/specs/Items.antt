@@ -17,7 +17,9 @@ use Rattle.bytecode_listing.specs.declared.drafts.Target.TheVariants.{Number, Na
 use Rattle.bytecode_listing.specs.declared.drafts.Draft.{Draft}
 use Rattle.bytecode_listing.specs.declared.drafts.Line.{Line}
 use Rattle.bytecode_listing.specs.declared.drafts.Line.TheVariants.{Label, Step}
-use Rattle.bytecode_listing.specs.Labels.{◌>>=◌, count, resolved}
+use Rattle.bytecode_listing.specs.declared.error.FaultKind.{FaultKind}
+use Rattle.bytecode_listing.specs.declared.error.FaultKind.TheVariants.{Misplaced, SecondLabel, NoLabel, Limits}
+use Rattle.bytecode_listing.specs.Labels.{◌>>=◌, count, double_after, resolved}
 use Rattle.bytecode_listing.specs.Tokens.{Token, Word, Text, Wrong, Placed, is_hex, tokens_of}
 
 abbrev pub Tokens : Type 0
@@ -435,3 +437,19 @@ ExceedsAt listing place code = (place ≡ length listing) × ¬ IsProgram code
 abbrev pub FaultsAt : List ℕ → ℕ → Type 0
 FaultsAt listing place =
     MatchResult (said_by listing) (ExceedsAt listing place) (λ left. place ≡ length listing - left)
+
+-- of which kind the fault of lines is: a label that is there again; where none is, a name that is no
+-- label; else what is said exceeds the limits
+abbrev pub lines_fault : List (List ℕ) → List Line → FaultKind
+lines_fault table lines =
+    if is_some (double_after [] lines) then SecondLabel else
+    if is_ok (resolved table lines) then Limits else
+    NoLabel
+
+-- and that of a listing: a token that can't stand there, or where all can, that of its lines
+abbrev pub kind_in : Result Drafted ℕ → FaultKind
+kind_in (Err left) = Misplaced
+kind_in (Ok drafted) = lines_fault drafted.strings drafted.lines
+
+abbrev pub kind_of : List ℕ → FaultKind
+kind_of listing = kind_in (items_at (tokens_of listing))

@@ -7,6 +7,10 @@ use Rattle.bytecode_format.specs.Operations.{operation_of}
 use Rattle.bytecode_format.specs.declared.instruction.Instruction.{Instruction}
 use Rattle.bytecode_format.specs.declared.operation.Operation.{Operation}
 use Rattle.bytecode_format.specs.declared.operation.Operation.TheVariants.{Literal, Jump, JumpIfTrue, JumpIfFalse, Size, PartSize}
+use Rattle.bytecode_verifier.specs.Budget.{share_at}
+use Rattle.bytecode_verifier.specs.declared.error.Refusal.{Refusal}
+use Rattle.bytecode_verifier.specs.declared.error.Refusal.TheVariants.{Memory, Index, Form, End, Loop, Jump as JumpRefused, NoPart, Stack}
+use Rattle.bytecode_verifier.specs.declared.share.Share.{Share}
 use Rattle.bytecode_listing.specs.Names.{name_of}
 use Rattle.bytecode_listing.specs.Wording.{a_words, after_a, said_a}
 use Rattle.bytecode_listing.specs.declared.comments.Table.{Table}
@@ -104,17 +108,60 @@ abbrev pub comment : Option (List ℕ) → List ℕ
 comment None = []
 comment (Some text) = codes " ; " ++ text
 
+-- ---- notes
+
+-- what a listing says of the instruction at a place beside that, where it says something
+abbrev pub Notes : Type 0
+Notes = ℕ → Option (List ℕ)
+
+abbrev pub no_notes : Notes
+no_notes place = None
+
+-- what is added to a sum of the budget: the sum's letter, its number of open loops, and the number
+-- after a plus sign
+abbrev pub added : List ℕ → ℕ → ℕ → List ℕ
+added letter loops number = letter ++ decimal loops ++ codes "+" ++ decimal number
+
+-- what is added for each octet of the message and one more; nothing where it is 0
+abbrev pub scaled_text : ℕ → ℕ → List ℕ
+scaled_text loops number = if number == 0 then [] else codes " " ++ added (codes "B") loops number
+
+-- what an instruction adds to the budget
+abbrev pub share_text : Share → List ℕ
+share_text share = added (codes "A") share.loops share.cap.fixed ++ scaled_text share.loops share.cap.scaled
+
+-- each instruction's share
+abbrev pub share_notes : Code → Notes
+share_notes code place = Some (share_text (share_at code place))
+
+-- where a program is refused, and the number and the name of that; nowhere where memory was refused
+abbrev pub refused_at : Refusal → Option (ℕ × List ℕ)
+refused_at Memory = None
+refused_at (Index place) = Some (place, codes "refused 21 Index")
+refused_at (Form place) = Some (place, codes "refused 22 Form")
+refused_at (End place) = Some (place, codes "refused 23 End")
+refused_at (Loop place) = Some (place, codes "refused 24 Loop")
+refused_at (JumpRefused place) = Some (place, codes "refused 25 Jump")
+refused_at (NoPart place) = Some (place, codes "refused 26 NoPart")
+refused_at (Stack place) = Some (place, codes "refused 27 Stack")
+
+-- the refusal, at its place
+abbrev pub refusal_notes : Refusal → Notes
+refusal_notes refusal place =
+    option_and_then (λ at. if at.0 == place then Some at.1 else None) (refused_at refusal)
+
 -- ---- lines
 
--- the line of an instruction: what it refers to is told in a comment
-abbrev pub instruction_line : Code → ℕ → Instruction → List ℕ
-instruction_line code place i = line (instruction_text place i ++ comment (meant code i))
+-- the line of an instruction: what it refers to, and a note, are told in comments
+abbrev pub instruction_line : Code → ℕ → Instruction → Option (List ℕ) → List ℕ
+instruction_line code place i note =
+    line (instruction_text place i ++ comment (meant code i) ++ comment note)
 
 -- some instructions of a program, a line each, of which the first has this place
-abbrev pub instruction_lines : Code → ℕ → List Instruction → List ℕ
-instruction_lines code place [] = []
-instruction_lines code place (i ∷ others) =
-    instruction_line code place i ++ instruction_lines code (suc place) others
+abbrev pub instruction_lines : Notes → Code → ℕ → List Instruction → List ℕ
+instruction_lines notes code place [] = []
+instruction_lines notes code place (i ∷ others) =
+    instruction_line code place i (notes place) ++ instruction_lines notes code (suc place) others
 
 abbrev pub number_line : ℕ → List ℕ
 number_line n = line (codes "number " ++ decimal n)
@@ -122,15 +169,27 @@ number_line n = line (codes "number " ++ decimal n)
 abbrev pub string_line : List ℕ → List ℕ
 string_line text = line (codes "string " ++ quoted text)
 
--- the listing of a program: its version, its number of variables, its numbers, its strings and its
--- instructions
-abbrev pub listing_of : Code → List ℕ
-listing_of code =
+-- a listing of a program: its version, its number of variables, its numbers, its strings and its
+-- instructions with notes
+abbrev pub listing_with : Notes → Code → List ℕ
+listing_with notes code =
     line (codes "version " ++ decimal code.version)
     ++ line (codes "variables " ++ decimal code.variables)
     ++ flat_map number_line code.numbers
     ++ flat_map string_line code.strings
-    ++ instruction_lines code 0 code.instructions
+    ++ instruction_lines notes code 0 code.instructions
+
+-- the listing of a program, without notes
+abbrev pub listing_of : Code → List ℕ
+listing_of code = listing_with no_notes code
+
+-- that of an accepted program, with what each instruction adds to the budget
+abbrev pub accepted_listing : Code → List ℕ
+accepted_listing code = listing_with (share_notes code) code
+
+-- that of a refused program, with the refusal at its place
+abbrev pub refused_listing : Refusal → Code → List ℕ
+refused_listing refusal code = listing_with (refusal_notes refusal) code
 
 -- each is an octet
 abbrev pub AreOctets : List ℕ → Type 0

@@ -5,6 +5,7 @@ use Rattle.std.specs.Borrow.{Bor}
 use Rattle.std.specs.Str.{all_ascii_digits}
 use Rattle.bytecode_listing.specs.declared.error.ReadError.{ReadError}
 use Rattle.bytecode_listing.specs.declared.error.ReadError.TheVariants.{Memory, At}
+use Rattle.bytecode_listing.specs.declared.error.FaultKind.{FaultKind}
 use Rattle.bytecode_listing.specs.declared.error.ListingError.{ListingError}
 use Rattle.bytecode_listing.specs.declared.error.ListingError.TheVariants as listings
 use Rattle.bytecode_listing.specs.declared.error.ListingError.TheVariants.{Fault}
@@ -47,10 +48,10 @@ drafted parts = record {
   lines = parts.lines.items;
 }
 
--- the error of a listing of so many octets
-abbrev pub fault_in : ℕ → ReadError → ListingError
-fault_in whole Memory = listings.Memory
-fault_in whole (At left) = Fault (whole - left)
+-- the error of a listing of so many octets, whose fault is of that kind
+abbrev pub fault_in : ℕ → FaultKind → ReadError → ListingError
+fault_in whole kind Memory = listings.Memory
+fault_in whole kind (At left) = Fault (whole - left) kind
 
 -- a number and one more digit, where 64 bits hold it
 abbrev pub one_more : ℕ → ℕ → Option ℕ

@@ -1,15 +1,16 @@
 // Programs from listings.
 ghost use Rattle.std.specs.Prelude.{◌≡◌, ℕ, [], ◌∷◌, length, IfOk, IfErr, codes};
 ghost use Rattle.bytecode_listing.specs.Tokens.{tokens_of};
-ghost use Rattle.bytecode_listing.specs.Items.{numbers_at, strings_at, lines_at, items_at, Lists, FaultsAt};
+ghost use Rattle.bytecode_listing.specs.Items.{numbers_at, strings_at, lines_at, items_at, Lists, FaultsAt, kind_of};
 ghost use Rattle.bytecode_listing.specs.Labels.{count};
 ghost use Rattle.bytecode_listing.specs.Readers.{Gives, with_rest, drafted, fault_in};
+ghost use Rattle.bytecode_listing.specs.declared.error.FaultKind.{FaultKind};
 ghost use Rattle.bytecode_listing.specs.declared.error.ListingError.TheVariants.{Fault};
 
 use crate::drafts::Line;
-use crate::error::{ListingError, ReadError};
+use crate::error::{FaultKind, ListingError, ReadError};
 use crate::items::{keyword_of, line_of, number_of, number_row, string_row};
-use crate::labels::resolved;
+use crate::labels::{places_of, resolved};
 use crate::tokens::{begins_with, is_left};
 use bytecode_format::Program;
 use octets::Octets;
@@ -110,13 +111,14 @@ fn parts_of(alloc: Global, octets: &[u8]) -> Result<Parts, ReadError>
 }
 
 // Why a listing isn't read, told by the octets before the fault.
-fn fault_of(listing: &[u8], error: ReadError) -> ListingError
-    ensures { result ≡ fault_in (length listing.now) error }
+fn fault_of(listing: &[u8], kind: FaultKind, error: ReadError) -> ListingError
+    ensures { result ≡ fault_in (length listing.now) kind error }
 {
     match error {
         ReadError::Memory => ListingError::Memory,
         ReadError::At(left) => ListingError::Fault {
             place: listing.len().saturating_sub(left),
+            kind,
         },
     }
 }
@@ -129,34 +131,40 @@ fn fault_of(listing: &[u8], error: ReadError) -> ListingError
 /// `Fault` comes exactly where it says none: with the place of the first token that can't stand
 /// where it stands; where all can, with that of the first label that is there a second time; where
 /// none is, with that of the first name that is no label; and where all names are, with the
-/// listing's end, where the program exceeds the limits of programs. `Memory` comes only where an
-/// allocation was refused. What is allocated grows with the listing, whose length is for the caller
-/// to limit; the listing is gone through once, and a name or a string is looked up in the logarithm
-/// of their number.
+/// listing's end, where the program exceeds the limits of programs. Its kind says which of these it
+/// is. `Memory` comes only where an allocation was refused. What is allocated grows with the
+/// listing, whose length is for the caller to limit; the listing is gone through once, and a name or
+/// a string is looked up in the logarithm of their number.
 pub fn assemble(alloc: Global, listing: &[u8]) -> Result<Program, ListingError>
     ensures listed { IfOk result (λ p. Lists listing.now p) }
-    ensures fault { IfErr result
-        (λ e. (place : ℕ) → e ≡ Fault place → FaultsAt listing.now place) }
+    ensures fault { IfErr result (λ e. (place : ℕ) (kind : FaultKind) → e ≡ Fault place kind
+        → FaultsAt listing.now place) }
+    ensures kind { IfErr result (λ e. (place : ℕ) (kind : FaultKind) → e ≡ Fault place kind
+        → kind ≡ kind_of listing.now) }
 {
-    let parts = match parts_of(alloc, listing) {
-        Ok(parts) => parts,
-        Err(e) => return Err(fault_of(listing, e)),
-    };
-    let resolved = resolved(alloc, parts.strings.as_slice(), parts.lines.as_slice());
-    let (strings, instructions) = match resolved {
-        Ok(resolved) => resolved,
-        Err(e) => return Err(fault_of(listing, e)),
-    };
-    match Program::build(
-        parts.version,
-        parts.variables,
-        parts.numbers,
+    let Parts {
+        version,
+        variables,
+        numbers,
         strings,
-        instructions,
-    ) {
+        lines,
+    } = match parts_of(alloc, listing) {
+        Ok(parts) => parts,
+        Err(e) => return Err(fault_of(listing, FaultKind::Misplaced, e)),
+    };
+    let places = match places_of(alloc, &lines) {
+        Ok(places) => places,
+        Err(e) => return Err(fault_of(listing, FaultKind::SecondLabel, e)),
+    };
+    let (strings, instructions) = match resolved(alloc, &strings, &places, &lines) {
+        Ok(resolved) => resolved,
+        Err(e) => return Err(fault_of(listing, FaultKind::NoLabel, e)),
+    };
+    match Program::build(version, variables, numbers, strings, instructions) {
         Ok(program) => Ok(program),
         Err(_) => Err(ListingError::Fault {
             place: listing.len(),
+            kind: FaultKind::Limits,
         }),
     }
 }

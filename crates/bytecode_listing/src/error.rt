@@ -5,6 +5,19 @@ ghost use Rattle.bytecode_listing.specs.declared.error.ReadError.TheVariants.{Me
 use std::alloc::{AllocError, AllocFailed};
 use thiserror::Error;
 
+/// What is wrong where a listing has its fault.
+#[derive(Clone, Copy, Debug)]
+pub enum FaultKind {
+    /// A token that can't stand there, or the end, where none is.
+    Misplaced,
+    /// A label that is there a second time.
+    SecondLabel,
+    /// A name that is no label.
+    NoLabel,
+    /// The program that is listed exceeds the limits of programs.
+    Limits,
+}
+
 /// Why a listing is no program's.
 #[derive(Debug, Drop, Error)]
 pub enum ListingError {
@@ -18,6 +31,8 @@ pub enum ListingError {
     Fault {
         /// How many octets of the listing stand before it.
         place: usize,
+        /// Which of these it is.
+        kind: FaultKind,
     },
 }
 

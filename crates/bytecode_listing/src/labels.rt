@@ -18,10 +18,10 @@ use std::alloc::Global;
 use std::collections::BTreeMap;
 
 /// The place of each name that is a label.
-type Places<'a> = BTreeMap<&'a [u8], usize>;
+pub type Places<'a> = BTreeMap<&'a [u8], usize>;
 
-// Where each label of the lines stands; or the first that is there a second time.
-fn places_of(alloc: Global, lines: &[Line]) -> Result<Places<'_>, ReadError>
+/// Where each label of the lines stands; or the first that is there a second time.
+pub fn places_of(alloc: Global, lines: &[Line]) -> Result<Places<'_>, ReadError>
     ensures { MatchResult result
         (λ places. (double_after [] lines.now ≡ None) × IsPlaces places lines.now)
         (λ e. (left : ℕ) → e ≡ At left → double_after [] lines.now ≡ Some left) }
@@ -95,29 +95,34 @@ fn instruction_of(
 fn instructions_in(
     alloc: Global,
     strings: &Strings<'_>,
+    places: &Places<'_>,
     lines: &[Line],
 ) -> Result<Vec<Instruction>, ReadError>
+    requires places { IsPlaces places.now lines.now }
+    requires single { double_after [] lines.now ≡ None }
     ensures { Gives (λ v. v.items) result (instructions_in strings.now lines.now) }
 {
-    let places = places_of(alloc, lines)?;
     let mut instructions = Vec::new(alloc);
     'lines: for line in lines {
         if let Line::Step(draft) = line {
-            instructions.push(instruction_of(strings, &places, draft)?)?;
+            instructions.push(instruction_of(strings, places, draft)?)?;
         }
     }
     Ok(instructions)
 }
 
-/// The strings and the instructions of a program.
+/// The strings and the instructions of a program, whose labels have these places.
 pub fn resolved(
     alloc: Global,
     table: &[Octets],
+    places: &Places<'_>,
     lines: &[Line],
 ) -> Result<(Vec<Octets>, Vec<Instruction>), ReadError>
+    requires places { IsPlaces places.now lines.now }
+    requires single { double_after [] lines.now ≡ None }
     ensures { Gives (λ x. (x.0.items, x.1.items)) result (resolved table.now lines.now) }
 {
     let strings = Strings::of(alloc, table, lines)?;
-    let instructions = instructions_in(alloc, &strings, lines)?;
+    let instructions = instructions_in(alloc, &strings, places, lines)?;
     Ok((strings.to_list(alloc)?, instructions))
 }

@@ -4,7 +4,8 @@ ghost use Rattle.std.specs.Prelude.{◌≡◌, ◌≤◌, ◌<◌, ◌^◌, ℕ,
 ghost use Rattle.bytecode_format.specs.Code.{Code};
 ghost use Rattle.bytecode_format.specs.Spelling.{IsProgram};
 ghost use Rattle.bytecode_format.specs.declared.instruction.Instruction.{Instruction};
-ghost use Rattle.bytecode_listing.specs.Listing.{AreOctets, comment, listing_of, meant};
+ghost use Rattle.bytecode_listing.specs.Listing.{AreOctets, accepted_listing, comment, listing_of, meant, refusal_notes, refused_listing, share_notes};
+ghost use Rattle.bytecode_verifier.specs.declared.error.Refusal.{Refusal};
 ghost use Rattle.bytecode_listing.specs.Items.{FaultsAt, Lists, worded_at};
 ghost use Rattle.bytecode_listing.specs.Tokens.{tokens_of};
 ghost use Rattle.bytecode_format.specs.declared.operation.Operation.{Operation};
@@ -18,10 +19,15 @@ use crate::writing::disassemble;
 use bytecode_format::Program;
 use std::alloc::Global;
 
-/// What is disassembled is assembled as the same program, each octet of its strings included.
+/// What is disassembled is assembled as the same program, each octet of its strings included: also
+/// where the listing tells what each instruction adds to the budget, or the refusal at its place.
 pub fn listings_say_their_programs()
-    ensures { (code : Code) → IsProgram code → All AreOctets code.strings
+    ensures plain { (code : Code) → IsProgram code → All AreOctets code.strings
         → Lists (listing_of code) code }
+    ensures accepted { (code : Code) → IsProgram code → All AreOctets code.strings
+        → Lists (accepted_listing code) code }
+    ensures refused { (refusal : Refusal) (code : Code) → IsProgram code
+        → All AreOctets code.strings → Lists (refused_listing refusal code) code }
 {}
 
 /// A listing says at most one program. So different programs have different listings.
@@ -35,10 +41,15 @@ pub fn listings_have_no_fault()
         → (place : ℕ) → FaultsAt listing place → ⊥ }
 {}
 
-/// A comment has at most 128 octets. So a listing grows with its program, whichever strings the
-/// instructions refer to, and however often.
+/// A comment has at most 128 octets, and one of what an instruction adds to the budget, or of a
+/// refusal, at most 64. So a listing grows with its program, whichever strings the instructions
+/// refer to, and however often.
 pub fn comments_are_short()
-    ensures { (code : Code) (i : Instruction) → length (comment (meant code i)) ≤ 128 }
+    ensures meant { (code : Code) (i : Instruction) → length (comment (meant code i)) ≤ 128 }
+    ensures shares { (code : Code) (place : ℕ) → IsProgram code
+        → length (comment (share_notes code place)) ≤ 64 }
+    ensures refusals { (refusal : Refusal) (place : ℕ)
+        → length (comment (refusal_notes refusal place)) ≤ 64 }
 {}
 
 /// A word that says how a test compares, or what it looks at, is one number's, and a number has one

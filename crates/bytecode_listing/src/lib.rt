@@ -9,12 +9,13 @@ mod items;
 mod labels;
 pub mod laws;
 mod names;
+mod notes;
 mod strings;
 mod tokens;
 mod wording;
 mod writing;
 
 pub use assembling::assemble;
-pub use error::ListingError;
+pub use error::{FaultKind, ListingError};
 pub use names::name_of;
-pub use writing::disassemble;
+pub use writing::{disassemble, disassemble_accepted, disassemble_refused};

@@ -2,12 +2,15 @@
 ghost use Rattle.std.specs.Prelude.{◌≡◌, ◌++◌, ◌<◌, false, All, IfOk, OnOk};
 ghost use Rattle.std.specs.List.{flat_map};
 ghost use Rattle.std.specs.Fmt.{decimal, digit_glyph};
-ghost use Rattle.bytecode_listing.specs.Listing.{is_plain, two_digits, escaped_octet, quoted, operation_text, field_text, fields_text, instruction_text, instruction_line, instruction_lines, number_line, string_line, line, listing_of, AreOctets};
+ghost use Rattle.bytecode_listing.specs.Listing.{is_plain, two_digits, escaped_octet, quoted, operation_text, field_text, fields_text, instruction_text, instruction_line, instruction_lines, number_line, string_line, line, listing_of, listing_with, accepted_listing, refused_listing, AreOctets};
 ghost use Rattle.bytecode_listing.specs.Items.{Lists};
+ghost use Rattle.bytecode_listing.specs.Noted.{notes_in};
 
 use crate::comments::put_comment;
 use crate::names::name_of;
+use crate::notes::{Notes, put_note};
 use bytecode_format::{Instruction, Operation, Program};
+use bytecode_verifier::{Refusal, Verified};
 use itoa::Buffer;
 use octets::Octets;
 use std::alloc::{AllocError, Global};
@@ -125,26 +128,31 @@ fn put_instruction(
 fn put_line(
     out: &mut Vec<u8>,
     program: &Program,
+    notes: Notes<'_>,
     place: usize,
     instruction: Instruction,
 ) -> Result<(), AllocError>
-    ensures { OnOk result
-        (out.new.items ≡ out.old.items ++ instruction_line program.now place instruction) }
+    ensures { OnOk result (out.new.items ≡ out.old.items
+        ++ instruction_line program.now place instruction (notes_in notes.entry place)) }
 {
     put_instruction(out, place, instruction)?;
     put_comment(out, program, instruction)?;
+    put_note(out, notes, place)?;
     Ok(out.push(b'\n')?)
 }
 
 // Appends the lines of a program's instructions.
-fn put_instructions(out: &mut Vec<u8>, program: &Program) -> Result<(), AllocError>
-    ensures { OnOk result
-        (out.new.items ≡
-        out.old.items ++ instruction_lines program.now 0 program.now.instructions) }
+fn put_instructions(
+    out: &mut Vec<u8>,
+    program: &Program,
+    notes: Notes<'_>,
+) -> Result<(), AllocError>
+    ensures { OnOk result (out.new.items ≡ out.old.items
+        ++ instruction_lines (notes_in notes.entry) program.now 0 program.now.instructions) }
 {
     let instructions = program.instructions();
     'table: for place in 0..instructions.len() {
-        put_line(out, program, place, instructions[place])?;
+        put_line(out, program, notes, place, instructions[place])?;
     }
     Ok(())
 }
@@ -190,6 +198,20 @@ fn put_strings(out: &mut Vec<u8>, strings: &[Octets]) -> Result<(), AllocError>
     Ok(())
 }
 
+// The listing of a program, with notes on its instructions.
+fn listing_with(alloc: Global, program: &Program, notes: Notes<'_>) -> Result<Vec<u8>, AllocError>
+    ensures text { IfOk result (λ v. v.items ≡ listing_with (notes_in notes.entry) program.now) }
+    ensures listed { IfOk result (λ v. Lists v.items program.now) }
+{
+    let mut out = Vec::new(alloc);
+    put_count(&mut out, b"version ", u64::from(program.version()))?;
+    put_count(&mut out, b"variables ", u64::from(program.variables()))?;
+    put_numbers(&mut out, program.numbers())?;
+    put_strings(&mut out, program.strings())?;
+    put_instructions(&mut out, program, notes)?;
+    Ok(out)
+}
+
 /// The listing of a program: a line for its version, one for its number of variables, one for each
 /// number, string and instruction. LF ends each line. `assemble` reads it as the same program.
 ///
@@ -205,11 +227,33 @@ pub fn disassemble(alloc: Global, program: &Program) -> Result<Vec<u8>, AllocErr
     ensures text { IfOk result (λ v. v.items ≡ listing_of program.now) }
     ensures listed { IfOk result (λ v. Lists v.items program.now) }
 {
-    let mut out = Vec::new(alloc);
-    put_count(&mut out, b"version ", u64::from(program.version()))?;
-    put_count(&mut out, b"variables ", u64::from(program.variables()))?;
-    put_numbers(&mut out, program.numbers())?;
-    put_strings(&mut out, program.strings())?;
-    put_instructions(&mut out, program)?;
-    Ok(out)
+    listing_with(alloc, program, Notes::Without)
+}
+
+/// The listing of an accepted program, as that of [`disassemble`], where a last comment after each
+/// instruction tells what it adds to the budget: `A1+16 B1+29` is 16, and 29 for each octet of the
+/// message and one more, to the sums of those inside one open loop. A B of 0 is left out.
+///
+/// An error comes only where memory was refused.
+pub fn disassemble_accepted(alloc: Global, program: &Verified) -> Result<Vec<u8>, AllocError>
+    ensures text { IfOk result (λ v. v.items ≡ accepted_listing program.now) }
+    ensures listed { IfOk result (λ v. Lists v.items program.now) }
+{
+    let shares = program.shares(alloc)?;
+    listing_with(alloc, program.program(), Notes::Shares(&shares))
+}
+
+/// The listing of a program that is refused, as that of [`disassemble`], where a last comment tells
+/// the number and the name of the refusal after the instruction at its place.
+///
+/// An error comes only where memory was refused.
+pub fn disassemble_refused(
+    alloc: Global,
+    program: &Program,
+    refusal: &Refusal,
+) -> Result<Vec<u8>, AllocError>
+    ensures text { IfOk result (λ v. v.items ≡ refused_listing refusal.now program.now) }
+    ensures listed { IfOk result (λ v. Lists v.items program.now) }
+{
+    listing_with(alloc, program, Notes::Refusal(refusal))
 }

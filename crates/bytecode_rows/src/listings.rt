@@ -114,7 +114,7 @@ fn words_are_numbers(rt: HostRuntime) -> Result<(), Fail> {
 fn fault(alloc: Global, listing: &[u8]) -> Result<usize, Fail> {
     match assemble(alloc, listing) {
         Ok(_) => Ok(listing.len()),
-        Err(ListingError::Fault { place }) => Ok(place),
+        Err(ListingError::Fault { place, .. }) => Ok(place),
         Err(ListingError::Memory) => Err(Fail::from("memory")),
     }
 }

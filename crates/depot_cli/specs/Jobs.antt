@@ -8,31 +8,36 @@ use Rattle.bytecode_cost.specs.Text.{budget_text}
 use Rattle.bytecode_format.specs.declared.action.Action.{Action}
 use Rattle.bytecode_format.specs.Code.{Code}
 use Rattle.bytecode_format.specs.Spelling.{spelling}
-use Rattle.bytecode_listing.specs.Items.{FaultsAt, Lists}
-use Rattle.bytecode_listing.specs.Listing.{listing_of}
+use Rattle.bytecode_listing.specs.Items.{FaultsAt, Lists, kind_of}
+use Rattle.bytecode_listing.specs.Listing.{accepted_listing, refused_listing}
+use Rattle.bytecode_verifier.specs.Acceptance.{refusal_of}
 use Rattle.bytecode_verifier.specs.Budget.{budget_of}
+use Rattle.bytecode_verifier.specs.declared.error.Refusal.{Refusal as BrokenRule}
 use Rattle.sieve_check.specs.Typed.{CommandForms}
 use Rattle.sieve_engine.specs.Evaluation.{IsCompiled, IsEvaluation, IsEvaluationRefusal, IsScript, IsScriptRefusal}
 use Rattle.sieve_engine.specs.Execution as engine
 use Rattle.sieve_engine.specs.Execution.{IsChecked, IsExecution, IsProgramRefusal, IsRefusal, Spells}
-use Rattle.sieve_explain.specs.Explaining.{Explains}
+use Rattle.sieve_explain.specs.Explaining.{Explains, listing_told}
 use Rattle.mime_decode.specs.Mail.{IsReadable, mail_of}
 use Rattle.depot_cli.specs.Host.{HasMade, HasNotMade, HostState}
 use Rattle.depot_cli.specs.Printed.{line, ok_text, parts_text, refusal_line, report_text, wrote_text}
+use Rattle.refusals.specs.Causes.{of_verifier}
 use Rattle.refusals.specs.declared.refusal.Refusal.{Refusal}
 use Rattle.refusals.specs.declared.refusal.Refusal.TheVariants as refusals
 use Rattle.depot_cli.specs.declared.job.Job.{Job}
 use Rattle.depot_cli.specs.declared.job.Job.TheVariants.{Check, Explain, Compile, Verify, Run, Disassemble, Assemble, Eval, Parts, Encode, Decode}
 
--- What the verifier says of a program, as a line: the budget of one that is accepted, or the refusal.
-abbrev pub IsVerdict : List ℕ → List ℕ → Type 0
-IsVerdict octets text =
-    ((code : Code) × IsChecked octets code × (text ≡ line (budget_text (budget_of code))))
-    ⊎ ((refusal : Refusal) × (refusal ≢ refusals.Memory) × IsProgramRefusal octets refusal × (text ≡ refusal_line refusal))
-
--- what a program's listing is followed by: a comment with that line
+-- what a program's listing is followed by: a comment with what the verifier says of the program
 abbrev pub commented : List ℕ → List ℕ
 commented verdict = codes "; " ++ verdict
+
+-- a program's listing, and what the verifier says of it: what each instruction of an accepted one adds to the budget, and that; of a
+-- refused one the refusal, at its place and at the end
+abbrev pub IsListing : List ℕ → List ℕ → Type 0
+IsListing octets text =
+    ((code : Code) × IsChecked octets code × (text ≡ accepted_listing code ++ commented (line (budget_text (budget_of code)))))
+    ⊎ ((code : Code) × (rule : BrokenRule) × Spells octets code × (refusal_of code ≡ Some rule)
+    × (text ≡ refused_listing rule code ++ commented (refusal_line (of_verifier rule))))
 
 -- The text of a job's answer: that the script has no fault, how many octets the program of the script or the listing has, the budget of
 -- the accepted program, the program's listing and what the verifier says of it, the lines of the run, those of the message's parts, or
@@ -45,8 +50,7 @@ IsAnswer (Compile script name out) text old new =
 IsAnswer (Verify program) text old new = (code : Code) × IsChecked program.now code × (text ≡ line (budget_text (budget_of code))) × (new ≡ old)
 IsAnswer (Run program message) text old new =
     (actions : List Action) × (charged : ℕ) × (limit : ℕ) × IsExecution program.now message.now actions charged limit × (text ≡ report_text actions charged limit) × (new ≡ old)
-IsAnswer (Disassemble program) text old new =
-    (code : Code) × (verdict : List ℕ) × Spells program.now code × IsVerdict program.now verdict × (text ≡ listing_of code ++ commented verdict) × (new ≡ old)
+IsAnswer (Disassemble program) text old new = IsListing program.now text × (new ≡ old)
 IsAnswer (Assemble listing name out) text old new =
     (code : Code) × Lists listing.now code × (text ≡ line (wrote_text (length (spelling code)))) × HasMade out.now name.now (spelling code) old new
 IsAnswer (Eval script message) text old new =
@@ -60,7 +64,8 @@ abbrev pub IsFinding : Job → List ℕ → Refusal → HostState → HostState 
 IsFinding (Explain script name) text refusal old new =
     (refusal ≢ refusals.Memory) × IsScriptRefusal script.now refusal × Explains name.now script.now refusal text × (new ≡ old)
 IsFinding (Assemble listing name out) text refusal old new =
-    (place : ℕ) × (refusal ≡ refusals.Listing place) × FaultsAt listing.now place × Explains name.now listing.now refusal text × (new ≡ old)
+    (place : ℕ) × (refusal ≡ refusals.Listing place) × FaultsAt listing.now place
+    × (text ≡ listing_told name.now listing.now place (kind_of listing.now)) × (new ≡ old)
 IsFinding _ text refusal old new = ⊥
 
 -- the text of a job's answer, with none; or that of a finding, with its refusal

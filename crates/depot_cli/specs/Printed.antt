@@ -172,11 +172,15 @@ state_line Missing = line (codes "none")
 state_line (Accepted version) = codes "accepted version " ++ (decimal version ++ 10 ∷ [])
 state_line (Refused refusal) = codes "refused " ++ (decimal (number_of refusal) ++ (codes " " ++ (name_of refusal ++ 10 ∷ [])))
 
--- the line of a user: the last number, the number of the entries, their octets and the state of the filter
-abbrev pub user_line : UserOverview → List ℕ
-user_line x =
+-- the numbers of a user: the last one of an entry, how many entries there are, and their octets
+abbrev pub numbers_text : UserOverview → List ℕ
+numbers_text x =
     codes "user " ++ (quoted (string_bytes x.user) ++ (codes " last " ++ (decimal x.last ++ (codes " entries " ++ (decimal x.entries ++ (codes " octets " ++ (decimal x.octets
-    ++ (codes " program " ++ state_line x.program))))))))
+    ++ codes " program ")))))))
+
+-- the line of a user: these numbers, and the state of the filter
+abbrev pub user_line : UserOverview → List ℕ
+user_line x = numbers_text x ++ state_line x.program
 
 -- how many contents there are, and their octets
 abbrev pub contents_text : ContentTotal → List ℕ

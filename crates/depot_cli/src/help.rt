@@ -4,6 +4,9 @@
 // may come.
 macro_rules! ending {
     ($example:literal, $refusals:literal) => {
+        ending!($example, $refusals, "")
+    };
+    ($example:literal, $refusals:literal, $more:literal) => {
         concat!(
             "Example:\n  ",
             $example,
@@ -11,7 +14,19 @@ macro_rules! ending {
             "2: the words aren't those of a command.\n",
             "Refusals: ",
             $refusals,
-            ". docs/SPECIFICATION.md says what each means, and what to do."
+            ". docs/SPECIFICATION.md says what each means, and what to do.",
+            $more
+        )
+    };
+}
+
+// The end of the help of a command that takes a script.
+macro_rules! script_ending {
+    ($example:literal, $refusals:literal) => {
+        ending!(
+            $example,
+            $refusals,
+            "\nWhat is wrong with a script, `depot explain SCRIPT` says in words."
         )
     };
 }
@@ -22,15 +37,16 @@ pub const ALL: &str = concat!(
     "its number and name, and status 1. Status 2 says that the words aren't those of a command.\n",
     "With no words at all, a program that keeps every message runs on standard input.\n",
     "The help of a command has an example, and says with which refusals it may end.\n\n",
-    // The version of the program; no other place of the code has it.
-    "depot 0.16.0"
+    // The versions of the program and of the kit that it is proved with; no other place of the code has
+    // them.
+    "depot 0.16.0, proved with rattle-kit-13f"
 );
 
-pub const CHECK: &str = ending!("depot check filter.sieve", "1, 2, 11 to 19, 45, 46");
+pub const CHECK: &str = script_ending!("depot check filter.sieve", "1, 2, 11 to 19, 45, 46");
 
 pub const EXPLAIN: &str = ending!("depot explain filter.sieve", "1, 2, 11 to 19, 45, 46");
 
-pub const COMPILE: &str = ending!(
+pub const COMPILE: &str = script_ending!(
     "depot compile filter.sieve filter.svbc",
     "1, 2, 11 to 19, 45, 46"
 );
@@ -49,7 +65,7 @@ pub const ASSEMBLE: &str = ending!(
     "1, 2, 28, 45, 46"
 );
 
-pub const EVAL: &str = ending!(
+pub const EVAL: &str = script_ending!(
     "depot eval filter.sieve mail.eml",
     "1 to 3, 11 to 19, 45, 46"
 );
@@ -60,7 +76,7 @@ pub const ENCODE: &str = ending!("depot encode base64 < file > text", "1, 2, 45,
 
 pub const DECODE: &str = ending!("depot decode base64 < text > file", "1, 2, 10, 45, 46");
 
-pub const SCRIPT: &str = ending!(
+pub const SCRIPT: &str = script_ending!(
     "depot script mail.depot ann filter.sieve",
     "1, 2, 11 to 19, 43 to 46"
 );

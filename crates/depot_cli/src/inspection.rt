@@ -4,7 +4,7 @@ ghost use Rattle.sqlite.specs.Held.{state};
 ghost use Rattle.sqlite.specs.State.{Survives};
 ghost use Rattle.depot_actions.specs.Device.{HasBroken, HasTaken};
 ghost use Rattle.depot_cli.specs.Inspecting.{HasInspected};
-ghost use Rattle.depot_cli.specs.Printed.{contents_text, head_text, line as line_of, overview_text, user_line, users_text};
+ghost use Rattle.depot_cli.specs.Printed.{contents_text, head_text, line as line_of, numbers_text, overview_text, state_line, user_line, users_text};
 ghost use Rattle.depot_cli.specs.Tasks.{desk};
 
 use crate::job::tell;
@@ -108,41 +108,46 @@ fn put_user<O: Sink>(out: &mut O, user: &UserOverview) -> Result<(), DeviceFaile
     ensures err { OnErr result (HasBroken (user_line user.now) (O.output out.old)
         (O.output out.new)) }
 {
-    let head = Piece::Text("user ");
-    let name = Piece::Quoted(user.user.as_bytes());
-    let last = Piece::Number(user.last as u128);
-    let entries = Piece::Number(user.entries as u128);
-    let octets = Piece::Number(user.octets as u128);
-    let has_last = Piece::Text(" last ");
-    let has_entries = Piece::Text(" entries ");
-    let has_octets = Piece::Text(" octets ");
-    match &user.program {
-        ProgramState::Missing => put_pieces(
-            out,
-            &[
-                head,
-                name,
-                has_last,
-                last,
-                has_entries,
-                entries,
-                has_octets,
-                octets,
-                Piece::Text(" program none\n"),
-            ],
-        ),
+    put_numbers(out, user)?;
+    put_state(out, &user.program)
+}
+
+// Writes the numbers of a user.
+fn put_numbers<O: Sink>(out: &mut O, user: &UserOverview) -> Result<(), DeviceFailed>
+    ensures ok { OnOk result (HasTaken (numbers_text user.now) (O.output out.old)
+        (O.output out.new)) }
+    ensures err { OnErr result (HasBroken (numbers_text user.now) (O.output out.old)
+        (O.output out.new)) }
+{
+    put_pieces(
+        out,
+        &[
+            Piece::Text("user "),
+            Piece::Quoted(user.user.as_bytes()),
+            Piece::Text(" last "),
+            Piece::Number(user.last as u128),
+            Piece::Text(" entries "),
+            Piece::Number(user.entries as u128),
+            Piece::Text(" octets "),
+            Piece::Number(user.octets as u128),
+            Piece::Text(" program "),
+        ],
+    )
+}
+
+// Writes the state of a user's filter, and the end of the line.
+fn put_state<O: Sink>(out: &mut O, program: &ProgramState) -> Result<(), DeviceFailed>
+    ensures ok { OnOk result (HasTaken (state_line program.now) (O.output out.old)
+        (O.output out.new)) }
+    ensures err { OnErr result (HasBroken (state_line program.now) (O.output out.old)
+        (O.output out.new)) }
+{
+    match program {
+        ProgramState::Missing => put_pieces(out, &[Piece::Text("none\n")]),
         ProgramState::Accepted(version) => put_pieces(
             out,
             &[
-                head,
-                name,
-                has_last,
-                last,
-                has_entries,
-                entries,
-                has_octets,
-                octets,
-                Piece::Text(" program accepted version "),
+                Piece::Text("accepted version "),
                 Piece::Number(*version as u128),
                 Piece::Text("\n"),
             ],
@@ -150,15 +155,7 @@ fn put_user<O: Sink>(out: &mut O, user: &UserOverview) -> Result<(), DeviceFaile
         ProgramState::Refused(refusal) => put_pieces(
             out,
             &[
-                head,
-                name,
-                has_last,
-                last,
-                has_entries,
-                entries,
-                has_octets,
-                octets,
-                Piece::Text(" program refused "),
+                Piece::Text("refused "),
                 Piece::Number(refusal.number() as u128),
                 Piece::Text(" "),
                 Piece::Text(refusal.name()),

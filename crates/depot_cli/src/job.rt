@@ -4,30 +4,33 @@ ghost use Rattle.octets.specs.Limits.{max_program, max_script};
 ghost use Rattle.bytecode_cost.specs.Text.{budget_text};
 ghost use Rattle.bytecode_format.specs.Code.{Code};
 ghost use Rattle.bytecode_format.specs.Spelling.{spelling};
-ghost use Rattle.bytecode_listing.specs.Items.{FaultsAt, Lists};
-ghost use Rattle.bytecode_listing.specs.Listing.{listing_of};
+ghost use Rattle.bytecode_listing.specs.Items.{FaultsAt, Lists, kind_of};
+ghost use Rattle.bytecode_listing.specs.Listing.{accepted_listing, refused_listing};
 ghost use Rattle.bytecode_verifier.specs.Budget.{budget_of};
+ghost use Rattle.bytecode_verifier.specs.declared.error.Refusal.TheVariants as verifier;
 ghost use Rattle.sieve_check.specs.Typed.{CommandForms};
 ghost use Rattle.sieve_engine.specs.Evaluation.{IsCompiled, IsScript, IsScriptRefusal};
-ghost use Rattle.sieve_explain.specs.Explaining.{Explains};
+ghost use Rattle.sieve_explain.specs.Explaining.{Explains, listing_told};
+ghost use Rattle.refusals.specs.Causes.{of_verifier};
 ghost use Rattle.refusals.specs.declared.refusal.Refusal.TheVariants.{Listing, Memory, ScriptTooLong, Spelling};
-ghost use Rattle.sieve_engine.specs.Execution.{IsChecked, IsProgramRefusal, Spells};
+ghost use Rattle.sieve_engine.specs.Execution.{IsChecked, IsProgramRefusal};
 ghost use Rattle.depot_cli.specs.Host.{HasMade, HasNotMade};
 ghost use Rattle.depot_actions.specs.Device.{HasBroken, HasTaken};
-ghost use Rattle.depot_cli.specs.Jobs.{HasAnswered, HasFound, HasLongProgram, HasLongScript, HasRefused, HasStopped, HasTold, IsJobRefusal, IsShown, IsUnspelled, IsVerdict, commented, world};
+ghost use Rattle.depot_cli.specs.Jobs.{HasAnswered, HasFound, HasLongProgram, HasLongScript, HasRefused, HasStopped, HasTold, IsJobRefusal, IsListing, IsShown, IsUnspelled, commented, world};
 ghost use Rattle.depot_cli.specs.Pieces.{lines_text, refusal_in, verdict_line};
-ghost use Rattle.depot_cli.specs.Printed.{line, ok_text, wrote_text};
+ghost use Rattle.depot_cli.specs.Printed.{line, ok_text, refusal_line, wrote_text};
 
 use crate::host::Host;
 use crate::listing::parts_lines;
 use crate::making::make_file;
 use crate::printing::{put_line, put_refusal, put_report, put_wrote};
 use bytecode_format::Program;
-use bytecode_listing::{ListingError, assemble, disassemble};
+use bytecode_listing::{ListingError, assemble, disassemble_accepted, disassemble_refused};
+use bytecode_verifier::{Refusal as BrokenRule, Verified, verify};
 use depot_actions::{DeviceFailed, Encoding, Sink, decode, encode, put};
 use refusals::Refusal;
 use sieve_engine::{Report, check_program, check_script, compile_script, evaluate, execute};
-use sieve_explain::explanation;
+use sieve_explain::{explanation, listing_explanation};
 use std::alloc::Global;
 
 /// The status of a command that was done and whose answer was written whole.
@@ -278,29 +281,45 @@ fn budget_line(alloc: Global, program: &[u8]) -> Result<String, Refusal>
 
 // The listing of a program, and what the verifier says of it.
 fn list_program(alloc: Global, program: &[u8]) -> Result<Lines, Refusal>
-    ensures listed { IfOk result (λ lines. (refusal_in lines ≡ None) × (code : Code)
-        × (verdict : List ℕ)
-        × Spells program.now code × IsVerdict program.now verdict
-        × (lines_text lines ≡ listing_of code ++ commented verdict)) }
+    ensures listed { IfOk result (λ lines. (refusal_in lines ≡ None)
+        × IsListing program.now (lines_text lines)) }
     ensures refused { IfErr result (IsUnspelled program.now) }
     ensures large { max_program < length program.now → IsErrAnd result (λ e. e ≡ Spelling) }
 {
-    let read = Program::read(alloc, program)?;
-    let listing = disassemble(alloc, &read)?;
-    let verdict = verdict_on(alloc, program)?;
-    Ok(Lines::Listing(listing, verdict))
+    let program = Program::read(alloc, program)?;
+    match verify(alloc, program) {
+        Ok(verified) => list_accepted(alloc, &verified),
+        Err((program, rule)) => list_refused(alloc, &program, rule),
+    }
 }
 
-// What the verifier says of a program.
-fn verdict_on(alloc: Global, program: &[u8]) -> Result<Verdict, Refusal>
-    ensures said { IfOk result (λ verdict. IsVerdict program.now (verdict_line verdict)) }
+// The listing of an accepted program, and its budget.
+fn list_accepted(alloc: Global, program: &Verified) -> Result<Lines, Refusal>
+    ensures listed { IfOk result (λ lines. (refusal_in lines ≡ None)
+        × (lines_text lines ≡ accepted_listing program.now
+        ++ commented (line (budget_text (budget_of program.now))))) }
     ensures refused { IfErr result (λ e. e ≡ Memory) }
 {
-    match budget_line(alloc, program) {
-        Ok(budget) => Ok(Verdict::Accepted(budget)),
-        Err(Refusal::Memory) => Err(Refusal::Memory),
-        Err(refusal) => Ok(Verdict::Refused(refusal)),
+    let listing = disassemble_accepted(alloc, program)?;
+    let budget = format!(in alloc; "{}", program.budget())?;
+    Ok(Lines::Listing(listing, Verdict::Accepted(budget)))
+}
+
+// The listing of a program that breaks a rule, and the refusal.
+fn list_refused(alloc: Global, program: &Program, rule: BrokenRule) -> Result<Lines, Refusal>
+    ensures listed { IfOk result (λ lines. (rule ≢ verifier.Memory) × (refusal_in lines ≡ None)
+        × (lines_text lines ≡ refused_listing rule program.now
+        ++ commented (refusal_line (of_verifier rule)))) }
+    ensures refused { IfErr result (λ e. e ≡ Memory) }
+{
+    if let BrokenRule::Memory = rule {
+        return Err(Refusal::Memory);
     }
+    let listing = disassemble_refused(alloc, program, &rule)?;
+    Ok(Lines::Listing(
+        listing,
+        Verdict::Refused(Refusal::from(rule)),
+    ))
 }
 
 // Makes the file of the program that a listing says; or says in words what is wrong with the
@@ -317,7 +336,7 @@ fn assemble_program<H: Host>(
         × (lines_text lines ≡ line (wrote_text (length (spelling code))))
         × HasMade out.now name.now (spelling code) (H.state host.old) (H.state host.new))
         (λ refusal. (place : ℕ) × (refusal ≡ Listing place) × FaultsAt listing.now place
-        × Explains name.now listing.now refusal (lines_text lines)
+        × (lines_text lines ≡ listing_told name.now listing.now place (kind_of listing.now))
         × (H.state host.new ≡ H.state host.old))) }
     ensures refused { IfErr result (λ e. ((e ≡ Memory) × (H.state host.new ≡ H.state host.old))
         ⊎ ((code : Code) × Lists listing.now code
@@ -330,10 +349,9 @@ fn assemble_program<H: Host>(
             Ok(Lines::Wrote(octets.len()))
         }
         Err(ListingError::Memory) => Err(Refusal::Memory),
-        Err(ListingError::Fault { place }) => {
-            let refusal = Refusal::Listing { place };
-            let text = explanation(alloc, name, listing, &refusal)?;
-            Ok(Lines::Fault(text, refusal))
+        Err(ListingError::Fault { place, kind }) => {
+            let text = listing_explanation(alloc, name, listing, place, kind)?;
+            Ok(Lines::Fault(text, Refusal::Listing { place }))
         }
     }
 }

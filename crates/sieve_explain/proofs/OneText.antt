@@ -56,5 +56,4 @@ one_text law same name script (refused.MissingCapability number) text other p q 
 one_text law same name script (refused.UnknownCapability number) text other p q = one_reason law same name script UnknownCapability number text other p q
 one_text law same name script (refused.BadArguments number) text other p q = one_reason law same name script BadArguments number text other p q
 one_text law same name script (refused.Limit number) text other p q = one_reason law same name script Limit number text other p q
-one_text law same name script (refused.Listing place) text other p q = p ∙ sym q
 one_text law same name script _ text other p q = p ∙ sym q

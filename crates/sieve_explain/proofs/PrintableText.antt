@@ -8,7 +8,8 @@ use Rattle.refusals.specs.declared.refusal.Refusal.{Refusal}
 use Rattle.refusals.specs.declared.refusal.Refusal.TheVariants as refused
 use Rattle.sieve_check.specs.declared.error.Fault.{Fault}
 use Rattle.sieve_check.specs.declared.error.Fault.TheVariants.{UnknownCommand, MissingCapability, UnknownCapability, BadArguments, Limit}
-use Rattle.sieve_explain.specs.Explaining.{Explains, TellsReason, fault_blanks, heading, marked_token, opened, reason_in, remark, start_of, syntax_told, told}
+use Rattle.bytecode_listing.specs.declared.error.FaultKind.{FaultKind}
+use Rattle.sieve_explain.specs.Explaining.{Explains, TellsReason, fault_blanks, heading, marked_token, opened, reason_in, remark, start_of, syntax_told, told, listing_told}
 use Rattle.sieve_explain.specs.Faults.{lexical_blanks, listing_blanks, syntax_blanks, too_deep_blanks, too_long_blanks, unclosed_blanks, unit_blanks}
 use Rattle.sieve_explain.specs.Marks.{has_unit, unclosed}
 use Rattle.sieve_lexer.specs.declared.token.Token.{Token}
@@ -86,6 +87,8 @@ printable name script (refused.MissingCapability number) text p e = fine_reasone
 printable name script (refused.UnknownCapability number) text p e = fine_reasoned name script UnknownCapability number text p e
 printable name script (refused.BadArguments number) text p e = fine_reasoned name script BadArguments number text p e
 printable name script (refused.Limit number) text p e = fine_reasoned name script Limit number text p e
-printable name script (refused.Listing place) text p e =
-    let at = min place (length script) in ap are_printable e ∙ fine_told name script at (listing_blanks (drop at script)) p (fine_listing (drop at script))
 printable name script _ text p e = ap are_printable e
+
+pub listing_printable : (name listing : List ℕ) (place : ℕ) (kind : FaultKind) → Fine name → Fine (listing_told name listing place kind)
+listing_printable name listing place kind p =
+    let at = min place (length listing) in fine_told name listing at (listing_blanks kind (drop at listing)) p (fine_listing kind (drop at listing))

@@ -21,7 +21,9 @@ use Rattle.sieve_check.specs.declared.signature.Tests.TheVariants as tests
 use Rattle.sieve_reasons.specs.Reasons.{Reason}
 use Rattle.sieve_reasons.specs.declared.kind.ReasonKind.{ReasonKind}
 use Rattle.sieve_reasons.specs.declared.kind.ReasonKind.TheVariants as reasons
-use Rattle.sieve_explain.specs.Faults.{Beginning, lexical_blanks, listing_blanks, misplaced_token, mistaken, mistaken_blanks, other_blanks, syntax_blanks, text_at}
+use Rattle.bytecode_listing.specs.declared.error.FaultKind.{FaultKind}
+use Rattle.bytecode_listing.specs.declared.error.FaultKind.TheVariants.{Misplaced, SecondLabel, NoLabel, Limits}
+use Rattle.sieve_explain.specs.Faults.{Beginning, lexical_blanks, listing_blanks, misplaced_blanks, misplaced_token, mistaken, mistaken_blanks, other_blanks, syntax_blanks, text_at}
 use Rattle.sieve_explain.specs.Hints.{capability_names, command_meant, command_names, command_rows, lacking, lacking_rows, tag_names, test_meant, test_names, test_rows, unknown_capability_text, unknown_capability_words, unknown_command_text, unknown_command_words, unknown_tag_text, unknown_tag_words, unknown_test_text, unknown_test_words}
 use Rattle.sieve_explain.specs.Printable.{are_printable}
 use Rattle.sieve_explain.specs.Reasons.{capability_words, ending_words, no_test_words, place_text, positional_words, reason_blanks, reason_text, reason_words, tag_words, tests_words}
@@ -204,6 +206,12 @@ fine_mistaken (c ∷ text) other p q = (p, refl)
 pub fine_lexical : (rest : List ℕ) → FineBlanks (lexical_blanks rest)
 fine_lexical rest = fine_mistaken (text_at rest mistaken) (other_blanks rest) (fine_at rest mistaken refl) (fine_other rest)
 
-pub fine_listing : (rest : List ℕ) → FineBlanks (listing_blanks rest)
-fine_listing [] = (refl, refl)
-fine_listing (octet ∷ rest) = blanks_if (octet == 34) _ _ (refl, refl) (refl, refl)
+fine_misplaced : (rest : List ℕ) → FineBlanks (misplaced_blanks rest)
+fine_misplaced [] = (refl, refl)
+fine_misplaced (octet ∷ rest) = blanks_if (octet == 34) _ _ (refl, refl) (refl, refl)
+
+pub fine_listing : (kind : FaultKind) (rest : List ℕ) → FineBlanks (listing_blanks kind rest)
+fine_listing Misplaced rest = fine_misplaced rest
+fine_listing SecondLabel rest = (refl, refl)
+fine_listing NoLabel rest = (refl, refl)
+fine_listing Limits rest = (refl, refl)

@@ -4,6 +4,7 @@ use Rattle.std.specs.Fmt.{decimal}
 use Rattle.std.specs.List.{slice_get}
 use Rattle.std.specs.Option.{option_or}
 use Rattle.octets.specs.Limits.{max_script}
+use Rattle.bytecode_listing.specs.declared.error.FaultKind.{FaultKind}
 use Rattle.refusals.specs.declared.refusal.Refusal.{Refusal}
 use Rattle.refusals.specs.declared.refusal.Refusal.TheVariants as refused
 use Rattle.sieve_check.specs.declared.error.Fault.{Fault}
@@ -105,8 +106,11 @@ abbrev pub TellsReason : List ℕ → List ℕ → Fault → ℕ → List ℕ �
 TellsReason name script fault number text = (tokens : List Token) × ((tree : Option CommandsTree) × (HasTokens script tokens × HasTree script tree
     × (text ≡ reason_told name script fault (reason_in tree fault number) tokens number)))
 
--- what is told of a refused script, or of a listing of a program: the refusal's place, a sentence and the line; nothing of a refusal that
--- neither has
+-- what is told of a listing of a program, whose fault is of that kind: its place, a sentence and the line
+abbrev pub listing_told : List ℕ → List ℕ → ℕ → FaultKind → List ℕ
+listing_told name listing place kind = let at = min place (length listing) in told name listing at (listing_blanks kind (drop at listing))
+
+-- what is told of a refused script: the refusal's place, a sentence and the line; nothing of a refusal that no script has
 abbrev pub Explains : List ℕ → List ℕ → Refusal → List ℕ → Type 0
 Explains name script (refused.Lexical place) text = let at = min place (length script) in text ≡ told name script at (lexical_blanks (drop at script))
 Explains name script refused.ScriptTooLong text = text ≡ told name script (min max_script (length script)) too_long_blanks
@@ -117,5 +121,4 @@ Explains name script (refused.MissingCapability number) text = TellsReason name 
 Explains name script (refused.UnknownCapability number) text = TellsReason name script UnknownCapability number text
 Explains name script (refused.BadArguments number) text = TellsReason name script BadArguments number text
 Explains name script (refused.Limit number) text = TellsReason name script Limit number text
-Explains name script (refused.Listing place) text = let at = min place (length script) in text ≡ told name script at (listing_blanks (drop at script))
 Explains name script _ text = text ≡ []

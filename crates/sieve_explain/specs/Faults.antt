@@ -2,6 +2,8 @@
 use Rattle.std.specs.Prelude.{ℕ, suc, ◌^◌, ◌-◌, ◌==◌, ◌&&◌, nat_lt, if◌then◌else◌, Bool, List, [], ◌∷◌, length, take, take_while, Option, Some, None, slice_index, slice_range, bytes_eq, codes}
 use Rattle.std.specs.Char.{is_ascii_digit}
 use Rattle.octets.specs.Limits.{max_nesting, max_script}
+use Rattle.bytecode_listing.specs.declared.error.FaultKind.{FaultKind}
+use Rattle.bytecode_listing.specs.declared.error.FaultKind.TheVariants.{Misplaced, SecondLabel, NoLabel, Limits}
 use Rattle.sieve_lexer.specs.Classes.{begins_identifier}
 use Rattle.sieve_lexer.specs.declared.token.Token.{Token}
 use Rattle.sieve_lexer.specs.declared.token.TokenKind.{TokenKind}
@@ -101,11 +103,22 @@ unit_blanks = plain (codes "the units of a number are K, M and G, with nothing b
 abbrev pub is_dark : ℕ → Bool
 is_dark octet = nat_lt 32 octet
 
--- 28, by the octets from the place on: what stands there goes up to the next blank
-abbrev pub listing_blanks : List ℕ → Blanks
-listing_blanks [] = plain (codes "the listing ends before its program does, or the program exceeds the limits of programs")
-listing_blanks (octet ∷ rest) =
+-- what stands at the place, up to the next blank; nothing at the end
+abbrev pub dark_at : List ℕ → List ℕ
+dark_at [] = []
+dark_at (octet ∷ rest) = take (suc (length (take_while is_dark rest))) (octet ∷ rest)
+
+-- what can't stand there, by the octets from the place on
+abbrev pub misplaced_blanks : List ℕ → Blanks
+misplaced_blanks [] = plain (codes "the listing ends before its program does")
+misplaced_blanks (octet ∷ rest) =
     if octet == 34
     then plain (codes "no string can stand here, or this one is never closed, too long, or has a backslash without two hexadecimal digits")
-    else record (plain (codes "@ can't stand here: after version and variables stand numbers, strings, and then instructions with their fields; a label stands once, and a name is that of a label"))
-    { name = take (suc (length (take_while is_dark rest))) (octet ∷ rest) }
+    else record (plain (codes "@ can't stand here: after version and variables stand numbers, strings, and then instructions with their fields")) { name = dark_at (octet ∷ rest) }
+
+-- 28, by the kind of the fault, and the octets from its place on
+abbrev pub listing_blanks : FaultKind → List ℕ → Blanks
+listing_blanks Misplaced rest = misplaced_blanks rest
+listing_blanks SecondLabel rest = record (plain (codes "the label @ is there a second time: a label stands once")) { name = dark_at rest }
+listing_blanks NoLabel rest = record (plain (codes "@ is no number, and no label of this listing")) { name = dark_at rest }
+listing_blanks Limits rest = plain (codes "the program exceeds the limits of programs")

@@ -2,7 +2,7 @@
 ghost use Rattle.std.specs.Prelude.{◌≡◌, ◌≤◌, ◌++◌, IfOk, IfSome, OnOk, drop, length, option_map};
 ghost use Rattle.std.specs.List.{slice_get};
 ghost use Rattle.sieve_reasons.specs.View.{view_of};
-ghost use Rattle.sieve_explain.specs.Explaining.{Explains, HasTokens, TellsDepth, TellsReason, TellsSyntax, arguments_blanks, fault_blanks, heading, marked_token, opened, reason_told, remark, start_of, string_marked, syntax_told, told};
+ghost use Rattle.sieve_explain.specs.Explaining.{Explains, HasTokens, TellsDepth, TellsReason, TellsSyntax, arguments_blanks, fault_blanks, heading, listing_told, marked_token, opened, reason_told, remark, start_of, string_marked, syntax_told, told};
 ghost use Rattle.sieve_explain.specs.Marks.{string_among, unclosed};
 ghost use Rattle.sieve_explain.specs.Sentences.{blanks_of, filled};
 
@@ -15,6 +15,7 @@ use crate::marks::{has_unit, string_among, token_at, tokens_from, unclosed};
 use crate::places::{line_number, octets_before};
 use crate::reasons::reason_sentence;
 use crate::sentence::{Sentence, push_sentence};
+use bytecode_listing::FaultKind;
 use itoa::Buffer;
 use refusals::Refusal;
 use sieve_check::Fault;
@@ -135,8 +136,8 @@ fn start_of(script: &[u8], token: Option<Token>) -> usize
     }
 }
 
-/// Why a script, or a listing of a program, is refused, for whoever wrote it: where, a sentence, the line and a mark under the place.
-/// Empty for a refusal that neither gets.
+/// Why a script is refused, for whoever wrote it: where, a sentence, the line and a mark under the place.
+/// Empty for a refusal that no script gets.
 ///
 /// # Errors
 ///
@@ -177,13 +178,28 @@ pub fn explanation(
             reason_explanation(alloc, name, script, Fault::BadArguments, *place)
         }
         Refusal::Limit { place } => reason_explanation(alloc, name, script, Fault::Limit, *place),
-        Refusal::Listing { place } => {
-            let place = (*place).min(script.len());
-            let (_, rest) = script.split_at(place);
-            told(alloc, name, script, place, &listing_sentence(rest))
-        }
         _ => Ok(Vec::new(alloc)),
     }
+}
+
+/// Why a listing of a program is refused, for whoever wrote it: where, a sentence for a fault of that kind, the line and a mark under
+/// the place. The place counts octets of the listing; one beyond its end is told of the end.
+///
+/// # Errors
+///
+/// An allocation was refused.
+pub fn listing_explanation(
+    alloc: Global,
+    name: &str,
+    listing: &[u8],
+    place: usize,
+    kind: FaultKind,
+) -> Result<Vec<u8>, AllocError>
+    ensures { IfOk result (λ text. text.items ≡ listing_told name.now listing.now place kind) }
+{
+    let place = place.min(listing.len());
+    let (_, rest) = listing.split_at(place);
+    told(alloc, name, listing, place, &listing_sentence(kind, rest))
 }
 
 // Where the brace stands that is never closed, where there is one.

@@ -1,10 +1,11 @@
 // What is said of a script that isn't parsed.
 ghost use Rattle.std.specs.Prelude.{◌≡◌, ◌≤◌, IfSome, bytes_eq, length, take, take_while};
-ghost use Rattle.sieve_explain.specs.Faults.{is_dark, lexical_blanks, listing_blanks, misplaced_token, mistaken, mistaken_blanks, other_blanks, syntax_blanks, text_at, text_in, too_deep_blanks, too_long_blanks, unclosed_blanks, unit_blanks};
+ghost use Rattle.sieve_explain.specs.Faults.{dark_at, is_dark, lexical_blanks, listing_blanks, misplaced_blanks, misplaced_token, mistaken, mistaken_blanks, other_blanks, syntax_blanks, text_at, text_in, too_deep_blanks, too_long_blanks, unclosed_blanks, unit_blanks};
 ghost use Rattle.sieve_explain.specs.Sentences.{blanks_of};
 
 use crate::places::around;
 use crate::sentence::{Sentence, plain};
+use bytecode_listing::FaultKind;
 use sieve_lexer::{MAX_SCRIPT, Token, TokenKind};
 use sieve_parser::MAX_NESTING;
 
@@ -95,23 +96,49 @@ fn mistaken_sentence<'a>(text: &'static str, other: Sentence<'a>) -> Sentence<'a
     }
 }
 
-/// The sentence for what can't stand where it does in a listing, up to the next blank, or for its end.
-pub fn listing_sentence(rest: &[u8]) -> Sentence<'_>
-    ensures { blanks_of result ≡ listing_blanks rest.now }
+/// The sentence for a listing's fault of that kind, by what stands at its place.
+pub fn listing_sentence(kind: FaultKind, rest: &[u8]) -> Sentence<'_>
+    ensures { blanks_of result ≡ listing_blanks kind rest.now }
+{
+    match kind {
+        FaultKind::Misplaced => misplaced_sentence(rest),
+        FaultKind::SecondLabel => Sentence {
+            name: dark_at(rest),
+            ..plain("the label @ is there a second time: a label stands once")
+        },
+        FaultKind::NoLabel => Sentence {
+            name: dark_at(rest),
+            ..plain("@ is no number, and no label of this listing")
+        },
+        FaultKind::Limits => plain("the program exceeds the limits of programs"),
+    }
+}
+
+// The sentence for what can't stand where it does in a listing, or for its end.
+fn misplaced_sentence(rest: &[u8]) -> Sentence<'_>
+    ensures { blanks_of result ≡ misplaced_blanks rest.now }
 {
     match rest {
-        [] => plain(
-            "the listing ends before its program does, or the program exceeds the limits of programs",
-        ),
+        [] => plain("the listing ends before its program does"),
         [b'"', ..] => plain(
             "no string can stand here, or this one is never closed, too long, or has a backslash without two hexadecimal digits",
         ),
-        [_, others @ ..] => Sentence {
-            name: &rest[..dark_length(others) + 1],
+        _ => Sentence {
+            name: dark_at(rest),
             ..plain(
-                "@ can't stand here: after version and variables stand numbers, strings, and then instructions with their fields; a label stands once, and a name is that of a label",
+                "@ can't stand here: after version and variables stand numbers, strings, and then instructions with their fields",
             )
         },
+    }
+}
+
+// What stands there up to the next blank; nothing at the end.
+fn dark_at(rest: &[u8]) -> &[u8]
+    ensures { result.now ≡ dark_at rest.now }
+{
+    match rest {
+        [] => rest,
+        [_, others @ ..] => &rest[..dark_length(others) + 1],
     }
 }
 

@@ -1,7 +1,8 @@
-//! The laws of explanations: a refusal of a script has one, which can be printed anywhere.
+//! The laws of explanations: a refusal of a script has one, which can be printed anywhere, and so can that of a listing.
 ghost use Rattle.std.specs.Prelude.{◌≡◌, ℕ, IsTrue, List};
+ghost use Rattle.bytecode_listing.specs.declared.error.FaultKind.{FaultKind};
 ghost use Rattle.refusals.specs.declared.refusal.Refusal.{Refusal};
-ghost use Rattle.sieve_explain.specs.Explaining.{Explains};
+ghost use Rattle.sieve_explain.specs.Explaining.{Explains, listing_told};
 ghost use Rattle.sieve_explain.specs.Printable.{are_printable};
 
 use sieve_lexer::laws::tokens_are_unique;
@@ -18,4 +19,9 @@ pub fn explanations_are_unique()
 /// What is told of a refusal is printable characters of ASCII and ends of lines, whoever wrote the script, where the script's name is.
 pub fn explanations_are_printable()
     ensures { (name script : List ℕ) (refusal : Refusal) (text : List ℕ) → IsTrue (are_printable name) → Explains name script refusal text → IsTrue (are_printable text) }
+{}
+
+/// So is what is told of a listing.
+pub fn listing_explanations_are_printable()
+    ensures { (name listing : List ℕ) (place : ℕ) (kind : FaultKind) → IsTrue (are_printable name) → IsTrue (are_printable (listing_told name listing place kind)) }
 {}

@@ -1,6 +1,6 @@
 //! Why a script is refused, in plain words for whoever wrote it.
 //!
-//! [`explanation`] gives the text for a refusal: a line that names the script, the line and the column and says in a sentence
+//! [`explanation`] gives the text for a refusal, [`listing_explanation`] that for the fault of a program's listing: a line that names the script, the line and the column and says in a sentence
 //! what is wrong there, then the line of the script, and a mark under the place. `specs/Explaining` says the text of each refusal,
 //! `specs/Faults`, `specs/Reasons` and `specs/Hints` are its sentences, `specs/Words` is which words are one letter off, `specs/Marks`
 //! what is looked for among the tokens, and `specs/Places` what lines and columns are. Octets of the script are
@@ -19,4 +19,4 @@ mod sentence;
 mod shown;
 mod words;
 
-pub use explaining::explanation;
+pub use explaining::{explanation, listing_explanation};

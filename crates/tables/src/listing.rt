@@ -22,7 +22,7 @@ fn listed(alloc: Global, code: &[u8]) -> Result<Program, Refusal> {
     match assemble(alloc, &listing) {
         Ok(program) => Ok(program),
         Err(ListingError::Memory) => Err(Refusal::Memory),
-        Err(ListingError::Fault { place }) => Err(Refusal::Listing { place }),
+        Err(ListingError::Fault { place, .. }) => Err(Refusal::Listing { place }),
     }
 }
 

@@ -1,21 +1,14 @@
+use Rattle.std.proofs.lemmas.Result.{on_err_weaker}
+use Rattle.depot_cli.specs.Printed.{numbers_text, state_line}
+use Rattle.depot_actions.proofs.Outputs.{broken_first, broken_later, on_err}
 use Rattle.depot_cli.proofs.inspection.put_user.Goals as goal
 
-pub returns-in-Missing-clause-ok : goal.returns-in-Missing-clause-ok
-returns-in-Missing-clause-ok g c = rw (c.in-Missing.is, ← c.as_bytes.ensures.value) c.put_pieces.ensures.ok
+pub returns-in_err-put_numbers-clause-err : goal.returns-in_err-put_numbers-clause-err
+returns-in_err-put_numbers-clause-err g c =
+    on_err c.from_residual.result (broken_first (numbers_text c.args.user.now) (state_line c.args.user.now.program) c.in_err-put_numbers.ensures.err)
 
-pub returns-in-Missing-clause-err : goal.returns-in-Missing-clause-err
-returns-in-Missing-clause-err g c = rw (c.in-Missing.is, ← c.as_bytes.ensures.value) c.put_pieces.ensures.err
-
-pub returns-in-Accepted-clause-ok : goal.returns-in-Accepted-clause-ok
-returns-in-Accepted-clause-ok g c = rw (c.in-Accepted.is, ← c.as_bytes.ensures.value) c.put_pieces-in-Accepted.ensures.ok
-
-pub returns-in-Accepted-clause-err : goal.returns-in-Accepted-clause-err
-returns-in-Accepted-clause-err g c = rw (c.in-Accepted.is, ← c.as_bytes.ensures.value) c.put_pieces-in-Accepted.ensures.err
-
-pub returns-in-Refused-clause-ok : goal.returns-in-Refused-clause-ok
-returns-in-Refused-clause-ok g c =
-    rw (c.in-Refused.is, ← c.as_bytes.ensures.value, ← c.number.ensures, ← c.name.ensures) c.put_pieces-in-Refused.ensures.ok
-
-pub returns-in-Refused-clause-err : goal.returns-in-Refused-clause-err
-returns-in-Refused-clause-err g c =
-    rw (c.in-Refused.is, ← c.as_bytes.ensures.value, ← c.number.ensures, ← c.name.ensures) c.put_pieces-in-Refused.ensures.err
+pub returns-clause-err : goal.returns-clause-err
+returns-clause-err g c =
+    on_err_weaker c.put_state.result
+    (λ last. broken_later (numbers_text c.args.user.now) (state_line c.args.user.now.program) c.in_ok-put_numbers.ensures.ok last)
+    c.put_state.ensures.err
