@@ -36,3 +36,6 @@ mod Asked
 mod Failing
 mod Readable
 mod Shown
+mod Stopped
+mod Parents
+mod Deleting

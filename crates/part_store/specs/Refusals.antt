@@ -1,15 +1,18 @@
 -- How the database's errors are answered, and where it refuses.
-use Rattle.std.specs.Prelude.{◌≡◌, ◌⊎◌, ℕ, ◌^◌, ◌<◌, pos, false, List, [], ◌∷◌, Option, IsSome, IsUtf8}
+use Rattle.std.specs.Prelude.{◌≡◌, ◌⊎◌, ℕ, ◌^◌, ◌<◌, pos, false, List, [], ◌∷◌, Option, IsSome, IsTrue, IsUtf8}
 use Rattle.std.specs.List.{AllByRecursion}
 use Rattle.sqlite_value.specs.declared.value.Value.TheVariants.{Int, Text, Blob}
 use Rattle.sqlite_value.specs.Order.{Row, column}
-use Rattle.sqlite_trees.specs.Tree.{Trees}
+use Rattle.sqlite_trees.specs.Tree.{Trees, rowid, IsTable}
+use Rattle.sqlite_trees.specs.View.{is_int}
+use Rattle.sqlite_rules.specs.Lists.{Has}
 use Rattle.sqlite.specs.Values.{or_null}
 use Rattle.sqlite.specs.declared.error.ErrorCode.TheVariants.{OutOfMemory}
 use Rattle.sqlite.specs.declared.error.Error.{Error}
 use Rattle.sqlite.specs.declared.error.Error.TheVariants.{SqliteFailure}
+use Rattle.sqlite.specs.Effect.{IsDatabase}
 use Rattle.sqlite.specs.State.{State}
-use Rattle.part_store.specs.Changes.{users_tree}
+use Rattle.part_store.specs.Changes.{users_tree, entries_tree, equals}
 use Rattle.part_store.specs.Entries.{Entries}
 use Rattle.part_store.specs.Standing.{DiskFailed, Stands}
 use Rattle.part_store.specs.Tables.{store_schema}
@@ -32,6 +35,24 @@ Blames old new e = e ≡ Database → (before : Entries) → Stands old.now befo
 -- where there are the three tables, a statement is refused for no other cause
 abbrev pub Faults : State → State → Error → Type 0
 Faults old new e = refusal_of e ≡ Database → old.now.schema ≡ store_schema → HasFailed old new
+
+-- in a transaction, the database has the three tables and obeys them
+pub record IsWritable (s : State) : Type 0 where
+  pub inside : IsTrue s.in_transaction
+  pub schema : s.now.schema ≡ store_schema
+  pub listed : IsDatabase s.now
+
+-- the rows of a table have rowids, which rise
+abbrev pub IsTableIn : ℕ → Trees → Type 0
+IsTableIn tree db = IsTable (db tree) × AllByRecursion (λ r. IsTrue (is_int (rowid r))) (db tree)
+
+-- no entry names the digest
+abbrev pub IsUnnamed : List ℕ → Trees → Type 0
+IsUnnamed digest db = (r : Row) → Has (db entries_tree) r → equals 7 (Blob digest) r ≡ false
+
+-- there a statement that writes is refused for no other cause
+abbrev pub WriteFaults : State → State → Error → Type 0
+WriteFaults old new e = refusal_of e ≡ Database → IsWritable old → HasFailed old new
 
 -- each user's name is UTF-8, as is each that a store was given
 abbrev pub AreNamed : Trees → Type 0
