@@ -39,3 +39,6 @@ mod Shown
 mod Stopped
 mod Parents
 mod Deleting
+mod Causes
+mod Inserting
+mod Fitting

@@ -25,7 +25,7 @@ use Rattle.sqlite_schema.specs.declared.command.Command.TheVariants.{Insert, Del
 use Rattle.sqlite_rules.specs.declared.error.Rowids.TheVariants.{Chosen, Given}
 use Rattle.sqlite_rules.specs.Cast.{cast, cast_row}
 use Rattle.sqlite_rules.specs.Lists.{Has}
-use Rattle.sqlite_rules.specs.Edit.{Applies, id_in, numbered, with_rowid, are_fresh, put_all, edit_of, without_all, taken_by}
+use Rattle.sqlite_rules.specs.Edit.{Applies, Edit, id_in, numbered, with_rowid, are_fresh, put_all, edit_of, without_all, taken_by}
 use Rattle.sqlite_rules.specs.Action.{works, work_by, pairs, deed_for}
 use Rattle.sqlite_rules.specs.Action as action
 use Rattle.sqlite_rules.specs.Calls.{ids_of}
@@ -109,14 +109,23 @@ module _ (at tree : ℕ) (name : List ℕ) (columns : List Column) (key : List �
   abbrev table : Table
   table = record (keyed name columns key references) { tree = tree }
 
-  put_one : (db next : Trees) (rows : List Row) (source values : Row) → rows ≡ source ∷ [] → cast_row (table) (drop 0 source) ≡ Null ∷ values
-      → action.Writes store_schema Enforced db (edit_of db (table) [] Chosen 0 rows) (Ok next) → IsAdded tree values db next
-  put_one db next rows source values sources casts h =
-      let edit = edit_of db (table) [] Chosen 0 rows in
-      let applied = one_step store_schema Enforced db next edit (no_works tree (taken_by db edit) edit.news) h in
-      let news : edit.news ≡ new_row (db tree) values ∷ [] = ap (λ all. numbered Chosen (db tree) (map (λ s. cast_row (table) (drop 0 s)) all)) sources ∙ ap (λ row. with_rowid Chosen (db tree) row ∷ []) casts in
+  abbrev insertion : Trees → List Row → Edit
+  insertion db rows = edit_of db (table) [] Chosen 0 rows
+
+  -- the new row is the source's, with the next rowid
+  pub put_is : (db : Trees) (rows : List Row) (source values : Row) → rows ≡ source ∷ [] → cast_row (table) (drop 0 source) ≡ Null ∷ values → (insertion db rows).news ≡ new_row (db tree) values ∷ []
+  put_is db rows source values sources casts = ap (λ all. numbered Chosen (db tree) (map (λ s. cast_row (table) (drop 0 s)) all)) sources ∙ ap (λ row. with_rowid Chosen (db tree) row ∷ []) casts
+
+  pub added_next : (db next : Trees) (rows : List Row) (values : Row) → (insertion db rows).news ≡ new_row (db tree) values ∷ [] → Applies store_schema Enforced db (insertion db rows) next → IsAdded tree values db next
+  added_next db next rows values news applied =
       let free = subst (λ n. are_fresh (db tree) n ≡ true) news applied.fresh in
       record { free = not-true _ (and_parts _ _ free).0; rows = applied.rows ∙ ap (put_all (db tree)) news; others = applied.tables }
+
+  put_one : (db next : Trees) (rows : List Row) (source values : Row) → rows ≡ source ∷ [] → cast_row (table) (drop 0 source) ≡ Null ∷ values
+      → action.Writes store_schema Enforced db (insertion db rows) (Ok next) → IsAdded tree values db next
+  put_one db next rows source values sources casts h =
+      let edit = insertion db rows in
+      added_next db next rows values (put_is db rows source values sources casts) (one_step store_schema Enforced db next edit (no_works tree (taken_by db edit) edit.news) h)
 
   module _ (db : Trees) (params : Row) (tests : List Term) where
     abbrev pub test : Row → Bool

@@ -5,6 +5,9 @@ use Rattle.sqlite_value.specs.declared.value.Value.TheVariants.{Int, Text, Blob}
 use Rattle.sqlite_value.specs.Order.{Row, column}
 use Rattle.sqlite_trees.specs.Tree.{Trees, rowid, IsTable}
 use Rattle.sqlite_trees.specs.View.{is_int}
+use Rattle.sqlite_sql.specs.Ops.{fits_i64}
+use Rattle.sqlite_schema.specs.declared.schema.Table.{Table}
+use Rattle.sqlite_rules.specs.Edit.{next_rowid, IsOversized}
 use Rattle.sqlite_rules.specs.Lists.{Has}
 use Rattle.sqlite.specs.Values.{or_null}
 use Rattle.sqlite.specs.declared.error.ErrorCode.TheVariants.{OutOfMemory}
@@ -12,7 +15,7 @@ use Rattle.sqlite.specs.declared.error.Error.{Error}
 use Rattle.sqlite.specs.declared.error.Error.TheVariants.{SqliteFailure}
 use Rattle.sqlite.specs.Effect.{IsDatabase}
 use Rattle.sqlite.specs.State.{State}
-use Rattle.part_store.specs.Changes.{users_tree, entries_tree, equals}
+use Rattle.part_store.specs.Changes.{users_tree, entries_tree, equals, new_row}
 use Rattle.part_store.specs.Entries.{Entries}
 use Rattle.part_store.specs.Standing.{DiskFailed, Stands}
 use Rattle.part_store.specs.Tables.{store_schema}
@@ -50,9 +53,21 @@ IsTableIn tree db = IsTable (db tree) × AllByRecursion (λ r. IsTrue (is_int (r
 abbrev pub IsUnnamed : List ℕ → Trees → Type 0
 IsUnnamed digest db = (r : Row) → Has (db entries_tree) r → equals 7 (Blob digest) r ≡ false
 
+-- no row is the user's
+abbrev pub HasNoRow : List ℕ → Trees → Type 0
+HasNoRow user db = (r : Row) → Has (db users_tree) r → equals 1 (Text user) r ≡ false
+
 -- there a statement that writes is refused for no other cause
 abbrev pub WriteFaults : State → State → Error → Type 0
 WriteFaults old new e = refusal_of e ≡ Database → IsWritable old → HasFailed old new
+
+-- a new row of these values has no room: its table has no rowid left, or the row or its key in an index is more than can be stored
+abbrev pub HasNoRoom : Table → Row → Trees → Type 0
+HasNoRoom table values db = (fits_i64 (next_rowid (db table.tree)) ≡ false) ⊎ IsOversized store_schema table (new_row (db table.tree) values)
+
+-- there a new row of these values is refused for no other cause
+abbrev pub AddFaults : Table → Row → State → State → Error → Type 0
+AddFaults table values old new e = refusal_of e ≡ Database → IsWritable old → HasFailed old new ⊎ HasNoRoom table values old.now.trees
 
 -- each user's name is UTF-8, as is each that a store was given
 abbrev pub AreNamed : Trees → Type 0
