@@ -42,7 +42,7 @@ use Rattle.part_store.proofs.Asked.{over}
 use Rattle.part_store.proofs.Runs.{and_true, taken_as}
 use Rattle.part_store.proofs.Meaning.{alone, is_given, drop_user_query, drop_user_is, drop_content_query, drop_content_is, drop_entry_query, drop_entry_is}
 use Rattle.part_store.proofs.Parents.{HasParent, all_refer, refers, parent_stays, other_content}
-use Rattle.part_store.proofs.Stopped.{at_once, stops_in, edit_stops, delete_writes, stopped, Stops}
+use Rattle.part_store.proofs.Stopped.{at_once, err_not_ok, stops_in, edit_stops, delete_writes, stopped, Stops}
 use Rattle.part_store.proofs.Writes.{no_works, same_value, taken_next, went}
 
 pub tree_set : (db : Trees) (t : ℕ) (rows : List Row) → with_tree db t rows t ≡ rows
@@ -109,7 +109,7 @@ module _ (limit : Option ℕ) (params : Row) (db : Trees) (text : List ℕ) (at 
             | inl asks ↦ queried answers stop asks
             | inr answer ↦ elim (stops_in answer.2) [
               | inl edits ↦ absurd (never_stops answer.0 stop edits)
-              | inr done ↦ absurd (let e = done.2 in cc)
+              | inr done ↦ absurd (err_not_ok done.2)
             ]
           ]
           | inr written ↦
@@ -122,7 +122,7 @@ module _ (limit : Option ℕ) (params : Row) (db : Trees) (text : List ℕ) (at 
               let held = keeps rows edits.0 (answer.1.answer Null) applied in
               elim (stops_in written.2) [
                 | inl tested ↦ absurd (tested.0 (subst (Refers All store_schema) (sym whole) held))
-                | inr sure ↦ elim (stops_in sure.2) [ inl shows ↦ absurd (let e = shows in cc) | inr ends ↦ absurd (let e = ends.2 in cc) ]
+                | inr sure ↦ elim (stops_in sure.2) [ inl shows ↦ absurd (err_not_ok shows) | inr ends ↦ absurd (err_not_ok ends.2) ]
               ]
         ]
 
@@ -189,7 +189,7 @@ limited sql params old new q at has only (inl disk) = disk
 limited sql params old new q at has only (inr stops) =
     inr (inr (only stops.0 stops.1 (subst (λ s. Does old.step_limit at_once params (record old.now { schema = s }) stops.0 None (Delete at (alone q)) (Err stops.1)) has stops.2)))
 
-obeyed : (s : State) (can : IsWritable s) → Obeys store_schema s.now.trees
+pub obeyed : (s : State) (can : IsWritable s) → Obeys store_schema s.now.trees
 obeyed s can = subst (λ t. Obeys t s.now.trees) can.schema can.listed.obeys
 
 module _ (old new : State) (e : Error) (told : refusal_of e ≡ refused) (can : IsWritable old) where

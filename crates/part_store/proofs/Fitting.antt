@@ -1,7 +1,6 @@
 -- What keeps a new row out of each of the three tables.
-use Rattle.std.proofs.Common.{◌≡◌, ◌⊎◌, inl, inr, ℕ, pos, Bool, true, false, ◌&&◌, List, [], ◌∷◌, Option, Some, None, Err, refl, sym, ap, subst, ◌∙◌, length, codes, IsSome, arith}
-use Rattle.std.specs.Prelude.{Bor}
-use Rattle.std.proofs.lemmas.Bool.{and_left, or_right}
+use Rattle.std.proofs.Common.{◌≡◌, ◌⊎◌, inl, inr, ℕ, pos, Bool, true, false, ◌&&◌, List, [], ◌∷◌, Option, Some, None, Err, refl, sym, ap, subst, ◌∙◌, length, codes, Bor, IsSome, arith}
+use Rattle.std.proofs.lemmas.Bool.{true≢false, and_left, or_right}
 use Rattle.sqlite_value.specs.declared.keys.Collation.TheVariants.{Binary}
 use Rattle.sqlite_value.specs.declared.value.Value.TheVariants.{Null, Int, Text, Blob}
 use Rattle.sqlite_value.specs.Keys.{first_key, plain}
@@ -9,7 +8,6 @@ use Rattle.sqlite_value.specs.Order.{Row, column}
 use Rattle.sqlite_trees.specs.Tree.{Trees}
 use Rattle.sqlite_sql.specs.Ops.{binary}
 use Rattle.sqlite_sql.specs.Term.{Term, lit, col}
-use Rattle.sqlite_typing.specs.Types.{accepts_terms}
 use Rattle.sqlite_schema.specs.Rules.{agree, clashes, equal, passes, Obeys, Refers, references_fit}
 use Rattle.sqlite_schema.specs.declared.schema.Among.TheVariants.{All}
 use Rattle.sqlite_schema.specs.declared.schema.Constraint.TheVariants.{Datatype, NotNull}
@@ -23,6 +21,7 @@ use Rattle.sqlite_rules.specs.Lists.{Has}
 use Rattle.sqlite_rules.proofs.ListLemmas.{some_from}
 use Rattle.sqlite_tied.specs.Compute.{everything}
 use Rattle.sqlite.specs.Does.{Does}
+use Rattle.sqlite.specs.Effect.{RefusesSource}
 use Rattle.sqlite.specs.Listing.{understood}
 use Rattle.sqlite.specs.State.{State, ExecutesInside}
 use Rattle.sqlite.specs.Values.{or_null}
@@ -66,10 +65,11 @@ add_user_asked : IsAsked (understood store_schema add_user_text) add_user_text 3
 unfolding understood everything
 add_user_asked = (omega arith, refl)
 
-user_accepted : (user : List ℕ) (last : ℕ) (program : Option (Bor (List ℕ))) → accepts_terms user_terms (Text user ∷ Int (pos last) ∷ or_null (λ octets. Blob octets.now) program ∷ []) ≡ true
+user_accepted : (user : List ℕ) (last : ℕ) (program : Option (Bor (List ℕ))) (limit : Option ℕ) (db : Trees) (e : Error)
+    → RefusesSource limit (record { schema = store_schema; trees = db }) (Text user ∷ Int (pos last) ∷ or_null (λ octets. Blob octets.now) program ∷ []) (Values user_terms 4) e → IsSome limit
 unfolding everything
-user_accepted user last None = refl
-user_accepted user last (Some octets) = refl
+user_accepted user last None limit db e h = elim h [ inl untyped ↦ absurd (true≢false untyped.1) | inr steps ↦ steps.1 ]
+user_accepted user last (Some octets) limit db e h = elim h [ inl untyped ↦ absurd (true≢false untyped.1) | inr steps ↦ steps.1 ]
 
 users_fit : (b : Bool) → references_fit store_schema users_table b false ≡ true
 unfolding everything
@@ -90,16 +90,14 @@ unfolding binary first_key
 one_key r new value is none = and_left _ _ (ap (λ v. equals 1 v r) is ∙ none)
 
 module _ (old new : State) (e : Error) (told : refusal_of e ≡ refused) (can : IsWritable old) where
-  abbrev db : Trees
-  db = old.now.trees
-
-  pub user_fits : (user : List ℕ) (last : ℕ) (program : Option (Bor (List ℕ))) → IsTableIn users_tree db → ((r : Row) → Has (db users_tree) r → equals 1 (Text user) r ≡ false)
+  pub user_fits : (user : List ℕ) (last : ℕ) (program : Option (Bor (List ℕ))) → IsTableIn users_tree old.now.trees → ((r : Row) → Has (old.now.trees users_tree) r → equals 1 (Text user) r ≡ false)
       → ExecutesInside 0 add_user_text (Text user ∷ Int (pos last) ∷ or_null (λ octets. Blob octets.now) program ∷ []) old new (Err e)
-      → HasFailed old new ⊎ HasNoRoom users_table (Text user ∷ Int (pos last) ∷ or_null (λ octets. Blob octets.now) program ∷ []) db
+      → HasFailed old new ⊎ HasNoRoom users_table (Text user ∷ Int (pos last) ∷ or_null (λ octets. Blob octets.now) program ∷ []) old.now.trees
   user_fits user last program table none h =
+      let db = old.now.trees in
       let values : Row = Text user ∷ Int (pos last) ∷ or_null (λ octets. Blob octets.now) program ∷ [] in
       limited values old new 0 (Values user_terms 4) users_table values can.schema
-      (λ text. insert_limited 0 0 (codes "users") user_columns (1 ∷ []) [] refl old.step_limit values db text user_terms 4 (Null ∷ values) values refl (rw (cast_null, cast_int)) (user_accepted user last program)
+      (λ text. insert_limited 0 0 (codes "users") user_columns (1 ∷ []) [] refl old.step_limit values db text user_terms 4 (Null ∷ values) values refl (rw (cast_null, cast_int)) (user_accepted user last program old.step_limit db)
       (obeyed old can) table.0 table.1 users_fit (user_typed db user last program) refl
       (λ next split. users_unique next (new_row (db users_tree) values)
       (clash_free plain (1 ∷ []) (db users_tree) (next users_tree) (new_row (db users_tree) values) (next_rowid (db users_tree)) refl split (λ r k. one_key r (new_row (db users_tree) values) (Text user) refl (none r k))))
@@ -117,9 +115,9 @@ add_content_asked : IsAsked (understood store_schema add_content_text) add_conte
 unfolding understood everything
 add_content_asked = (omega arith, refl)
 
-content_accepted : (digest octets : List ℕ) → accepts_terms content_terms (Blob digest ∷ Blob octets ∷ []) ≡ true
+content_accepted : (digest octets : List ℕ) (limit : Option ℕ) (db : Trees) (e : Error) → RefusesSource limit (record { schema = store_schema; trees = db }) (Blob digest ∷ Blob octets ∷ []) (Values content_terms 3) e → IsSome limit
 unfolding everything
-content_accepted digest octets = refl
+content_accepted digest octets limit db e h = elim h [ inl untyped ↦ absurd (true≢false untyped.1) | inr steps ↦ steps.1 ]
 
 contents_fit : (b : Bool) → references_fit store_schema contents_table b false ≡ true
 unfolding everything
@@ -135,16 +133,14 @@ unfolding everything
 contents_unique next new free = rw free
 
 module _ (old new : State) (e : Error) (told : refusal_of e ≡ refused) (can : IsWritable old) where
-  abbrev db : Trees
-  db = old.now.trees
-
-  pub content_fits : (digest octets : List ℕ) → IsTableIn contents_tree db → ((r : Row) → Has (db contents_tree) r → equals 1 (Blob digest) r ≡ false)
-      → ExecutesInside 0 add_content_text (Blob digest ∷ Blob octets ∷ []) old new (Err e) → HasFailed old new ⊎ HasNoRoom contents_table (Blob digest ∷ Blob octets ∷ []) db
+  pub content_fits : (digest octets : List ℕ) → IsTableIn contents_tree old.now.trees → ((r : Row) → Has (old.now.trees contents_tree) r → equals 1 (Blob digest) r ≡ false)
+      → ExecutesInside 0 add_content_text (Blob digest ∷ Blob octets ∷ []) old new (Err e) → HasFailed old new ⊎ HasNoRoom contents_table (Blob digest ∷ Blob octets ∷ []) old.now.trees
   content_fits digest octets table none h =
+      let db = old.now.trees in
       let values : Row = Blob digest ∷ Blob octets ∷ [] in
       let row = new_row (db contents_tree) values in
       limited values old new 1 (Values content_terms 3) contents_table values can.schema
-      (λ text. insert_limited 1 2 (codes "contents") content_columns (1 ∷ []) [] refl old.step_limit values db text content_terms 3 (Null ∷ values) values refl (rw cast_null) (content_accepted digest octets)
+      (λ text. insert_limited 1 2 (codes "contents") content_columns (1 ∷ []) [] refl old.step_limit values db text content_terms 3 (Null ∷ values) values refl (rw cast_null) (content_accepted digest octets old.step_limit db)
       (obeyed old can) table.0 table.1 contents_fit (content_typed db digest octets) refl
       (λ next split. contents_unique next row (clash_free plain (1 ∷ []) (db contents_tree) (next contents_tree) row (next_rowid (db contents_tree)) refl split (λ r k. one_key r row (Blob digest) refl (none r k))))
       (λ rows next news applied.
@@ -165,9 +161,10 @@ add_entry_asked : IsAsked (understood store_schema add_entry_text) add_entry_tex
 unfolding understood everything
 add_entry_asked = (omega arith, refl)
 
-entry_accepted : (user : List ℕ) (number : ℕ) (folder : List ℕ) (kind : ℕ) (name media digest : List ℕ) → accepts_terms entry_terms (entry_row user number folder kind name media digest) ≡ true
+entry_accepted : (user : List ℕ) (number : ℕ) (folder : List ℕ) (kind : ℕ) (name media digest : List ℕ) (limit : Option ℕ) (db : Trees) (e : Error)
+    → RefusesSource limit (record { schema = store_schema; trees = db }) (entry_row user number folder kind name media digest) (Values entry_terms 8) e → IsSome limit
 unfolding everything
-entry_accepted user number folder kind name media digest = refl
+entry_accepted user number folder kind name media digest limit db e h = elim h [ inl untyped ↦ absurd (true≢false untyped.1) | inr steps ↦ steps.1 ]
 
 entries_fit : (b : Bool) → references_fit store_schema entries_table b false ≡ true
 unfolding everything
@@ -198,18 +195,16 @@ new_parent next new digest octets is h =
     or_right _ _ (some_from (λ p. is_parent p new) (next contents_tree) (content_row h.0 digest octets) h.1 (parent_is (content_row h.0 digest octets) new digest refl is))
 
 module _ (old new : State) (e : Error) (told : refusal_of e ≡ refused) (can : IsWritable old) where
-  abbrev db : Trees
-  db = old.now.trees
-
-  pub entry_fits : (user : List ℕ) (number : ℕ) (folder : List ℕ) (kind : ℕ) (name media digest octets : List ℕ) → IsTableIn entries_tree db
-      → ((r : Row) → Has (db entries_tree) r → is_entry user number r ≡ false) → HasContent (db contents_tree) digest octets
-      → ExecutesInside 0 add_entry_text (entry_row user number folder kind name media digest) old new (Err e) → HasFailed old new ⊎ HasNoRoom entries_table (entry_row user number folder kind name media digest) db
+  pub entry_fits : (user : List ℕ) (number : ℕ) (folder : List ℕ) (kind : ℕ) (name media digest octets : List ℕ) → IsTableIn entries_tree old.now.trees
+      → ((r : Row) → Has (old.now.trees entries_tree) r → is_entry user number r ≡ false) → HasContent (old.now.trees contents_tree) digest octets
+      → ExecutesInside 0 add_entry_text (entry_row user number folder kind name media digest) old new (Err e) → HasFailed old new ⊎ HasNoRoom entries_table (entry_row user number folder kind name media digest) old.now.trees
   entry_fits user number folder kind name media digest octets table none held h =
+      let db = old.now.trees in
       let values = entry_row user number folder kind name media digest in
       let row = new_row (db entries_tree) values in
       limited values old new 2 (Values entry_terms 8) entries_table values can.schema
       (λ text. insert_limited 2 4 (codes "entries") entry_columns (1 ∷ 2 ∷ []) entry_references refl old.step_limit values db text entry_terms 8 (Null ∷ values) values refl
-      (rw (cast_null, cast_int (pos number), cast_int (pos kind))) (entry_accepted user number folder kind name media digest)
+      (rw (cast_null, cast_int (pos number), cast_int (pos kind))) (entry_accepted user number folder kind name media digest old.step_limit db)
       (obeyed old can) table.0 table.1 entries_fit (entry_typed db user number folder kind name media digest) refl
       (λ next split. entries_unique next row
       (clash_free plain (1 ∷ 2 ∷ []) (db entries_tree) (next entries_tree) row (next_rowid (db entries_tree)) refl split (λ r k. entry_key r row user number refl refl (none r k))))

@@ -1,6 +1,7 @@
 -- Why an INSERT is refused: a new row under a free key keeps the rules of the three tables.
-use Rattle.std.proofs.Common.{◌≡◌, ◌≢◌, ◌⊎◌, inl, inr, ℕ, ◌/◌, ℤ, pos, Bool, true, false, not, ◌&&◌, List, [], ◌∷◌, drop, length, append-nil, Option, Some, None, Ok, Err, Result, refl, sym, ap, subst, ◌∙◌, slice_get, IsSome, IsTrue, codes, is_ne, arith}
+use Rattle.std.proofs.Common.{◌≡◌, ◌≢◌, ◌⊎◌, inl, inr, ℕ, ◌/◌, ℤ, pos, Bool, true, false, not, ◌&&◌, List, [], ◌∷◌, drop, length, append-nil, Option, Some, None, Ok, Err, Result, refl, sym, ap, subst, ◌∙◌, slice_get, IsSome, IsTrue, codes, arith}
 use Rattle.std.specs.List.{AllByRecursion, list_all}
+use Rattle.std.specs.Ordering.{is_ne}
 use Rattle.std.proofs.lemmas.Bool.{true≢false, and_cases, and_parts, not_from_false, false_from_ne_true}
 use Rattle.std.proofs.lemmas.Cmp.{tied_itself}
 use Rattle.sqlite_value.specs.declared.keys.Order.{Order}
@@ -12,7 +13,6 @@ use Rattle.sqlite_trees.specs.Tree.{Trees, rowid, IsTable, with_tree}
 use Rattle.sqlite_trees.specs.View.{is_int}
 use Rattle.sqlite_sql.specs.Ops.{binary, fits_i64, from_truth, is_true}
 use Rattle.sqlite_sql.specs.Term.{Term, lit, col}
-use Rattle.sqlite_typing.specs.Types.{accepts_terms}
 use Rattle.sqlite_schema.specs.Rules.{agree, clashes, differ, passes, Keeps, Obeys, Refers, references_fit}
 use Rattle.sqlite_schema.specs.declared.schema.Among.TheVariants.{All}
 use Rattle.sqlite_schema.specs.declared.schema.Column.{Column}
@@ -44,7 +44,7 @@ use Rattle.part_store.specs.Refusals.{HasNoRoom}
 use Rattle.part_store.specs.Tables.{keyed, store_schema}
 use Rattle.part_store.specs.Changes.{new_row}
 use Rattle.part_store.proofs.Deleting.{tree_set, tree_spared, trees_apart}
-use Rattle.part_store.proofs.Stopped.{at_once, stops_in, edit_stops}
+use Rattle.part_store.proofs.Stopped.{at_once, err_not_ok, stops_in, edit_stops}
 use Rattle.part_store.proofs.Writes.{no_works, put_is, same_value, went}
 
 told : (b : Bool) → is_true (from_truth (Some b)) ≡ b
@@ -72,7 +72,7 @@ module _ (at tree : ℕ) (name : List ℕ) (columns : List Column) (key : List �
   table = record (keyed name columns key references) { tree = tree }
 
   module _ (limit : Option ℕ) (params : Row) (db : Trees) (text : List ℕ) (terms : List Term) (width : ℕ) (source values : Row) (one : value_rows params width (length terms / width) terms ≡ source ∷ [])
-      (casts : cast_row (table) (drop 0 source) ≡ Null ∷ values) (accepts : accepts_terms terms params ≡ true) (obeys : Obeys store_schema db) (rises : IsTable (db tree))
+      (casts : cast_row (table) (drop 0 source) ≡ Null ∷ values) (accepts : (e : Error) → RefusesSource limit (record { schema = store_schema; trees = db }) params (Values terms width) e → IsSome limit) (obeys : Obeys store_schema db) (rises : IsTable (db tree))
       (keyed_in : AllByRecursion (λ r. IsTrue (is_int (rowid r))) (db tree)) (fit : (b : Bool) → references_fit store_schema (table) b false ≡ true)
       (typed : passes Datatype store_schema db (table) (new_row (db tree) values) ≡ true) (present : passes NotNull store_schema db (table) (new_row (db tree) values) ≡ true)
       (unique : (next : Trees) → ((x : Row) → Has (next tree) x → (x ≡ new_row (db tree) values) ⊎ Has (db tree) x) → are_unique store_schema.indexes next (table) (new_row (db tree) values ∷ []) ≡ true) where
@@ -87,7 +87,7 @@ module _ (at tree : ℕ) (name : List ℕ) (columns : List Column) (key : List �
 
     module _ (rows : List Row) (news : (insertion rows).news ≡ new ∷ []) where
       passed : (p : Row → Bool) → p new ≡ true → list_all p (insertion rows).news ≡ false → ⊥
-      passed p yes no = true≢false (sym (ap (list_all p) news ∙ ap (λ b. b && true) yes) ∙ no)
+      passed p holds fails = true≢false (sym (ap (list_all p) news ∙ ap (λ b. b && true) holds) ∙ fails)
 
       free : are_fresh (db tree) (insertion rows).news ≡ true
       free = ap (are_fresh (db tree)) news ∙ ap (λ b. not b && true) (next_is_free Chosen (db tree) values rises keyed_in)
@@ -98,9 +98,9 @@ module _ (at tree : ℕ) (name : List ℕ) (columns : List Column) (key : List �
           let next = with_tree db tree after in
           let is = tree_set db tree after in
           let turned = turns store_schema db next (insertion rows) trees_apart (has_got store_schema.tables at (table) there) rises free is
-              (all_from _ store_schema.tables (λ t _ apart. tree_spared db tree after t.tree apart)) in
+              (all_from (λ t. t.tree ≢ tree → next t.tree ≡ db t.tree) store_schema.tables (λ t known apart. tree_spared db tree after t.tree apart)) in
           let put : after ≡ put_all (db tree) (new ∷ []) = ap (put_all (db tree)) news in
-          unique_kept store_schema db next (table) _ _ (insertion rows).news turned
+          unique_kept store_schema db next (table) (left_by db (insertion rows)) (taken_by db (insertion rows)) (insertion rows).news turned
           (ap (are_unique store_schema.indexes next (table)) news ∙ unique next (λ x h. put_has new (db tree) x (subst (λ l. Has l x) (is ∙ put) h))) (obeys.rules Unique)
 
       refused : (why : Refusal) → IsRefused store_schema Enforced db (insertion rows) why → fits_i64 (next_rowid (db tree)) ≡ false
@@ -111,7 +111,7 @@ module _ (at tree : ℕ) (name : List ℕ) (columns : List Column) (key : List �
       refused (Violates Unique) h = absurd (h keeps_unique)
       refused (Violates ForeignKey) h = absurd h
       refused Mismatch h = absurd (passed (λ r. is_int (rowid r)) refl h)
-      refused NoRowid h = elim (and_cases _ _ (sym (ap (list_all (λ r. fits_i64 (id_in (rowid r)))) news) ∙ h)) [ inl none ↦ none | inr no ↦ absurd (true≢false no) ]
+      refused NoRowid h = elim (and_cases _ _ (sym (ap (list_all (λ r. fits_i64 (id_in (rowid r)))) news) ∙ h)) [ inl none ↦ none | inr fails ↦ absurd (true≢false fails) ]
       refused BadReference h = absurd (true≢false (sym (fit _) ∙ h))
       refused TooDeep h = absurd h
 
@@ -123,8 +123,7 @@ module _ (at tree : ℕ) (name : List ℕ) (columns : List Column) (key : List �
 
     sourced : (stop : Option Error) (given : Row) → given ≡ params → Sourced limit here given (Values terms width) (Err stop) → IsSome limit
     sourced None given same h = absurd h
-    sourced (Some e) given same (inl untyped) = absurd (true≢false (sym accepts ∙ ap (accepts_terms terms) (sym same) ∙ untyped.1))
-    sourced (Some e) given same (inr steps) = steps.1
+    sourced (Some e) given same h = accepts e (subst (λ p. RefusesSource limit here p (Values terms width) e) same h)
 
     -- a limit on steps, or want of room
     pub insert_limited : ((rows : List Row) (next : Trees) → (insertion rows).news ≡ new ∷ [] → Applies store_schema Enforced db (insertion rows) next → Refers All store_schema next)
@@ -136,10 +135,10 @@ module _ (at tree : ℕ) (name : List ℕ) (columns : List Column) (key : List �
             | inr given ↦
                 let news = put_is at tree name columns key references there db given.0 source values ((subst (λ p. IsSource here p (Values terms width) given.0) (append-nil params) given.1).1 ∙ one) casts in
                 elim (stops_in given.2) [
-                  | inl counts ↦ absurd (let e = counts in cc)
+                  | inl counts ↦ absurd (err_not_ok counts)
                   | inr on ↦ elim (stops_in on.2) [
                     | inl edits ↦ inr (edit_refused given.0 news stop edits)
-                    | inr went ↦ elim (stops_in went.2) [ inl counts ↦ absurd (let e = counts in cc) | inr ends ↦ absurd (let e = ends.2 in cc) ]
+                    | inr mid ↦ elim (stops_in mid.2) [ inl counts ↦ absurd (err_not_ok counts) | inr ends ↦ absurd (err_not_ok ends.2) ]
                   ]
                 ]
           ]
@@ -153,6 +152,6 @@ module _ (at tree : ℕ) (name : List ℕ) (columns : List Column) (key : List �
               let whole : written.0.trees ≡ edits.0 = ap (λ (it : Written). it.trees) (same_value counted.2) ∙ same_value counted.1 in
               elim (stops_in written.2) [
                 | inl tested ↦ absurd (tested.0 (subst (Refers All store_schema) (sym whole) (keeps given.0 edits.0 news applied)))
-                | inr sure ↦ elim (stops_in sure.2) [ inl shows ↦ absurd (let e = shows in cc) | inr ends ↦ absurd (let e = ends.2 in cc) ]
+                | inr sure ↦ elim (stops_in sure.2) [ inl shows ↦ absurd (err_not_ok shows) | inr ends ↦ absurd (err_not_ok ends.2) ]
               ]
         ]

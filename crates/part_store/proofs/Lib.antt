@@ -42,3 +42,4 @@ mod Deleting
 mod Causes
 mod Inserting
 mod Fitting
+mod Room

@@ -96,6 +96,9 @@ pub stops_in : {A E R : Type 0} {First : E → Type 0} {stop : E} → ((s : E) �
 stops_in {First = First} {stop = stop} (inl h) = let same : h.0 ≡ stop = cc in inl (subst First same h.1)
 stops_in (inr on) = inr on
 
+pub err_not_ok : {A E : Type 0} {a : A} {e : E} → ◌≡◌ {A = Result A E} (Err e) (Ok a) → ⊥
+err_not_ok h = cc
+
 -- where no foreign key acts, an edit stops at its one step
 pub edit_stops : (db : Trees) (edit : Edit) (why : Option Refusal) → Writes store_schema Enforced db edit (Err why)
     → ((it : Refusal) × IsRefused store_schema Enforced db edit it) ⊎ ((row : Row) × Has edit.news row × IsOversized store_schema edit.table row)

@@ -5,7 +5,7 @@ ghost use Rattle.sqlite.specs.State.{HasCleanDisk, KeepsCommit, Survives};
 ghost use Rattle.part_store.specs.Tables.{no_schema, store_schema};
 ghost use Rattle.part_store.specs.Entries.{AreProgramsOf, entries_of, listing_of, no_entries, with_entries, with_program, with_programs, without_entry};
 ghost use Rattle.part_store.specs.Standing.{Brings, IsStored, Makes, MayMake, Spares, Stays, Stands, HasContent, IsEntryAt, HasNone, NamesDigest, IsTidied, draft_of, listed, pair_of};
-ghost use Rattle.part_store.specs.Refusals.{refusal_of, Blames, BlamesNamed, HasFailed, IsTableIn, WriteFaults};
+ghost use Rattle.part_store.specs.Refusals.{refusal_of, Blames, BlamesEntries, BlamesNamed, BlamesRow, HasFailed, IsTableIn, WriteFaults};
 ghost use Rattle.part_store.specs.declared.error.StoreError.TheVariants.{Memory, NoSuchEntry, NumberFull, Collision, Database};
 ghost use Rattle.part_store.specs.Changes.{contents_tree, users_tree};
 ghost use Rattle.part_store.specs.Looking.{are_tables};
@@ -276,6 +276,8 @@ impl<S: Alter> PartStore<S> {
         ensures made { HasCleanDisk (state S.Store self.new) → OnOk result (Makes (with_program user.now program.now) (state S.Store self.old) (state S.Store self.new)) }
         ensures spared { HasCleanDisk (state S.Store self.new) → OnErr result (Spares (state S.Store self.old) (state S.Store self.new)) }
         ensures refused { IfErr result (λ e. (e ≡ Memory) ⊎ (e ≡ Database)) }
+        ensures cause { HasCleanDisk (state S.Store self.new) → IfErr result
+            (BlamesRow user.now (with_program user.now program.now) (state S.Store self.old) (state S.Store self.new)) }
         ensures survives { Survives (state S.Store self.old) (state S.Store self.new) (λ trees. MayMake (with_program user.now program.now) (state S.Store self.old) trees) }
     {
         let mut tx = begin(&mut self.conn);
@@ -390,6 +392,8 @@ impl<S: Alter> PartStore<S> {
         ensures shut { HasCleanDisk (state S.Store self.new) → IsTrue (state S.Store self.new).is_open → IsTrue (state S.Store self.old).is_open }
         ensures spared { HasCleanDisk (state S.Store self.new) → OnErr result (Spares (state S.Store self.old) (state S.Store self.new)) }
         ensures refused { IfErr result (λ e. (e ≡ Memory) ⊎ ((e ≡ NumberFull) ⊎ ((e ≡ Collision) ⊎ (e ≡ Database)))) }
+        ensures cause { HasCleanDisk (state S.Store self.new) → IfErr result
+            (BlamesEntries user.now (map draft_of entries.now) (state S.Store self.old) (state S.Store self.new)) }
         ensures survives { Survives (state S.Store self.old) (state S.Store self.new) (λ trees. IsTrue (state S.Store self.old).is_open × MayMake (with_entries user.now (map draft_of entries.now)) (state S.Store self.old) trees) }
     {
         let mut tx = begin(&mut self.conn);
