@@ -43,3 +43,4 @@ mod Causes
 mod Inserting
 mod Fitting
 mod Room
+mod NoRoom

@@ -1,7 +1,8 @@
 -- Where a user's row has no room.
-use Rattle.std.proofs.Common.{◌≡◌, ◌⊎◌, inl, inr, ℕ, ℤ, ◌+ℤ◌, pos, Bool, true, false, not, List, [], ◌∷◌, filter, fold, Option, None, Some, option_map, refl, sym, ap, subst, ◌∙◌, IsTrue, arith}
+use Rattle.std.proofs.Common.{◌≡◌, ◌⊎◌, inl, inr, ℕ, ℤ, ◌+ℤ◌, ◌+◌, ◌<◌, ◌≤◌, pos, Bool, true, false, not, List, [], ◌∷◌, filter, fold, Option, None, Some, option_map, refl, sym, ap, subst, ◌∙◌, IsTrue, arith}
 use Rattle.std.specs.List.{AllByRecursion}
 use Rattle.std.proofs.lemmas.Bool.{not-true}
+use Rattle.std.proofs.lemmas.Int.{ints}
 use Rattle.sqlite_value.specs.declared.value.Value.TheVariants.{Int, Text, Blob}
 use Rattle.sqlite_value.specs.Order.{Row, column}
 use Rattle.sqlite_trees.specs.Tree.{Trees, rowid, IsTable}
@@ -15,15 +16,15 @@ use Rattle.sqlite.specs.Values.{or_null}
 use Rattle.sqlite.proofs.StateLemmas.{survives_then}
 use Rattle.sqlite.specs.declared.error.Error.{Error}
 use Rattle.part_store.specs.Tables.{store_schema, users_table}
-use Rattle.part_store.specs.Changes.{users_tree, equals, columns, IsFound, IsTaken, Reads, Steps}
+use Rattle.part_store.specs.Changes.{users_tree, equals, columns, IsAdded, IsFound, IsTaken, Reads, Steps}
 use Rattle.part_store.specs.Entries.{Entries, with_last, with_program}
-use Rattle.part_store.specs.Refusals.{refusal_of, user_values, AddFaults, BlamesRow, HasFailed, HasNoRow, HasNoUserRoom, IsRowidIn, IsTableIn, RunsOut, ShowsLast}
+use Rattle.part_store.specs.Refusals.{refusal_of, user_values, AddFaults, BlamesRow, HasFailed, HasNoRow, HasNoUserRoom, IsRowidIn, IsTableIn, RisesFrom, RunsOut, ShowsLast}
 use Rattle.part_store.specs.Standing.{last_in, IsUserRow, Stands, StandsFor}
 use Rattle.part_store.specs.declared.error.StoreError.TheVariants.{Database}
 use Rattle.part_store.proofs.Apart.{bytes_same}
 use Rattle.part_store.proofs.Causes.{stands_writable, writable_then}
 use Rattle.part_store.proofs.Failing.{later_failed}
-use Rattle.part_store.proofs.Gaining.{filter_rises, keyed_all}
+use Rattle.part_store.proofs.Gaining.{added_has, filter_rises, keyed_all}
 use Rattle.part_store.proofs.Programs.{last_read}
 use Rattle.part_store.proofs.Readable.{user_readable}
 
@@ -112,3 +113,50 @@ program_unplaced old one two new user program last found e reads number takes fi
       | inl failed ↦ inl (later_failed old one new first later clean failed)
       | inr none ↦ inr (subst (HasNoUserRoom user (with_program user program before)) a.change.0 none)
     ]
+
+-- ---- rowids
+
+same_id : (id : ℤ) → id ≡ id +ℤ pos 0
+same_id id = omega (arith, ints)
+
+pub rises_none : (rows : List Row) → RisesFrom 0 rows rows
+rises_none rows id h = (id, h, 0, omega arith, same_id id)
+
+pub rises_more : (m n : ℕ) (rows more : List Row) → m ≤ n → RisesFrom m rows more → RisesFrom n rows more
+rises_more m n rows more le rises id h = let from = rises id h in (from.0, from.1, from.2, omega (arith, from.3, le), from.4)
+
+added_ids : (id : ℤ) (m n : ℕ) → (id +ℤ pos m) +ℤ pos n ≡ id +ℤ pos (m + n)
+added_ids id m n = omega (arith, ints)
+
+pub rises_after : (m n : ℕ) (one two three : List Row) → RisesFrom m one two → RisesFrom n two three → RisesFrom (m + n) one three
+rises_after m n one two three first second id h =
+    let b = second id h in
+    let a = first b.0 b.1 in
+    (a.0, a.1, a.2 + b.2, omega (arith, a.3, b.3), b.4 ∙ ap (λ z. z +ℤ pos b.2) a.4 ∙ added_ids a.0 a.2 b.2)
+
+-- a row that is put in place of others has a rowid at most one above one that was there
+pub rises_put : (old mid new : Trees) (values : Row) → ((r : Row) → Has (mid users_tree) r → Has (old users_tree) r) → IsAdded users_tree values mid new → RisesFrom 1 (old users_tree) (new users_tree)
+rises_put old mid new values there added id (inl none) = (id, inl none, 0, omega arith, same_id id)
+rises_put old mid new values there added id (inr (r, h, is)) = elim (added_has users_tree values mid new r added h) [
+  | inl put ↦
+      let first = next_follows (mid users_tree) in
+      (first.0, wider (old users_tree) (mid users_tree) first.0 there first.1, 1, omega arith, is ∙ ap (λ (x : Row). id_in (rowid x)) put ∙ first.2)
+  | inr was ↦ (id, inr (r, there r was, is), 0, omega arith, same_id id)
+]
+
+pub program_rises : (old one two new : State) (user : List ℕ) (found : Option Row) (values : Row) → Steps (Reads (λ db. IsFound users_tree (equals 1 (Text user)) (columns (2 ∷ 3 ∷ [])) db found)) old one
+    → Steps (IsTaken users_tree (equals 1 (Text user))) one two → Steps (IsAdded users_tree values) two new
+    → (before : Entries) → Stands old.now before → RisesFrom 1 (old.now.trees users_tree) (new.now.trees users_tree)
+program_rises old one two new user found values reads takes adds before stands =
+    let a = reads stands.schema in
+    let b = takes a.schema in
+    let c = adds b.schema in
+    let rows = b.change.rows (subst (λ (t : Trees). IsTable (t users_tree)) (sym a.change.0) stands.tables.users_rise) (subst (λ (t : Trees). AllByRecursion (λ r. IsTrue (is_int (rowid r))) (t users_tree)) (sym a.change.0) (user_keys old before stands)) in
+    rises_put old.now.trees two.now.trees new.now.trees values (λ r h.
+    subst (λ (t : Trees). Has (t users_tree) r) a.change.0 (has_filtered (λ r. not (equals 1 (Text user) r)) (one.now.trees users_tree) r (subst (λ l. Has l r) rows h)).0) c.change
+
+-- so many rows later the rowids had run out before
+pub ran_out : (m n : ℕ) (old mid : List Row) → m < n → RisesFrom m old mid → RunsOut mid 1 → RunsOut old n
+ran_out m n old mid lt rises (id, h, k, le, full) =
+    let from = rises id h in
+    (from.0, from.1, from.2 + k, omega (arith, from.3, le, lt), ap fits_i64 (sym (ap (λ z. z +ℤ pos k) from.4 ∙ added_ids from.0 from.2 k)) ∙ full)

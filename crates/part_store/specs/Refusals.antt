@@ -17,7 +17,7 @@ use Rattle.sqlite.specs.Effect.{IsDatabase}
 use Rattle.sqlite.specs.State.{State}
 use Rattle.sha2.specs.Sha256.{sha256}
 use Rattle.part_store.specs.Changes.{users_tree, contents_tree, entries_tree, equals, is_entry, new_row}
-use Rattle.part_store.specs.Entries.{Draft, Entry, Entries, entry_of, with_entries}
+use Rattle.part_store.specs.Entries.{Draft, Entry, Entries, UserProgram, entry_of, with_entries}
 use Rattle.part_store.specs.Filing.{entry_values}
 use Rattle.part_store.specs.Standing.{DiskFailed, HasContent, Stands}
 use Rattle.part_store.specs.Tables.{store_schema, users_table, contents_table, entries_table}
@@ -110,6 +110,19 @@ HasNoUserRoom user after db = RunsOut (db users_tree) 1 ⊎ IsTooBig users_table
 -- where the tables stand for a state, a change of a user's row is refused only by a database that can't work or has no room for the row
 abbrev pub BlamesRow : List ℕ → (Entries → Entries) → State → State → StoreError → Type 0
 BlamesRow user change old new e = e ≡ Database → (before : Entries) → Stands old.now before → HasFailed old new ⊎ HasNoUserRoom user (change before) old.now.trees
+
+-- the rows of users with these programs have no room
+abbrev pub HaveNoUserRoom : List UserProgram → Entries → Trees → Type 0
+HaveNoUserRoom pairs before db =
+    RunsOut (db users_tree) (length pairs) ⊎ ((pair : UserProgram) × Has pairs pair × IsTooBig users_table (user_values pair.0 (before.lasts pair.0) (Some pair.1)))
+
+-- where the tables stand for a state, programs are refused only by a database that can't work, or has no room for a row
+abbrev pub BlamesPrograms : List UserProgram → State → State → StoreError → Type 0
+BlamesPrograms pairs old new e = e ≡ Database → (before : Entries) → Stands old.now before → HasFailed old new ⊎ HaveNoUserRoom pairs before old.now.trees
+
+-- each rowid is at most so many above one that was there
+abbrev pub RisesFrom : ℕ → List Row → List Row → Type 0
+RisesFrom count old new = (id : ℤ) → IsRowidIn new id → (from : ℤ) × IsRowidIn old from × (k : ℕ) × (k ≤ count) × (id ≡ from +ℤ pos k)
 
 -- an entry or its octets have no room
 abbrev pub LacksRoom : Entry → List ℕ → Trees → Type 0

@@ -5,7 +5,7 @@ ghost use Rattle.sqlite.specs.State.{HasCleanDisk, KeepsCommit, Survives};
 ghost use Rattle.part_store.specs.Tables.{no_schema, store_schema};
 ghost use Rattle.part_store.specs.Entries.{AreProgramsOf, entries_of, listing_of, no_entries, with_entries, with_program, with_programs, without_entry};
 ghost use Rattle.part_store.specs.Standing.{Brings, IsStored, Makes, MayMake, Spares, Stays, Stands, HasContent, IsEntryAt, HasNone, NamesDigest, IsTidied, draft_of, listed, pair_of};
-ghost use Rattle.part_store.specs.Refusals.{refusal_of, Blames, BlamesEntries, BlamesNamed, BlamesRow, HasFailed, IsTableIn, WriteFaults};
+ghost use Rattle.part_store.specs.Refusals.{refusal_of, Blames, BlamesEntries, BlamesNamed, BlamesPrograms, BlamesRow, HasFailed, IsTableIn, WriteFaults};
 ghost use Rattle.part_store.specs.declared.error.StoreError.TheVariants.{Memory, NoSuchEntry, NumberFull, Collision, Database};
 ghost use Rattle.part_store.specs.Changes.{contents_tree, users_tree};
 ghost use Rattle.part_store.specs.Looking.{are_tables};
@@ -364,6 +364,8 @@ impl<S: Alter> PartStore<S> {
             (Makes (with_programs (map pair_of programs.now)) (state S.Store self.old) (state S.Store self.new)) }
         ensures spared { HasCleanDisk (state S.Store self.new) → OnErr result (Spares (state S.Store self.old) (state S.Store self.new)) }
         ensures refused { IfErr result (λ e. (e ≡ Memory) ⊎ (e ≡ Database)) }
+        ensures cause { HasCleanDisk (state S.Store self.new) → IfErr result
+            (BlamesPrograms (map pair_of programs.now) (state S.Store self.old) (state S.Store self.new)) }
         ensures survives { Survives (state S.Store self.old) (state S.Store self.new) (λ trees.
             (0 < length programs.now → IsTrue (state S.Store self.old).is_open)
             × MayMake (with_programs (map pair_of programs.now)) (state S.Store self.old) trees) }

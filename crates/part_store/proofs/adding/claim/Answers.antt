@@ -19,7 +19,7 @@ returns-clause-claimed g c clean =
 
 pub returns-in_err-remove-clause-cause : goal.returns-in_err-remove-clause-cause
 returns-in_err-remove-clause-cause g c clean =
-    passed c.from_residual-in_err-remove.result _ _ c.from_residual-in_err-remove.ensures.1 (λ is inside before stands _.
+    passed c.from_residual.result _ _ c.from_residual.ensures.1 (λ is inside before stands _.
     inl (c.in_err-remove.ensures.fault clean is (stands_writable (state g.S.Store c.args.tx.now.conn.now) before inside stands)))
 
 pub returns-in_err-add-clause-cause : goal.returns-in_err-add-clause-cause
