@@ -37,6 +37,10 @@ HasFailed old new = DiskFailed old new ⊎ ((old.is_open ≡ false) ⊎ IsSome o
 abbrev pub Blames : State → State → StoreError → Type 0
 Blames old new e = e ≡ Database → (before : Entries) → Stands old.now before → HasFailed old new
 
+-- the same where there may be another cause, which the state and the tables tell
+abbrev pub BlamesOr : (Entries → Trees → Type 0) → State → State → StoreError → Type 0
+BlamesOr Other old new e = e ≡ Database → (before : Entries) → Stands old.now before → HasFailed old new ⊎ Other before old.now.trees
+
 -- where there are the three tables, a statement is refused for no other cause
 abbrev pub Faults : State → State → Error → Type 0
 Faults old new e = refusal_of e ≡ Database → old.now.schema ≡ store_schema → HasFailed old new
@@ -109,16 +113,16 @@ HasNoUserRoom user after db = RunsOut (db users_tree) 1 ⊎ IsTooBig users_table
 
 -- where the tables stand for a state, a change of a user's row is refused only by a database that can't work or has no room for the row
 abbrev pub BlamesRow : List ℕ → (Entries → Entries) → State → State → StoreError → Type 0
-BlamesRow user change old new e = e ≡ Database → (before : Entries) → Stands old.now before → HasFailed old new ⊎ HasNoUserRoom user (change before) old.now.trees
+BlamesRow user change = BlamesOr (λ before. HasNoUserRoom user (change before))
 
 -- the rows of users with these programs have no room
 abbrev pub HaveNoUserRoom : List UserProgram → Entries → Trees → Type 0
 HaveNoUserRoom pairs before db =
     RunsOut (db users_tree) (length pairs) ⊎ ((pair : UserProgram) × Has pairs pair × IsTooBig users_table (user_values pair.0 (before.lasts pair.0) (Some pair.1)))
 
--- where the tables stand for a state, programs are refused only by a database that can't work, or has no room for a row
+-- where the tables stand for a state, programs are refused only by a database that can't work or has no room for a row
 abbrev pub BlamesPrograms : List UserProgram → State → State → StoreError → Type 0
-BlamesPrograms pairs old new e = e ≡ Database → (before : Entries) → Stands old.now before → HasFailed old new ⊎ HaveNoUserRoom pairs before old.now.trees
+BlamesPrograms pairs = BlamesOr (HaveNoUserRoom pairs)
 
 -- each rowid is at most so many above one that was there
 abbrev pub RisesFrom : ℕ → List Row → List Row → Type 0
@@ -139,9 +143,7 @@ HaveNoRoom user drafts db = RunsOut (db contents_tree) (length drafts) ⊎ (Runs
 
 -- where the tables stand for a state, entries of a user are refused only by a database that can't work, or has no room for them or for his row
 abbrev pub BlamesEntries : List ℕ → List Draft → State → State → StoreError → Type 0
-BlamesEntries user drafts old new e =
-    e ≡ Database → (before : Entries) → Stands old.now before
-    → HasFailed old new ⊎ (HasNoUserRoom user (with_entries user drafts before) old.now.trees ⊎ HaveNoRoom user drafts old.now.trees)
+BlamesEntries user drafts = BlamesOr (λ before db. HasNoUserRoom user (with_entries user drafts before) db ⊎ HaveNoRoom user drafts db)
 
 -- each user's name is UTF-8, as is each that a store was given
 abbrev pub AreNamed : Trees → Type 0
