@@ -96,7 +96,7 @@ IsExport (Export user number encoding) = Unit {0}
 IsExport (Remove user number) = ⊥
 IsExport Migrate = ⊥
 
--- Why a store that is in this state refuses a command. Memory has no cause here, and that the database fails has none either.
+-- Why a store that is in this state refuses a command. Memory has no cause here; that of Database is IsFault, below.
 abbrev pub HasCause : Refusal → Command → State → Type 0
 HasCause Memory command state = Unit {0}
 HasCause UserName command state = IsNamed command → ⊥

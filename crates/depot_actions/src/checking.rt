@@ -51,6 +51,6 @@ pub(crate) fn check_stored(alloc: Global, program: &[u8]) -> Result<Verified, Re
     match check_program(alloc, program) {
         Ok(verified) => Ok(verified),
         Err(Refusal::Memory) => Err(Refusal::Memory),
-        Err(_) => Err(Refusal::Database),
+        Err(_refusal) => Err(Refusal::Database),
     }
 }

@@ -77,7 +77,8 @@ impl<S: Alter> Depot<S> {
     ///
     /// # Errors
     ///
-    /// `UserName`; then what the script is refused for; then `Database`. `Memory` where an allocation was refused.
+    /// `UserName`; then what the script is refused for; then `Database`, also where its code has no room. `Memory` where an allocation was
+    /// refused.
     pub fn set_script(&mut self, alloc: Global, user: &str, script: &[u8]) -> Result<(), Refusal>
         ensures done { HasCleanDisk (state S.Store self.new) → OnOk result (Does (SetScript user.now script.now) Done (state S.Store self.old) (state S.Store self.new)) }
         ensures spared { HasCleanDisk (state S.Store self.new) → OnErr result (Spares (state S.Store self.old) (state S.Store self.new)) }
@@ -97,7 +98,8 @@ impl<S: Alter> Depot<S> {
     ///
     /// # Errors
     ///
-    /// `UserName`; then what the program is refused for; then `Database`. `Memory` where an allocation was refused.
+    /// `UserName`; then what the program is refused for; then `Database`, also where it has no room. `Memory` where an allocation was
+    /// refused.
     pub fn set_code(&mut self, alloc: Global, user: &str, program: &[u8]) -> Result<(), Refusal>
         ensures done { HasCleanDisk (state S.Store self.new) → OnOk result (Does (SetCode user.now program.now) Done (state S.Store self.old) (state S.Store self.new)) }
         ensures spared { HasCleanDisk (state S.Store self.new) → OnErr result (Spares (state S.Store self.old) (state S.Store self.new)) }
@@ -119,7 +121,8 @@ impl<S: Alter> Depot<S> {
     /// # Errors
     ///
     /// `UserName`; then `MessageTooLarge` or `TooManyParts`; then, of what is read, `Database`, also where the stored filter no longer reads
-    /// and verifies; then `NumberFull`, `Collision` and `Database` of what is written. `Memory` where an allocation was refused.
+    /// and verifies; then `NumberFull`, `Collision` and `Database` of what is written, also where it has no room. `Memory` where an
+    /// allocation was refused.
     pub fn deliver(
         &mut self,
         alloc: Global,
@@ -242,7 +245,8 @@ impl<S: Alter> Depot<S> {
     ///
     /// # Errors
     ///
-    /// `Database`, also where a stored program, whatever its version, no longer reads and verifies. `Memory` where an allocation was refused.
+    /// `Database`, also where a stored program, whatever its version, no longer reads and verifies, a user's name isn't UTF-8 or a new
+    /// program has no room. `Memory` where an allocation was refused.
     pub fn migrate(&mut self, alloc: Global) -> Result<usize, Refusal>
         ensures done { HasCleanDisk (state S.Store self.new) → IfOk result (λ number.
             Does Migrate (Migrated number) (state S.Store self.old) (state S.Store self.new)) }
@@ -265,7 +269,7 @@ impl<S: Alter> Depot<S> {
     ///
     /// # Errors
     ///
-    /// `Database`, also where octets are more than 64 bits can count. `Memory` where an allocation was refused.
+    /// `Database`, also where octets are more than 64 bits can count or a user's name isn't UTF-8. `Memory` where an allocation was refused.
     pub fn inspect(&mut self, alloc: Global) -> Result<Overview, Refusal>
         ensures told { HasCleanDisk (state S.Store self.new) → IfOk result (λ x. IsTrue (state S.Store self.old).is_open
             × ((before : Entries) → Stands (state S.Store self.old).now before → IsOverview (state S.Store self.old).now.trees before x)) }
