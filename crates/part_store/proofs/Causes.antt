@@ -1,5 +1,5 @@
 -- A call that writes is refused for the cause of one of its statements.
-use Rattle.std.proofs.Common.{◌≡◌, ◌⊎◌, inl, inr, ℕ, List, [], ◌∷◌, None, sym, ap, subst, ◌∙◌, IsTrue, arith}
+use Rattle.std.proofs.Common.{◌≡◌, ℕ, List, [], ◌∷◌, None, sym, ap, subst, ◌∙◌, IsTrue, arith}
 use Rattle.sqlite_value.specs.declared.value.Value.TheVariants.{Blob}
 use Rattle.std.specs.List.{AllByRecursion}
 use Rattle.sqlite_trees.specs.Tree.{Trees, rowid, IsTable}
@@ -9,7 +9,7 @@ use Rattle.sqlite.specs.declared.error.Error.{Error}
 use Rattle.sqlite.proofs.StateLemmas.{survives_then}
 use Rattle.part_store.specs.Changes.{contents_tree, entries_tree, columns, equals, is_entry, IsFound, IsTaken, Reads, Steps}
 use Rattle.part_store.specs.Entries.{Entries}
-use Rattle.part_store.specs.Refusals.{refusal_of, Blames, HasFailed, IsTableIn, IsUnnamed, IsWritable, WriteFaults}
+use Rattle.part_store.specs.Refusals.{refusal_of, Blames, IsTableIn, IsUnnamed, IsWritable, WriteFaults}
 use Rattle.part_store.specs.Standing.{IsContentRow, Stands, Stays}
 use Rattle.part_store.specs.Tables.{store_schema}
 use Rattle.part_store.proofs.Failing.{later_failed}

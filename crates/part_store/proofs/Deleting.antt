@@ -1,8 +1,7 @@
 -- Why a DELETE is refused: what is left keeps the rules of the three tables.
-use Rattle.std.proofs.Common.{◌≡◌, ◌≢◌, ◌⊎◌, inl, inr, ℕ, ◌==◌, ◌&&◌, pos, Bool, true, false, not, if◌then◌else◌, List, [], ◌∷◌, Option, Some, None, Ok, Err, Result, refl, sym, ap, subst, ◌∙◌, slice_get, IsSome, IsTrue, codes, arith}
+use Rattle.std.proofs.Common.{◌≡◌, ◌≢◌, ◌⊎◌, inl, inr, ℕ, ◌&&◌, pos, Bool, true, false, not, if◌then◌else◌, List, [], ◌∷◌, Option, Some, None, Err, refl, sym, ap, subst, ◌∙◌, slice_get, IsSome, IsTrue, codes, arith}
 use Rattle.std.specs.List.{AllByRecursion}
 use Rattle.std.proofs.lemmas.Bool.{true≢false, eq-eqb, ne_eqb, and_right, not_from_false}
-use Rattle.sqlite_value.specs.declared.value.Value.{Value}
 use Rattle.sqlite_value.specs.declared.value.Value.TheVariants.{Null, Int, Text, Blob}
 use Rattle.sqlite_value.specs.Order.{Row}
 use Rattle.sqlite_trees.specs.Tree.{Trees, rowid, IsAscending, IsTable, with_tree}
@@ -25,23 +24,23 @@ use Rattle.sqlite_rules.proofs.ListLemmas.{has_got, has_kept, test_from}
 use Rattle.sqlite_rules.proofs.RuleLemmas.{Turns, unique_kept}
 use Rattle.sqlite_rules.proofs.TableLemmas.{without_all_has}
 use Rattle.sqlite_tied.specs.Compute.{everything}
-use Rattle.sqlite.specs.Does.{Does, WritesRows, Concludes, Tested, Returns}
+use Rattle.sqlite.specs.Does.{Does}
 use Rattle.sqlite.specs.Effect.{Database}
 use Rattle.sqlite.specs.Listing.{understood}
-use Rattle.sqlite.specs.Rows.{Part, Queried, Edited, Written, Task}
+use Rattle.sqlite.specs.Rows.{Queried, Edited, Written}
 use Rattle.sqlite.specs.State.{State, ExecutesInside}
 use Rattle.sqlite.specs.declared.error.Error.{Error}
 use Rattle.sqlite.proofs.Callers.{one_step}
 use Rattle.part_store.specs.Refusals.{refusal_of, HasFailed, IsWritable}
-use Rattle.part_store.specs.Tables.{store_schema, users_table, contents_table, entries_table, user_columns, content_columns, entry_columns, entry_references}
+use Rattle.part_store.specs.Tables.{store_schema, users_table, contents_table, entries_table, content_columns}
 use Rattle.part_store.specs.Statements.{drop_user_text, drop_content_text, drop_entry_text}
-use Rattle.part_store.specs.Changes.{users_tree, contents_tree, entries_tree, equals, IsTaken}
+use Rattle.part_store.specs.Changes.{contents_tree, entries_tree, equals}
 use Rattle.part_store.specs.declared.error.StoreError.TheVariants.{Database as refused}
 use Rattle.part_store.proofs.Faults.{IsAsked, IsAnswered}
 use Rattle.part_store.proofs.Asked.{over}
 use Rattle.part_store.proofs.Runs.{and_true, taken_as}
 use Rattle.part_store.proofs.Meaning.{alone, is_given, drop_user_query, drop_user_is, drop_content_query, drop_content_is, drop_entry_query, drop_entry_is}
-use Rattle.part_store.proofs.Parents.{HasParent, all_refer, refers, parent_stays, other_content}
+use Rattle.part_store.proofs.Parents.{all_refer, refers, parent_stays, other_content}
 use Rattle.part_store.proofs.Stopped.{at_once, err_not_ok, stops_in, edit_stops, delete_writes, stopped, Stops}
 use Rattle.part_store.proofs.Writes.{no_works, same_value, taken_next, went}
 

@@ -1,5 +1,5 @@
 -- What keeps a new row out of each of the three tables.
-use Rattle.std.proofs.Common.{◌≡◌, ◌⊎◌, inl, inr, ℕ, pos, Bool, true, false, ◌&&◌, List, [], ◌∷◌, Option, Some, None, Err, refl, sym, ap, subst, ◌∙◌, length, codes, Bor, IsSome, arith}
+use Rattle.std.proofs.Common.{◌≡◌, ◌⊎◌, inl, inr, ℕ, pos, Bool, true, false, ◌&&◌, List, [], ◌∷◌, Option, Some, None, Err, refl, sym, ap, subst, ◌∙◌, codes, Bor, IsSome, arith}
 use Rattle.std.proofs.lemmas.Bool.{true≢false, and_left, or_right}
 use Rattle.sqlite_value.specs.declared.keys.Collation.TheVariants.{Binary}
 use Rattle.sqlite_value.specs.declared.value.Value.TheVariants.{Null, Int, Text, Blob}
@@ -8,9 +8,8 @@ use Rattle.sqlite_value.specs.Order.{Row, column}
 use Rattle.sqlite_trees.specs.Tree.{Trees}
 use Rattle.sqlite_sql.specs.Ops.{binary}
 use Rattle.sqlite_sql.specs.Term.{Term, lit, col}
-use Rattle.sqlite_schema.specs.Rules.{agree, clashes, equal, passes, Obeys, Refers, references_fit}
-use Rattle.sqlite_schema.specs.declared.schema.Among.TheVariants.{All}
-use Rattle.sqlite_schema.specs.declared.schema.Constraint.TheVariants.{Datatype, NotNull}
+use Rattle.sqlite_schema.specs.Rules.{agree, clashes, equal, passes, references_fit}
+use Rattle.sqlite_schema.specs.declared.schema.Constraint.TheVariants.{Datatype}
 use Rattle.sqlite_schema.specs.declared.schema.Table.{Table}
 use Rattle.sqlite_schema.specs.declared.command.Source.{Source}
 use Rattle.sqlite_schema.specs.declared.command.Source.TheVariants.{Values}

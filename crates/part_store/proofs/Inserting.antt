@@ -1,18 +1,17 @@
 -- Why an INSERT is refused: a new row under a free key keeps the rules of the three tables.
-use Rattle.std.proofs.Common.{◌≡◌, ◌≢◌, ◌⊎◌, inl, inr, ℕ, ◌/◌, ℤ, pos, Bool, true, false, not, ◌&&◌, List, [], ◌∷◌, drop, length, append-nil, Option, Some, None, Ok, Err, Result, refl, sym, ap, subst, ◌∙◌, slice_get, IsSome, IsTrue, codes, arith}
+use Rattle.std.proofs.Common.{◌≡◌, ◌≢◌, ◌⊎◌, inl, inr, ℕ, ◌/◌, ℤ, Bool, true, false, not, ◌&&◌, List, [], ◌∷◌, drop, length, append-nil, Option, Some, None, Err, refl, sym, ap, subst, ◌∙◌, slice_get, IsSome, IsTrue}
 use Rattle.std.specs.List.{AllByRecursion, list_all}
 use Rattle.std.specs.Ordering.{is_ne}
-use Rattle.std.proofs.lemmas.Bool.{true≢false, and_cases, and_parts, not_from_false, false_from_ne_true}
+use Rattle.std.proofs.lemmas.Bool.{true≢false, and_cases, and_parts, false_from_ne_true}
 use Rattle.std.proofs.lemmas.Cmp.{tied_itself}
 use Rattle.sqlite_value.specs.declared.keys.Order.{Order}
-use Rattle.sqlite_value.specs.declared.value.Value.TheVariants.{Null, Int, Text, Blob}
-use Rattle.sqlite_value.specs.Keys.{first_key, plain}
+use Rattle.sqlite_value.specs.declared.value.Value.TheVariants.{Null, Int}
 use Rattle.sqlite_value.specs.Order.{Row}
 use Rattle.sqlite_value.proofs.OrderLemmas.{value_cmp_total}
 use Rattle.sqlite_trees.specs.Tree.{Trees, rowid, IsTable, with_tree}
 use Rattle.sqlite_trees.specs.View.{is_int}
 use Rattle.sqlite_sql.specs.Ops.{binary, fits_i64, from_truth, is_true}
-use Rattle.sqlite_sql.specs.Term.{Term, lit, col}
+use Rattle.sqlite_sql.specs.Term.{Term}
 use Rattle.sqlite_schema.specs.Rules.{agree, clashes, differ, passes, Keeps, Obeys, Refers, references_fit}
 use Rattle.sqlite_schema.specs.declared.schema.Among.TheVariants.{All}
 use Rattle.sqlite_schema.specs.declared.schema.Column.{Column}
@@ -34,7 +33,6 @@ use Rattle.sqlite_rules.proofs.ListLemmas.{all_from, has_got, some_has}
 use Rattle.sqlite_rules.proofs.PlaceLemmas.{next_is_free}
 use Rattle.sqlite_rules.proofs.RuleLemmas.{unique_kept}
 use Rattle.sqlite_rules.proofs.TableLemmas.{put_has}
-use Rattle.sqlite_tied.specs.Compute.{everything}
 use Rattle.sqlite.specs.Does.{Does}
 use Rattle.sqlite.specs.Effect.{Database, IsSource, RefusesSource, value_rows}
 use Rattle.sqlite.specs.Rows.{Edited, Sourced, Written}
@@ -98,7 +96,7 @@ module _ (at tree : ℕ) (name : List ℕ) (columns : List Column) (key : List �
           let next = with_tree db tree after in
           let is = tree_set db tree after in
           let turned = turns store_schema db next (insertion rows) trees_apart (has_got store_schema.tables at (table) there) rises free is
-              (all_from (λ t. t.tree ≢ tree → next t.tree ≡ db t.tree) store_schema.tables (λ t known apart. tree_spared db tree after t.tree apart)) in
+          (all_from (λ t. t.tree ≢ tree → next t.tree ≡ db t.tree) store_schema.tables (λ t known apart. tree_spared db tree after t.tree apart)) in
           let put : after ≡ put_all (db tree) (new ∷ []) = ap (put_all (db tree)) news in
           unique_kept store_schema db next (table) (left_by db (insertion rows)) (taken_by db (insertion rows)) (insertion rows).news turned
           (ap (are_unique store_schema.indexes next (table)) news ∙ unique next (λ x h. put_has new (db tree) x (subst (λ l. Has l x) (is ∙ put) h))) (obeys.rules Unique)

@@ -33,7 +33,7 @@ pub mod Stored
 mod Crashed
 mod Faults
 mod Asked
-mod Failing
+pub mod Failing
 mod Readable
 mod Shown
 mod Stopped

@@ -1,10 +1,9 @@
 -- Where entries have no room.
-use Rattle.std.proofs.Common.{◌≡◌, ◌⊎◌, inl, inr, ℕ, ℤ, ◌+ℤ◌, ◌+◌, ◌<◌, pos, Bool, true, false, List, [], ◌∷◌, ◌++◌, length, map, None, Some, Option, refl, sym, ap, subst, subst₂, ◌∙◌, IsTrue, arith}
-use Rattle.std.proofs.lemmas.Bool.{true≢false, and_parts, eqb-true, false_from_ne_true}
-use Rattle.std.proofs.lemmas.Int.{ints}
+use Rattle.std.proofs.Common.{◌≡◌, ◌⊎◌, inl, inr, ℕ, ◌+ℤ◌, ◌+◌, ◌<◌, pos, false, List, [], ◌∷◌, ◌++◌, length, None, refl, sym, ap, subst, ◌∙◌, IsTrue, arith}
+use Rattle.std.proofs.lemmas.Bool.{and_parts, eqb-true, false_from_ne_true}
 use Rattle.sha2.specs.Sha256.{sha256}
 use Rattle.sqlite_value.specs.declared.value.Value.TheVariants.{Blob}
-use Rattle.sqlite_value.specs.Order.{Row, column}
+use Rattle.sqlite_value.specs.Order.{Row}
 use Rattle.std.specs.List.{AllByRecursion}
 use Rattle.sqlite_trees.specs.Tree.{Trees, rowid, IsTable}
 use Rattle.sqlite_trees.specs.View.{is_int}
@@ -14,8 +13,8 @@ use Rattle.sqlite_rules.specs.Lists.{Has}
 use Rattle.sqlite.specs.State.{State, HasCleanDisk, Survives}
 use Rattle.sqlite.specs.declared.error.Error.{Error}
 use Rattle.part_store.specs.Tables.{store_schema, contents_table, entries_table}
-use Rattle.part_store.specs.Changes.{contents_tree, entries_tree, columns, equals, is_entry, new_row, IsFound, Reads, Steps}
-use Rattle.part_store.specs.Entries.{Draft, Entries, Entry, entry_of, is_at, numbered, with_entries, with_last}
+use Rattle.part_store.specs.Changes.{contents_tree, entries_tree, columns, equals, new_row, IsFound, Reads, Steps}
+use Rattle.part_store.specs.Entries.{Draft, Entries, Entry, entry_of, numbered, with_entries, with_last}
 use Rattle.part_store.specs.Filing.{entry_values, CanFile, Claims, IsNext, RisesWithin, Stocks}
 use Rattle.part_store.specs.Refusals.{content_values, refusal_of, AddFaults, Blames, BlamesEntries, HasFailed, HasNoContent, HasNoRoom, HasNoUserRoom, HasSome, HaveNoRoom, IsFree, IsTableIn, LacksRoom, RunsOut}
 use Rattle.part_store.specs.Standing.{IsEntryRow, Stands, StandsFor, Stays}

@@ -1,10 +1,10 @@
 -- Where a user's row has no room.
-use Rattle.std.proofs.Common.{◌≡◌, ◌⊎◌, inl, inr, ℕ, ℤ, ◌+ℤ◌, ◌+◌, ◌<◌, ◌≤◌, pos, Bool, true, false, not, List, [], ◌∷◌, filter, fold, Option, None, Some, option_map, refl, sym, ap, subst, ◌∙◌, IsTrue, arith}
+use Rattle.std.proofs.Common.{◌≡◌, ◌⊎◌, inl, inr, ℕ, ℤ, ◌+ℤ◌, ◌+◌, ◌<◌, ◌≤◌, pos, false, not, List, [], ◌∷◌, filter, fold, Option, None, Some, option_map, refl, sym, ap, subst, ◌∙◌, IsTrue, arith}
 use Rattle.std.specs.List.{AllByRecursion}
 use Rattle.std.proofs.lemmas.Bool.{not-true}
 use Rattle.std.proofs.lemmas.Int.{ints}
 use Rattle.sqlite_value.specs.declared.value.Value.TheVariants.{Int, Text, Blob}
-use Rattle.sqlite_value.specs.Order.{Row, column}
+use Rattle.sqlite_value.specs.Order.{Row}
 use Rattle.sqlite_trees.specs.Tree.{Trees, rowid, IsTable}
 use Rattle.sqlite_trees.specs.View.{is_int}
 use Rattle.sqlite_sql.specs.Ops.{fits_i64}

@@ -1,5 +1,5 @@
 -- Where an INSERT or a DELETE stops.
-use Rattle.std.proofs.Common.{◌≡◌, ◌⊎◌, inl, inr, ℕ, zero, suc, Bool, true, false, List, [], ◌∷◌, length, append-nil, length-append, Option, Some, None, Ok, Err, Result, refl, sym, ap, subst, ◌∙◌, arith}
+use Rattle.std.proofs.Common.{◌≡◌, ◌⊎◌, inl, inr, ℕ, zero, suc, false, List, [], ◌∷◌, length, append-nil, length-append, Option, Some, None, Ok, Err, Result, refl, sym, ap, subst, ◌∙◌, arith}
 use Rattle.sqlite_value.specs.Order.{Row}
 use Rattle.sqlite_trees.specs.Tree.{Trees}
 use Rattle.sqlite_schema.specs.declared.schema.Keys.TheVariants.{Enforced}
@@ -71,7 +71,7 @@ module _ (sql : List ℕ) (params : Row) (old new : State) (has : old.now.schema
       let same = command_is c it.is in
       let runs = rw (quiet c bare.0 same) at h in
       let does = λ (stop : Option Error) (d : Does old.step_limit (mode_of old) (timed params c.formats it.now) old.now (text_of sql c) c.returning c.command (Err stop)).
-          subst (λ k. Does old.step_limit (mode_of old) params old.now (text_of sql c) None k (Err stop)) same (rw (bare.0, bare.1, append-nil params) at d) in
+      subst (λ k. Does old.step_limit (mode_of old) params old.now (text_of sql c) None k (Err stop)) same (rw (bare.0, bare.1, append-nil params) at d) in
       elim runs [
         | inl low ↦ elim low.0 [ inl misplaced ↦ absurd (placed c.command same misplaced) | inr stopped ↦ inr (text_of sql c, Some e, does (Some e) stopped.1) ]
         | inr fails ↦ elim (failed old new _ e told fails) [ inl disk ↦ inl disk | inr big ↦ inr (text_of sql c, None, does None big) ]

@@ -41,7 +41,7 @@ use std::marker::Model;
 ///
 /// Where the tables stand for a state, a call is refused `Database` only by a database that can't work: its disk failed in the call,
 /// a failure had shut it before, or its connection has a limit on steps (`cause`). A call that puts rows in may also be refused for
-/// want of room: a table has no rowid left, or a row is more than a billion octets. What else refuses a call, it says itself.
+/// want of room: a table has no rowid left, or a row is more than the database can store. What else refuses a call, it says itself.
 pub struct PartStore<S: Alter> {
     conn: Connection<S>,
 }
