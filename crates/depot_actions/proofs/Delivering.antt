@@ -4,7 +4,7 @@ use Rattle.std.proofs.lemmas.List.{length-map}
 use Rattle.std.proofs.lemmas.Slice.Eq.{bytes_eq-Decides}
 use Rattle.std.specs.Prelude.{bytes_eq, true}
 use Rattle.sqlite.specs.Effect.{Database}
-use Rattle.sqlite.specs.State.{State}
+use Rattle.sqlite.specs.State.{State, HasCleanDisk, Survives}
 use Rattle.sqlite_trees.specs.Tree.{Trees}
 use Rattle.bytecode_format.specs.declared.action.Action.{Action}
 use Rattle.mime_decode.specs.Mail.{IsReadable, mail_of}
@@ -13,12 +13,13 @@ use Rattle.part_store.specs.Filing.{Collides, HasRoom}
 use Rattle.part_store.specs.Standing.{Spares, Stands, StandsFor}
 use Rattle.refusals.specs.declared.refusal.Refusal.{Refusal}
 use Rattle.refusals.specs.declared.refusal.Refusal.TheVariants as refusal
-use Rattle.depot_actions.specs.Causes.{HasCause}
+use Rattle.depot_actions.specs.Causes.{HasCause, IsFault, IsHindered, IsStoreFault, LackRoom}
 use Rattle.depot_actions.specs.DepotState.{AreActions, Deliver, Does, Listed, MayLeave, filed}
 use Rattle.depot_actions.specs.Drafts.{draft_of_action, drafts_of}
 use Rattle.depot_actions.specs.Filing.{Adds, IsUnfiled, MayFile}
 use Rattle.depot_actions.specs.Users.{is_user_name}
 use Rattle.depot_actions.proofs.Commands.{left_alone, stands_still}
+use Rattle.depot_actions.proofs.StoreFaults.{later_fault, weaker_fault}
 
 bytes_same : (xs : List ℕ) → bytes_eq xs xs ≡ true
 bytes_same xs = (bytes_eq-Decides xs xs).1 refl
@@ -94,6 +95,11 @@ module _ (old mid new : State) (user message : List ℕ) (program : Option (List
           left_alone old mid before was_open settled spares stands,
         ),
   )
+
+  -- the store refuses to file them
+  pub delivery_fault : {P Q : Trees → Type 0} (e : Refusal) → Survives old mid P → Survives mid new Q → HasCleanDisk new → IsStoreFault (LackRoom user drafts) mid new e → IsFault (Deliver user message) old new e
+  delivery_fault e one two clean fault = weaker_fault (LackRoom user drafts) (IsHindered (Deliver user message)) old new e (λ before stands lack. inr (actions, actions_are before stands, lack))
+      (later_fault (LackRoom user drafts) old mid new e spares one two clean fault)
 
   room_left : (before : Entries) (trees : Trees) → StandsFor trees (with_entries user drafts before) → HasRoom before user (length actions)
   room_left before trees stands =

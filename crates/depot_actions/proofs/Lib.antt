@@ -15,3 +15,4 @@ pub mod Crashing
 pub mod Opening
 pub mod Surveying
 mod Examples
+pub mod StoreFaults

@@ -10,18 +10,24 @@ use Rattle.std.proofs.lemmas.Cmp.{nat_list_eq_equiv}
 use Rattle.std.proofs.lemmas.List.{map_more}
 use Rattle.std.proofs.lemmas.Map.Text.{is_eq-slice_cmp}
 use Rattle.std.proofs.lemmas.Slice.Eq.{bytes_eq-Decides}
-use Rattle.sqlite.specs.State.{State}
+use Rattle.sqlite.specs.State.{State, HasCleanDisk, Survives}
 use Rattle.sqlite_rules.specs.Lists.{Has}
-use Rattle.sqlite_rules.proofs.ListLemmas.{all_has}
+use Rattle.sqlite_rules.proofs.ListLemmas.{all_has, has_at}
+use Rattle.sqlite_rules.proofs.ProbeLemmas.{mapped_has}
 use Rattle.sqlite_trees.specs.Tree.{IsAscending, Trees}
 use Rattle.bytecode_format.specs.Code.{Code}
 use Rattle.bytecode_format.specs.Spelling.{spelling}
 use Rattle.sieve_engine.specs.Execution.{IsChecked}
 use Rattle.part_store.specs.Entries.{AreProgramsOf, Entries, IsBefore, UserProgram, program_named, with_programs}
 use Rattle.part_store.specs.Standing.{Makes, MayMake, Spares, Stands, pair_of}
+use Rattle.part_store.specs.Refusals.{HaveNoUserRoom}
+use Rattle.refusals.specs.declared.refusal.Refusal.{Refusal}
+use Rattle.refusals.specs.declared.refusal.Refusal.TheVariants as refusal
+use Rattle.depot_actions.specs.Causes.{IsFault, IsHindered, IsSpoilt, IsStoreFault}
 use Rattle.depot_actions.specs.DepotState.{Accepts, Does, IsRenewed, MayLeave, Migrate, Migrated, Migrates, is_latest, latest_version}
 use Rattle.depot_actions.specs.Renewing.{AreRenewals, renewal, renewals, renewed_octets, with_renewal}
 use Rattle.depot_actions.proofs.Commands.{left_alone, stands_still}
+use Rattle.depot_actions.proofs.StoreFaults.{later_fault, weaker_fault}
 
 -- ---- codes
 
@@ -219,3 +225,25 @@ module _ (old mid new : State) (stored renewed : List UserProgram) (was_open : I
     accepts before stored renewed (told before stands) are,
     left before (stands_still old mid before spares stands is_open),
   )
+
+-- ---- what is refused
+
+-- a program that is passed over is one of those that are stored
+pub stored_there : (programs : List (String Global × Vec ℕ Global)) (place : ℕ) (item : String Global × Vec ℕ Global) (user program : List ℕ) → place < length programs → item ≡ get_or programs place item
+    → user ≡ string_bytes item.0 → program ≡ item.1.items → Has (map pair_of programs) (user, program)
+stored_there programs place item user program lt is named code =
+    let pair : pair_of item ≡ (user, program) = λ i. (sym named i, sym code i) in
+    subst (Has (map pair_of programs)) pair (mapped_has pair_of programs item (has_at programs place item lt is))
+
+pub spoilt_fault : (old new : State) (stored : List UserProgram) (e : Refusal) → ((before : Entries) → Stands old.now before → AreProgramsOf before stored)
+    → (e ≡ refusal.Database → (pair : UserProgram) × Has stored pair × IsSpoilt (Some pair.1)) → IsFault Migrate old new e
+spoilt_fault old new stored e told cause is before stands =
+    let found = cause is in
+    let own = all_has (λ (pair : UserProgram). before.programs pair.0 ≡ Some pair.1) stored found.0 (told before stands).each found.1 in
+    inr (inl (found.0.0, subst IsSpoilt (sym own) found.2))
+
+pub roomless_fault : {P Q : Trees → Type 0} (old mid new : State) (stored renewed : List UserProgram) (e : Refusal) → ((before : Entries) → Stands old.now before → AreProgramsOf before stored) → AreRenewals stored renewed
+    → Spares old mid → Survives old mid P → Survives mid new Q → HasCleanDisk new → IsStoreFault (HaveNoUserRoom renewed) mid new e → IsFault Migrate old new e
+roomless_fault old mid new stored renewed e told are spares one two clean fault =
+    weaker_fault (HaveNoUserRoom renewed) (IsHindered Migrate) old new e (λ before stands none. inr (stored, renewed, told before stands, are, none))
+    (later_fault (HaveNoUserRoom renewed) old mid new e spares one two clean fault)

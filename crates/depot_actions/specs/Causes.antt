@@ -1,5 +1,6 @@
 -- Why a depot refuses a command. The user's name comes first, then the script, program or message, then the store.
-use Rattle.std.specs.Prelude.{◌≡◌, ◌⊎◌, Err, List, Ok, Result, length, ⊤}
+use Rattle.std.specs.Prelude.{◌≡◌, ◌≢◌, ◌⊎◌, ℕ, ◌^◌, ◌≤◌, Err, List, map, None, Ok, Option, Result, Some, length, ⊤}
+use Rattle.std.specs.List.{sum_by}
 use Rattle.sqlite_disk.specs.declared.Disk.{Ghosts}
 use Rattle.sqlite.specs.declared.FileStore.{FileStore}
 use Rattle.sqlite.specs.Held.{Held}
@@ -7,14 +8,17 @@ use Rattle.sqlite.specs.Recovery.{Image}
 use Rattle.sqlite.specs.State.{State}
 use Rattle.sqlite_trees.specs.Tree.{Trees}
 use Rattle.bytecode_format.specs.Code.{Code}
+use Rattle.bytecode_format.specs.Spelling.{spelling}
 use Rattle.bytecode_format.specs.declared.action.Action.{Action}
 use Rattle.mime_decode.specs.Mail.{IsReadable, mail_of}
 use Rattle.sieve_engine.specs.Execution.{IsChecked, IsProgramRefusal, IsUnread}
 use Rattle.sieve_engine.specs.Evaluation.{IsCompiled, IsScriptRefusal}
-use Rattle.part_store.specs.Entries.{Entries}
+use Rattle.part_store.specs.Entries.{AreProgramsOf, Draft, Entries, Listing, UserProgram, entries_of, listing_of, with_entries, with_program}
 use Rattle.part_store.specs.Filing.{Collides, HasRoom}
 use Rattle.part_store.specs.Opening.{IsUnready}
-use Rattle.part_store.specs.Refusals.{HasFailed}
+use Rattle.part_store.specs.Refusals.{HasFailed, HasNoUserRoom, HaveNoRoom, HaveNoUserRoom}
+use Rattle.part_store.specs.Totals.{octets_of}
+use Rattle.part_store.specs.Changes.{contents_tree}
 use Rattle.part_store.specs.Standing.{HasNone, Stands}
 use Rattle.part_store.specs.declared.error.StoreError.{StoreError}
 use Rattle.part_store.specs.declared.error.StoreError.TheVariants as store
@@ -22,6 +26,7 @@ use Rattle.refusals.specs.declared.refusal.Refusal.{Refusal}
 use Rattle.refusals.specs.declared.refusal.Refusal.TheVariants.{Memory, NoSuchEntry, NumberFull, Collision, Database, UserName, Write}
 use Rattle.depot_actions.specs.DepotState.{AreActions, Command, SetScript, SetCode, Deliver, ListAll, ProgramOf, Export, Remove, Migrate, IsNamed}
 use Rattle.depot_actions.specs.Drafts.{drafts_of}
+use Rattle.depot_actions.specs.Renewing.{AreRenewals}
 
 -- the script has no fault, the program is accepted, or the message can be read
 abbrev pub IsSound : Command → Type 0
@@ -91,7 +96,7 @@ IsExport (Export user number encoding) = Unit {0}
 IsExport (Remove user number) = ⊥
 IsExport Migrate = ⊥
 
--- Why a store that is in this state refuses a command. Memory has no cause here, and that the database fails has none either.
+-- Why a store that is in this state refuses a command. Memory has no cause here; that of Database is IsFault, below.
 abbrev pub HasCause : Refusal → Command → State → Type 0
 HasCause Memory command state = Unit {0}
 HasCause UserName command state = IsNamed command → ⊥
@@ -108,9 +113,45 @@ abbrev pub HasOpenCause : {D : Type 0} {g : Ghosts D} → Image → Result (Held
 HasOpenCause image (Ok depot) = ⊤
 HasOpenCause {D} {g} image (Err refusal) = refusal ≡ Database → IsUnready g image
 
--- Where the tables stand for a state, a command that only reads them is refused `Database` only if the database can't work.
-abbrev pub IsStoreFault : State → State → Refusal → Type 0
-IsStoreFault old new refusal = refusal ≡ Database → (before : Entries) → Stands old.now before → HasFailed old new
+-- ---- why the store refuses
+
+-- where the tables stand for a state, `Database` is told only of a database that can't work, or for this other cause
+abbrev pub IsStoreFault : (Entries → Trees → Type 0) → State → State → Refusal → Type 0
+IsStoreFault Other old new refusal = refusal ≡ Database → (before : Entries) → Stands old.now before → HasFailed old new ⊎ Other before old.now.trees
+
+-- a stored program no longer reads and verifies
+abbrev pub IsSpoilt : Option (List ℕ) → Type 0
+IsSpoilt None = ⊥
+IsSpoilt (Some program) = (refusal : Refusal) × (refusal ≢ Memory) × IsProgramRefusal program refusal
+
+-- the drafts, or the row of the user whose entries they become, have no room
+abbrev pub LackRoom : List ℕ → List Draft → Entries → Trees → Type 0
+LackRoom user drafts before db = HasNoUserRoom user (with_entries user drafts before) db ⊎ HaveNoRoom user drafts db
+
+-- What may keep a store that works from a command: what is to be put in has no room, or a stored program is spoilt. Where a command only
+-- reads or removes, nothing does.
+abbrev pub IsHindered : Command → Entries → Trees → Type 0
+IsHindered (SetScript user script) before db = (code : Code) × IsCompiled script code × HasNoUserRoom user (with_program user (spelling code) before) db
+IsHindered (SetCode user program) before db = HasNoUserRoom user (with_program user program before) db
+IsHindered (Deliver user message) before db =
+    IsSpoilt (before.programs user)
+    ⊎ ((actions : List Action) × AreActions (before.programs user) (mail_of message) actions × LackRoom user (drafts_of (mail_of message) actions) before db)
+IsHindered (ListAll user) before db = ⊥
+IsHindered (ProgramOf user) before db = ⊥
+IsHindered (Export user number encoding) before db = ⊥
+IsHindered (Remove user number) before db = ⊥
+IsHindered Migrate before db =
+    ((user : List ℕ) × IsSpoilt (before.programs user))
+    ⊎ ((stored : List UserProgram) × (renewed : List UserProgram) × AreProgramsOf before stored × AreRenewals stored renewed × HaveNoUserRoom renewed before db)
+
+-- the store refuses the command only so
+abbrev pub IsFault : Command → State → State → Refusal → Type 0
+IsFault command = IsStoreFault (IsHindered command)
+
+-- the octets of all contents, or of a user's entries, are more than 64 bits can count
+abbrev pub IsUncounted : Entries → Trees → Type 0
+IsUncounted before db =
+    (2 ^ 64 ≤ octets_of (db contents_tree)) ⊎ ((user : List ℕ) × (2 ^ 64 ≤ sum_by (λ (e : Listing). e.octets) (map listing_of (entries_of user before))))
 
 -- ---- which refusals a command may get, whatever the disk does
 

@@ -1,8 +1,9 @@
 // Scripts and programs that are to be stored, and programs that are.
-ghost use Rattle.std.specs.Prelude.{◌≡◌, ◌⊎◌, IfErr, IfOk, OnOk};
+ghost use Rattle.std.specs.Prelude.{◌≡◌, ◌⊎◌, IfErr, IfOk, OnOk, Some};
 ghost use Rattle.refusals.specs.declared.refusal.Refusal.TheVariants.{Memory, Database};
 ghost use Rattle.bytecode_format.specs.Code.{Code};
 ghost use Rattle.bytecode_format.specs.Spelling.{spelling};
+ghost use Rattle.depot_actions.specs.Causes.{IsSpoilt};
 ghost use Rattle.sieve_engine.specs.Evaluation.{IsCompiled, IsScriptRefusal};
 ghost use Rattle.sieve_engine.specs.Execution.{IsChecked, IsProgramRefusal};
 
@@ -45,10 +46,11 @@ pub(crate) fn check_code(alloc: Global, program: &[u8]) -> Result<(), Refusal>
 pub(crate) fn check_stored(alloc: Global, program: &[u8]) -> Result<Verified, Refusal>
     ensures checked { IfOk result (λ verified. IsChecked program.now verified) }
     ensures refused { IfErr result (λ e. (e ≡ Memory) ⊎ (e ≡ Database)) }
+    ensures cause { IfErr result (λ e. e ≡ Database → IsSpoilt (Some program.now)) }
 {
     match check_program(alloc, program) {
         Ok(verified) => Ok(verified),
         Err(Refusal::Memory) => Err(Refusal::Memory),
-        Err(_) => Err(Refusal::Database),
+        Err(_refusal) => Err(Refusal::Database),
     }
 }

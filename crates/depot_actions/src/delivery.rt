@@ -7,6 +7,7 @@ ghost use Rattle.sqlite.specs.State.{HasCleanDisk, Survives};
 ghost use Rattle.part_store.specs.Entries.{Entries};
 ghost use Rattle.part_store.specs.Standing.{Spares, Stands, draft_of, listed};
 ghost use Rattle.refusals.specs.declared.refusal.Refusal.TheVariants.{Memory, Database};
+ghost use Rattle.depot_actions.specs.Causes.{IsSpoilt, IsStoreFault, LackRoom};
 ghost use Rattle.depot_actions.specs.DepotState.{AreActions};
 ghost use Rattle.depot_actions.specs.Drafts.{drafts_of};
 ghost use Rattle.depot_actions.specs.Filing.{Adds, IsUnfiled, MayFile, MayUnfile};
@@ -37,6 +38,7 @@ pub(crate) fn actions_of(
     ensures actions { IfOk result (λ actions. AreActions (option_map (λ v. v.items) program) message.now actions.items) }
     ensures parts { IfOk result (λ actions. All (NamesPart message.now) actions.items) }
     ensures refused { IfErr result (λ e. (e ≡ Memory) ⊎ (e ≡ Database)) }
+    ensures cause { IfErr result (λ e. e ≡ Database → IsSpoilt (option_map (λ v. v.items) program)) }
 {
     let Some(program) = program else {
         return Ok(keep_alone(alloc)?);
@@ -77,6 +79,8 @@ pub(crate) fn file_all<S: Alter>(
     ensures spared { HasCleanDisk (state S.Store store.new) → OnErr result (Spares (state S.Store store.old) (state S.Store store.new)) }
     ensures which { IfErr result MayUnfile }
     ensures refused { HasCleanDisk (state S.Store store.new) → IfErr result (λ e. IsUnfiled e user.now (drafts_of message.now actions.now) (state S.Store store.old)) }
+    ensures cause { HasCleanDisk (state S.Store store.new) → IfErr result
+        (IsStoreFault (LackRoom user.now (drafts_of message.now actions.now)) (state S.Store store.old) (state S.Store store.new)) }
     ensures survives { Survives (state S.Store store.old) (state S.Store store.new) (MayFile user.now (drafts_of message.now actions.now) (state S.Store store.old)) }
 {
     let kept = kept_parts(alloc, message, actions)?;
@@ -97,6 +101,8 @@ fn add_all<S: Alter>(
     ensures spared { HasCleanDisk (state S.Store store.new) → OnErr result (Spares (state S.Store store.old) (state S.Store store.new)) }
     ensures which { IfErr result MayUnfile }
     ensures refused { HasCleanDisk (state S.Store store.new) → IfErr result (λ e. IsUnfiled e user.now (map draft_of entries.now) (state S.Store store.old)) }
+    ensures cause { HasCleanDisk (state S.Store store.new) → IfErr result
+        (IsStoreFault (LackRoom user.now (map draft_of entries.now)) (state S.Store store.old) (state S.Store store.new)) }
     ensures survives { Survives (state S.Store store.old) (state S.Store store.new) (MayFile user.now (map draft_of entries.now) (state S.Store store.old)) }
 {
     let mut rows = unnumbered_rows(alloc, entries)?;

@@ -6,9 +6,10 @@ ghost use Rattle.sqlite.specs.Steps.{over_memory};
 ghost use Rattle.part_store.specs.Entries.{Entries, no_entries};
 ghost use Rattle.part_store.specs.Opening.{HoldsNoTables, HoldsStore, IsAt, IsReady, IsReadyFrom, TellsWhy};
 ghost use Rattle.sqlite.specs.WalFiles.{image_at};
-ghost use Rattle.part_store.specs.Standing.{HasNone, Spares, Stands, listed};
+ghost use Rattle.part_store.specs.Refusals.{AreNamed};
+ghost use Rattle.part_store.specs.Standing.{Spares, Stands, listed};
 ghost use Rattle.refusals.specs.declared.refusal.Refusal.TheVariants.{Memory, Database, Write};
-ghost use Rattle.depot_actions.specs.Causes.{HasCause, IsStoreFault, HasOpenCause, MayRefuse};
+ghost use Rattle.depot_actions.specs.Causes.{HasCause, HasOpenCause, IsFault, IsStoreFault, IsUncounted, MayRefuse};
 ghost use Rattle.depot_actions.specs.DepotState.{Deliver, Does, Done, Export, ListAll, Listed, MayLeave, Migrate, Migrated, Program, ProgramOf, Remove, SetCode, SetScript, Text};
 ghost use Rattle.depot_actions.specs.Overviews.{IsOverview};
 ghost use Rattle.sqlite.specs.Files.{file_state, IsOpened};
@@ -76,12 +77,14 @@ impl<S: Alter> Depot<S> {
     ///
     /// # Errors
     ///
-    /// `UserName`; then what the script is refused for; then `Database`. `Memory` where an allocation was refused.
+    /// `UserName`; then what the script is refused for; then `Database`, also where its code has no room. `Memory` where an allocation was
+    /// refused.
     pub fn set_script(&mut self, alloc: Global, user: &str, script: &[u8]) -> Result<(), Refusal>
         ensures done { HasCleanDisk (state S.Store self.new) → OnOk result (Does (SetScript user.now script.now) Done (state S.Store self.old) (state S.Store self.new)) }
         ensures spared { HasCleanDisk (state S.Store self.new) → OnErr result (Spares (state S.Store self.old) (state S.Store self.new)) }
         ensures which { IfErr result (MayRefuse (SetScript user.now script.now)) }
         ensures refused { HasCleanDisk (state S.Store self.new) → IfErr result (λ e. HasCause e (SetScript user.now script.now) (state S.Store self.old)) }
+        ensures cause { HasCleanDisk (state S.Store self.new) → IfErr result (IsFault (SetScript user.now script.now) (state S.Store self.old) (state S.Store self.new)) }
         ensures survives { Survives (state S.Store self.old) (state S.Store self.new) (MayLeave (SetScript user.now script.now) (state S.Store self.old)) }
     {
         if !is_user_name(user) {
@@ -95,12 +98,14 @@ impl<S: Alter> Depot<S> {
     ///
     /// # Errors
     ///
-    /// `UserName`; then what the program is refused for; then `Database`. `Memory` where an allocation was refused.
+    /// `UserName`; then what the program is refused for; then `Database`, also where it has no room. `Memory` where an allocation was
+    /// refused.
     pub fn set_code(&mut self, alloc: Global, user: &str, program: &[u8]) -> Result<(), Refusal>
         ensures done { HasCleanDisk (state S.Store self.new) → OnOk result (Does (SetCode user.now program.now) Done (state S.Store self.old) (state S.Store self.new)) }
         ensures spared { HasCleanDisk (state S.Store self.new) → OnErr result (Spares (state S.Store self.old) (state S.Store self.new)) }
         ensures which { IfErr result (MayRefuse (SetCode user.now program.now)) }
         ensures refused { HasCleanDisk (state S.Store self.new) → IfErr result (λ e. HasCause e (SetCode user.now program.now) (state S.Store self.old)) }
+        ensures cause { HasCleanDisk (state S.Store self.new) → IfErr result (IsFault (SetCode user.now program.now) (state S.Store self.old) (state S.Store self.new)) }
         ensures survives { Survives (state S.Store self.old) (state S.Store self.new) (MayLeave (SetCode user.now program.now) (state S.Store self.old)) }
     {
         if !is_user_name(user) {
@@ -116,7 +121,8 @@ impl<S: Alter> Depot<S> {
     /// # Errors
     ///
     /// `UserName`; then `MessageTooLarge` or `TooManyParts`; then, of what is read, `Database`, also where the stored filter no longer reads
-    /// and verifies; then `NumberFull`, `Collision` and `Database` of what is written. `Memory` where an allocation was refused.
+    /// and verifies; then `NumberFull`, `Collision` and `Database` of what is written, also where it has no room. `Memory` where an
+    /// allocation was refused.
     pub fn deliver(
         &mut self,
         alloc: Global,
@@ -127,6 +133,7 @@ impl<S: Alter> Depot<S> {
         ensures spared { HasCleanDisk (state S.Store self.new) → OnErr result (Spares (state S.Store self.old) (state S.Store self.new)) }
         ensures which { IfErr result (MayRefuse (Deliver user.now message.now)) }
         ensures refused { HasCleanDisk (state S.Store self.new) → IfErr result (λ e. HasCause e (Deliver user.now message.now) (state S.Store self.old)) }
+        ensures cause { HasCleanDisk (state S.Store self.new) → IfErr result (IsFault (Deliver user.now message.now) (state S.Store self.old) (state S.Store self.new)) }
         ensures survives { Survives (state S.Store self.old) (state S.Store self.new) (MayLeave (Deliver user.now message.now) (state S.Store self.old)) }
     {
         if !is_user_name(user) {
@@ -151,8 +158,7 @@ impl<S: Alter> Depot<S> {
         ensures spared { HasCleanDisk (state S.Store self.new) → Spares (state S.Store self.old) (state S.Store self.new) }
         ensures which { IfErr result (MayRefuse (ListAll user.now)) }
         ensures refused { HasCleanDisk (state S.Store self.new) → IfErr result (λ e. HasCause e (ListAll user.now) (state S.Store self.old)) }
-        ensures cause { HasCleanDisk (state S.Store self.new) → IfErr result
-            (IsStoreFault (state S.Store self.old) (state S.Store self.new)) }
+        ensures cause { HasCleanDisk (state S.Store self.new) → IfErr result (IsFault (ListAll user.now) (state S.Store self.old) (state S.Store self.new)) }
         ensures survives { Survives (state S.Store self.old) (state S.Store self.new) (λ _. ⊥) }
     {
         if !is_user_name(user) {
@@ -171,8 +177,7 @@ impl<S: Alter> Depot<S> {
         ensures spared { HasCleanDisk (state S.Store self.new) → Spares (state S.Store self.old) (state S.Store self.new) }
         ensures which { IfErr result (MayRefuse (ProgramOf user.now)) }
         ensures refused { HasCleanDisk (state S.Store self.new) → IfErr result (λ e. HasCause e (ProgramOf user.now) (state S.Store self.old)) }
-        ensures cause { HasCleanDisk (state S.Store self.new) → IfErr result
-            (IsStoreFault (state S.Store self.old) (state S.Store self.new)) }
+        ensures cause { HasCleanDisk (state S.Store self.new) → IfErr result (IsFault (ProgramOf user.now) (state S.Store self.old) (state S.Store self.new)) }
         ensures survives { Survives (state S.Store self.old) (state S.Store self.new) (λ _. ⊥) }
     {
         if !is_user_name(user) {
@@ -206,8 +211,7 @@ impl<S: Alter> Depot<S> {
         ensures spared { HasCleanDisk (state S.Store self.new) → Spares (state S.Store self.old) (state S.Store self.new) }
         ensures which { IfErr result (MayRefuse (Export user.now number encoding)) }
         ensures refused { HasCleanDisk (state S.Store self.new) → IfErr result (λ e. HasCause e (Export user.now number encoding) (state S.Store self.old)) }
-        ensures cause { HasCleanDisk (state S.Store self.new) → IfErr result
-            (IsStoreFault (state S.Store self.old) (state S.Store self.new)) }
+        ensures cause { HasCleanDisk (state S.Store self.new) → IfErr result (IsFault (Export user.now number encoding) (state S.Store self.old) (state S.Store self.new)) }
         ensures survives { Survives (state S.Store self.old) (state S.Store self.new) (λ _. ⊥) }
     {
         if !is_user_name(user) {
@@ -227,9 +231,7 @@ impl<S: Alter> Depot<S> {
         ensures spared { HasCleanDisk (state S.Store self.new) → OnErr result (Spares (state S.Store self.old) (state S.Store self.new)) }
         ensures which { IfErr result (MayRefuse (Remove user.now number)) }
         ensures refused { HasCleanDisk (state S.Store self.new) → IfErr result (λ e. HasCause e (Remove user.now number) (state S.Store self.old)) }
-        ensures cause { HasCleanDisk (state S.Store self.new) → IfErr result (λ e. (before : _)
-            → Stands (state S.Store self.old).now before → HasNone before user.now number
-            → IsStoreFault (state S.Store self.old) (state S.Store self.new) e) }
+        ensures cause { HasCleanDisk (state S.Store self.new) → IfErr result (IsFault (Remove user.now number) (state S.Store self.old) (state S.Store self.new)) }
         ensures survives { Survives (state S.Store self.old) (state S.Store self.new) (MayLeave (Remove user.now number) (state S.Store self.old)) }
     {
         if !is_user_name(user) {
@@ -243,7 +245,8 @@ impl<S: Alter> Depot<S> {
     ///
     /// # Errors
     ///
-    /// `Database`, also where a stored program, whatever its version, no longer reads and verifies. `Memory` where an allocation was refused.
+    /// `Database`, also where a stored program, whatever its version, no longer reads and verifies, a user's name isn't UTF-8 or a new
+    /// program has no room. `Memory` where an allocation was refused.
     pub fn migrate(&mut self, alloc: Global) -> Result<usize, Refusal>
         ensures done { HasCleanDisk (state S.Store self.new) → IfOk result (λ number.
             Does Migrate (Migrated number) (state S.Store self.old) (state S.Store self.new)) }
@@ -266,12 +269,14 @@ impl<S: Alter> Depot<S> {
     ///
     /// # Errors
     ///
-    /// `Database`, also where octets are more than 64 bits can count. `Memory` where an allocation was refused.
+    /// `Database`, also where octets are more than 64 bits can count or a user's name isn't UTF-8. `Memory` where an allocation was refused.
     pub fn inspect(&mut self, alloc: Global) -> Result<Overview, Refusal>
         ensures told { HasCleanDisk (state S.Store self.new) → IfOk result (λ x. IsTrue (state S.Store self.old).is_open
             × ((before : Entries) → Stands (state S.Store self.old).now before → IsOverview (state S.Store self.old).now.trees before x)) }
         ensures spared { HasCleanDisk (state S.Store self.new) → Spares (state S.Store self.old) (state S.Store self.new) }
         ensures refused { IfErr result (λ e. (e ≡ Memory) ⊎ (e ≡ Database)) }
+        ensures cause { HasCleanDisk (state S.Store self.new) → AreNamed (state S.Store self.old).now.trees
+            → IfErr result (IsStoreFault IsUncounted (state S.Store self.old) (state S.Store self.new)) }
         ensures survives { Survives (state S.Store self.old) (state S.Store self.new) (λ _. ⊥) }
     {
         look_over(&mut self.store, alloc)

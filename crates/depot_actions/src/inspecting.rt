@@ -1,15 +1,17 @@
 // How a depot is looked over, user by user.
-ghost use Rattle.std.specs.Prelude.{◌≡◌, ◌⊎◌, IfErr, IfOk, IsTrue, OnOk, map, option_map, string_bytes};
+ghost use Rattle.std.specs.Prelude.{◌≡◌, ◌⊎◌, ◌^◌, ◌≤◌, IfErr, IfOk, IsTrue, OnOk, map, option_map, string_bytes};
 ghost use Rattle.std.specs.List.{sum_by};
 ghost use Rattle.sqlite.specs.Held.{state};
 ghost use Rattle.sqlite.specs.State.{HasCleanDisk, Survives};
 ghost use Rattle.part_store.specs.Changes.{contents_tree, users_tree};
-ghost use Rattle.part_store.specs.Entries.{Entries, entries_of, listing_of};
+ghost use Rattle.part_store.specs.Entries.{Entries, Listing, entries_of, listing_of};
 ghost use Rattle.part_store.specs.Standing.{Spares, Stands, listed};
 ghost use Rattle.part_store.specs.Totals.{IsTotalOf};
 ghost use Rattle.part_store.specs.UserLines.{AreUsersOf, line_of};
 ghost use Rattle.part_store.specs.declared.entry.EntryRow.{EntryRow as Row};
 ghost use Rattle.refusals.specs.declared.refusal.Refusal.TheVariants.{Memory, Database};
+ghost use Rattle.part_store.specs.Refusals.{AreNamed};
+ghost use Rattle.depot_actions.specs.Causes.{IsStoreFault, IsUncounted};
 ghost use Rattle.depot_actions.specs.Overviews.{AreSummaries, IsJudged, IsOverview, IsStateOf, Summarises};
 
 use crate::overview::{Overview, ProgramState, UserOverview};
@@ -33,6 +35,8 @@ pub(crate) fn look_over<S: Alter>(
         × ((before : Entries) → Stands (state S.Store store.old).now before → IsOverview (state S.Store store.old).now.trees before x)) }
     ensures spared { HasCleanDisk (state S.Store store.new) → Spares (state S.Store store.old) (state S.Store store.new) }
     ensures refused { IfErr result (λ e. (e ≡ Memory) ⊎ (e ≡ Database)) }
+    ensures cause { HasCleanDisk (state S.Store store.new) → AreNamed (state S.Store store.old).now.trees
+        → IfErr result (IsStoreFault IsUncounted (state S.Store store.old) (state S.Store store.new)) }
     ensures survives { Survives (state S.Store store.old) (state S.Store store.new) (λ _. ⊥) }
 {
     let rows = rows_of(store)?;
@@ -48,6 +52,8 @@ fn rows_of<S: Alter>(store: &mut PartStore<S>) -> Result<Vec<UserRow>, Refusal>
     ensures open { HasCleanDisk (state S.Store store.new) → OnOk result (IsTrue (state S.Store store.old).is_open) }
     ensures spared { HasCleanDisk (state S.Store store.new) → Spares (state S.Store store.old) (state S.Store store.new) }
     ensures refused { IfErr result (λ e. (e ≡ Memory) ⊎ (e ≡ Database)) }
+    ensures cause { HasCleanDisk (state S.Store store.new) → AreNamed (state S.Store store.old).now.trees
+        → IfErr result (IsStoreFault IsUncounted (state S.Store store.old) (state S.Store store.new)) }
     ensures survives { Survives (state S.Store store.old) (state S.Store store.new) (λ _. ⊥) }
 {
     store.users().map_err(refused)
@@ -60,6 +66,8 @@ fn total_of<S: Alter>(store: &mut PartStore<S>) -> Result<ContentTotal, Refusal>
     ensures open { HasCleanDisk (state S.Store store.new) → OnOk result (IsTrue (state S.Store store.old).is_open) }
     ensures spared { HasCleanDisk (state S.Store store.new) → Spares (state S.Store store.old) (state S.Store store.new) }
     ensures refused { IfErr result (λ e. (e ≡ Memory) ⊎ (e ≡ Database)) }
+    ensures cause { HasCleanDisk (state S.Store store.new) → IfErr result
+        (IsStoreFault IsUncounted (state S.Store store.old) (state S.Store store.new)) }
     ensures survives { Survives (state S.Store store.old) (state S.Store store.new) (λ _. ⊥) }
 {
     store.contents().map_err(refused)
@@ -75,6 +83,8 @@ fn summaries<S: Alter>(
         (before : Entries) → Stands (state S.Store store.old).now before → AreSummaries before (map line_of rows.now) users.items) }
     ensures spared { HasCleanDisk (state S.Store store.new) → Spares (state S.Store store.old) (state S.Store store.new) }
     ensures refused { IfErr result (λ e. (e ≡ Memory) ⊎ (e ≡ Database)) }
+    ensures cause { HasCleanDisk (state S.Store store.new) → IfErr result
+        (IsStoreFault IsUncounted (state S.Store store.old) (state S.Store store.new)) }
     ensures survives { Survives (state S.Store store.old) (state S.Store store.new) (λ _. ⊥) }
 {
     let mut users = Vec::new(alloc);
@@ -96,6 +106,8 @@ fn summary<S: Alter>(
     ensures open { HasCleanDisk (state S.Store store.new) → OnOk result (IsTrue (state S.Store store.old).is_open) }
     ensures spared { HasCleanDisk (state S.Store store.new) → Spares (state S.Store store.old) (state S.Store store.new) }
     ensures refused { IfErr result (λ e. (e ≡ Memory) ⊎ (e ≡ Database)) }
+    ensures cause { HasCleanDisk (state S.Store store.new) → IfErr result
+        (IsStoreFault IsUncounted (state S.Store store.old) (state S.Store store.new)) }
     ensures survives { Survives (state S.Store store.old) (state S.Store store.new) (λ _. ⊥) }
 {
     let entries = entries_in(store, row.user.as_str())?;
@@ -109,6 +121,8 @@ fn entries_in<S: Alter>(store: &mut PartStore<S>, user: &str) -> Result<Vec<Entr
     ensures open { HasCleanDisk (state S.Store store.new) → OnOk result (IsTrue (state S.Store store.old).is_open) }
     ensures spared { HasCleanDisk (state S.Store store.new) → Spares (state S.Store store.old) (state S.Store store.new) }
     ensures refused { IfErr result (λ e. (e ≡ Memory) ⊎ (e ≡ Database)) }
+    ensures cause { HasCleanDisk (state S.Store store.new) → IfErr result
+        (IsStoreFault IsUncounted (state S.Store store.old) (state S.Store store.new)) }
     ensures survives { Survives (state S.Store store.old) (state S.Store store.new) (λ _. ⊥) }
 {
     store.entries_of(user).map_err(refused)
@@ -118,6 +132,7 @@ fn entries_in<S: Alter>(store: &mut PartStore<S>, user: &str) -> Result<Vec<Entr
 fn summary_of(alloc: Global, row: &UserRow, entries: &[EntryRow]) -> Result<UserOverview, Refusal>
     ensures told { IfOk result (λ x. Summarises (line_of row.now) (map listed entries.now) x) }
     ensures refused { IfErr result (λ e. (e ≡ Memory) ⊎ (e ≡ Database)) }
+    ensures cause { IfErr result (λ e. e ≡ Database → 2 ^ 64 ≤ sum_by (λ (e : Listing). e.octets) (map listed entries.now)) }
 {
     let octets = octets_of(entries)?;
     let program = program_state(alloc, &row.program)?;
@@ -134,6 +149,7 @@ fn summary_of(alloc: Global, row: &UserRow, entries: &[EntryRow]) -> Result<User
 fn octets_of(entries: &[EntryRow]) -> Result<u64, Refusal>
     ensures sum { IfOk result (λ octets. octets ≡ sum_by (λ (e : Row). e.octets) entries.now) }
     ensures refused { IfErr result (λ e. e ≡ Database) }
+    ensures cause { IfErr result (λ _. 2 ^ 64 ≤ sum_by (λ (e : Row). e.octets) entries.now) }
 {
     let mut octets = 0u64;
     for entry in entries {

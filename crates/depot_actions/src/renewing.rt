@@ -1,9 +1,11 @@
 // How stored programs get the latest version.
-ghost use Rattle.std.specs.Prelude.{◌≡◌, ◌⊎◌, ◌++◌, [], IfErr, IfOk, OnOk, map, option_map};
+ghost use Rattle.std.specs.Prelude.{◌≡◌, ◌⊎◌, ◌++◌, [], IfErr, IfOk, OnOk, Some, map, option_map};
 ghost use Rattle.bytecode_format.specs.Code.{Code};
 ghost use Rattle.part_store.specs.Standing.{pair_of};
 ghost use Rattle.refusals.specs.declared.refusal.Refusal.TheVariants.{Memory, Database};
 ghost use Rattle.sieve_engine.specs.Execution.{IsChecked, Spells};
+ghost use Rattle.sqlite_rules.specs.Lists.{Has};
+ghost use Rattle.depot_actions.specs.Causes.{IsSpoilt};
 ghost use Rattle.depot_actions.specs.Renewing.{AreRenewals, renewal, renewed_octets, with_renewal};
 
 use crate::checking::check_stored;
@@ -25,6 +27,7 @@ pub(crate) fn renewed_programs(
 ) -> Result<Vec<(String, Vec<u8>)>, Refusal>
     ensures renewed { IfOk result (λ renewed. AreRenewals (map pair_of stored.now) (map pair_of renewed.items)) }
     ensures refused { IfErr result (λ e. (e ≡ Memory) ⊎ (e ≡ Database)) }
+    ensures cause { IfErr result (λ e. e ≡ Database → (pair : _) × Has (map pair_of stored.now) pair × IsSpoilt (Some pair.1)) }
 {
     let mut renewed = Vec::new(alloc);
     for (user, program) in stored {
@@ -43,6 +46,7 @@ fn push_renewed(
     ensures renewed { OnOk result ((code : Code) × IsChecked program.now code
         × (map pair_of renewed.new.items ≡ map pair_of renewed.old.items ++ with_renewal (renewal code) (user.now, program.now) [])) }
     ensures refused { IfErr result (λ e. (e ≡ Memory) ⊎ (e ≡ Database)) }
+    ensures cause { IfErr result (λ e. e ≡ Database → IsSpoilt (Some program.now)) }
 {
     if let Some(octets) = renewed_program(alloc, program)? {
         renewed.push((String::from_str(alloc, user)?, octets))?;
@@ -54,6 +58,7 @@ fn push_renewed(
 fn renewed_program(alloc: Global, program: &[u8]) -> Result<Option<Vec<u8>>, Refusal>
     ensures renewed { IfOk result (λ renewed. (code : Code) × IsChecked program.now code × (option_map (λ v. v.items) renewed ≡ renewal code)) }
     ensures refused { IfErr result (λ e. (e ≡ Memory) ⊎ (e ≡ Database)) }
+    ensures cause { IfErr result (λ e. e ≡ Database → IsSpoilt (Some program.now)) }
 {
     let verified = check_stored(alloc, program)?;
     if verified.program().version() == LATEST_VERSION {
@@ -66,6 +71,7 @@ fn renewed_program(alloc: Global, program: &[u8]) -> Result<Option<Vec<u8>>, Ref
 fn in_latest_version(alloc: Global, program: &[u8]) -> Result<Vec<u8>, Refusal>
     ensures renewed { IfOk result (λ octets. (code : Code) × Spells program.now code × (octets.items ≡ renewed_octets code)) }
     ensures refused { IfErr result (λ e. (e ≡ Memory) ⊎ (e ≡ Database)) }
+    ensures cause { IfErr result (λ e. e ≡ Database → IsSpoilt (Some program.now)) }
 {
     match Program::read(alloc, program) {
         Ok(program) => Ok(program.in_version_two().write(alloc)?),

@@ -18,7 +18,7 @@ use Rattle.part_store.proofs.Faults.{IsAsked, IsAnswered, query_faults}
 abbrev Refused : List ℕ → Row → State → State → Error → Type 0
 Refused sql params old new e = FailsToQuery sql params old new e ⊎ IsTooLate sql params old new e
 
-over : (limit : Option ℕ) (db : Database) (query : Query) (params : Row) (e : Error) → db.schema ≡ store_schema → RefusesQuery limit db (alone query) params e
+pub over : (limit : Option ℕ) (db : Database) (query : Query) (params : Row) (e : Error) → db.schema ≡ store_schema → RefusesQuery limit db (alone query) params e
     → RefusesQuery limit (record { schema = store_schema; trees = db.trees }) (alone query) params e
 over limit db query params e has h = subst (λ s. RefusesQuery limit (record { schema = s; trees = db.trees }) (alone query) params e) has h
 

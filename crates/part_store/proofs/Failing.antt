@@ -1,5 +1,5 @@
 -- A failure of one call of several is one of them all.
-use Rattle.std.proofs.Common.{◌≡◌, ◌≢◌, inl, inr, ℕ, ◌<◌, length, sym, subst, ◌∙◌, IsSome, IsTrue, arith}
+use Rattle.std.proofs.Common.{◌≡◌, ◌≢◌, inl, inr, ℕ, ◌<◌, true, length, refl, sym, subst, ◌∙◌, IsSome, IsTrue, arith}
 use Rattle.std.proofs.lemmas.Bool.{cases_Bool, true≢false}
 use Rattle.sqlite_trees.specs.Tree.{Trees}
 use Rattle.sqlite_value.specs.Order.{Row}
@@ -7,9 +7,11 @@ use Rattle.sqlite.specs.declared.error.Error.{Error}
 use Rattle.sqlite.specs.declared.error.Error.TheVariants.{SqliteFailure}
 use Rattle.sqlite.specs.declared.error.ErrorCode.TheVariants.{OutOfMemory}
 use Rattle.sqlite.specs.Steps.{FailsToCommit}
+use Rattle.sqlite_trees.specs.declared.store.Store as store
+use Rattle.sqlite.specs.Held.{Held, state}
 use Rattle.sqlite.specs.State.{State, HasCleanDisk, Survives}
 use Rattle.part_store.specs.Entries.{Entries}
-use Rattle.part_store.specs.Refusals.{refusal_of, HasFailed, Blames, Faults}
+use Rattle.part_store.specs.Refusals.{refusal_of, HasFailed, Blames, BlamesOr, Faults}
 use Rattle.part_store.specs.Standing.{Stands}
 use Rattle.part_store.specs.declared.error.StoreError.{StoreError}
 use Rattle.part_store.specs.declared.error.StoreError.TheVariants.{Database}
@@ -50,3 +52,8 @@ unread row at e kind within reads is = kind (λ same. absurd (let no = subst (λ
 pub commit_blamed : (old new : State) (e : Error) → IsTrue old.in_transaction → FailsToCommit old new e → refusal_of e ≡ Database → HasFailed old new
 commit_blamed old new e inside (inl h) is = never (failed old new ⊥ e is h)
 commit_blamed old new e inside (inr h) is = absurd (true≢false (sym inside ∙ h.1))
+
+-- a transaction that is dropped after a refusal
+pub dropped : {S : Type 0} (g : store.Ghosts S) (conn : Held S) (mid new : State) (Other : Entries → Trees → Type 0) (e : StoreError) → Survives mid new (λ _. ⊥)
+    → (IsTrue true → BlamesOr Other (state g (record conn { in_transaction = true })) mid e) → BlamesOr Other (state g conn) new e
+dropped g conn mid new Other e two cause is before stands = elim (cause refl is before stands) [ inl failed ↦ inl (first_failed (state g conn) mid new two failed) | inr other ↦ inr other ]

@@ -12,16 +12,19 @@ use Rattle.sqlite_trees.specs.View.{is_int}
 use Rattle.sqlite_rules.specs.Lists.{Has}
 use Rattle.sqlite_rules.specs.Edit.{id_in, next_rowid}
 use Rattle.sqlite_rules.proofs.ListLemmas.{all_has, all_from}
-use Rattle.sqlite_rules.proofs.TableLemmas.{int_is}
+use Rattle.sqlite_rules.proofs.TableLemmas.{int_is, next_after}
 use Rattle.part_store.specs.Changes.{users_tree, contents_tree, entries_tree, equals, columns, IsFound, Steps, Reads, IsAdded, new_row}
 use Rattle.part_store.specs.Entries.{Entry, Entries}
-use Rattle.part_store.specs.Filing.{IsStocked, IsNext, with_entry, entry_values, Stocks, IsOther, Files}
+use Rattle.part_store.specs.Filing.{IsStocked, IsNext, with_entry, entry_values, Stocks, IsOther, Files, RisesBy, RisesWithin}
 use Rattle.part_store.specs.Standing.{Stands, IsUserRow, IsEntryRow, IsContentRow, HasContent, content_row, StandsFor, HaveOneRow}
-use Rattle.part_store.proofs.Gaining.{added_rises, added_has, has_added, added_keeps}
+use Rattle.part_store.proofs.Gaining.{added_rises, added_has, has_added, added_keeps, keyed_all}
 use Rattle.sqlite.specs.State.{State, KeepsCommit}
 use Rattle.part_store.specs.Tables.{store_schema}
 use Rattle.part_store.proofs.Finding.{content_there, content_test, same_blob}
 use Rattle.part_store.proofs.Programs.{bytes_same}
+
+no_more : (z : ℤ) → z ≡ z +ℤ pos 0
+no_more z = omega (arith, ints)
 
 -- ---- the next rowid comes last
 
@@ -91,6 +94,9 @@ entry_keys db e stands = zip_keys (db contents_tree) (db entries_tree) e.entries
 
 -- ---- the octets are under their digest
 
+pub same_rowids : (rows : List Row) → RisesBy 0 rows rows
+same_rowids rows = no_more (next_rowid rows)
+
 pub stocked_already : (db : Trees) (e : Entries) (digest octets : List ℕ) → StandsFor db e → HasContent (db contents_tree) digest octets → IsStocked db db digest octets
 stocked_already db e digest octets stands h = record {
   users = refl;
@@ -101,6 +107,7 @@ stocked_already db e digest octets stands h = record {
   has = h;
   kept = λ d o there. there;
   from = λ d o there. inl there;
+  rowids = (0, omega arith, same_rowids (db contents_tree));
 }
 
 row_parts : (id other : ℤ) (d o x y : List ℕ) → content_row id d o ≡ Int other ∷ Blob x ∷ Blob y ∷ [] → (d ≡ x) × (o ≡ y)
@@ -139,6 +146,7 @@ module _ (db new : Trees) (e : Entries) (digest octets : List ℕ) (stands : Sta
     has = (next_rowid (db contents_tree), has_added contents_tree _ db new added);
     kept = λ d o h. (h.0, added_keeps contents_tree _ db new (content_row h.0 d o) added h.1);
     from = comes_from;
+    rowids = (1, omega arith, ap next_rowid (comes_last contents_tree _ db new added stands.contents_rise (keyed_all IsContentRow (db contents_tree) (λ r h. rw h.3) stands.contents)) ∙ next_after (db contents_tree) _);
   }
 
 -- ---- and then the row
@@ -233,6 +241,9 @@ files old mid new x digest before stands next stocks adds =
       has = subst (λ rows. HasContent rows digest x.octets) (sym same) held.has;
       kept = λ d o h. subst (λ rows. HasContent rows d o) (sym same) (held.kept d o h);
       from = λ d o h. held.from d o (subst (λ rows. HasContent rows d o) same h);
+      content_rowids = subst (RisesWithin 1 (old.now.trees contents_tree)) (sym same) held.rowids;
+      entry_rowids = ap next_rowid (grown old.now.trees mid.now.trees new.now.trees before x digest stands.tables next held step.change) ∙ next_after (mid.now.trees entries_tree) _
+          ∙ ap (λ rows. next_rowid rows +ℤ pos 1) held.entries;
     }
 
 pub files_kept : (old mid new : State) (values : Row) → (old.now.schema ≡ store_schema → KeepsCommit old mid) → (old.now.schema ≡ store_schema → mid.now.schema ≡ store_schema)

@@ -1,15 +1,19 @@
 -- Entries that are filed one after another.
-use Rattle.std.proofs.Common.{◌≡◌, ◌⊎◌, inl, inr, ℕ, ◌+◌, ◌<◌, List, [], ◌∷◌, ◌++◌, length, map, take, drop, get_or, IsTrue, refl, sym, ap, subst, ◌∙◌, append-nil, append_assoc, arith, add-zero}
+use Rattle.std.proofs.Common.{◌≡◌, ◌⊎◌, inl, inr, ℕ, ◌+◌, ◌<◌, List, [], ◌∷◌, ◌++◌, length, map, take, drop, get_or, IsTrue, refl, sym, ap, subst, ◌∙◌, append-nil, append_assoc, arith, add-zero, length-append, ℤ, ◌+ℤ◌, pos}
 use Rattle.std.proofs.lemmas.List.{drop_more, take-append-drop, map-append, map_more}
 use Rattle.sha2.specs.Sha256.{sha256}
+use Rattle.std.proofs.lemmas.Int.{ints}
+use Rattle.sqlite_value.specs.Order.{Row}
+use Rattle.sqlite_rules.specs.Edit.{next_rowid}
 use Rattle.sqlite_rules.specs.Lists.{Has}
 use Rattle.sqlite.specs.State.{State, HasCleanDisk, KeepsCommit, Survives}
 use Rattle.sqlite.proofs.StateLemmas.{survives_then}
 use Rattle.part_store.specs.Tables.{store_schema}
-use Rattle.part_store.specs.Changes.{contents_tree}
+use Rattle.part_store.specs.Changes.{contents_tree, entries_tree}
 use Rattle.part_store.specs.Entries.{Draft, Entry, Entries, entry_of, numbered}
-use Rattle.part_store.specs.Filing.{CanFile, Collides, Files, FilesAll, IsNext, IsOther}
+use Rattle.part_store.specs.Filing.{CanFile, Collides, Files, FilesAll, IsNext, IsOther, RisesBy}
 use Rattle.part_store.specs.Standing.{HasContent, Stands, draft_of}
+use Rattle.part_store.proofs.Filed.{same_rowids}
 use Rattle.part_store.specs.declared.entry.Kind.TheVariants.{Message}
 use Rattle.part_store.specs.declared.entry.NewEntry.{NewEntry}
 
@@ -49,6 +53,7 @@ pub record Filing (user : List ℕ) (last count : ℕ) (drafts : List Draft) (ol
   pub survives : Survives old now (λ _. ⊥)
   pub filed : HasCleanDisk now → (before : Entries) → Stands old.now before → CanFile before user last count → FilesAll user last drafts before old now
   pub inside : HasCleanDisk now → 0 < length drafts → IsTrue now.in_transaction
+  pub still : HasCleanDisk now → IsTrue old.in_transaction → IsTrue now.in_transaction
   pub schema : HasCleanDisk now → old.now.schema ≡ store_schema → now.now.schema ≡ store_schema
   pub kept : HasCleanDisk now → old.now.schema ≡ store_schema → KeepsCommit old now
 
@@ -64,13 +69,16 @@ none_filed user last count s = record {
     has = λ d h. absurd h;
     kept = λ g o h. h;
     from = λ g o h. inl h;
+    content_rowids = (0, omega arith, same_rowids (s.now.trees contents_tree));
+    entry_rowids = same_rowids (s.now.trees entries_tree);
   };
   inside = λ clean some. absurd (omega arith);
+  still = λ clean h. h;
   schema = λ clean has. has;
   kept = λ clean has. record { was_open = λ h. h; committed = λ _. refl };
 }
 
-next_one : (before : Entries) (user : List ℕ) (last count : ℕ) (drafts : List Draft) (d : Draft) → CanFile before user last count → length drafts < count
+pub next_one : (before : Entries) (user : List ℕ) (last count : ℕ) (drafts : List Draft) (d : Draft) → CanFile before user last count → length drafts < count
     → IsNext (record before { entries = before.entries ++ numbered user (last + 1) drafts }) (entry_of user (last + 1 + length drafts) d)
 next_one before user last count drafts d can more = record {
   first = omega arith;
@@ -80,6 +88,13 @@ next_one before user last count drafts d can more = record {
     | inr new ↦ numbered_below user (last + 1) drafts y new
   ];
 }
+
+-- so many rowids, and then so many
+pub more_rowids : (z : ℤ) (m n : ℕ) → (z +ℤ pos m) +ℤ pos n ≡ z +ℤ pos (m + n)
+more_rowids z m n = omega (arith, ints)
+
+rises_then : (m n : ℕ) (old mid new : List Row) → RisesBy m old mid → RisesBy n mid new → RisesBy (m + n) old new
+rises_then m n old mid new first second = second ∙ ap (λ z. z +ℤ pos n) first ∙ more_rowids (next_rowid old) m n
 
 filed_more : (old mid new : State) (before : Entries) (user : List ℕ) (last : ℕ) (drafts : List Draft) (d : Draft) → FilesAll user last drafts before old mid
     → Files (entry_of user (last + 1 + length drafts) d) (sha256 d.octets) (record before { entries = before.entries ++ numbered user (last + 1) drafts }) mid new
@@ -104,6 +119,13 @@ filed_more old mid new before user last drafts d so_far one =
         ]
         | inr (digest, octets) ↦ inr (d, has_right drafts (d ∷ []) d (inl refl), digest, octets)
       ];
+      content_rowids = (
+        so_far.content_rowids.0 + one.content_rowids.0,
+        omega (arith, so_far.content_rowids.1, one.content_rowids.1, length-append drafts (d ∷ [])),
+        rises_then so_far.content_rowids.0 one.content_rowids.0 (old.now.trees contents_tree) (mid.now.trees contents_tree) (new.now.trees contents_tree) so_far.content_rowids.2 one.content_rowids.2,
+      );
+      entry_rowids = subst (λ n. RisesBy n (old.now.trees entries_tree) (new.now.trees entries_tree)) (sym (length-append drafts (d ∷ [])))
+          (rises_then (length drafts) 1 (old.now.trees entries_tree) (mid.now.trees entries_tree) (new.now.trees entries_tree) so_far.entry_rowids one.entry_rowids);
     }
 
 pub one_more : (user : List ℕ) (last count number : ℕ) (drafts more : List Draft) (d : Draft) (old mid new : State) → length drafts < count → number ≡ last + 1 + length drafts → more ≡ drafts ++ d ∷ [] → Filing user last count drafts old mid
@@ -122,6 +144,7 @@ one_more user last count number drafts more d old mid new within is all so_far s
           → Files (entry_of user n d) (sha256 d.octets) (record before { entries = before.entries ++ numbered user (last + 1) drafts }) mid new) is (files clean _ was.stands) in
           filed_more old mid new before user last drafts d was (one (next_one before user last count drafts d can within));
       inside = λ clean _. inside clean;
+      still = λ clean _. inside clean;
       schema = λ clean has. schema clean (so_far.schema (early clean) has);
       kept = λ clean has.
           let first = so_far.kept (early clean) has in

@@ -33,6 +33,14 @@ pub mod Stored
 mod Crashed
 mod Faults
 mod Asked
-mod Failing
+pub mod Failing
 mod Readable
 mod Shown
+mod Stopped
+mod Parents
+mod Deleting
+mod Causes
+mod Inserting
+mod Fitting
+mod Room
+mod NoRoom

@@ -98,6 +98,9 @@ module _ (db mid new : Trees) (e : Entries) (stands : StandsFor db e) (user : Li
   pub contents_stay : new contents_tree ≡ db contents_tree
   contents_stay = contents_same
 
+  pub entries_stay : new entries_tree ≡ db entries_tree
+  entries_stay = entries_same
+
 or_null_map : {A : Type 0} (items : A → List ℕ) (program : Option A) → or_null (λ v. Blob (items v)) program ≡ or_null Blob (option_map items program)
 or_null_map items None = refl
 or_null_map items (Some v) = refl
@@ -114,4 +117,5 @@ number_claimed old mid new user n items program fits takes adds before stands sa
       stands = record { schema = two.schema; listed = two.listed (one.listed stands.listed); tables = number_put old.now.trees mid.now.trees new.now.trees before stands.tables user n (option_map items program) same more fits one.change added };
       committed = two.committed ∙ one.committed;
       contents = contents_stay old.now.trees mid.now.trees new.now.trees before stands.tables user n (option_map items program) same more fits one.change added;
+      entries = entries_stay old.now.trees mid.now.trees new.now.trees before stands.tables user n (option_map items program) same more fits one.change added;
     }

@@ -1,16 +1,23 @@
 -- Programs are replaced one after another.
-use Rattle.std.proofs.Common.{◌≡◌, ℕ, ◌+◌, ◌<◌, Bool, true, false, List, [], ◌∷◌, ◌++◌, length, map, take, get_or, IsTrue, Option, Some, None, option_map, if◌then◌else◌, refl, sym, ap, subst, ◌∙◌, bytes_eq, arith}
+use Rattle.std.proofs.Common.{◌≡◌, ℕ, ◌+◌, ◌<◌, Bool, true, false, List, [], ◌∷◌, ◌++◌, length, map, take, get_or, drop, inl, inr, length-append, IsTrue, Option, Some, None, option_map, if◌then◌else◌, refl, sym, ap, subst, ◌∙◌, bytes_eq, arith}
 use Rattle.std.specs.Prelude.{String, Vec, string_bytes}
 use Rattle.std.specs.declared.alloc.Global.{Global}
-use Rattle.std.proofs.lemmas.List.{map_more}
+use Rattle.std.proofs.lemmas.List.{drop_more, map-append, map_more, take-append-drop}
+use Rattle.sqlite_trees.specs.Tree.{Trees}
+use Rattle.sqlite_rules.specs.Lists.{Has}
+use Rattle.sqlite.specs.declared.error.Error.{Error}
 use Rattle.sqlite.specs.State.{State, HasCleanDisk, KeepsCommit, Survives}
 use Rattle.sqlite.proofs.StateLemmas.{survives_then}
-use Rattle.part_store.specs.Tables.{store_schema}
+use Rattle.part_store.specs.Tables.{store_schema, users_table}
 use Rattle.part_store.specs.Entries.{Entries, UserProgram, program_named, with_program, with_programs}
 use Rattle.part_store.specs.Standing.{Brings, Stands, Stays, pair_of}
-use Rattle.part_store.proofs.Apart.{same_bytes}
+use Rattle.part_store.specs.Changes.{users_tree}
+use Rattle.part_store.specs.Refusals.{refusal_of, user_values, BlamesPrograms, BlamesRow, IsTooBig, RisesFrom, RunsOut}
+use Rattle.part_store.proofs.Apart.{bytes_same, same_bytes}
+use Rattle.part_store.proofs.Failing.{later_failed}
+use Rattle.part_store.proofs.Room.{ran_out, rises_after, rises_none}
 use Rattle.part_store.proofs.Entering.{kept_then, stands_still}
-use Rattle.part_store.proofs.FiledAll.{survives_self}
+use Rattle.part_store.proofs.FiledAll.{has_right, survives_self}
 
 -- ---- what is named
 
@@ -63,6 +70,7 @@ pub record Replacing (pairs : List UserProgram) (old now : State) : Type 0 where
   pub opened : HasCleanDisk now → 0 < length pairs → IsTrue old.is_open
   pub shut : HasCleanDisk now → IsTrue now.is_open → IsTrue old.is_open
   pub kept : HasCleanDisk now → old.now.schema ≡ store_schema → KeepsCommit old now
+  pub rowids : HasCleanDisk now → (before : Entries) → Stands old.now before → RisesFrom (length pairs) (old.now.trees users_tree) (now.now.trees users_tree)
 
 pub nothing_replaced : (s : State) → Replacing [] s s
 nothing_replaced s = record {
@@ -73,12 +81,14 @@ nothing_replaced s = record {
   opened = λ clean some. absurd (omega (arith, some));
   shut = λ clean h. h;
   kept = λ clean has. record { was_open = λ h. h; committed = λ _. refl };
+  rowids = λ clean before stands. rises_none (s.now.trees users_tree);
 }
 
 pub replaced_more : (pairs : List UserProgram) (pair : UserProgram) (old mid new : State) → Replacing pairs old mid → Survives mid new (λ _. ⊥) → (HasCleanDisk new → Brings (with_programs (pair ∷ [])) mid new)
     → (HasCleanDisk new → mid.now.schema ≡ store_schema → IsTrue mid.in_transaction → IsTrue new.in_transaction) → (HasCleanDisk new → mid.now.schema ≡ store_schema → new.now.schema ≡ store_schema)
-    → (HasCleanDisk new → IsTrue mid.is_open) → (HasCleanDisk new → IsTrue new.is_open → IsTrue mid.is_open) → (HasCleanDisk new → mid.now.schema ≡ store_schema → KeepsCommit mid new) → Replacing (pairs ++ pair ∷ []) old new
-replaced_more pairs pair old mid new so_far survives brings inside schema opened shut kept =
+    → (HasCleanDisk new → IsTrue mid.is_open) → (HasCleanDisk new → IsTrue new.is_open → IsTrue mid.is_open) → (HasCleanDisk new → mid.now.schema ≡ store_schema → KeepsCommit mid new)
+    → (HasCleanDisk new → (before : Entries) → Stands mid.now before → RisesFrom 1 (mid.now.trees users_tree) (new.now.trees users_tree)) → Replacing (pairs ++ pair ∷ []) old new
+replaced_more pairs pair old mid new so_far survives brings inside schema opened shut kept rowids =
     let early = λ (clean : HasCleanDisk new). let e : HasCleanDisk mid = omega (arith, survives.clean) in e in
     record {
       survives = survives_then old mid new (λ _. ⊥) (λ _. ⊥) (λ _. ⊥) (λ _ _ h. h) (λ _ _ h. h) so_far.survives survives;
@@ -91,6 +101,10 @@ replaced_more pairs pair old mid new so_far survives brings inside schema opened
       opened = λ clean some. so_far.shut (early clean) (opened clean);
       shut = λ clean h. so_far.shut (early clean) (shut clean h);
       kept = λ clean has. kept_then old mid new (so_far.kept (early clean) has) (kept clean (so_far.schema (early clean) has));
+      rowids = λ clean before stands.
+          subst (λ n. RisesFrom n (old.now.trees users_tree) (new.now.trees users_tree)) (sym (length-append pairs (pair ∷ [])))
+          (rises_after (length pairs) 1 (old.now.trees users_tree) (mid.now.trees users_tree) (new.now.trees users_tree) (so_far.rowids (early clean) before stands)
+          (rowids clean (with_programs pairs before) (so_far.brought (early clean) before stands).0));
     }
 
 -- one pair more
@@ -112,3 +126,39 @@ pub passed_over : (old new : State) (user program : List ℕ) → ((before : Ent
     → Brings (with_programs ((user, program) ∷ [])) old new
 passed_over old new user program told stays kept is_open before stands =
     (subst (Stands new.now) (none_replaced user program before (told before stands)) (stands_still old new before stays stands), (kept stands.schema).committed (is_open stands.schema))
+
+-- ---- what is refused
+
+own_program : (user program : List ℕ) (before : Entries) → (with_program user program before).programs user ≡ Some program
+own_program user program before = rw (bytes_same user)
+
+pub one_refused : (old mid new : State) (user program : List ℕ) (e : Error) → Stays old mid → Survives old mid (λ _. ⊥) → Survives mid new (λ _. ⊥) → HasCleanDisk new
+    → (old.now.schema ≡ store_schema → IsTrue old.in_transaction → IsTrue mid.in_transaction)
+    → (IsTrue mid.in_transaction → BlamesRow user (with_program user program) mid new (refusal_of e)) → IsTrue old.in_transaction → BlamesPrograms ((user, program) ∷ []) old new (refusal_of e)
+one_refused old mid new user program e stays one two clean inside cause begun is before stands =
+    let same = (stays stands.schema).1 in
+    elim (cause (inside stands.schema begun) is before (stands_still old mid before stays stands)) [
+      | inl failed ↦ inl (later_failed old mid new one two clean failed)
+      | inr (inl full) ↦ inr (inl (subst (λ (t : Trees). RunsOut (t users_tree) 1) same full))
+      | inr (inr big) ↦ inr (inr ((user, program), inl refl, subst (λ p. IsTooBig users_table (user_values user (before.lasts user) p)) (own_program user program before) big))
+    ]
+
+pub pairs_refused : (pairs later whole : List UserProgram) (pair : UserProgram) (old mid new : State) (e : Error) → whole ≡ pairs ++ pair ∷ later → Replacing pairs old mid → Survives mid new (λ _. ⊥) → HasCleanDisk new
+    → (IsTrue mid.in_transaction → BlamesPrograms (pair ∷ []) mid new (refusal_of e)) → IsTrue old.in_transaction → BlamesPrograms whole old new (refusal_of e)
+pairs_refused pairs later whole pair old mid new e place so_far survives clean cause begun is before stands =
+    let early : HasCleanDisk mid = omega (arith, clean, survives.clean) in
+    let brought = so_far.brought early before stands in
+    let there : Has whole pair = subst (λ l. Has l pair) (sym place) (has_right pairs (pair ∷ later) pair (inl refl)) in
+    elim (cause (so_far.inside early stands.schema begun) is (with_programs pairs before) brought.0) [
+      | inl failed ↦ inl (later_failed old mid new so_far.survives survives clean failed)
+      | inr (inl full) ↦ inr (inl (ran_out (length pairs) (length whole) (old.now.trees users_tree) (mid.now.trees users_tree) (omega (arith, ap length place, length-append pairs (pair ∷ later))) (so_far.rowids early before stands) full))
+      | inr (inr (other, inl is, big)) ↦ inr (inr (pair, there, subst (λ (p : UserProgram). IsTooBig users_table (user_values p.0 (before.lasts p.0) (Some p.1))) is big))
+      | inr (inr (other, inr none, big)) ↦ absurd none
+    ]
+
+pub pairs_split : (programs : List (String Global × Vec ℕ Global)) (place : ℕ) (item : String Global × Vec ℕ Global) (user program : List ℕ) → place < length programs → item ≡ get_or programs place item
+    → user ≡ string_bytes item.0 → program ≡ item.1.items → map pair_of programs ≡ map pair_of (take place programs) ++ (user, program) ∷ map pair_of (drop (place + 1) programs)
+pairs_split programs place item user program lt is named code =
+    let pair : pair_of item ≡ (user, program) = λ i. (sym named i, sym code i) in
+    ap (map pair_of) (sym (take-append-drop place programs) ∙ ap (λ rest. take place programs ++ rest) (drop_more programs place item lt))
+    ∙ map-append pair_of (take place programs) (get_or programs place item ∷ drop (place + 1) programs) ∙ ap (λ p. map pair_of (take place programs) ++ p ∷ map pair_of (drop (place + 1) programs)) (ap pair_of (sym is) ∙ pair)

@@ -170,3 +170,7 @@ err_then (Err e) P Q f h = f e h
 pub passed : {B E : Type 0} (r : Result B E) (given : E) (P : E → Type 0) → IsErrAnd r (λ e. e ≡ given) → P given → IfErr r P
 passed (Ok b) given P h holds = tt
 passed (Err e) given P h holds = subst P (sym h) holds
+
+pub failed_in : {B E : Type 0} (r : Result B E) (P : E → Type 0) → ((e : E) → r ≡ Err e → P e) → IfErr r P
+failed_in (Ok b) P f = tt
+failed_in (Err e) P f = f e refl

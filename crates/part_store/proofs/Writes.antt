@@ -25,7 +25,7 @@ use Rattle.sqlite_schema.specs.declared.command.Command.TheVariants.{Insert, Del
 use Rattle.sqlite_rules.specs.declared.error.Rowids.TheVariants.{Chosen, Given}
 use Rattle.sqlite_rules.specs.Cast.{cast, cast_row}
 use Rattle.sqlite_rules.specs.Lists.{Has}
-use Rattle.sqlite_rules.specs.Edit.{id_in, numbered, with_rowid, are_fresh, put_all, edit_of, without_all, taken_by}
+use Rattle.sqlite_rules.specs.Edit.{Applies, Edit, id_in, numbered, with_rowid, are_fresh, put_all, edit_of, without_all, taken_by}
 use Rattle.sqlite_rules.specs.Action.{works, work_by, pairs, deed_for}
 use Rattle.sqlite_rules.specs.Action as action
 use Rattle.sqlite_rules.specs.Calls.{ids_of}
@@ -44,11 +44,11 @@ use Rattle.part_store.proofs.Meaning.{picked, alone}
 use Rattle.part_store.proofs.Rows.{passes, answer_from, answer_has}
 
 -- a part that gave a value did not stop on the way
-went : {B E R : Type 0} {b : B} {Stops : E → Type 0} → ((stop : E) × Stops stop × (Ok b ≡ Err stop)) ⊎ R → R
+pub went : {B E R : Type 0} {b : B} {Stops : E → Type 0} → ((stop : E) × Stops stop × (Ok b ≡ Err stop)) ⊎ R → R
 went (inl stopped) = absurd (let e = stopped.2 in cc)
 went (inr on) = on
 
-same_value : {B E : Type 0} {a b : B} → ◌≡◌ {A = Result B E} (Ok a) (Ok b) → a ≡ b
+pub same_value : {B E : Type 0} {a b : B} → ◌≡◌ {A = Result B E} (Ok a) (Ok b) → a ≡ b
 same_value e = cc
 
 pub equal_is : (o : Ordering) → is_eq o ≡ true → o ≡ Equal
@@ -109,14 +109,57 @@ module _ (at tree : ℕ) (name : List ℕ) (columns : List Column) (key : List �
   abbrev table : Table
   table = record (keyed name columns key references) { tree = tree }
 
-  put_one : (db next : Trees) (rows : List Row) (source values : Row) → rows ≡ source ∷ [] → cast_row (table) (drop 0 source) ≡ Null ∷ values
-      → action.Writes store_schema Enforced db (edit_of db (table) [] Chosen 0 rows) (Ok next) → IsAdded tree values db next
-  put_one db next rows source values sources casts h =
-      let edit = edit_of db (table) [] Chosen 0 rows in
-      let applied = one_step store_schema Enforced db next edit (no_works tree (taken_by db edit) edit.news) h in
-      let news : edit.news ≡ new_row (db tree) values ∷ [] = ap (λ all. numbered Chosen (db tree) (map (λ s. cast_row (table) (drop 0 s)) all)) sources ∙ ap (λ row. with_rowid Chosen (db tree) row ∷ []) casts in
+  abbrev insertion : Trees → List Row → Edit
+  insertion db rows = edit_of db (table) [] Chosen 0 rows
+
+  -- the new row is the source's, with the next rowid
+  pub put_is : (db : Trees) (rows : List Row) (source values : Row) → rows ≡ source ∷ [] → cast_row (table) (drop 0 source) ≡ Null ∷ values → (insertion db rows).news ≡ new_row (db tree) values ∷ []
+  put_is db rows source values sources casts = ap (λ all. numbered Chosen (db tree) (map (λ s. cast_row (table) (drop 0 s)) all)) sources ∙ ap (λ row. with_rowid Chosen (db tree) row ∷ []) casts
+
+  pub added_next : (db next : Trees) (rows : List Row) (values : Row) → (insertion db rows).news ≡ new_row (db tree) values ∷ [] → Applies store_schema Enforced db (insertion db rows) next → IsAdded tree values db next
+  added_next db next rows values news applied =
       let free = subst (λ n. are_fresh (db tree) n ≡ true) news applied.fresh in
       record { free = not-true _ (and_parts _ _ free).0; rows = applied.rows ∙ ap (put_all (db tree)) news; others = applied.tables }
+
+  put_one : (db next : Trees) (rows : List Row) (source values : Row) → rows ≡ source ∷ [] → cast_row (table) (drop 0 source) ≡ Null ∷ values
+      → action.Writes store_schema Enforced db (insertion db rows) (Ok next) → IsAdded tree values db next
+  put_one db next rows source values sources casts h =
+      let edit = insertion db rows in
+      added_next db next rows values (put_is db rows source values sources casts) (one_step store_schema Enforced db next edit (no_works tree (taken_by db edit) edit.news) h)
+
+  module _ (db : Trees) (params : Row) (tests : List Term) where
+    abbrev pub test : Row → Bool
+    test = passes tree tests (col 1 0 ∷ []) [] db params
+
+    abbrev ids_answer : Query
+    ids_answer = picked tree tests (col 1 0 ∷ []) []
+
+    -- a row's rowid is among those of the answer exactly where it passes
+    taken_test : (rows : List Row) → IsAnswer ids_answer (overlay db []) params rows → IsTable (db tree) → AllByRecursion (λ r. IsTrue (is_int (rowid r))) (db tree)
+        → (r : Row) → Has (db tree) r → not (has_one (ids_of rows) r) ≡ not (test r)
+    taken_test rows a up keyed r h = elim (cases_Bool (test r)) [
+      | inl passed ↦
+          let shown = answer_has tree tests (col 1 0 ∷ []) [] db params rows r a h passed in
+          let one = mapped_has (λ (x : Row). id_in (rowid x)) rows (rowid r ∷ []) shown in
+          let is : has_rowid (id_in (rowid r)) r ≡ true = rw (int_is (rowid r) (all_has _ (db tree) r keyed h)) (ap is_eq (tied_itself value_cmp_total (Int (id_in (rowid r))))) in
+          rw (passed, some_from (λ id. has_rowid id r) (ids_of rows) (id_in (rowid r)) one is)
+      | inr failed ↦ rw failed (ap not (false_from_ne_true _ (λ taken.
+          let id = some_has (λ id. has_rowid id r) (ids_of rows) taken in
+          let row = has_mapped (λ (x : Row). id_in (rowid x)) rows id.0 id.1 in
+          let from = answer_from tree tests (col 1 0 ∷ []) [] db params rows row.0 a row.1 in
+          let same : Int id.0 ≡ rowid from.0 = ap Int (row.2 ∙ ap (λ (x : Row). id_in (rowid x)) from.3) ∙ sym (int_is (rowid from.0) (all_has _ (db tree) from.0 keyed from.1)) in
+          let tie : Tied r from.0 = subst (λ v. value_cmp (rowid r) v ≡ Equal) same (equal_is _ id.2) in
+          let one = tied_same (db tree) r from.0 up h from.1 tie in
+          let e : test r ≡ true = rw one from.2 in
+          absurd (true≢false (sym e ∙ failed)))))
+    ]
+
+    -- the edit that a deletion comes to takes out the rows that pass
+    pub taken_next : (rows : List Row) (next : Trees) → IsAnswer ids_answer (overlay db []) params rows → Applies store_schema Enforced db (edit_of db (table) (ids_of rows) Given 0 []) next → IsTaken tree test db next
+    taken_next rows next sure applied = record {
+      rows = λ up keyed. applied.rows ∙ taken_out (ids_of rows) (db tree) ∙ filter_same _ _ (db tree) (taken_test rows sure up keyed);
+      others = applied.tables;
+    }
 
   module _ (old new : State) (params : Row) (text : List ℕ) (count : ℕ) (has : old.now.schema ≡ store_schema) where
     abbrev db : Trees
@@ -136,35 +179,9 @@ module _ (at tree : ℕ) (name : List ℕ) (columns : List Column) (key : List �
         (ap (λ (d : Database). d.schema) now, subst (IsAdded tree values db) (sym all) (put_one db written.0 given.0 source values sources casts written.1))
 
     module _ (tests : List Term) where
-      abbrev pub test : Row → Bool
-      test = passes tree tests (col 1 0 ∷ []) [] db params
-
-      abbrev ids_answer : Query
-      ids_answer = picked tree tests (col 1 0 ∷ []) []
-
-      -- a row's rowid is among those of the answer exactly where it passes
-      taken_test : (rows : List Row) → IsAnswer ids_answer (overlay db []) params rows → IsTable (db tree) → AllByRecursion (λ r. IsTrue (is_int (rowid r))) (db tree)
-          → (r : Row) → Has (db tree) r → not (has_one (ids_of rows) r) ≡ not (test r)
-      taken_test rows a up keyed r h = elim (cases_Bool (test r)) [
-        | inl passed ↦
-            let shown = answer_has tree tests (col 1 0 ∷ []) [] db params rows r a h passed in
-            let one = mapped_has (λ (x : Row). id_in (rowid x)) rows (rowid r ∷ []) shown in
-            let is : has_rowid (id_in (rowid r)) r ≡ true = rw (int_is (rowid r) (all_has _ (db tree) r keyed h)) (ap is_eq (tied_itself value_cmp_total (Int (id_in (rowid r))))) in
-            rw (passed, some_from (λ id. has_rowid id r) (ids_of rows) (id_in (rowid r)) one is)
-        | inr failed ↦ rw failed (ap not (false_from_ne_true _ (λ taken.
-            let id = some_has (λ id. has_rowid id r) (ids_of rows) taken in
-            let row = has_mapped (λ (x : Row). id_in (rowid x)) rows id.0 id.1 in
-            let from = answer_from tree tests (col 1 0 ∷ []) [] db params rows row.0 a row.1 in
-            let same : Int id.0 ≡ rowid from.0 = ap Int (row.2 ∙ ap (λ (x : Row). id_in (rowid x)) from.3) ∙ sym (int_is (rowid from.0) (all_has _ (db tree) from.0 keyed from.1)) in
-            let tie : Tied r from.0 = subst (λ v. value_cmp (rowid r) v ≡ Equal) same (equal_is _ id.2) in
-            let one = tied_same (db tree) r from.0 up h from.1 tie in
-            let e : test r ≡ true = rw one from.2 in
-            absurd (true≢false (sym e ∙ failed)))))
-      ]
-
-      pub deleted : Writes old new None (Delete at (alone ids_answer)) text params count → (new.now.schema ≡ store_schema) × IsTaken tree test old.now.trees new.now.trees
+      pub deleted : Writes old new None (Delete at (alone (ids_answer db params tests))) text params count → (new.now.schema ≡ store_schema) × IsTaken tree (test db params tests) old.now.trees new.now.trees
       deleted w =
-          let done = went (rw there at (subst (λ s. Does old.step_limit (mode_of old) params (record old.now { schema = s }) text None (Delete at (alone ids_answer)) (Ok (w.tally, new.now))) has w.changed)) in
+          let done = went (rw there at (subst (λ s. Does old.step_limit (mode_of old) params (record old.now { schema = s }) text None (Delete at (alone (ids_answer db params tests))) (Ok (w.tally, new.now))) has w.changed)) in
           let now = ap (λ (p : Tally × Database). p.1) (same_value (went (went done.2).2).2) in
           let answer = went done.1 in
           let rows = answer.0 in
@@ -173,10 +190,5 @@ module _ (at tree : ℕ) (name : List ℕ) (columns : List Column) (key : List �
           let edit = edit_of db (table) (ids_of rows) Given 0 [] in
           let applied = one_step store_schema Enforced db written.0 edit (no_works tree (taken_by db edit) edit.news) written.1 in
           let all : new.now.trees ≡ written.0 = ap (λ (d : Database). d.trees) now ∙ trees in
-          let sure = answer.1.answer Null in (
-            ap (λ (d : Database). d.schema) now,
-            subst (IsTaken tree test db) (sym all) (record {
-              rows = λ up keyed. applied.rows ∙ taken_out (ids_of rows) (db tree) ∙ filter_same _ _ (db tree) (taken_test rows sure up keyed);
-              others = applied.tables;
-            }),
-          )
+          let sure = answer.1.answer Null in
+          (ap (λ (d : Database). d.schema) now, subst (IsTaken tree (test db params tests) db) (sym all) (taken_next db params tests rows written.0 sure applied))

@@ -1,9 +1,10 @@
 -- How an entry is filed: its octets under their digest, and then its row.
-use Rattle.std.specs.Prelude.{◌≡◌, ◌≢◌, ◌⊎◌, ◌<◌, ◌≤◌, ℕ, ◌+◌, pos, List, [], ◌∷◌, ◌++◌, IsTrue, length}
+use Rattle.std.specs.Prelude.{◌≡◌, ◌≢◌, ◌⊎◌, ◌<◌, ◌≤◌, ℕ, ◌+◌, ◌+ℤ◌, pos, List, [], ◌∷◌, ◌++◌, IsTrue, length}
 use Rattle.std.specs.List.{AllByRecursion}
 use Rattle.sqlite_value.specs.declared.value.Value.TheVariants.{Int, Text, Blob}
 use Rattle.sqlite_value.specs.Order.{Row}
 use Rattle.sqlite_trees.specs.Tree.{Trees, IsTable}
+use Rattle.sqlite_rules.specs.Edit.{next_rowid}
 use Rattle.sqlite_rules.specs.Lists.{Has}
 use Rattle.sqlite.specs.Effect.{IsDatabase}
 use Rattle.sqlite.specs.State.{State}
@@ -16,6 +17,14 @@ use Rattle.part_store.specs.declared.adding.Adding.{Adding}
 use Rattle.part_store.specs.declared.adding.Adding.TheVariants.{From, NumberFull, Collision}
 use Rattle.part_store.specs.Standing.{IsContentRow, HasContent, Stands, kind_number}
 
+-- the table's next rowid is so many higher
+abbrev pub RisesBy : ℕ → List Row → List Row → Type 0
+RisesBy count old new = next_rowid new ≡ next_rowid old +ℤ pos count
+
+-- or at most so many
+abbrev pub RisesWithin : ℕ → List Row → List Row → Type 0
+RisesWithin count old new = (k : ℕ) × (k ≤ count) × RisesBy k old new
+
 -- the octets are under their digest, and else nothing has changed
 pub record IsStocked (db new : Trees) (digest octets : List ℕ) : Type 0 where
   pub users : new users_tree ≡ db users_tree
@@ -26,6 +35,7 @@ pub record IsStocked (db new : Trees) (digest octets : List ℕ) : Type 0 where
   pub has : HasContent (new contents_tree) digest octets
   pub kept : (d o : List ℕ) → HasContent (db contents_tree) d o → HasContent (new contents_tree) d o
   pub from : (d o : List ℕ) → HasContent (new contents_tree) d o → HasContent (db contents_tree) d o ⊎ ((d ≡ digest) × (o ≡ octets))
+  pub rowids : RisesWithin 1 (db contents_tree) (new contents_tree)
 
 abbrev pub entry_values : Entry → List ℕ → Row
 entry_values x digest = Text x.user ∷ Int (pos x.number) ∷ Blob x.folder ∷ Int (pos (kind_number x.kind)) ∷ Blob x.name ∷ Blob x.media ∷ Blob digest ∷ []
@@ -57,6 +67,8 @@ pub record Files (x : Entry) (digest : List ℕ) (before : Entries) (old new : S
   pub has : HasContent (new.now.trees contents_tree) digest x.octets
   pub kept : (d o : List ℕ) → HasContent (old.now.trees contents_tree) d o → HasContent (new.now.trees contents_tree) d o
   pub from : (d o : List ℕ) → HasContent (new.now.trees contents_tree) d o → HasContent (old.now.trees contents_tree) d o ⊎ ((d ≡ digest) × (o ≡ x.octets))
+  pub content_rowids : RisesWithin 1 (old.now.trees contents_tree) (new.now.trees contents_tree)
+  pub entry_rowids : RisesBy 1 (old.now.trees entries_tree) (new.now.trees entries_tree)
 
 -- in a transaction: the user has another last number
 pub record Claims (user : List ℕ) (last : ℕ) (before : Entries) (old new : State) : Type 0 where
@@ -64,6 +76,7 @@ pub record Claims (user : List ℕ) (last : ℕ) (before : Entries) (old new : S
   pub stands : Stands new.now (with_last user last before)
   pub committed : new.committed ≡ old.committed
   pub contents : new.now.trees contents_tree ≡ old.now.trees contents_tree
+  pub entries : new.now.trees entries_tree ≡ old.now.trees entries_tree
 
 -- a draft's octets are under its digest
 abbrev pub HasDraft : Trees → Draft → Type 0
@@ -97,6 +110,8 @@ pub record FilesAll (user : List ℕ) (last : ℕ) (drafts : List Draft) (before
   pub has : (d : Draft) → Has drafts d → HasDraft new.now.trees d
   pub kept : (g o : List ℕ) → HasContent (old.now.trees contents_tree) g o → HasContent (new.now.trees contents_tree) g o
   pub from : (g o : List ℕ) → HasContent (new.now.trees contents_tree) g o → HasContent (old.now.trees contents_tree) g o ⊎ IsOfDraft drafts g o
+  pub content_rowids : RisesWithin (length drafts) (old.now.trees contents_tree) (new.now.trees contents_tree)
+  pub entry_rowids : RisesBy (length drafts) (old.now.trees entries_tree) (new.now.trees entries_tree)
 
 -- in a transaction: the drafts have become the user's entries, and none of them collides
 pub record Enters (user : List ℕ) (drafts : List Draft) (before : Entries) (old new : State) : Type 0 where

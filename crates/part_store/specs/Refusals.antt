@@ -1,18 +1,26 @@
 -- How the database's errors are answered, and where it refuses.
-use Rattle.std.specs.Prelude.{◌≡◌, ◌⊎◌, ℕ, ◌^◌, ◌<◌, pos, false, List, [], ◌∷◌, Option, IsSome, IsUtf8}
+use Rattle.std.specs.Prelude.{◌≡◌, ◌⊎◌, ℕ, ◌^◌, ◌<◌, ◌≤◌, ℤ, ◌+ℤ◌, pos, false, List, [], ◌∷◌, length, Option, None, Some, IsSome, IsTrue, IsUtf8}
 use Rattle.std.specs.List.{AllByRecursion}
 use Rattle.sqlite_value.specs.declared.value.Value.TheVariants.{Int, Text, Blob}
 use Rattle.sqlite_value.specs.Order.{Row, column}
-use Rattle.sqlite_trees.specs.Tree.{Trees}
+use Rattle.sqlite_trees.specs.Tree.{Trees, rowid, IsTable}
+use Rattle.sqlite_trees.specs.View.{is_int}
+use Rattle.sqlite_sql.specs.Ops.{fits_i64}
+use Rattle.sqlite_schema.specs.declared.schema.Table.{Table}
+use Rattle.sqlite_rules.specs.Edit.{id_in, next_rowid, IsOversized}
+use Rattle.sqlite_rules.specs.Lists.{Has}
 use Rattle.sqlite.specs.Values.{or_null}
 use Rattle.sqlite.specs.declared.error.ErrorCode.TheVariants.{OutOfMemory}
 use Rattle.sqlite.specs.declared.error.Error.{Error}
 use Rattle.sqlite.specs.declared.error.Error.TheVariants.{SqliteFailure}
+use Rattle.sqlite.specs.Effect.{IsDatabase}
 use Rattle.sqlite.specs.State.{State}
-use Rattle.part_store.specs.Changes.{users_tree}
-use Rattle.part_store.specs.Entries.{Entries}
-use Rattle.part_store.specs.Standing.{DiskFailed, Stands}
-use Rattle.part_store.specs.Tables.{store_schema}
+use Rattle.sha2.specs.Sha256.{sha256}
+use Rattle.part_store.specs.Changes.{users_tree, contents_tree, entries_tree, equals, is_entry, new_row}
+use Rattle.part_store.specs.Entries.{Draft, Entry, Entries, UserProgram, entry_of, with_entries}
+use Rattle.part_store.specs.Filing.{entry_values}
+use Rattle.part_store.specs.Standing.{DiskFailed, HasContent, Stands}
+use Rattle.part_store.specs.Tables.{store_schema, users_table, contents_table, entries_table}
 use Rattle.part_store.specs.declared.error.StoreError.{StoreError}
 use Rattle.part_store.specs.declared.error.StoreError.TheVariants.{Memory, Database}
 
@@ -29,9 +37,113 @@ HasFailed old new = DiskFailed old new ⊎ ((old.is_open ≡ false) ⊎ IsSome o
 abbrev pub Blames : State → State → StoreError → Type 0
 Blames old new e = e ≡ Database → (before : Entries) → Stands old.now before → HasFailed old new
 
+-- the same where there may be another cause, which the state and the tables tell
+abbrev pub BlamesOr : (Entries → Trees → Type 0) → State → State → StoreError → Type 0
+BlamesOr Other old new e = e ≡ Database → (before : Entries) → Stands old.now before → HasFailed old new ⊎ Other before old.now.trees
+
 -- where there are the three tables, a statement is refused for no other cause
 abbrev pub Faults : State → State → Error → Type 0
 Faults old new e = refusal_of e ≡ Database → old.now.schema ≡ store_schema → HasFailed old new
+
+-- in a transaction, the database has the three tables and obeys them
+pub record IsWritable (s : State) : Type 0 where
+  pub inside : IsTrue s.in_transaction
+  pub schema : s.now.schema ≡ store_schema
+  pub listed : IsDatabase s.now
+
+-- the rows of a table have rowids, which rise
+abbrev pub IsTableIn : ℕ → Trees → Type 0
+IsTableIn tree db = IsTable (db tree) × AllByRecursion (λ r. IsTrue (is_int (rowid r))) (db tree)
+
+-- no entry names the digest
+abbrev pub IsUnnamed : List ℕ → Trees → Type 0
+IsUnnamed digest db = (r : Row) → Has (db entries_tree) r → equals 7 (Blob digest) r ≡ false
+
+-- no row is the user's
+abbrev pub HasNoRow : List ℕ → Trees → Type 0
+HasNoRow user db = (r : Row) → Has (db users_tree) r → equals 1 (Text user) r ≡ false
+
+-- nothing is under the digest
+abbrev pub HasNoContent : List ℕ → Trees → Type 0
+HasNoContent digest db = (r : Row) → Has (db contents_tree) r → equals 1 (Blob digest) r ≡ false
+
+-- something is under it
+abbrev pub HasSome : List ℕ → Trees → Type 0
+HasSome digest db = (octets : List ℕ) × HasContent (db contents_tree) digest octets
+
+-- no entry of the user has the number
+abbrev pub IsFree : List ℕ → ℕ → Trees → Type 0
+IsFree user number db = (r : Row) → Has (db entries_tree) r → is_entry user number r ≡ false
+
+-- there a statement that writes is refused for no other cause
+abbrev pub WriteFaults : State → State → Error → Type 0
+WriteFaults old new e = refusal_of e ≡ Database → IsWritable old → HasFailed old new
+
+-- a new row of these values has no room: its table has no rowid left, or the row or its key in an index is more than can be stored
+abbrev pub HasNoRoom : Table → Row → Trees → Type 0
+HasNoRoom table values db = (fits_i64 (next_rowid (db table.tree)) ≡ false) ⊎ IsOversized store_schema table (new_row (db table.tree) values)
+
+-- there a new row of these values is refused for no other cause
+abbrev pub AddFaults : Table → Row → State → State → Error → Type 0
+AddFaults table values old new e = refusal_of e ≡ Database → IsWritable old → HasFailed old new ⊎ HasNoRoom table values old.now.trees
+
+-- ---- want of room
+
+-- the rowid of a row, or 0, which comes before the first
+abbrev pub IsRowidIn : List Row → ℤ → Type 0
+IsRowidIn rows id = (id ≡ pos 0) ⊎ ((r : Row) × Has rows r × (id ≡ id_in (rowid r)))
+
+-- the table hasn't a rowid left for each of so many rows
+abbrev pub RunsOut : List Row → ℕ → Type 0
+RunsOut rows count = (id : ℤ) × IsRowidIn rows id × (k : ℕ) × (k ≤ count) × (fits_i64 (id +ℤ pos k) ≡ false)
+
+-- a row of these values, or its key in an index, is more than can be stored
+abbrev pub IsTooBig : Table → Row → Type 0
+IsTooBig table values = (id : ℤ) × IsOversized store_schema table (Int id ∷ values)
+
+abbrev pub user_values : List ℕ → ℕ → Option (List ℕ) → Row
+user_values user last program = Text user ∷ Int (pos last) ∷ or_null Blob program ∷ []
+
+abbrev pub content_values : List ℕ → List ℕ → Row
+content_values digest octets = Blob digest ∷ Blob octets ∷ []
+
+-- the row that a user has in this state has no room
+abbrev pub HasNoUserRoom : List ℕ → Entries → Trees → Type 0
+HasNoUserRoom user after db = RunsOut (db users_tree) 1 ⊎ IsTooBig users_table (user_values user (after.lasts user) (after.programs user))
+
+-- where the tables stand for a state, a change of a user's row is refused only by a database that can't work or has no room for the row
+abbrev pub BlamesRow : List ℕ → (Entries → Entries) → State → State → StoreError → Type 0
+BlamesRow user change = BlamesOr (λ before. HasNoUserRoom user (change before))
+
+-- the rows of users with these programs have no room
+abbrev pub HaveNoUserRoom : List UserProgram → Entries → Trees → Type 0
+HaveNoUserRoom pairs before db =
+    RunsOut (db users_tree) (length pairs) ⊎ ((pair : UserProgram) × Has pairs pair × IsTooBig users_table (user_values pair.0 (before.lasts pair.0) (Some pair.1)))
+
+-- where the tables stand for a state, programs are refused only by a database that can't work or has no room for a row
+abbrev pub BlamesPrograms : List UserProgram → State → State → StoreError → Type 0
+BlamesPrograms pairs = BlamesOr (HaveNoUserRoom pairs)
+
+-- each rowid is at most so many above one that was there
+abbrev pub RisesFrom : ℕ → List Row → List Row → Type 0
+RisesFrom count old new = (id : ℤ) → IsRowidIn new id → (from : ℤ) × IsRowidIn old from × (k : ℕ) × (k ≤ count) × (id ≡ from +ℤ pos k)
+
+-- an entry or its octets have no room
+abbrev pub LacksRoom : Entry → List ℕ → Trees → Type 0
+LacksRoom x digest db = HasNoRoom contents_table (content_values digest x.octets) db ⊎ HasNoRoom entries_table (entry_values x digest) db
+
+-- the octets of a draft, or its row as an entry of the user, are too big
+abbrev pub IsDraftTooBig : List ℕ → Draft → Type 0
+IsDraftTooBig user d =
+    IsTooBig contents_table (content_values (sha256 d.octets) d.octets) ⊎ ((number : ℕ) × IsTooBig entries_table (entry_values (entry_of user number d) (sha256 d.octets)))
+
+-- the drafts have no room as entries of the user
+abbrev pub HaveNoRoom : List ℕ → List Draft → Trees → Type 0
+HaveNoRoom user drafts db = RunsOut (db contents_tree) (length drafts) ⊎ (RunsOut (db entries_tree) (length drafts) ⊎ ((d : Draft) × Has drafts d × IsDraftTooBig user d))
+
+-- where the tables stand for a state, entries of a user are refused only by a database that can't work, or has no room for them or for his row
+abbrev pub BlamesEntries : List ℕ → List Draft → State → State → StoreError → Type 0
+BlamesEntries user drafts = BlamesOr (λ before db. HasNoUserRoom user (with_entries user drafts before) db ⊎ HaveNoRoom user drafts db)
 
 -- each user's name is UTF-8, as is each that a store was given
 abbrev pub AreNamed : Trees → Type 0
@@ -44,6 +156,11 @@ BlamesNamed old new e = e ≡ Database → (before : Entries) → Stands old.now
 -- the row of an answer can be read: a user and his program
 abbrev pub ShowsProgram : Row → Type 0
 ShowsProgram r = (user : List ℕ) × IsUtf8 user × (program : List ℕ) × (r ≡ Text user ∷ Blob program ∷ [])
+
+-- the row that was found for a user, if any, begins with a last number
+abbrev pub ShowsLast : Option Row → Type 0
+ShowsLast None = Unit {0}
+ShowsLast (Some r) = (0 < length r) × ((last : ℕ) × (column r 0 ≡ Int (pos last)) × (last < 2 ^ 32))
 
 -- a user, his last number and his program
 abbrev pub ShowsUser : Row → Type 0

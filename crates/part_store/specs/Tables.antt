@@ -57,8 +57,12 @@ entry_columns =
     required (codes "user") Text ∷ required (codes "number") Integer ∷ required (codes "folder") Blob ∷ required (codes "kind") Integer ∷ required (codes "name") Blob
     ∷ required (codes "media") Blob ∷ required (codes "digest") Blob ∷ []
 
+-- its digest is that of a content
+abbrev pub entry_reference : Reference
+entry_reference = record { columns = 7 ∷ []; parent = codes "contents"; parent_columns = []; on_delete = NoAction; on_update = NoAction; is_deferred = false }
+
 abbrev pub entry_references : List Reference
-entry_references = record { columns = 7 ∷ []; parent = codes "contents"; parent_columns = []; on_delete = NoAction; on_update = NoAction; is_deferred = false } ∷ []
+entry_references = entry_reference ∷ []
 
 abbrev pub entries : Table
 entries = keyed (codes "entries") entry_columns (1 ∷ 2 ∷ []) entry_references
@@ -74,6 +78,16 @@ with_contents = created with_users contents
 
 abbrev pub store_schema : Schema
 store_schema = created with_contents entries
+
+-- the tables as the schema has them
+abbrev pub users_table : Table
+users_table = record users { tree = 0 }
+
+abbrev pub contents_table : Table
+contents_table = record contents { tree = 2 }
+
+abbrev pub entries_table : Table
+entries_table = record entries { tree = 4 }
 
 abbrev pub users_text : List ℕ
 users_text = codes "CREATE TABLE users (user TEXT PRIMARY KEY, last INTEGER NOT NULL, program BLOB) STRICT"

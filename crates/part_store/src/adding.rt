@@ -1,10 +1,13 @@
 //! How entries are added: their numbers are claimed, and then each is filed.
-ghost use Rattle.std.specs.Prelude.{◌≡◌, ◌+◌, ◌<◌, ◌≤◌, true, false, IsTrue, length, map, option_map, IfOk, OnOk};
+ghost use Rattle.std.specs.Prelude.{◌≡◌, ◌⊎◌, ◌+◌, ◌<◌, ◌≤◌, true, false, IsTrue, length, map, option_map, IfOk, IfErr, OnOk};
 ghost use Rattle.octets.specs.Limits.{max_entry_number};
 ghost use Rattle.sqlite.specs.Held.{state};
 ghost use Rattle.sqlite.specs.State.{HasCleanDisk, KeepsCommit, Survives};
 ghost use Rattle.part_store.specs.Tables.{store_schema};
 ghost use Rattle.part_store.specs.Standing.{Stands, Stays, draft_of};
+ghost use Rattle.part_store.specs.Entries.{with_last};
+ghost use Rattle.part_store.specs.Refusals.{refusal_of, Blames, BlamesEntries, HasFailed, HasNoUserRoom, HaveNoRoom};
+ghost use Rattle.part_store.specs.declared.error.StoreError.TheVariants.{Database};
 ghost use Rattle.part_store.specs.Filing.{Adds, CanFile, Claims, Collides, Enters, FilesAll, IsFrom};
 
 use crate::entry::NewEntry;
@@ -36,6 +39,8 @@ pub(crate) fn put_entries<S: Alter>(
     ensures shut { HasCleanDisk (state S.Store tx.new.conn.now) → IsTrue (state S.Store tx.new.conn.now).is_open → IsTrue (state S.Store tx.old.conn.now).is_open }
     ensures inside { HasCleanDisk (state S.Store tx.new.conn.now) → IfOk result (λ adding. IsFrom adding → IsTrue (state S.Store tx.new.conn.now).in_transaction) }
     ensures kept { HasCleanDisk (state S.Store tx.new.conn.now) → (state S.Store tx.old.conn.now).now.schema ≡ store_schema → KeepsCommit (state S.Store tx.old.conn.now) (state S.Store tx.new.conn.now) }
+    ensures cause { HasCleanDisk (state S.Store tx.new.conn.now) → IfErr result (λ e. IsTrue (state S.Store tx.old.conn.now).in_transaction
+        → BlamesEntries user.now (map draft_of entries.now) (state S.Store tx.old.conn.now) (state S.Store tx.new.conn.now) (refusal_of e)) }
     ensures survives { Survives (state S.Store tx.old.conn.now) (state S.Store tx.new.conn.now) (λ _. ⊥) }
 {
     let (last, program) = user_of(tx, user)?;
@@ -70,6 +75,9 @@ fn claim_and_file<S: Alter>(
         → Collides (state S.Store tx.old.conn.now).now.trees (map draft_of entries.now)) }
     ensures inside { HasCleanDisk (state S.Store tx.new.conn.now) → IfOk result (λ done. done ≡ true → IsTrue (state S.Store tx.new.conn.now).in_transaction) }
     ensures kept { HasCleanDisk (state S.Store tx.new.conn.now) → (state S.Store tx.old.conn.now).now.schema ≡ store_schema → KeepsCommit (state S.Store tx.old.conn.now) (state S.Store tx.new.conn.now) }
+    ensures cause { HasCleanDisk (state S.Store tx.new.conn.now) → IfErr result (λ e. IsTrue (state S.Store tx.old.conn.now).in_transaction
+        → ((before : _) → Stands (state S.Store tx.old.conn.now).now before → (last ≡ before.lasts user.now) × (option_map (λ v. v.items) program ≡ before.programs user.now))
+        → BlamesEntries user.now (map draft_of entries.now) (state S.Store tx.old.conn.now) (state S.Store tx.new.conn.now) (refusal_of e)) }
     ensures survives { Survives (state S.Store tx.old.conn.now) (state S.Store tx.new.conn.now) (λ _. ⊥) }
 {
     claim(tx, user, last + entries.len() as u32, lent(&program))?;
@@ -96,6 +104,10 @@ fn user_of<S: Alter>(
     ensures shut { HasCleanDisk (state S.Store tx.new.conn.now) → IsTrue (state S.Store tx.new.conn.now).is_open → IsTrue (state S.Store tx.old.conn.now).is_open }
     ensures same { HasCleanDisk (state S.Store tx.new.conn.now) → OnOk result (Stays (state S.Store tx.old.conn.now) (state S.Store tx.new.conn.now)) }
     ensures kept { HasCleanDisk (state S.Store tx.new.conn.now) → (state S.Store tx.old.conn.now).now.schema ≡ store_schema → KeepsCommit (state S.Store tx.old.conn.now) (state S.Store tx.new.conn.now) }
+    ensures inside { HasCleanDisk (state S.Store tx.new.conn.now) → OnOk result ((state S.Store tx.old.conn.now).now.schema ≡ store_schema
+        → IsTrue (state S.Store tx.old.conn.now).in_transaction → IsTrue (state S.Store tx.new.conn.now).in_transaction) }
+    ensures cause { HasCleanDisk (state S.Store tx.new.conn.now) → IfErr result (λ e.
+        Blames (state S.Store tx.old.conn.now) (state S.Store tx.new.conn.now) (refusal_of e)) }
     ensures survives { Survives (state S.Store tx.old.conn.now) (state S.Store tx.new.conn.now) (λ _. ⊥) }
 {
     match users::find(tx, user)? {
@@ -116,6 +128,9 @@ fn claim<S: Alter>(
     ensures inside { HasCleanDisk (state S.Store tx.new.conn.now) → OnOk result (IsTrue (state S.Store tx.new.conn.now).in_transaction) }
     ensures schema { HasCleanDisk (state S.Store tx.new.conn.now) → OnOk result ((state S.Store tx.old.conn.now).now.schema ≡ store_schema → (state S.Store tx.new.conn.now).now.schema ≡ store_schema) }
     ensures kept { HasCleanDisk (state S.Store tx.new.conn.now) → (state S.Store tx.old.conn.now).now.schema ≡ store_schema → KeepsCommit (state S.Store tx.old.conn.now) (state S.Store tx.new.conn.now) }
+    ensures cause { HasCleanDisk (state S.Store tx.new.conn.now) → IfErr result (λ e. refusal_of e ≡ Database → IsTrue (state S.Store tx.old.conn.now).in_transaction
+        → (before : _) → Stands (state S.Store tx.old.conn.now).now before → option_map (λ v. v.now) program.entry ≡ before.programs user.now
+        → HasFailed (state S.Store tx.old.conn.now) (state S.Store tx.new.conn.now) ⊎ HasNoUserRoom user.now (with_last user.now last before) (state S.Store tx.old.conn.now).now.trees) }
     ensures survives { Survives (state S.Store tx.old.conn.now) (state S.Store tx.new.conn.now) (λ _. ⊥) }
 {
     users::remove(tx, user)?;
@@ -140,6 +155,9 @@ fn file_all<S: Alter>(
     ensures inside { HasCleanDisk (state S.Store tx.new.conn.now) → IfOk result (λ done. done ≡ true → IsTrue (state S.Store tx.new.conn.now).in_transaction) }
     ensures schema { HasCleanDisk (state S.Store tx.new.conn.now) → OnOk result ((state S.Store tx.old.conn.now).now.schema ≡ store_schema → (state S.Store tx.new.conn.now).now.schema ≡ store_schema) }
     ensures kept { HasCleanDisk (state S.Store tx.new.conn.now) → (state S.Store tx.old.conn.now).now.schema ≡ store_schema → KeepsCommit (state S.Store tx.old.conn.now) (state S.Store tx.new.conn.now) }
+    ensures cause { HasCleanDisk (state S.Store tx.new.conn.now) → IfErr result (λ e. refusal_of e ≡ Database → IsTrue (state S.Store tx.old.conn.now).in_transaction
+        → (before : _) → Stands (state S.Store tx.old.conn.now).now before → CanFile before user.now last (length entries.now)
+        → HasFailed (state S.Store tx.old.conn.now) (state S.Store tx.new.conn.now) ⊎ HaveNoRoom user.now (map draft_of entries.now) (state S.Store tx.old.conn.now).now.trees) }
     ensures survives { Survives (state S.Store tx.old.conn.now) (state S.Store tx.new.conn.now) (λ _. ⊥) }
 {
     let mut number = last;

@@ -4,7 +4,8 @@ ghost use Rattle.sqlite_value.specs.declared.value.Value.TheVariants.{Blob};
 ghost use Rattle.sqlite.specs.Held.{state};
 ghost use Rattle.sqlite.specs.State.{HasCleanDisk, KeepsCommit, Survives};
 ghost use Rattle.part_store.specs.Changes.{Steps, Reads, IsFound, IsAdded, IsTaken, contents_tree, IsListed, equals, every, columns, length_at, sized};
-ghost use Rattle.part_store.specs.Refusals.{Faults};
+ghost use Rattle.part_store.specs.Tables.{contents_table};
+ghost use Rattle.part_store.specs.Refusals.{content_values, AddFaults, Faults, HasNoContent, IsTableIn, IsUnnamed, WriteFaults};
 
 use crate::users::first_of;
 use sqlite::{Alter, Error, Row, Transaction, params};
@@ -75,6 +76,9 @@ pub(crate) fn add<S: Alter>(
     ensures step { HasCleanDisk (state S.Store tx.new.conn.now) → OnOk result (Steps (IsAdded contents_tree (Blob digest.now ∷ Blob octets.now ∷ [])) (state S.Store tx.old.conn.now) (state S.Store tx.new.conn.now)) }
     ensures inside { HasCleanDisk (state S.Store tx.new.conn.now) → OnOk result (IsTrue (state S.Store tx.new.conn.now).in_transaction) }
     ensures kept { HasCleanDisk (state S.Store tx.new.conn.now) → OnErr result (KeepsCommit (state S.Store tx.old.conn.now) (state S.Store tx.new.conn.now)) }
+    ensures fault { HasCleanDisk (state S.Store tx.new.conn.now) → IsTableIn contents_tree (state S.Store tx.old.conn.now).now.trees
+        → HasNoContent digest.now (state S.Store tx.old.conn.now).now.trees
+        → IfErr result (AddFaults contents_table (content_values digest.now octets.now) (state S.Store tx.old.conn.now) (state S.Store tx.new.conn.now)) }
     ensures survives { Survives (state S.Store tx.old.conn.now) (state S.Store tx.new.conn.now) (λ _. ⊥) }
 {
     tx.execute(
@@ -89,6 +93,9 @@ pub(crate) fn remove<S: Alter>(tx: &mut Transaction<'_, S>, digest: &[u8]) -> Re
     ensures step { HasCleanDisk (state S.Store tx.new.conn.now) → OnOk result (Steps (IsTaken contents_tree (equals 1 (Blob digest.now))) (state S.Store tx.old.conn.now) (state S.Store tx.new.conn.now)) }
     ensures inside { HasCleanDisk (state S.Store tx.new.conn.now) → OnOk result (IsTrue (state S.Store tx.new.conn.now).in_transaction) }
     ensures kept { HasCleanDisk (state S.Store tx.new.conn.now) → OnErr result (KeepsCommit (state S.Store tx.old.conn.now) (state S.Store tx.new.conn.now)) }
+    ensures fault { HasCleanDisk (state S.Store tx.new.conn.now) → IsTableIn contents_tree (state S.Store tx.old.conn.now).now.trees
+        → IsUnnamed digest.now (state S.Store tx.old.conn.now).now.trees
+        → IfErr result (WriteFaults (state S.Store tx.old.conn.now) (state S.Store tx.new.conn.now)) }
     ensures survives { Survives (state S.Store tx.old.conn.now) (state S.Store tx.new.conn.now) (λ _. ⊥) }
 {
     tx.execute("DELETE FROM contents WHERE digest = ?1", params![digest])

@@ -4,7 +4,8 @@ ghost use Rattle.sqlite_value.specs.declared.value.Value.TheVariants.{Int, Text,
 ghost use Rattle.sqlite.specs.Held.{state};
 ghost use Rattle.sqlite.specs.State.{HasCleanDisk, KeepsCommit, Survives};
 ghost use Rattle.part_store.specs.Changes.{Steps, Reads, IsFound, IsListed, IsAdded, IsTaken, entries_tree, equals, is_entry, columns};
-ghost use Rattle.part_store.specs.Refusals.{Faults};
+ghost use Rattle.part_store.specs.Tables.{entries_table};
+ghost use Rattle.part_store.specs.Refusals.{AddFaults, Faults, HasSome, IsFree, IsTableIn, WriteFaults};
 
 use crate::users::first_of;
 use sqlite::{Alter, Error, Row, Transaction, params};
@@ -80,6 +81,10 @@ pub(crate) fn add<S: Alter>(
     ensures step { HasCleanDisk (state S.Store tx.new.conn.now) → OnOk result (Steps (IsAdded entries_tree (Text user.now ∷ Int (pos number) ∷ Blob folder.now ∷ Int (pos kind) ∷ Blob name.now ∷ Blob media.now ∷ Blob digest.now ∷ [])) (state S.Store tx.old.conn.now) (state S.Store tx.new.conn.now)) }
     ensures inside { HasCleanDisk (state S.Store tx.new.conn.now) → OnOk result (IsTrue (state S.Store tx.new.conn.now).in_transaction) }
     ensures kept { HasCleanDisk (state S.Store tx.new.conn.now) → OnErr result (KeepsCommit (state S.Store tx.old.conn.now) (state S.Store tx.new.conn.now)) }
+    ensures fault { HasCleanDisk (state S.Store tx.new.conn.now) → IsTableIn entries_tree (state S.Store tx.old.conn.now).now.trees
+        → IsFree user.now number (state S.Store tx.old.conn.now).now.trees → HasSome digest.now (state S.Store tx.old.conn.now).now.trees
+        → IfErr result (AddFaults entries_table (Text user.now ∷ Int (pos number) ∷ Blob folder.now ∷ Int (pos kind) ∷ Blob name.now ∷ Blob media.now ∷ Blob digest.now ∷ [])
+        (state S.Store tx.old.conn.now) (state S.Store tx.new.conn.now)) }
     ensures survives { Survives (state S.Store tx.old.conn.now) (state S.Store tx.new.conn.now) (λ _. ⊥) }
 {
     tx.execute(
@@ -98,6 +103,8 @@ pub(crate) fn remove<S: Alter>(
     ensures step { HasCleanDisk (state S.Store tx.new.conn.now) → OnOk result (Steps (IsTaken entries_tree (is_entry user.now number)) (state S.Store tx.old.conn.now) (state S.Store tx.new.conn.now)) }
     ensures inside { HasCleanDisk (state S.Store tx.new.conn.now) → OnOk result (IsTrue (state S.Store tx.new.conn.now).in_transaction) }
     ensures kept { HasCleanDisk (state S.Store tx.new.conn.now) → OnErr result (KeepsCommit (state S.Store tx.old.conn.now) (state S.Store tx.new.conn.now)) }
+    ensures fault { HasCleanDisk (state S.Store tx.new.conn.now) → IfErr result
+        (WriteFaults (state S.Store tx.old.conn.now) (state S.Store tx.new.conn.now)) }
     ensures survives { Survives (state S.Store tx.old.conn.now) (state S.Store tx.new.conn.now) (λ _. ⊥) }
 {
     tx.execute(

@@ -1,11 +1,13 @@
 //! How entries are filed.
-ghost use Rattle.std.specs.Prelude.{◌≡◌, map, true, false, string_bytes, IsTrue, IfOk, OnOk};
+ghost use Rattle.std.specs.Prelude.{◌≡◌, ◌⊎◌, map, true, false, string_bytes, IsTrue, IfOk, IfErr, OnOk};
 ghost use Rattle.sqlite.specs.Held.{state};
 ghost use Rattle.sqlite.specs.State.{HasCleanDisk, KeepsCommit, Survives};
 ghost use Rattle.sha2.specs.Sha256.{sha256};
-ghost use Rattle.part_store.specs.Tables.{store_schema};
+ghost use Rattle.part_store.specs.Tables.{store_schema, contents_table};
 ghost use Rattle.part_store.specs.Entries.{entry_of};
 ghost use Rattle.part_store.specs.Standing.{Stands, Stays, kind_number, draft_of};
+ghost use Rattle.part_store.specs.Refusals.{content_values, refusal_of, Blames, HasFailed, HasNoRoom, LacksRoom};
+ghost use Rattle.part_store.specs.declared.error.StoreError.TheVariants.{Database};
 ghost use Rattle.part_store.specs.Filing.{Collides, Stocks, IsOther, IsNext, Files};
 
 use crate::entry::{Kind, NewEntry};
@@ -20,6 +22,11 @@ fn stock<S: Alter>(tx: &mut Transaction<'_, S>, digest: &[u8], octets: &[u8]) ->
     ensures other { HasCleanDisk (state S.Store tx.new.conn.now) → IfOk result (λ done. done ≡ false → (before : _) → Stands (state S.Store tx.old.conn.now).now before → IsOther (state S.Store tx.old.conn.now).now.trees digest.now octets.now) }
     ensures schema { HasCleanDisk (state S.Store tx.new.conn.now) → OnOk result ((state S.Store tx.old.conn.now).now.schema ≡ store_schema → (state S.Store tx.new.conn.now).now.schema ≡ store_schema) }
     ensures kept { HasCleanDisk (state S.Store tx.new.conn.now) → (state S.Store tx.old.conn.now).now.schema ≡ store_schema → KeepsCommit (state S.Store tx.old.conn.now) (state S.Store tx.new.conn.now) }
+    ensures inside { HasCleanDisk (state S.Store tx.new.conn.now) → OnOk result ((state S.Store tx.old.conn.now).now.schema ≡ store_schema
+        → IsTrue (state S.Store tx.old.conn.now).in_transaction → IsTrue (state S.Store tx.new.conn.now).in_transaction) }
+    ensures cause { HasCleanDisk (state S.Store tx.new.conn.now) → IfErr result (λ e. refusal_of e ≡ Database → IsTrue (state S.Store tx.old.conn.now).in_transaction
+        → (before : _) → Stands (state S.Store tx.old.conn.now).now before → HasFailed (state S.Store tx.old.conn.now) (state S.Store tx.new.conn.now)
+        ⊎ HasNoRoom contents_table (content_values digest.now octets.now) (state S.Store tx.old.conn.now).now.trees) }
     ensures survives { Survives (state S.Store tx.old.conn.now) (state S.Store tx.new.conn.now) (λ _. ⊥) }
 {
     match contents::find(tx, digest)? {
@@ -43,6 +50,10 @@ pub(crate) fn any_differs<S: Alter>(
     ensures other { HasCleanDisk (state S.Store tx.new.conn.now) → IfOk result (λ found. found ≡ true → (before : _) → Stands (state S.Store tx.old.conn.now).now before → Collides (state S.Store tx.old.conn.now).now.trees (map draft_of entries.now)) }
     ensures same { HasCleanDisk (state S.Store tx.new.conn.now) → OnOk result (Stays (state S.Store tx.old.conn.now) (state S.Store tx.new.conn.now)) }
     ensures kept { HasCleanDisk (state S.Store tx.new.conn.now) → (state S.Store tx.old.conn.now).now.schema ≡ store_schema → KeepsCommit (state S.Store tx.old.conn.now) (state S.Store tx.new.conn.now) }
+    ensures inside { HasCleanDisk (state S.Store tx.new.conn.now) → OnOk result ((state S.Store tx.old.conn.now).now.schema ≡ store_schema
+        → IsTrue (state S.Store tx.old.conn.now).in_transaction → IsTrue (state S.Store tx.new.conn.now).in_transaction) }
+    ensures cause { HasCleanDisk (state S.Store tx.new.conn.now) → IfErr result (λ e.
+        Blames (state S.Store tx.old.conn.now) (state S.Store tx.new.conn.now) (refusal_of e)) }
     ensures survives { Survives (state S.Store tx.old.conn.now) (state S.Store tx.new.conn.now) (λ _. ⊥) }
 {
     for entry in entries {
@@ -64,6 +75,10 @@ fn differs<S: Alter>(
     ensures other { HasCleanDisk (state S.Store tx.new.conn.now) → IfOk result (λ found. found ≡ true → (before : _) → Stands (state S.Store tx.old.conn.now).now before → IsOther (state S.Store tx.old.conn.now).now.trees digest.now octets.now) }
     ensures same { HasCleanDisk (state S.Store tx.new.conn.now) → OnOk result (Stays (state S.Store tx.old.conn.now) (state S.Store tx.new.conn.now)) }
     ensures kept { HasCleanDisk (state S.Store tx.new.conn.now) → (state S.Store tx.old.conn.now).now.schema ≡ store_schema → KeepsCommit (state S.Store tx.old.conn.now) (state S.Store tx.new.conn.now) }
+    ensures inside { HasCleanDisk (state S.Store tx.new.conn.now) → OnOk result ((state S.Store tx.old.conn.now).now.schema ≡ store_schema
+        → IsTrue (state S.Store tx.old.conn.now).in_transaction → IsTrue (state S.Store tx.new.conn.now).in_transaction) }
+    ensures cause { HasCleanDisk (state S.Store tx.new.conn.now) → IfErr result (λ e.
+        Blames (state S.Store tx.old.conn.now) (state S.Store tx.new.conn.now) (refusal_of e)) }
     ensures survives { Survives (state S.Store tx.old.conn.now) (state S.Store tx.new.conn.now) (λ _. ⊥) }
 {
     match contents::find(tx, digest)? {
@@ -98,6 +113,10 @@ pub(crate) fn file_entry<S: Alter>(
     ensures inside { HasCleanDisk (state S.Store tx.new.conn.now) → IfOk result (λ done. done ≡ true → IsTrue (state S.Store tx.new.conn.now).in_transaction) }
     ensures schema { HasCleanDisk (state S.Store tx.new.conn.now) → OnOk result ((state S.Store tx.old.conn.now).now.schema ≡ store_schema → (state S.Store tx.new.conn.now).now.schema ≡ store_schema) }
     ensures kept { HasCleanDisk (state S.Store tx.new.conn.now) → (state S.Store tx.old.conn.now).now.schema ≡ store_schema → KeepsCommit (state S.Store tx.old.conn.now) (state S.Store tx.new.conn.now) }
+    ensures cause { HasCleanDisk (state S.Store tx.new.conn.now) → IfErr result (λ e. refusal_of e ≡ Database → IsTrue (state S.Store tx.old.conn.now).in_transaction
+        → (before : _) → Stands (state S.Store tx.old.conn.now).now before → IsNext before (entry_of user.now number (draft_of entry.now))
+        → HasFailed (state S.Store tx.old.conn.now) (state S.Store tx.new.conn.now)
+        ⊎ LacksRoom (entry_of user.now number (draft_of entry.now)) (sha256 entry.now.octets.now) (state S.Store tx.old.conn.now).now.trees) }
     ensures survives { Survives (state S.Store tx.old.conn.now) (state S.Store tx.new.conn.now) (λ _. ⊥) }
 {
     let digest = Sha256::digest(entry.octets);

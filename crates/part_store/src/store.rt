@@ -5,7 +5,7 @@ ghost use Rattle.sqlite.specs.State.{HasCleanDisk, KeepsCommit, Survives};
 ghost use Rattle.part_store.specs.Tables.{no_schema, store_schema};
 ghost use Rattle.part_store.specs.Entries.{AreProgramsOf, entries_of, listing_of, no_entries, with_entries, with_program, with_programs, without_entry};
 ghost use Rattle.part_store.specs.Standing.{Brings, IsStored, Makes, MayMake, Spares, Stays, Stands, HasContent, IsEntryAt, HasNone, NamesDigest, IsTidied, draft_of, listed, pair_of};
-ghost use Rattle.part_store.specs.Refusals.{refusal_of, Blames, BlamesNamed, HasFailed};
+ghost use Rattle.part_store.specs.Refusals.{refusal_of, Blames, BlamesEntries, BlamesNamed, BlamesOr, BlamesPrograms, BlamesRow, IsTableIn, WriteFaults};
 ghost use Rattle.part_store.specs.declared.error.StoreError.TheVariants.{Memory, NoSuchEntry, NumberFull, Collision, Database};
 ghost use Rattle.part_store.specs.Changes.{contents_tree, users_tree};
 ghost use Rattle.part_store.specs.Looking.{are_tables};
@@ -39,9 +39,9 @@ use std::marker::Model;
 
 /// Entries, programs and last numbers in the three tables of a database. No call leaves a transaction open.
 ///
-/// Where the tables stand for a state, a call that reads is refused `Database` only by a database that can't work: its disk failed
-/// in the call, a failure had shut it before, or its connection has a limit on steps (`cause`). So is the removal of an entry that
-/// isn't there. Of any other write no clause says why it was refused `Database`.
+/// Where the tables stand for a state, a call is refused `Database` only by a database that can't work: its disk failed in the call,
+/// a failure had shut it before, or its connection has a limit on steps (`cause`). A call that puts rows in may also be refused for
+/// want of room: a table has no rowid left, or a row is more than the database can store. What else refuses a call, it says itself.
 pub struct PartStore<S: Alter> {
     conn: Connection<S>,
 }
@@ -132,6 +132,8 @@ fn digest_of<S: Alter>(
     ensures open { HasCleanDisk (state S.Store tx.new.conn.now) → OnOk result (IsTrue (state S.Store tx.old.conn.now).is_open) }
     ensures shut { HasCleanDisk (state S.Store tx.new.conn.now) → IsTrue (state S.Store tx.new.conn.now).is_open → IsTrue (state S.Store tx.old.conn.now).is_open }
     ensures same { HasCleanDisk (state S.Store tx.new.conn.now) → OnOk result (Stays (state S.Store tx.old.conn.now) (state S.Store tx.new.conn.now)) }
+    ensures inside { HasCleanDisk (state S.Store tx.new.conn.now) → OnOk result ((state S.Store tx.old.conn.now).now.schema ≡ store_schema
+        → IsTrue (state S.Store tx.old.conn.now).in_transaction → IsTrue (state S.Store tx.new.conn.now).in_transaction) }
     ensures kept { HasCleanDisk (state S.Store tx.new.conn.now) → (state S.Store tx.old.conn.now).now.schema ≡ store_schema → KeepsCommit (state S.Store tx.old.conn.now) (state S.Store tx.new.conn.now) }
     ensures cause { HasCleanDisk (state S.Store tx.new.conn.now) → IfErr result (λ e.
         Blames (state S.Store tx.old.conn.now) (state S.Store tx.new.conn.now) (refusal_of e)) }
@@ -185,6 +187,8 @@ fn tidy<S: Alter>(tx: &mut Transaction<'_, S>, digest: &[u8]) -> Result<(), Erro
     ensures same_reference { tx.new.conn.ghost_name ≡ tx.old.conn.ghost_name }
     ensures tidied { HasCleanDisk (state S.Store tx.new.conn.now) → OnOk result ((state S.Store tx.old.conn.now).now.schema ≡ store_schema → IsTidied digest.now (state S.Store tx.old.conn.now) (state S.Store tx.new.conn.now)) }
     ensures kept { HasCleanDisk (state S.Store tx.new.conn.now) → (state S.Store tx.old.conn.now).now.schema ≡ store_schema → KeepsCommit (state S.Store tx.old.conn.now) (state S.Store tx.new.conn.now) }
+    ensures fault { HasCleanDisk (state S.Store tx.new.conn.now) → IfErr result (λ e. IsTableIn contents_tree (state S.Store tx.old.conn.now).now.trees
+        → WriteFaults (state S.Store tx.old.conn.now) (state S.Store tx.new.conn.now) e) }
     ensures survives { Survives (state S.Store tx.old.conn.now) (state S.Store tx.new.conn.now) (λ _. ⊥) }
 {
     match entries::naming(tx, digest)? {
@@ -205,8 +209,7 @@ fn take_entry<S: Alter>(tx: &mut Transaction<'_, S>, user: &str, number: u32) ->
     ensures inside { HasCleanDisk (state S.Store tx.new.conn.now) → IfOk result (λ done. done ≡ true → (state S.Store tx.old.conn.now).now.schema ≡ store_schema → IsTrue (state S.Store tx.new.conn.now).in_transaction) }
     ensures shut { HasCleanDisk (state S.Store tx.new.conn.now) → IsTrue (state S.Store tx.new.conn.now).is_open → IsTrue (state S.Store tx.old.conn.now).is_open }
     ensures kept { HasCleanDisk (state S.Store tx.new.conn.now) → (state S.Store tx.old.conn.now).now.schema ≡ store_schema → KeepsCommit (state S.Store tx.old.conn.now) (state S.Store tx.new.conn.now) }
-    ensures absent { HasCleanDisk (state S.Store tx.new.conn.now) → IfErr result (λ e. (before : _)
-        → Stands (state S.Store tx.old.conn.now).now before → HasNone before user.now number
+    ensures cause { HasCleanDisk (state S.Store tx.new.conn.now) → IfErr result (λ e. IsTrue (state S.Store tx.old.conn.now).in_transaction
         → Blames (state S.Store tx.old.conn.now) (state S.Store tx.new.conn.now) (refusal_of e)) }
     ensures survives { Survives (state S.Store tx.old.conn.now) (state S.Store tx.new.conn.now) (λ _. ⊥) }
 {
@@ -268,11 +271,13 @@ impl<S: Alter> PartStore<S> {
         conn
     }
 
-    /// Stores the user's program in place of the one before. Refuses `Memory` and `Database`.
+    /// Stores the user's program in place of the one before. Refuses `Memory`, and `Database` also where the user's row has no room.
     pub fn set_program(&mut self, user: &str, program: &[u8]) -> Result<(), StoreError>
         ensures made { HasCleanDisk (state S.Store self.new) → OnOk result (Makes (with_program user.now program.now) (state S.Store self.old) (state S.Store self.new)) }
         ensures spared { HasCleanDisk (state S.Store self.new) → OnErr result (Spares (state S.Store self.old) (state S.Store self.new)) }
         ensures refused { IfErr result (λ e. (e ≡ Memory) ⊎ (e ≡ Database)) }
+        ensures cause { HasCleanDisk (state S.Store self.new) → IfErr result
+            (BlamesRow user.now (with_program user.now program.now) (state S.Store self.old) (state S.Store self.new)) }
         ensures survives { Survives (state S.Store self.old) (state S.Store self.new) (λ trees. MayMake (with_program user.now program.now) (state S.Store self.old) trees) }
     {
         let mut tx = begin(&mut self.conn);
@@ -342,10 +347,8 @@ impl<S: Alter> PartStore<S> {
         ensures settled { HasCleanDisk (state S.Store self.new) → IsTrue (state S.Store self.new).is_open
             → (state S.Store self.new).committed ≡ (state S.Store self.new).now }
         ensures refused { IfErr result (λ e. (e ≡ Memory) ⊎ (e ≡ Database)) }
-        ensures cause { HasCleanDisk (state S.Store self.new) → IfErr result (λ e. e ≡ Database
-            → (before : _) → Stands (state S.Store self.old).now before
-            → HasFailed (state S.Store self.old) (state S.Store self.new)
-            ⊎ (2 ^ 64 ≤ octets_of ((state S.Store self.old).now.trees contents_tree))) }
+        ensures cause { HasCleanDisk (state S.Store self.new) → IfErr result
+            (BlamesOr (λ _ db. 2 ^ 64 ≤ octets_of (db contents_tree)) (state S.Store self.old) (state S.Store self.new)) }
         ensures survives { Survives (state S.Store self.old) (state S.Store self.new) (λ _. ⊥) }
     {
         let mut tx = begin(&mut self.conn);
@@ -353,12 +356,14 @@ impl<S: Alter> PartStore<S> {
     }
 
     /// Replaces the programs of the listed users, and passes over those that have none. Where a user is listed twice the later
-    /// program counts. No last number changes. Refuses `Memory` and `Database`.
+    /// program counts. No last number changes. Refuses `Memory`, and `Database` also where a user's row has no room.
     pub fn replace_programs(&mut self, programs: &[(String, Vec<u8>)]) -> Result<(), StoreError>
         ensures made { HasCleanDisk (state S.Store self.new) → OnOk result
             (Makes (with_programs (map pair_of programs.now)) (state S.Store self.old) (state S.Store self.new)) }
         ensures spared { HasCleanDisk (state S.Store self.new) → OnErr result (Spares (state S.Store self.old) (state S.Store self.new)) }
         ensures refused { IfErr result (λ e. (e ≡ Memory) ⊎ (e ≡ Database)) }
+        ensures cause { HasCleanDisk (state S.Store self.new) → IfErr result
+            (BlamesPrograms (map pair_of programs.now) (state S.Store self.old) (state S.Store self.new)) }
         ensures survives { Survives (state S.Store self.old) (state S.Store self.new) (λ trees.
             (0 < length programs.now → IsTrue (state S.Store self.old).is_open)
             × MayMake (with_programs (map pair_of programs.now)) (state S.Store self.old) trees) }
@@ -371,7 +376,8 @@ impl<S: Alter> PartStore<S> {
 
     /// Adds the entries, of which there is at least one, in order, under the user's next numbers, and answers the first of
     /// these. Refuses `Memory`, `NumberFull` exactly where the numbers that are left don't suffice, else `Collision` exactly where
-    /// another content, stored or earlier among the entries, has the digest of one and other octets, and `Database`.
+    /// another content, stored or earlier among the entries, has the digest of one and other octets, and `Database` also where an
+    /// entry, its octets or the user's row has no room.
     ///
     /// A store that a failure has shut stays shut, adds nothing, and refuses `Memory` or `Database`.
     pub fn add_entries(&mut self, user: &str, entries: &[NewEntry<'_>]) -> Result<u32, StoreError>
@@ -387,6 +393,8 @@ impl<S: Alter> PartStore<S> {
         ensures shut { HasCleanDisk (state S.Store self.new) → IsTrue (state S.Store self.new).is_open → IsTrue (state S.Store self.old).is_open }
         ensures spared { HasCleanDisk (state S.Store self.new) → OnErr result (Spares (state S.Store self.old) (state S.Store self.new)) }
         ensures refused { IfErr result (λ e. (e ≡ Memory) ⊎ ((e ≡ NumberFull) ⊎ ((e ≡ Collision) ⊎ (e ≡ Database)))) }
+        ensures cause { HasCleanDisk (state S.Store self.new) → IfErr result
+            (BlamesEntries user.now (map draft_of entries.now) (state S.Store self.old) (state S.Store self.new)) }
         ensures survives { Survives (state S.Store self.old) (state S.Store self.new) (λ trees. IsTrue (state S.Store self.old).is_open × MayMake (with_entries user.now (map draft_of entries.now)) (state S.Store self.old) trees) }
     {
         let mut tx = begin(&mut self.conn);
@@ -443,9 +451,8 @@ impl<S: Alter> PartStore<S> {
         ensures absent { HasCleanDisk (state S.Store self.new) → IfErr result (λ e. e ≡ NoSuchEntry → (before : _) → Stands (state S.Store self.old).now before → HasNone before user.now number) }
         ensures spared { HasCleanDisk (state S.Store self.new) → OnErr result (Spares (state S.Store self.old) (state S.Store self.new)) }
         ensures refused { IfErr result (λ e. (e ≡ Memory) ⊎ ((e ≡ NoSuchEntry) ⊎ (e ≡ Database))) }
-        ensures cause { HasCleanDisk (state S.Store self.new) → IfErr result (λ e. (before : _)
-            → Stands (state S.Store self.old).now before → HasNone before user.now number
-            → Blames (state S.Store self.old) (state S.Store self.new) e) }
+        ensures cause { HasCleanDisk (state S.Store self.new) → IfErr result
+            (Blames (state S.Store self.old) (state S.Store self.new)) }
         ensures survives { Survives (state S.Store self.old) (state S.Store self.new) (λ trees. (before : _) → Stands (state S.Store self.old).now before → ((x : _) × IsEntryAt before user.now number x) × IsStored trees (without_entry user.now number before)) }
     {
         let mut tx = begin(&mut self.conn);

@@ -2,20 +2,22 @@
 ghost use Rattle.std.specs.Prelude.{◌≡◌, ◌⊎◌, ◌∷◌, ◌<◌, [], length, map, IsTrue, option_map, IfOk, IfErr, OnOk};
 ghost use Rattle.sqlite.specs.Held.{state};
 ghost use Rattle.sqlite.specs.State.{HasCleanDisk, KeepsCommit, Survives};
-ghost use Rattle.part_store.specs.Changes.{columns};
+ghost use Rattle.part_store.specs.Changes.{columns, users_tree};
 ghost use Rattle.part_store.specs.Tables.{store_schema};
 ghost use Rattle.part_store.specs.Entries.{AreProgramsOf, with_program, with_programs};
 ghost use Rattle.part_store.specs.Standing.{Brings, Stands, Stays, last_in, pair_of, row_of};
 ghost use Rattle.std.specs.List.{AllByRecursion};
-ghost use Rattle.part_store.specs.Refusals.{refusal_of, Blames, BlamesNamed, ShowsProgram};
+ghost use Rattle.part_store.specs.Refusals.{refusal_of, Blames, BlamesNamed, BlamesPrograms, BlamesRow, RisesFrom, ShowsLast, ShowsProgram};
 ghost use Rattle.part_store.specs.declared.error.StoreError.TheVariants.{Memory, Database};
 
 use crate::error::StoreError;
 use crate::users;
 use sqlite::{Alter, Error, Row, Transaction};
 
+/// The last number in a user's row, or 0 where there is none.
 fn last_in(found: &Option<Row>) -> Result<u32, Error>
-    ensures { IfOk result (last_in found.now) }
+    ensures last { IfOk result (last_in found.now) }
+    ensures cause { IfErr result (λ e. refusal_of e ≡ Database → ShowsLast found.now → ⊥) }
 {
     match found {
         Some(row) => row.get(0),
@@ -36,6 +38,10 @@ pub(crate) fn put_program<S: Alter>(
         ((state S.Store tx.old.conn.now).now.schema ≡ store_schema → (state S.Store tx.new.conn.now).now.schema ≡ store_schema) }
     ensures shut { HasCleanDisk (state S.Store tx.new.conn.now) → IsTrue (state S.Store tx.new.conn.now).is_open → IsTrue (state S.Store tx.old.conn.now).is_open }
     ensures kept { HasCleanDisk (state S.Store tx.new.conn.now) → (state S.Store tx.old.conn.now).now.schema ≡ store_schema → KeepsCommit (state S.Store tx.old.conn.now) (state S.Store tx.new.conn.now) }
+    ensures cause { HasCleanDisk (state S.Store tx.new.conn.now) → IfErr result (λ e. IsTrue (state S.Store tx.old.conn.now).in_transaction
+        → BlamesRow user.now (with_program user.now program.now) (state S.Store tx.old.conn.now) (state S.Store tx.new.conn.now) (refusal_of e)) }
+    ensures rowids { HasCleanDisk (state S.Store tx.new.conn.now) → OnOk result ((before : _) → Stands (state S.Store tx.old.conn.now).now before
+        → RisesFrom 1 ((state S.Store tx.old.conn.now).now.trees users_tree) ((state S.Store tx.new.conn.now).now.trees users_tree)) }
     ensures survives { Survives (state S.Store tx.old.conn.now) (state S.Store tx.new.conn.now) (λ _. ⊥) }
 {
     let found = users::find(tx, user)?;
@@ -119,6 +125,10 @@ fn replace_program<S: Alter>(
         ((state S.Store tx.old.conn.now).now.schema ≡ store_schema → (state S.Store tx.new.conn.now).now.schema ≡ store_schema) }
     ensures shut { HasCleanDisk (state S.Store tx.new.conn.now) → IsTrue (state S.Store tx.new.conn.now).is_open → IsTrue (state S.Store tx.old.conn.now).is_open }
     ensures kept { HasCleanDisk (state S.Store tx.new.conn.now) → (state S.Store tx.old.conn.now).now.schema ≡ store_schema → KeepsCommit (state S.Store tx.old.conn.now) (state S.Store tx.new.conn.now) }
+    ensures rowids { HasCleanDisk (state S.Store tx.new.conn.now) → OnOk result ((before : _) → Stands (state S.Store tx.old.conn.now).now before
+        → RisesFrom 1 ((state S.Store tx.old.conn.now).now.trees users_tree) ((state S.Store tx.new.conn.now).now.trees users_tree)) }
+    ensures cause { HasCleanDisk (state S.Store tx.new.conn.now) → IfErr result (λ e. IsTrue (state S.Store tx.old.conn.now).in_transaction
+        → BlamesPrograms ((user.now, program.now) ∷ []) (state S.Store tx.old.conn.now) (state S.Store tx.new.conn.now) (refusal_of e)) }
     ensures survives { Survives (state S.Store tx.old.conn.now) (state S.Store tx.new.conn.now) (λ _. ⊥) }
 {
     let Some(_before) = read_program(tx, user)? else {
@@ -141,6 +151,8 @@ pub(crate) fn replace_all<S: Alter>(
         → IsTrue (state S.Store tx.old.conn.now).in_transaction → IsTrue (state S.Store tx.new.conn.now).in_transaction) }
     ensures shut { HasCleanDisk (state S.Store tx.new.conn.now) → IsTrue (state S.Store tx.new.conn.now).is_open → IsTrue (state S.Store tx.old.conn.now).is_open }
     ensures kept { HasCleanDisk (state S.Store tx.new.conn.now) → (state S.Store tx.old.conn.now).now.schema ≡ store_schema → KeepsCommit (state S.Store tx.old.conn.now) (state S.Store tx.new.conn.now) }
+    ensures cause { HasCleanDisk (state S.Store tx.new.conn.now) → IfErr result (λ e. IsTrue (state S.Store tx.old.conn.now).in_transaction
+        → BlamesPrograms (map pair_of programs.now) (state S.Store tx.old.conn.now) (state S.Store tx.new.conn.now) (refusal_of e)) }
     ensures survives { Survives (state S.Store tx.old.conn.now) (state S.Store tx.new.conn.now) (λ _. ⊥) }
 {
     for (user, program) in programs {

@@ -8,7 +8,7 @@ ghost use Rattle.part_store.specs.Changes.{contents_tree};
 ghost use Rattle.part_store.specs.Tables.{store_schema};
 ghost use Rattle.part_store.specs.Standing.{Stands};
 ghost use Rattle.part_store.specs.Totals.{IsTotalOf, number_of, octets_of};
-ghost use Rattle.part_store.specs.Refusals.{HasFailed, ShowsSize};
+ghost use Rattle.part_store.specs.Refusals.{BlamesOr, ShowsSize};
 ghost use Rattle.part_store.specs.declared.error.StoreError.TheVariants.{Memory, Database};
 
 use crate::contents;
@@ -37,10 +37,8 @@ pub(crate) fn count_contents<S: Alter>(
     ensures kept { HasCleanDisk (state S.Store tx.new.conn.now) → (state S.Store tx.old.conn.now).now.schema ≡ store_schema
         → KeepsCommit (state S.Store tx.old.conn.now) (state S.Store tx.new.conn.now) }
     ensures refused { IfErr result (λ e. (e ≡ Memory) ⊎ (e ≡ Database)) }
-    ensures cause { HasCleanDisk (state S.Store tx.new.conn.now) → IfErr result (λ e. e ≡ Database
-        → (before : _) → Stands (state S.Store tx.old.conn.now).now before
-        → HasFailed (state S.Store tx.old.conn.now) (state S.Store tx.new.conn.now)
-        ⊎ (2 ^ 64 ≤ octets_of ((state S.Store tx.old.conn.now).now.trees contents_tree))) }
+    ensures cause { HasCleanDisk (state S.Store tx.new.conn.now) → IfErr result
+        (BlamesOr (λ _ db. 2 ^ 64 ≤ octets_of (db contents_tree)) (state S.Store tx.old.conn.now) (state S.Store tx.new.conn.now)) }
     ensures survives { Survives (state S.Store tx.old.conn.now) (state S.Store tx.new.conn.now) (λ _. ⊥) }
 {
     let rows = contents::list(tx)?;

@@ -5,7 +5,8 @@ ghost use Rattle.sqlite.specs.Held.{state};
 ghost use Rattle.sqlite.specs.State.{HasCleanDisk, KeepsCommit, Survives};
 ghost use Rattle.sqlite.specs.Values.{or_null};
 ghost use Rattle.part_store.specs.Changes.{Steps, Reads, IsFound, IsListed, IsAdded, IsTaken, users_tree, equals, columns, every, has_program};
-ghost use Rattle.part_store.specs.Refusals.{Faults};
+ghost use Rattle.part_store.specs.Tables.{users_table};
+ghost use Rattle.part_store.specs.Refusals.{AddFaults, Faults, HasNoRow, IsTableIn, WriteFaults};
 
 use sqlite::{Alter, Error, Row, Transaction, params};
 
@@ -74,6 +75,8 @@ pub(crate) fn remove<S: Alter>(tx: &mut Transaction<'_, S>, user: &str) -> Resul
     ensures step { HasCleanDisk (state S.Store tx.new.conn.now) → OnOk result (Steps (IsTaken users_tree (equals 1 (Text user.now))) (state S.Store tx.old.conn.now) (state S.Store tx.new.conn.now)) }
     ensures inside { HasCleanDisk (state S.Store tx.new.conn.now) → OnOk result (IsTrue (state S.Store tx.new.conn.now).in_transaction) }
     ensures kept { HasCleanDisk (state S.Store tx.new.conn.now) → KeepsCommit (state S.Store tx.old.conn.now) (state S.Store tx.new.conn.now) }
+    ensures fault { HasCleanDisk (state S.Store tx.new.conn.now) → IfErr result
+        (WriteFaults (state S.Store tx.old.conn.now) (state S.Store tx.new.conn.now)) }
     ensures survives { Survives (state S.Store tx.old.conn.now) (state S.Store tx.new.conn.now) (λ _. ⊥) }
 {
     tx.execute("DELETE FROM users WHERE user = ?1", params![user])
@@ -90,6 +93,10 @@ pub(crate) fn add<S: Alter>(
     ensures step { HasCleanDisk (state S.Store tx.new.conn.now) → OnOk result (Steps (IsAdded users_tree (Text user.now ∷ Int (pos last) ∷ or_null (λ octets. Blob octets.now) program.entry ∷ [])) (state S.Store tx.old.conn.now) (state S.Store tx.new.conn.now)) }
     ensures inside { HasCleanDisk (state S.Store tx.new.conn.now) → OnOk result (IsTrue (state S.Store tx.new.conn.now).in_transaction) }
     ensures kept { HasCleanDisk (state S.Store tx.new.conn.now) → KeepsCommit (state S.Store tx.old.conn.now) (state S.Store tx.new.conn.now) }
+    ensures fault { HasCleanDisk (state S.Store tx.new.conn.now) → IsTableIn users_tree (state S.Store tx.old.conn.now).now.trees
+        → HasNoRow user.now (state S.Store tx.old.conn.now).now.trees
+        → IfErr result (AddFaults users_table (Text user.now ∷ Int (pos last) ∷ or_null (λ octets. Blob octets.now) program.entry ∷ [])
+        (state S.Store tx.old.conn.now) (state S.Store tx.new.conn.now)) }
     ensures survives { Survives (state S.Store tx.old.conn.now) (state S.Store tx.new.conn.now) (λ _. ⊥) }
 {
     tx.execute(

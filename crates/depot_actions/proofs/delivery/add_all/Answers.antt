@@ -1,3 +1,7 @@
+use Rattle.depot_actions.proofs.StoreFaults.{fault_told, of_refusal, passed_on}
+use Rattle.depot_actions.specs.Causes.{LackRoom}
+use Rattle.part_store.specs.Standing.{draft_of}
+use Rattle.std.proofs.Common.{map}
 use Rattle.sqlite.specs.Held.{state}
 use Rattle.depot_actions.proofs.Commands.{spares_self}
 use Rattle.depot_actions.proofs.Outputs.{on_err}
@@ -5,3 +9,11 @@ use Rattle.depot_actions.proofs.delivery.add_all.Goals as goal
 
 pub returns-in_err-rows-clause-spared : goal.returns-in_err-rows-clause-spared
 returns-in_err-rows-clause-spared g c clean = on_err c.from_residual.result (spares_self (state g.S.Store c.args.store.now))
+
+pub returns-in_err-first-clause-cause : goal.returns-in_err-first-clause-cause
+returns-in_err-first-clause-cause g c clean =
+    let old = state g.S.Store c.args.store.now in
+    let new = state g.S.Store c.add_entries.new.self in
+    let lack = LackRoom c.args.user.now (map draft_of c.args.entries.now) in
+    passed_on c.from_residual-in_err-first.result _ _ c.from_residual-in_err-first.ensures.1
+    (of_refusal c.map_err.result _ _ c.in_err-first.was (fault_told lack old new c.add_entries.result c.map_err.result c.map_err.ensures.cases (c.add_entries.ensures.cause clean)))

@@ -1,3 +1,7 @@
+use Rattle.depot_actions.proofs.StoreFaults.{later_fault, passed_on}
+use Rattle.depot_actions.specs.Causes.{IsUncounted}
+use Rattle.sqlite.specs.State.{HasCleanDisk}
+use Rattle.std.proofs.Common.{arith}
 use Rattle.sqlite.specs.Held.{state}
 use Rattle.depot_actions.proofs.Surveying.{all_looked, one_looked}
 use Rattle.depot_actions.proofs.inspecting.summaries.Goals as goal
@@ -13,3 +17,12 @@ loop-row-preserved g c =
 pub returns-clause-told : goal.returns-clause-told
 returns-clause-told g c clean before stands =
     all_looked c.args.rows.now c.loop-row.row-index c.loop-row.users.items (state g.S.Store c.args.store.now) (state g.S.Store c.loop-row.store) c.loop-row-test.false c.loop-row.invariant clean before stands
+
+pub returns-in_err-user-clause-cause : goal.returns-in_err-user-clause-cause
+returns-in_err-user-clause-cause g c clean =
+    let old = state g.S.Store c.args.store.now in
+    let mid = state g.S.Store c.loop-row.store in
+    let new = state g.S.Store c.summary.new.store in
+    let early : HasCleanDisk mid = omega (arith, clean, c.summary.ensures.survives.clean) in
+    passed_on c.from_residual.result _ _ c.from_residual.ensures.1
+    (later_fault IsUncounted old mid new _ (c.loop-row.invariant.spared early) c.loop-row.invariant.survives c.summary.ensures.survives clean (c.in_err-user.ensures.cause clean))

@@ -1,11 +1,13 @@
-use Rattle.std.proofs.Common.{◌+◌, length, map, sym, ◌∙◌, arith}
+use Rattle.std.proofs.Common.{◌⊎◌, ◌+◌, length, map, subst, sym, ◌∙◌, arith}
 use Rattle.std.proofs.lemmas.List.{length-map}
 use Rattle.sqlite.specs.State.{HasCleanDisk}
 use Rattle.sqlite.specs.Held.{state}
 use Rattle.part_store.specs.Entries.{with_last}
+use Rattle.part_store.specs.Refusals.{HasFailed, HasNoUserRoom}
 use Rattle.part_store.specs.Standing.{draft_of}
 use Rattle.part_store.proofs.Entering.{can_file, collides_before, entered, kept_then}
-use Rattle.part_store.proofs.Runs.{if_ok}
+use Rattle.part_store.proofs.NoRoom.{claim_refused, files_refused}
+use Rattle.part_store.proofs.Runs.{err_then, if_ok, passed}
 use Rattle.part_store.proofs.adding.claim_and_file.Goals as goal
 
 pub returns-clause-filed : goal.returns-clause-filed
@@ -38,3 +40,30 @@ returns-clause-kept g c clean has =
     let mid = state g.S.Store c.claim.new.tx.conn.now in
     let early : HasCleanDisk mid = omega (arith, c.file_all.ensures.survives.clean) in
     kept_then (state g.S.Store c.args.tx.now.conn.now) mid (state g.S.Store c.file_all.new.tx.conn.now) (c.claim.ensures.kept early has) (c.file_all.ensures.kept clean (c.in_ok-claim.ensures.schema early has))
+
+pub returns-in_err-claim-clause-cause : goal.returns-in_err-claim-clause-cause
+returns-in_err-claim-clause-cause g c clean =
+    let old = state g.S.Store c.args.tx.now.conn.now in
+    let new = state g.S.Store c.claim.new.tx.conn.now in
+    let entries = c.args.entries.now in
+    let user = c.args.user.now in
+    let drafts = map draft_of entries in
+    passed c.from_residual.result _ _ c.from_residual.ensures.1 (λ inside told.
+    claim_refused old new user c.args.last drafts _ (λ is before stands.
+    subst (λ n. HasFailed old new ⊎ HasNoUserRoom user (with_last user (c.args.last + n) before) old.now.trees) (sym (length-map entries draft_of))
+    (c.in_err-claim.ensures.cause clean is inside before stands (c.lent.ensures ∙ (told before stands).1))) (λ before stands. (told before stands).0))
+
+pub returns-clause-cause : goal.returns-clause-cause
+returns-clause-cause g c clean =
+    let old = state g.S.Store c.args.tx.now.conn.now in
+    let mid = state g.S.Store c.claim.new.tx.conn.now in
+    let new = state g.S.Store c.file_all.new.tx.conn.now in
+    let early : HasCleanDisk mid = omega (arith, clean, c.file_all.ensures.survives.clean) in
+    let user = c.args.user.now in
+    let entries = c.args.entries.now in
+    err_then c.file_all.result _ _ (λ e cause inside told.
+    files_refused old mid new user c.args.last (length entries) (map draft_of entries) e c.claim.ensures.survives c.file_all.ensures.survives clean
+    (λ before stands.
+    let last_is = (told before stands).0 in
+    (c.in_ok-claim.ensures.claimed early before stands (c.lent.ensures ∙ (told before stands).1) (omega (arith, last_is)), can_file old.now before user c.args.last (length entries) stands last_is))
+    (λ is. cause is (c.in_ok-claim.ensures.inside early))) (c.file_all.ensures.cause clean)

@@ -1,9 +1,11 @@
-use Rattle.std.proofs.Common.{◌≡◌, ◌+◌, true, false, length, map, take, drop, rules, arith, ◌∙◌}
+use Rattle.std.proofs.Common.{◌≡◌, ◌+◌, true, false, length, map, take, drop, rules, arith, sym, ◌∙◌}
 use Rattle.std.proofs.lemmas.List.{length-map, length-take}
 use Rattle.sqlite.specs.State.{HasCleanDisk}
 use Rattle.sqlite.specs.Held.{state}
 use Rattle.part_store.specs.Standing.{draft_of}
 use Rattle.part_store.proofs.FiledAll.{collides, drafts_more, drafts_split, entry_at, one_more}
+use Rattle.part_store.proofs.NoRoom.{filing_refused}
+use Rattle.part_store.proofs.Runs.{passed}
 use Rattle.part_store.proofs.adding.file_all.Goals as goal
 
 pub returns-then-not-branch-clause-other : goal.returns-then-not-branch-clause-other
@@ -34,3 +36,17 @@ loop-entry-preserved g c =
           (omega (arith, long, c.loop-entry-test.true)) (omega (arith, long, c.loop-entry.invariant.number)) (drafts_more entries place c.loop-entry-test.true) c.loop-entry.invariant.so_far
           c.file_entry.ensures.survives (λ clean. c.in_ok-file_entry.ensures.filed clean done) (λ clean. c.in_ok-file_entry.ensures.inside clean done) (λ clean. c.in_ok-file_entry.ensures.schema clean) c.file_entry.ensures.kept;
     }
+
+pub returns-in_err-file_entry-clause-cause : goal.returns-in_err-file_entry-clause-cause
+returns-in_err-file_entry-clause-cause g c clean =
+    let old = state g.S.Store c.args.tx.now.conn.now in
+    let mid = state g.S.Store c.loop-entry.tx.conn.now in
+    let new = state g.S.Store c.file_entry.new.tx.conn.now in
+    let entries = c.args.entries.now in
+    let place = c.loop-entry.entry-index in
+    let drafts = map draft_of (take place entries) in
+    let long : length drafts ≡ place = length-map (take place entries) draft_of ∙ omega (arith, length-take place entries, c.loop-entry-test.true) in
+    passed c.from_residual.result _ _ c.from_residual.ensures.1
+    (filing_refused c.args.user.now c.args.last (length entries) (c.loop-entry.number + 1) drafts (map draft_of (drop (place + 1) entries)) (map draft_of entries) (draft_of (entry_at entries place)) old mid new _
+    (omega (arith, long, c.loop-entry-test.true)) (omega (arith, long, c.loop-entry.invariant.number)) (drafts_split entries place c.loop-entry-test.true) (sym (length-map entries draft_of))
+    c.loop-entry.invariant.so_far c.file_entry.ensures.survives clean (c.in_err-file_entry.ensures.cause clean))

@@ -2,9 +2,12 @@ use Rattle.std.proofs.Common.{◌≡◌, true, false, map, ◌∙◌, arith, rul
 use Rattle.std.proofs.lemmas.List.{length-map}
 use Rattle.sqlite.specs.State.{HasCleanDisk}
 use Rattle.sqlite.specs.Held.{state}
+use Rattle.sqlite.proofs.StateLemmas.{survives_then}
 use Rattle.part_store.specs.Filing.{Collides}
 use Rattle.part_store.specs.Standing.{draft_of}
 use Rattle.part_store.proofs.Entering.{collides_after, stands_still}
+use Rattle.part_store.proofs.NoRoom.{entries_after, entries_blamed, stood}
+use Rattle.part_store.proofs.Runs.{passed}
 use Rattle.part_store.proofs.Unmoved.{stays_then}
 use Rattle.part_store.proofs.adding.put_entries.Goals as goal
 
@@ -59,3 +62,36 @@ returns-then-branch-clause-adds g c clean before stands =
       omega (arith, told.0, c.if-entries-last.false, length-map entries draft_of),
       subst (λ t. Collides t (map draft_of entries)) (still stands.schema).1 other,
     )
+
+pub returns-in_err-last-clause-cause : goal.returns-in_err-last-clause-cause
+returns-in_err-last-clause-cause g c clean =
+    let old = state g.S.Store c.args.tx.now.conn.now in
+    let new = state g.S.Store c.user_of.new.tx.conn.now in
+    passed c.from_residual.result _ _ c.from_residual.ensures.1 (λ _. entries_blamed old new c.args.user.now (map draft_of c.args.entries.now) _ (c.in_err-last.ensures.cause clean))
+
+pub returns-in_err-any_differs-clause-cause : goal.returns-in_err-any_differs-clause-cause
+returns-in_err-any_differs-clause-cause g c clean =
+    let old = state g.S.Store c.args.tx.now.conn.now in
+    let mid = state g.S.Store c.user_of.new.tx.conn.now in
+    let new = state g.S.Store c.any_differs.new.tx.conn.now in
+    let early : HasCleanDisk mid = omega (arith, clean, c.any_differs.ensures.survives.clean) in
+    passed c.from_residual-in_err-any_differs.result _ _ c.from_residual-in_err-any_differs.ensures.1 (λ _.
+    entries_after old mid new c.args.user.now (map draft_of c.args.entries.now) _ c.user_of.ensures.survives c.any_differs.ensures.survives clean (c.in_ok-last.ensures.same early)
+    (λ before stands. entries_blamed mid new c.args.user.now (map draft_of c.args.entries.now) _ (c.in_err-any_differs.ensures.cause clean)))
+
+pub returns-in_err-claim_and_file-clause-cause : goal.returns-in_err-claim_and_file-clause-cause
+returns-in_err-claim_and_file-clause-cause g c clean =
+    let old = state g.S.Store c.args.tx.now.conn.now in
+    let one = state g.S.Store c.user_of.new.tx.conn.now in
+    let mid = state g.S.Store c.any_differs.new.tx.conn.now in
+    let new = state g.S.Store c.claim_and_file.new.tx.conn.now in
+    let late : HasCleanDisk mid = omega (arith, clean, c.claim_and_file.ensures.survives.clean) in
+    let early : HasCleanDisk one = omega (arith, late, c.any_differs.ensures.survives.clean) in
+    let user = c.args.user.now in
+    let drafts = map draft_of c.args.entries.now in
+    let first = c.in_ok-last.ensures.same early in
+    let still = stays_then old one mid first (c.in_ok-any_differs.ensures.same late) in
+    let both = survives_then old one mid (λ _. ⊥) (λ _. ⊥) (λ _. ⊥) (λ _ _ h. h) (λ _ _ h. h) c.user_of.ensures.survives c.any_differs.ensures.survives in
+    passed c.from_residual-in_err-claim_and_file.result _ _ c.from_residual-in_err-claim_and_file.ensures.1 (λ inside.
+    entries_after old mid new user drafts _ both c.claim_and_file.ensures.survives clean still (λ before stands.
+    c.in_err-claim_and_file.ensures.cause clean (c.in_ok-any_differs.ensures.inside late (first stands.schema).0 (c.in_ok-last.ensures.inside early stands.schema inside)) (λ other there. c.in_ok-last.ensures.told early other (stood old mid before other still stands there))))

@@ -1,5 +1,10 @@
-use Rattle.std.proofs.Common.{◌≡◌, ◌≢◌, rules}
+use Rattle.std.proofs.Common.{◌≡◌, ◌≢◌, inl, arith, rules}
 use Rattle.sqlite.specs.Held.{state}
+use Rattle.sqlite.specs.State.{HasCleanDisk}
+use Rattle.part_store.proofs.Failing.{unread}
+use Rattle.part_store.proofs.NoRoom.{content_unplaced}
+use Rattle.part_store.proofs.Readable.{octets_readable}
+use Rattle.part_store.proofs.Runs.{passed}
 use Rattle.part_store.proofs.Filed.{stocked_found, other_found, stocked_none}
 use Rattle.part_store.proofs.filing.stock.Goals as goal
 
@@ -19,3 +24,22 @@ pub returns-in_ok-add-in-None-clause-stocked : goal.returns-in_ok-add-in-None-cl
 returns-in_ok-add-in-None-clause-stocked g c clean is =
     stocked_none (state g.S.Store c.args.tx.now.conn.now) (state g.S.Store c.find.new.tx.conn.now) (state g.S.Store c.add.new.tx.conn.now) c.args.digest.now c.args.octets.now
     (rw c.in-None.is at (c.in_ok-row.ensures.step (search rules))) (c.in_ok-add-in-None.ensures.step clean)
+
+pub returns-in_err-row-clause-cause : goal.returns-in_err-row-clause-cause
+returns-in_err-row-clause-cause g c clean =
+    passed c.from_residual.result _ _ c.from_residual.ensures.1 (λ is _ before stands. inl (c.in_err-row.ensures.fault clean is stands.schema))
+
+pub returns-in_err-there-in-Some-clause-cause : goal.returns-in_err-there-in-Some-clause-cause
+returns-in_err-there-in-Some-clause-cause g c clean =
+    passed c.from_residual-in_err-there-in-Some.result _ _ c.from_residual-in_err-there-in-Some.ensures.1 (λ is _ before stands.
+    let there = octets_readable (state g.S.Store c.args.tx.now.conn.now) (state g.S.Store c.find.new.tx.conn.now) before stands c.in-Some.row c.args.digest.now (rw c.in-Some.is at (c.in_ok-row.ensures.step clean)) in
+    absurd (unread c.in-Some.row 0 _ c.in_err-there-in-Some.ensures.kind there.0 there.1 is))
+
+pub returns-in_err-add-in-None-clause-cause : goal.returns-in_err-add-in-None-clause-cause
+returns-in_err-add-in-None-clause-cause g c clean =
+    let old = state g.S.Store c.args.tx.now.conn.now in
+    let mid = state g.S.Store c.find.new.tx.conn.now in
+    let new = state g.S.Store c.add.new.tx.conn.now in
+    let early : HasCleanDisk mid = omega (arith, clean, c.add.ensures.survives.clean) in
+    passed c.from_residual-in_err-add-in-None.result _ _ c.from_residual-in_err-add-in-None.ensures.1
+    (content_unplaced old mid new c.args.digest.now c.args.octets.now _ (rw c.in-None.is at (c.in_ok-row.ensures.step early)) c.find.ensures.survives c.add.ensures.survives clean (c.in_err-add-in-None.ensures.fault clean))

@@ -1,7 +1,8 @@
 use Rattle.std.proofs.Common.{arith}
 use Rattle.sqlite.specs.State.{HasCleanDisk}
 use Rattle.sqlite.specs.Held.{state}
-use Rattle.part_store.proofs.Finding.{entry_there, not_named}
+use Rattle.part_store.proofs.Causes.{octets_refused, row_refused}
+use Rattle.part_store.proofs.Finding.{entry_there}
 use Rattle.part_store.proofs.Runs.{passed}
 use Rattle.part_store.proofs.Removing.{entry_taken_out}
 use Rattle.part_store.proofs.store.take_entry.Goals as goal
@@ -29,22 +30,23 @@ returns-clause-there g c clean _ before stands =
     let x = entry_there old.now.trees before c.args.user.now c.args.number c.in-Some.digest.items stands.tables (told before stands) in
     (x.0, x.1)
 
-pub returns-in_err-remove-clause-absent : goal.returns-in_err-remove-clause-absent
-returns-in_err-remove-clause-absent g c clean =
-    let old = state g.S.Store c.args.tx.now.conn.now in
-    let one = state g.S.Store c.digest_of.new.tx.conn.now in
-    let early : HasCleanDisk one = omega (arith, clean, c.remove.ensures.survives.clean) in
-    let told = rw c.in-Some.is at (c.in_ok-digest.ensures.told early) in
-    passed c.from_residual-in_err-remove.result _ _ c.from_residual-in_err-remove.ensures.1 (λ before stands none.
-    absurd (not_named old.now.trees before c.args.user.now c.args.number c.in-Some.digest.items stands.tables none (told before stands)))
-
-pub returns-in_err-tidy-clause-absent : goal.returns-in_err-tidy-clause-absent
-returns-in_err-tidy-clause-absent g c clean =
+pub returns-in_err-remove-clause-cause : goal.returns-in_err-remove-clause-cause
+returns-in_err-remove-clause-cause g c clean =
     let old = state g.S.Store c.args.tx.now.conn.now in
     let one = state g.S.Store c.digest_of.new.tx.conn.now in
     let two = state g.S.Store c.remove.new.tx.conn.now in
+    let early : HasCleanDisk one = omega (arith, clean, c.remove.ensures.survives.clean) in
+    passed c.from_residual-in_err-remove.result _ _ c.from_residual-in_err-remove.ensures.1
+    (row_refused old one two _ (c.in_ok-digest.ensures.same early) (c.in_ok-digest.ensures.inside early) c.digest_of.ensures.survives c.remove.ensures.survives clean (c.in_err-remove.ensures.fault clean))
+
+pub returns-in_err-tidy-clause-cause : goal.returns-in_err-tidy-clause-cause
+returns-in_err-tidy-clause-cause g c clean =
+    let old = state g.S.Store c.args.tx.now.conn.now in
+    let one = state g.S.Store c.digest_of.new.tx.conn.now in
+    let two = state g.S.Store c.remove.new.tx.conn.now in
+    let new = state g.S.Store c.tidy.new.tx.conn.now in
     let late : HasCleanDisk two = omega (arith, clean, c.tidy.ensures.survives.clean) in
     let early : HasCleanDisk one = omega (arith, late, c.remove.ensures.survives.clean) in
-    let told = rw c.in-Some.is at (c.in_ok-digest.ensures.told early) in
-    passed c.from_residual-in_err-tidy.result _ _ c.from_residual-in_err-tidy.ensures.1 (λ before stands none.
-    absurd (not_named old.now.trees before c.args.user.now c.args.number c.in-Some.digest.items stands.tables none (told before stands)))
+    passed c.from_residual-in_err-tidy.result _ _ c.from_residual-in_err-tidy.ensures.1
+    (octets_refused old one two new c.args.user.now c.args.number _ (c.in_ok-digest.ensures.same early) (c.in_ok-digest.ensures.inside early) (c.in_ok-remove.ensures.step late) c.digest_of.ensures.survives
+    c.remove.ensures.survives c.tidy.ensures.survives clean (c.in_err-tidy.ensures.fault clean))

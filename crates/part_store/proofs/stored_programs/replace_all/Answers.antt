@@ -1,7 +1,8 @@
-use Rattle.std.proofs.Common.{map, take, ◌∙◌, subst}
+use Rattle.std.proofs.Common.{map, take, drop, ◌+◌, ◌∙◌, subst}
 use Rattle.sqlite.specs.Held.{state}
 use Rattle.part_store.specs.Standing.{pair_of}
-use Rattle.part_store.proofs.Replacing.{Replacing, pairs_more, replaced_more}
+use Rattle.part_store.proofs.Replacing.{Replacing, pairs_more, pairs_refused, pairs_split, replaced_more}
+use Rattle.part_store.proofs.Runs.{passed}
 use Rattle.part_store.proofs.stored_programs.replace_all.Goals as goal
 
 pub loop-user-preserved : goal.loop-user-preserved
@@ -17,5 +18,19 @@ loop-user-preserved g c =
     record {
       same_reference = c.replace_program.ensures.same_reference ∙ c.loop-user.invariant.same_reference;
       so_far = subst (λ pairs. Replacing pairs old new) whole (replaced_more (map pair_of (take place programs)) (user, program) old mid new c.loop-user.invariant.so_far
-          c.replace_program.ensures.survives c.in_ok-replace_program.ensures.step c.in_ok-replace_program.ensures.inside c.in_ok-replace_program.ensures.schema c.in_ok-replace_program.ensures.open c.replace_program.ensures.shut c.replace_program.ensures.kept);
+          c.replace_program.ensures.survives c.in_ok-replace_program.ensures.step c.in_ok-replace_program.ensures.inside c.in_ok-replace_program.ensures.schema c.in_ok-replace_program.ensures.open c.replace_program.ensures.shut c.replace_program.ensures.kept c.in_ok-replace_program.ensures.rowids);
     }
+
+pub returns-in_err-replace_program-clause-cause : goal.returns-in_err-replace_program-clause-cause
+returns-in_err-replace_program-clause-cause g c clean =
+    let old = state g.S.Store c.args.tx.now.conn.now in
+    let mid = state g.S.Store c.loop-user.tx.conn.now in
+    let new = state g.S.Store c.replace_program.new.tx.conn.now in
+    let programs = c.args.programs.now in
+    let place = c.loop-user.user-index in
+    let user = c.deref.result.now in
+    let program = c.deref-in-loop-user.result.now in
+    let whole = pairs_split programs place c.loop-user-item.result user program c.loop-user-test.true c.loop-user-item.is c.deref.ensures c.deref-in-loop-user.ensures.value in
+    passed c.from_residual.result _ _ c.from_residual.ensures.1
+    (pairs_refused (map pair_of (take place programs)) (map pair_of (drop (place + 1) programs)) (map pair_of programs) (user, program) old mid new _ whole c.loop-user.invariant.so_far c.replace_program.ensures.survives
+    clean (c.in_err-replace_program.ensures.cause clean))

@@ -1,4 +1,6 @@
-use Rattle.std.proofs.Common.{IsTrue, rules, subst}
+use Rattle.depot_actions.proofs.StoreFaults.{failure_told}
+use Rattle.depot_actions.specs.Causes.{IsFault, IsHindered}
+use Rattle.std.proofs.Common.{IsTrue, rules, subst, IfErr}
 use Rattle.sqlite.specs.Held.{state}
 use Rattle.sqlite.specs.State.{Survives}
 use Rattle.depot_actions.specs.DepotState.{MayLeave, Remove}
@@ -17,3 +19,11 @@ returns-clause-survives g c =
 
 pub returns-then-not-is_user_name-clause-spared : goal.returns-then-not-is_user_name-clause-spared
 returns-then-not-is_user_name-clause-spared g c clean = spares_self (state g.S.Store c.args.self.now)
+
+pub returns-clause-cause : goal.returns-clause-cause
+returns-clause-cause g c clean =
+    let old = state g.S.Store c.self.inside.store in
+    let new = state g.S.Store c.remove_entry.new.self in
+    let command = Remove c.args.user.now c.args.number in
+    subst (λ h. IfErr c.map_err.result (IsFault command (state g.S.Store h) new)) c.self.view_is
+    (failure_told (IsHindered command) old new c.remove_entry.result c.map_err.result c.map_err.ensures.cases (c.remove_entry.ensures.cause clean))

@@ -1,5 +1,10 @@
-use Rattle.std.proofs.Common.{◌∙◌, IsTrue, OnOk, rules, subst}
-use Rattle.std.proofs.lemmas.Result.{on_ok_weaker}
+use Rattle.part_store.specs.Refusals.{HasNoUserRoom}
+use Rattle.part_store.specs.Entries.{with_program}
+use Rattle.bytecode_format.specs.Spelling.{spelling}
+use Rattle.depot_actions.proofs.StoreFaults.{fault_told, weaker_fault}
+use Rattle.depot_actions.specs.Causes.{IsFault, IsHindered}
+use Rattle.std.proofs.Common.{◌∙◌, IsTrue, OnOk, rules, subst, ◌≡◌, IfErr}
+use Rattle.std.proofs.lemmas.Result.{on_ok_weaker, IfErr-weaker}
 use Rattle.sqlite.specs.Held.{state}
 use Rattle.sqlite.specs.State.{Survives}
 use Rattle.depot_actions.specs.DepotState.{Does, Done, MayLeave, SetScript}
@@ -37,3 +42,17 @@ returns-then-not-is_user_name-clause-spared g c clean = spares_self (state g.S.S
 
 pub returns-in_err-octets-clause-spared : goal.returns-in_err-octets-clause-spared
 returns-in_err-octets-clause-spared g c clean = on_err c.from_residual.result (spares_self (state g.S.Store c.args.self.now))
+
+pub returns-clause-cause : goal.returns-clause-cause
+returns-clause-cause g c clean =
+    let old = state g.S.Store c.self.inside.store in
+    let new = state g.S.Store c.set_program.new.self in
+    let user = c.args.user.now in
+    let command = SetScript user c.args.script.now in
+    let found = c.in_ok-octets.ensures.compiled in
+    let octets : c.deref.result.now ≡ spelling found.0 = c.deref.ensures.value ∙ found.2 in
+    subst (λ h. IfErr c.map_err.result (IsFault command (state g.S.Store h) new)) c.self.view_is
+    (IfErr-weaker c.map_err.result _ _ (λ e.
+    weaker_fault (λ before. HasNoUserRoom user (with_program user c.deref.result.now before)) (IsHindered command) old new e (λ before stands none.
+    (found.0, found.1, subst (λ o. HasNoUserRoom user (with_program user o before) old.now.trees) octets none)))
+    (fault_told (λ before. HasNoUserRoom user (with_program user c.deref.result.now before)) old new c.set_program.result c.map_err.result c.map_err.ensures.cases (c.set_program.ensures.cause clean)))

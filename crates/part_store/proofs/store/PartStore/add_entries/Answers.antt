@@ -1,11 +1,14 @@
-use Rattle.std.proofs.Common.{IsTrue, arith, length, map, rules, subst}
+use Rattle.std.proofs.Common.{◌⊎◌, IfErr, IsTrue, arith, length, map, rules, subst}
 use Rattle.std.proofs.lemmas.List.{length-map}
 use Rattle.sqlite.specs.Held.{state}
 use Rattle.sqlite.specs.State.{HasCleanDisk, Survives}
 use Rattle.part_store.specs.Entries.{Entries, with_entries}
 use Rattle.part_store.specs.Filing.{Adds, Collides, HasRoom}
+use Rattle.part_store.specs.Refusals.{refusal_of, BlamesEntries, HasNoUserRoom, HaveNoRoom}
 use Rattle.part_store.specs.Standing.{MayMake, Stands, draft_of}
 use Rattle.part_store.specs.declared.adding.Adding.TheVariants.{Collision, From}
+use Rattle.part_store.proofs.Failing.{dropped}
+use Rattle.part_store.proofs.Runs.{passed}
 use Rattle.part_store.proofs.Stored.{committed_entries}
 use Rattle.part_store.proofs.store.PartStore.add_entries.Goals as goal
 use Rattle.part_store.proofs.store.PartStore.add_entries.Goals.{in-From+in_ok-commit-in-From, in-NumberFull, in-Collision}
@@ -55,3 +58,14 @@ returns-clause-survives g c =
       | in-NumberFull w ↦ search rules
       | in-Collision w ↦ search rules
     ]
+
+pub returns-in_err-first-clause-cause : goal.returns-in_err-first-clause-cause
+returns-in_err-first-clause-cause g c clean =
+    let mid = state g.S.Store c.put_entries.new.tx.conn.now in
+    let new = state g.S.Store c.drop-tx.new.self.0 in
+    let user = c.args.user.now in
+    let drafts = map draft_of c.args.entries.now in
+    let early : HasCleanDisk mid = omega (arith, clean, c.drop-tx.ensures.survives.clean) in
+    let cause = subst (λ h. IsTrue (state g.S.Store h).in_transaction → BlamesEntries user drafts (state g.S.Store h) mid (refusal_of c.in_err-first.field-0.0)) c.begin-tx.ensures.begun (c.in_err-first.ensures.cause early) in
+    subst (λ h. IfErr c.from_residual.result (BlamesEntries user drafts (state g.S.Store h) new)) c.self.view_is
+    (passed c.from_residual.result _ _ c.from_residual.ensures.1 (dropped g.S.Store c.self.inside.conn mid new (λ before db. HasNoUserRoom user (with_entries user drafts before) db ⊎ HaveNoRoom user drafts db) (refusal_of c.in_err-first.field-0.0) c.drop-tx.ensures.survives cause))

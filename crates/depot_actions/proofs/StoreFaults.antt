@@ -1,0 +1,59 @@
+-- A refusal of the store is a command's, for the same cause.
+use Rattle.std.proofs.Common.{◌≡◌, ◌⊎◌, inl, inr, List, Option, Ok, Err, Result, MatchResult, IfErr, IsErrAnd, IsTrue, refl, sym, ap, subst, ◌∙◌}
+use Rattle.std.proofs.lemmas.Bool.{cases_Bool}
+use Rattle.sqlite_trees.specs.Tree.{Trees}
+use Rattle.sqlite.specs.Effect.{Database as Held}
+use Rattle.sqlite.specs.State.{State, HasCleanDisk, Survives}
+use Rattle.part_store.specs.Entries.{Entries}
+use Rattle.part_store.specs.Refusals.{Blames, BlamesOr}
+use Rattle.part_store.specs.Standing.{Spares, Stands}
+use Rattle.part_store.specs.declared.error.StoreError.{StoreError}
+use Rattle.part_store.specs.declared.error.StoreError.TheVariants as store
+use Rattle.part_store.proofs.Failing.{later_failed}
+use Rattle.refusals.specs.declared.refusal.Refusal.{Refusal}
+use Rattle.refusals.specs.declared.refusal.Refusal.TheVariants.{Database}
+use Rattle.depot_actions.specs.Causes.{of_store, IsStoreFault}
+use Rattle.depot_actions.proofs.Commands.{stands_still}
+
+of_database : (e : StoreError) → of_store e ≡ Database → e ≡ store.Database
+of_database store.Memory is = absurd cc
+of_database store.NoSuchEntry is = absurd cc
+of_database store.NumberFull is = absurd cc
+of_database store.Collision is = absurd cc
+of_database store.Database is = refl
+
+module _ {T : Type 0} (Other : Entries → Trees → Type 0) (old new : State) where
+  pub fault_told : (r : Result T StoreError) (told : Result T Refusal) → MatchResult r (λ x. told ≡ Ok x) (λ e. IsErrAnd told (λ d. d ≡ of_store e)) → IfErr r (BlamesOr Other old new)
+      → IfErr told (IsStoreFault Other old new)
+  fault_told (Ok x) told cases blames = subst (λ t. IfErr t (IsStoreFault Other old new)) (sym cases) tt
+  fault_told (Err e) (Ok x) cases blames = absurd cases
+  fault_told (Err e) (Err d) cases blames = λ is. blames (of_database e (sym cases ∙ is))
+
+  -- the same of a call that only reads
+  pub failure_told : (r : Result T StoreError) (told : Result T Refusal) → MatchResult r (λ x. told ≡ Ok x) (λ e. IsErrAnd told (λ d. d ≡ of_store e)) → IfErr r (Blames old new)
+      → IfErr told (IsStoreFault Other old new)
+  failure_told (Ok x) told cases blames = subst (λ t. IfErr t (IsStoreFault Other old new)) (sym cases) tt
+  failure_told (Err e) (Ok x) cases blames = absurd cases
+  failure_told (Err e) (Err d) cases blames = λ is before stands. inl (blames (of_database e (sym cases ∙ is)) before stands)
+
+-- a later call of a store that was only read
+pub later_fault : {P Q : Trees → Type 0} (Other : Entries → Trees → Type 0) (old mid new : State) (refusal : Refusal) → Spares old mid → Survives old mid P → Survives mid new Q → HasCleanDisk new
+    → IsStoreFault Other mid new refusal → IsStoreFault Other old new refusal
+later_fault Other old mid new refusal spares one two clean fault is before stands = elim (cases_Bool mid.is_open) [
+  | inl on ↦
+      let same = ap (λ (d : Held). d.trees) (spares.same stands.schema on).0 in
+      elim (fault is before (stands_still old mid before spares stands on)) [ inl failed ↦ inl (later_failed old mid new one two clean failed) | inr other ↦ inr (subst (Other before) same other) ]
+  | inr shut ↦ inl (later_failed old mid new one two clean (inr (inl shut)))
+]
+
+pub weaker_fault : (One Other : Entries → Trees → Type 0) (old new : State) (refusal : Refusal) → ((before : Entries) → Stands old.now before → One before old.now.trees → Other before old.now.trees)
+    → IsStoreFault One old new refusal → IsStoreFault Other old new refusal
+weaker_fault One Other old new refusal weaker fault is before stands = elim (fault is before stands) [ inl failed ↦ inl failed | inr one ↦ inr (weaker before stands one) ]
+
+-- a refusal that `?` passes on
+pub passed_on : {T : Type 0} (r : Result T Refusal) (given : Refusal) (P : Refusal → Type 0) → IsErrAnd r (λ e. e ≡ given) → P given → IfErr r P
+passed_on (Ok x) given P h holds = tt
+passed_on (Err e) given P h holds = subst P (sym h) holds
+
+pub of_refusal : {T : Type 0} (r : Result T Refusal) (e : Refusal) (P : Refusal → Type 0) → r ≡ Err e → IfErr r P → P e
+of_refusal r e P is h = subst (λ t. IfErr t P) is h

@@ -1,0 +1,227 @@
+-- Why a DELETE is refused: what is left keeps the rules of the three tables.
+use Rattle.std.proofs.Common.{◌≡◌, ◌≢◌, ◌⊎◌, inl, inr, ℕ, ◌&&◌, pos, Bool, true, false, not, if◌then◌else◌, List, [], ◌∷◌, Option, Some, None, Err, refl, sym, ap, subst, ◌∙◌, slice_get, IsSome, IsTrue, codes, arith}
+use Rattle.std.specs.List.{AllByRecursion}
+use Rattle.std.proofs.lemmas.Bool.{true≢false, eq-eqb, ne_eqb, and_right, not_from_false}
+use Rattle.sqlite_value.specs.declared.value.Value.TheVariants.{Null, Int, Text, Blob}
+use Rattle.sqlite_value.specs.Order.{Row}
+use Rattle.sqlite_trees.specs.Tree.{Trees, rowid, IsAscending, IsTable, with_tree}
+use Rattle.sqlite_trees.specs.View.{is_int}
+use Rattle.sqlite_sql.specs.Query.{Query, IsAnswer}
+use Rattle.sqlite_sql.specs.Program.{overlay}
+use Rattle.sqlite_schema.specs.Rules.{guards, Keeps, Obeys, Refers, references_fit}
+use Rattle.sqlite_schema.specs.declared.schema.Among.TheVariants.{All}
+use Rattle.sqlite_schema.specs.declared.schema.Constraint.TheVariants.{Datatype, NotNull, Check, PrimaryKey, Unique, ForeignKey}
+use Rattle.sqlite_schema.specs.declared.schema.Keys.TheVariants.{Enforced}
+use Rattle.sqlite_schema.specs.declared.schema.Table.{Table}
+use Rattle.sqlite_schema.specs.declared.command.Command.TheVariants.{Delete}
+use Rattle.sqlite_rules.specs.declared.error.Refusal.{Refusal}
+use Rattle.sqlite_rules.specs.declared.error.Refusal.TheVariants.{Violates, Mismatch, NoRowid, BadReference, TooDeep}
+use Rattle.sqlite_rules.specs.declared.error.Rowids.TheVariants.{Given}
+use Rattle.sqlite_rules.specs.Calls.{ids_of}
+use Rattle.sqlite_rules.specs.Edit.{Applies, Edit, IsRefused, edit_of, edited, left_by, taken_by}
+use Rattle.sqlite_rules.specs.Lists.{Has}
+use Rattle.sqlite_rules.proofs.ListLemmas.{has_got, has_kept, test_from}
+use Rattle.sqlite_rules.proofs.RuleLemmas.{Turns, unique_kept}
+use Rattle.sqlite_rules.proofs.TableLemmas.{without_all_has}
+use Rattle.sqlite_tied.specs.Compute.{everything}
+use Rattle.sqlite.specs.Does.{Does}
+use Rattle.sqlite.specs.Effect.{Database}
+use Rattle.sqlite.specs.Listing.{understood}
+use Rattle.sqlite.specs.Rows.{Queried, Edited, Written}
+use Rattle.sqlite.specs.State.{State, ExecutesInside}
+use Rattle.sqlite.specs.declared.error.Error.{Error}
+use Rattle.sqlite.proofs.Callers.{one_step}
+use Rattle.part_store.specs.Refusals.{refusal_of, HasFailed, IsWritable}
+use Rattle.part_store.specs.Tables.{store_schema, users_table, contents_table, entries_table, content_columns}
+use Rattle.part_store.specs.Statements.{drop_user_text, drop_content_text, drop_entry_text}
+use Rattle.part_store.specs.Changes.{contents_tree, entries_tree, equals}
+use Rattle.part_store.specs.declared.error.StoreError.TheVariants.{Database as refused}
+use Rattle.part_store.proofs.Faults.{IsAsked, IsAnswered}
+use Rattle.part_store.proofs.Asked.{over}
+use Rattle.part_store.proofs.Runs.{and_true, taken_as}
+use Rattle.part_store.proofs.Meaning.{alone, is_given, drop_user_query, drop_user_is, drop_content_query, drop_content_is, drop_entry_query, drop_entry_is}
+use Rattle.part_store.proofs.Parents.{all_refer, refers, parent_stays, other_content}
+use Rattle.part_store.proofs.Stopped.{at_once, err_not_ok, stops_in, edit_stops, delete_writes, stopped, Stops}
+use Rattle.part_store.proofs.Writes.{no_works, same_value, taken_next, went}
+
+pub tree_set : (db : Trees) (t : ℕ) (rows : List Row) → with_tree db t rows t ≡ rows
+tree_set db t rows = ap (λ b. if b then rows else db t) (eq-eqb t t refl)
+
+pub tree_spared : (db : Trees) (t : ℕ) (rows : List Row) (u : ℕ) → u ≢ t → with_tree db t rows u ≡ db u
+tree_spared db t rows u apart = ap (λ b. if b then rows else db u) (ne_eqb u t apart)
+
+pub trees_apart : IsAscending (λ a b. a.tree ≡ b.tree → ⊥) store_schema.tables
+trees_apart = ((λ h. omega (arith, h), (λ h. omega (arith, h), tt)), ((λ h. omega (arith, h), tt), (tt, tt)))
+
+module _ (limit : Option ℕ) (params : Row) (db : Trees) (text : List ℕ) (at : ℕ) (table : Table) (there : slice_get store_schema.tables at ≡ Some table) (query : Query) where
+  abbrev here : Database
+  here = record { schema = store_schema; trees = db }
+
+  abbrev gone : List Row → Edit
+  gone rows = edit_of db table (ids_of rows) Given 0 []
+
+  -- fewer rows of one table
+  turns : (rows : List Row) → Turns store_schema db (with_tree db table.tree (edited db (gone rows))) table (left_by db (gone rows)) (db table.tree) []
+  turns rows =
+      let is = tree_set db table.tree (edited db (gone rows)) in
+      record {
+        apart = trees_apart;
+        listed = has_got store_schema.tables at table there;
+        others = λ t known apart. tree_spared db table.tree (edited db (gone rows)) t.tree apart;
+        from = λ r h. inr (subst (λ l. Has l r) is h);
+        stays = λ r h. subst (λ l. Has l r) (sym is) h;
+        added = λ r h. absurd h;
+        was = λ r h. without_all_has (ids_of rows) (db table.tree) r h;
+        split = λ r h. inr h;
+      }
+
+  unique_left : (rows : List Row) → Obeys store_schema db → Keeps Unique store_schema (with_tree db table.tree (edited db (gone rows)))
+  unique_left rows obeys = unique_kept store_schema db _ table _ _ [] (turns rows) (test_from (λ i. not (guards i table && false)) store_schema.indexes (λ i known. not_from_false _ (and_right (guards i table) false refl))) (obeys.rules Unique)
+
+  module _ (obeys : Obeys store_schema db) (fit : (b : Bool) → references_fit store_schema table false b ≡ true) where
+    never : (rows : List Row) (why : Refusal) → IsRefused store_schema Enforced db (gone rows) why → ⊥
+    never rows (Violates Datatype) h = true≢false h
+    never rows (Violates NotNull) h = true≢false h
+    never rows (Violates Check) h = true≢false h
+    never rows (Violates PrimaryKey) h = true≢false h
+    never rows (Violates Unique) h = h (unique_left rows obeys)
+    never rows (Violates ForeignKey) h = h
+    never rows Mismatch h = true≢false h
+    never rows NoRowid h = true≢false h
+    never rows BadReference h = true≢false (sym (fit _) ∙ h)
+    never rows TooDeep h = h
+
+    never_stops : (rows : List Row) (stop : Option Error) → Edited store_schema Enforced db (gone rows) (Err stop) → ⊥
+    never_stops rows stop h = elim (edit_stops db (gone rows) h.0 h.1) [ inl refuses ↦ never rows refuses.0 refuses.1 | inr big ↦ big.1 ]
+
+    queried : (answers : IsAnswered query params) (stop : Option Error) → Queried limit here (alone query) params (Err stop) → IsSome limit
+    queried answers None h = absurd h
+    queried answers (Some e) h = answers limit here e refl h
+
+    -- a limit on steps alone stops it
+    pub delete_limited : IsAnswered query params
+        → ((rows : List Row) (next : Trees) → IsAnswer query (overlay db []) params rows → Applies store_schema Enforced db (gone rows) next → Refers All store_schema next)
+        → (stop : Option Error) → Does limit at_once params here text None (Delete at (alone query)) (Err stop) → IsSome limit
+    delete_limited answers keeps stop does =
+        elim (stops_in (rw there at does)) [
+          | inl early ↦ elim (stops_in early) [
+            | inl asks ↦ queried answers stop asks
+            | inr answer ↦ elim (stops_in answer.2) [
+              | inl edits ↦ absurd (never_stops answer.0 stop edits)
+              | inr done ↦ absurd (err_not_ok done.2)
+            ]
+          ]
+          | inr written ↦
+              let answer = went written.1 in
+              let rows = answer.0 in
+              let edit = gone rows in
+              let edits = went answer.2 in
+              let applied = one_step store_schema Enforced db edits.0 edit (no_works table.tree (taken_by db edit) edit.news) edits.1 in
+              let whole : written.0.trees ≡ edits.0 = ap (λ (it : Written). it.trees) (same_value edits.2) in
+              let held = keeps rows edits.0 (answer.1.answer Null) applied in
+              elim (stops_in written.2) [
+                | inl tested ↦ absurd (tested.0 (subst (Refers All store_schema) (sym whole) held))
+                | inr sure ↦ elim (stops_in sure.2) [ inl shows ↦ absurd (err_not_ok shows) | inr ends ↦ absurd (err_not_ok ends.2) ]
+              ]
+        ]
+
+-- rows that are left were there
+left_were : (db next : Trees) (table : Table) (rows : List Row) → Applies store_schema Enforced db (edit_of db table (ids_of rows) Given 0 []) next → (r : Row) → Has (next table.tree) r → Has (db table.tree) r
+left_were db next table rows applied r h = without_all_has (ids_of rows) (db table.tree) r (subst (λ l. Has l r) applied.rows h)
+
+users_fit : (b : Bool) → references_fit store_schema users_table false b ≡ true
+unfolding everything
+users_fit true = refl
+users_fit false = refl
+
+contents_fit : (b : Bool) → references_fit store_schema contents_table false b ≡ true
+unfolding everything
+contents_fit true = refl
+contents_fit false = refl
+
+entries_fit : (b : Bool) → references_fit store_schema entries_table false b ≡ true
+unfolding everything
+entries_fit true = refl
+entries_fit false = refl
+
+drop_user_asked : IsAsked (understood store_schema drop_user_text) drop_user_text 1
+unfolding understood everything
+drop_user_asked = (omega arith, refl)
+
+drop_user_answered : (user : List ℕ) → IsAnswered drop_user_query (Text user ∷ [])
+unfolding everything
+drop_user_answered user limit db e has h = elim (over limit db drop_user_query (Text user ∷ []) e has h) [
+  | inl untyped ↦ absurd (true≢false untyped.1)
+  | inr (inl sum) ↦ elim sum.1 [ inl none ↦ absurd none | inr more ↦ absurd more.4 ]
+  | inr (inr steps) ↦ steps.1
+]
+
+drop_content_asked : IsAsked (understood store_schema drop_content_text) drop_content_text 1
+unfolding understood everything
+drop_content_asked = (omega arith, refl)
+
+drop_content_answered : (digest : List ℕ) → IsAnswered drop_content_query (Blob digest ∷ [])
+unfolding everything
+drop_content_answered digest limit db e has h = elim (over limit db drop_content_query (Blob digest ∷ []) e has h) [
+  | inl untyped ↦ absurd (true≢false untyped.1)
+  | inr (inl sum) ↦ elim sum.1 [ inl none ↦ absurd none | inr more ↦ absurd more.4 ]
+  | inr (inr steps) ↦ steps.1
+]
+
+drop_entry_asked : IsAsked (understood store_schema drop_entry_text) drop_entry_text 2
+unfolding understood everything
+drop_entry_asked = (omega arith, refl)
+
+drop_entry_answered : (user : List ℕ) (number : ℕ) → IsAnswered drop_entry_query (Text user ∷ Int (pos number) ∷ [])
+unfolding everything
+drop_entry_answered user number limit db e has h = elim (over limit db drop_entry_query (Text user ∷ Int (pos number) ∷ []) e has h) [
+  | inl untyped ↦ absurd (true≢false untyped.1)
+  | inr (inl sum) ↦ elim sum.1 [ inl none ↦ absurd none | inr more ↦ absurd more.4 ]
+  | inr (inr steps) ↦ steps.1
+]
+
+-- a statement that only a limit on steps stops
+limited : (sql : List ℕ) (params : Row) (old new : State) (q : Query) (at : ℕ) (has : old.now.schema ≡ store_schema)
+    → ((text : List ℕ) (stop : Option Error) → Does old.step_limit at_once params (record { schema = store_schema; trees = old.now.trees }) text None (Delete at (alone q)) (Err stop) → IsSome old.step_limit)
+    → HasFailed old new ⊎ Stops old params (Delete at (alone q)) → HasFailed old new
+limited sql params old new q at has only (inl disk) = disk
+limited sql params old new q at has only (inr stops) =
+    inr (inr (only stops.0 stops.1 (subst (λ s. Does old.step_limit at_once params (record old.now { schema = s }) stops.0 None (Delete at (alone q)) (Err stops.1)) has stops.2)))
+
+pub obeyed : (s : State) (can : IsWritable s) → Obeys store_schema s.now.trees
+obeyed s can = subst (λ t. Obeys t s.now.trees) can.schema can.listed.obeys
+
+module _ (old new : State) (e : Error) (told : refusal_of e ≡ refused) (can : IsWritable old) where
+  abbrev db : Trees
+  db = old.now.trees
+
+  pub user_kept : (user : List ℕ) → ExecutesInside 0 drop_user_text (Text user ∷ []) old new (Err e) → HasFailed old new
+  user_kept user h =
+      let params : Row = Text user ∷ [] in
+      limited drop_user_text params old new drop_user_query 0 can.schema
+      (λ text. delete_limited old.step_limit params db text 0 users_table refl drop_user_query (obeyed old can) users_fit (drop_user_answered user) (λ rows next sure applied.
+      all_refer next (λ r h. parent_stays db next r (λ p k _. subst (λ l. Has l p) (sym (applied.tables.1.0 (λ h. omega (arith, h)))) k)
+      (refers db (obeyed old can) r (subst (λ l. Has l r) (applied.tables.1.1.0 (λ h. omega (arith, h))) h)))))
+      (stopped drop_user_text params old new can.schema (Delete 0 (alone drop_user_query)) drop_user_is.0 drop_user_is.1 drop_user_asked (delete_writes 0 _) e told h)
+
+  pub entry_kept : (user : List ℕ) (number : ℕ) → ExecutesInside 0 drop_entry_text (Text user ∷ Int (pos number) ∷ []) old new (Err e) → HasFailed old new
+  entry_kept user number h =
+      let params : Row = Text user ∷ Int (pos number) ∷ [] in
+      limited drop_entry_text params old new drop_entry_query 2 can.schema
+      (λ text. delete_limited old.step_limit params db text 2 entries_table refl drop_entry_query (obeyed old can) entries_fit (drop_entry_answered user number) (λ rows next sure applied.
+      all_refer next (λ r h. parent_stays db next r (λ p k _. subst (λ l. Has l p) (sym (applied.tables.1.0 (λ h. omega (arith, h)))) k)
+      (refers db (obeyed old can) r (left_were db next entries_table rows applied r h)))))
+      (stopped drop_entry_text params old new can.schema (Delete 2 (alone drop_entry_query)) drop_entry_is.0 drop_entry_is.1 drop_entry_asked (delete_writes 2 _) e told h)
+
+  pub content_kept : (digest : List ℕ) → IsTable (db contents_tree) → AllByRecursion (λ r. IsTrue (is_int (rowid r))) (db contents_tree)
+      → ((r : Row) → Has (db entries_tree) r → equals 7 (Blob digest) r ≡ false) → ExecutesInside 0 drop_content_text (Blob digest ∷ []) old new (Err e) → HasFailed old new
+  content_kept digest rises keyed none h =
+      let params : Row = Blob digest ∷ [] in
+      limited drop_content_text params old new drop_content_query 1 can.schema
+      (λ text. delete_limited old.step_limit params db text 1 contents_table refl drop_content_query (obeyed old can) contents_fit (drop_content_answered digest) (λ rows next sure applied.
+      let taken = taken_as contents_tree _ (equals 1 (Blob digest)) db next (λ r. and_true _) (taken_next 1 2 (codes "contents") content_columns (1 ∷ []) [] refl db params (is_given 1 0 ∷ []) rows next sure applied) in
+      let were : (r : Row) → Has (next entries_tree) r → Has (db entries_tree) r = λ r h. subst (λ l. Has l r) (taken.others.1.1.0 (λ h. omega (arith, h))) h in
+      all_refer next (λ r h. parent_stays db next r
+      (λ p k parent. subst (λ l. Has l p) (sym (taken.rows rises keyed)) (has_kept _ (db contents_tree) p k (not_from_false _ (other_content digest p r parent (none r (were r h))))))
+      (refers db (obeyed old can) r (were r h)))))
+      (stopped drop_content_text params old new can.schema (Delete 1 (alone drop_content_query)) drop_content_is.0 drop_content_is.1 drop_content_asked (delete_writes 1 _) e told h)

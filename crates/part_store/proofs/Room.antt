@@ -1,0 +1,162 @@
+-- Where a user's row has no room.
+use Rattle.std.proofs.Common.{◌≡◌, ◌⊎◌, inl, inr, ℕ, ℤ, ◌+ℤ◌, ◌+◌, ◌<◌, ◌≤◌, pos, false, not, List, [], ◌∷◌, filter, fold, Option, None, Some, option_map, refl, sym, ap, subst, ◌∙◌, IsTrue, arith}
+use Rattle.std.specs.List.{AllByRecursion}
+use Rattle.std.proofs.lemmas.Bool.{not-true}
+use Rattle.std.proofs.lemmas.Int.{ints}
+use Rattle.sqlite_value.specs.declared.value.Value.TheVariants.{Int, Text, Blob}
+use Rattle.sqlite_value.specs.Order.{Row}
+use Rattle.sqlite_trees.specs.Tree.{Trees, rowid, IsTable}
+use Rattle.sqlite_trees.specs.View.{is_int}
+use Rattle.sqlite_sql.specs.Ops.{fits_i64}
+use Rattle.sqlite_rules.specs.Edit.{id_in, next_rowid, IsOversized}
+use Rattle.sqlite_rules.specs.Lists.{Has}
+use Rattle.sqlite_rules.proofs.ListLemmas.{all_from, all_has, has_filtered}
+use Rattle.sqlite.specs.State.{State, HasCleanDisk, Survives}
+use Rattle.sqlite.specs.Values.{or_null}
+use Rattle.sqlite.proofs.StateLemmas.{survives_then}
+use Rattle.sqlite.specs.declared.error.Error.{Error}
+use Rattle.part_store.specs.Tables.{store_schema, users_table}
+use Rattle.part_store.specs.Changes.{users_tree, equals, columns, IsAdded, IsFound, IsTaken, Reads, Steps}
+use Rattle.part_store.specs.Entries.{Entries, with_last, with_program}
+use Rattle.part_store.specs.Refusals.{refusal_of, user_values, AddFaults, BlamesRow, HasFailed, HasNoRow, HasNoUserRoom, IsRowidIn, IsTableIn, RisesFrom, RunsOut, ShowsLast}
+use Rattle.part_store.specs.Standing.{last_in, IsUserRow, Stands, StandsFor}
+use Rattle.part_store.specs.declared.error.StoreError.TheVariants.{Database}
+use Rattle.part_store.proofs.Apart.{bytes_same}
+use Rattle.part_store.proofs.Causes.{stands_writable, writable_then}
+use Rattle.part_store.proofs.Failing.{later_failed}
+use Rattle.part_store.proofs.Gaining.{added_has, filter_rises, keyed_all}
+use Rattle.part_store.proofs.Programs.{last_read}
+use Rattle.part_store.proofs.Readable.{user_readable}
+
+abbrev after_row : ℤ → Row → ℤ
+after_row n r = id_in (rowid r) +ℤ pos 1
+
+followed : (all rows : List Row) (n : ℤ) → (id : ℤ) × IsRowidIn all id × (n ≡ id +ℤ pos 1) → ((r : Row) → Has rows r → Has all r) → (id : ℤ) × IsRowidIn all id × (fold after_row n rows ≡ id +ℤ pos 1)
+followed all [] n known there = known
+followed all (r ∷ rows) n known there = followed all rows (after_row n r) (id_in (rowid r), inr (r, there r (inl refl), refl), refl) (λ x h. there x (inr h))
+
+-- the next rowid comes after one that is there, or after 0
+pub next_follows : (rows : List Row) → (id : ℤ) × IsRowidIn rows id × (next_rowid rows ≡ id +ℤ pos 1)
+next_follows rows = followed rows rows (pos 1) (pos 0, inl refl, refl) (λ r h. h)
+
+pub wider : (all rows : List Row) (id : ℤ) → ((r : Row) → Has rows r → Has all r) → IsRowidIn rows id → IsRowidIn all id
+wider all rows id there (inl none) = inl none
+wider all rows id there (inr row) = inr (row.0, there row.0 row.1, row.2)
+
+pub runs_out : (all rows : List Row) → ((r : Row) → Has rows r → Has all r) → fits_i64 (next_rowid rows) ≡ false → RunsOut all 1
+runs_out all rows there full =
+    let n = next_follows rows in
+    (n.0, wider all rows n.0 there n.1, 1, omega arith, ap fits_i64 (sym n.2) ∙ full)
+
+user_keys : (s : State) (before : Entries) → Stands s.now before → AllByRecursion (λ r. IsTrue (is_int (rowid r))) (s.now.trees users_tree)
+user_keys s before stands = keyed_all (IsUserRow before) (s.now.trees users_tree) (λ r h. rw h.2) stands.tables.users
+
+module _ (old mid new : State) (user : List ℕ) (takes : Steps (IsTaken users_tree (equals 1 (Text user))) old mid) (one : Survives old mid (λ _. ⊥)) (two : Survives mid new (λ _. ⊥))
+    (clean : HasCleanDisk new) (e : Error) (is : refusal_of e ≡ Database) (inside : IsTrue old.in_transaction) (before : Entries) (stands : Stands old.now before) where
+  rows_left : mid.now.trees users_tree ≡ filter (λ r. not (equals 1 (Text user) r)) (old.now.trees users_tree)
+  rows_left = (takes stands.schema).change.rows stands.tables.users_rise (user_keys old before stands)
+
+  left : (r : Row) → Has (mid.now.trees users_tree) r → Has (old.now.trees users_tree) r × (equals 1 (Text user) r ≡ false)
+  left r h =
+      let kept = has_filtered (λ r. not (equals 1 (Text user) r)) (old.now.trees users_tree) r (subst (λ l. Has l r) rows_left h) in
+      (kept.0, not-true _ kept.1)
+
+  table_left : IsTableIn users_tree mid.now.trees
+  table_left = (
+    subst IsTable (sym rows_left) (filter_rises _ (λ r. not (equals 1 (Text user) r)) (old.now.trees users_tree) stands.tables.users_rise),
+    all_from _ (mid.now.trees users_tree) (λ r h. all_has _ (old.now.trees users_tree) r (user_keys old before stands) (left r h).0),
+  )
+
+  -- a user's row was taken out, and the one in its place is refused
+  pub row_unplaced : (values : Row) (after : Entries) → values ≡ user_values user (after.lasts user) (after.programs user)
+      → (IsTableIn users_tree mid.now.trees → HasNoRow user mid.now.trees → AddFaults users_table values mid new e) → HasFailed old new ⊎ HasNoUserRoom user after old.now.trees
+  row_unplaced values after same adds = elim (adds table_left (λ r h. (left r h).1) is (writable_then _ old mid takes (stands_writable old before inside stands))) [
+    | inl failed ↦ inl (later_failed old mid new one two clean failed)
+    | inr none ↦ inr (elim none [
+      | inl full ↦ inl (runs_out (old.now.trees users_tree) (mid.now.trees users_tree) (λ r h. (left r h).0) full)
+      | inr big ↦ inr (next_rowid (mid.now.trees users_tree), subst (λ (v : Row). IsOversized store_schema users_table (Int (next_rowid (mid.now.trees users_tree)) ∷ v)) same big)
+    ])
+  ]
+
+-- what was found of a user shows his last number
+pub last_shown : (old new : State) (before : Entries) (user : List ℕ) (found : Option Row) → Stands old.now before
+    → Steps (Reads (λ db. IsFound users_tree (equals 1 (Text user)) (columns (2 ∷ 3 ∷ [])) db found)) old new → ShowsLast found
+last_shown old new before user None stands reads = tt
+last_shown old new before user (Some row) stands reads = (user_readable old new before stands row user reads).0
+
+or_null_now : {A : Type 0} (items : A → List ℕ) (program : Option A) → or_null (λ v. Blob (items v)) program ≡ or_null Blob (option_map items program)
+or_null_now items None = refl
+or_null_now items (Some v) = refl
+
+-- the row that a claim puts in, and the one with a program
+pub claimed_values : {A : Type 0} (items : A → List ℕ) (user : List ℕ) (last : ℕ) (program : Option A) (before : Entries) → option_map items program ≡ before.programs user
+    → Text user ∷ Int (pos last) ∷ or_null (λ v. Blob (items v)) program ∷ [] ≡ user_values user ((with_last user last before).lasts user) ((with_last user last before).programs user)
+claimed_values items user last program before same = rw (bytes_same user) (ap (λ v. Text user ∷ Int (pos last) ∷ v ∷ []) (or_null_now items program ∙ ap (or_null Blob) same))
+
+pub program_values : (user : List ℕ) (last : ℕ) (program : List ℕ) (before : Entries) → last ≡ before.lasts user
+    → Text user ∷ Int (pos last) ∷ Blob program ∷ [] ≡ user_values user ((with_program user program before).lasts user) ((with_program user program before).programs user)
+program_values user last program before same = rw (bytes_same user) (ap (λ n. Text user ∷ Int (pos n) ∷ Blob program ∷ []) same)
+
+-- a user's program isn't put
+pub program_unplaced : (old one two new : State) (user program : List ℕ) (last : ℕ) (found : Option Row) (e : Error)
+    → Steps (Reads (λ db. IsFound users_tree (equals 1 (Text user)) (columns (2 ∷ 3 ∷ [])) db found)) old one → last_in found last → Steps (IsTaken users_tree (equals 1 (Text user))) one two
+    → Survives old one (λ _. ⊥) → Survives one two (λ _. ⊥) → Survives two new (λ _. ⊥) → HasCleanDisk new
+    → (IsTableIn users_tree two.now.trees → HasNoRow user two.now.trees → AddFaults users_table (Text user ∷ Int (pos last) ∷ Blob program ∷ []) two new e)
+    → IsTrue old.in_transaction → BlamesRow user (with_program user program) old new (refusal_of e)
+program_unplaced old one two new user program last found e reads number takes first second third clean adds inside is before stands =
+    let early : HasCleanDisk two = omega (arith, clean, third.clean) in
+    let a = reads stands.schema in
+    let still : Stands one.now before = record { schema = a.schema; listed = a.listed stands.listed; tables = subst (λ t. StandsFor t before) (sym a.change.0) stands.tables } in
+    let same = program_values user last program before (last_read old.now.trees before stands.tables user found last a.change.1 number) in
+    let later = survives_then one two new (λ _. ⊥) (λ _. ⊥) (λ _. ⊥) (λ _ _ h. h) (λ _ _ h. h) second third in
+    elim (row_unplaced one two new user takes second third clean e is (a.inside inside) before still (Text user ∷ Int (pos last) ∷ Blob program ∷ []) (with_program user program before) same adds) [
+      | inl failed ↦ inl (later_failed old one new first later clean failed)
+      | inr none ↦ inr (subst (HasNoUserRoom user (with_program user program before)) a.change.0 none)
+    ]
+
+-- ---- rowids
+
+same_id : (id : ℤ) → id ≡ id +ℤ pos 0
+same_id id = omega (arith, ints)
+
+pub rises_none : (rows : List Row) → RisesFrom 0 rows rows
+rises_none rows id h = (id, h, 0, omega arith, same_id id)
+
+pub rises_more : (m n : ℕ) (rows more : List Row) → m ≤ n → RisesFrom m rows more → RisesFrom n rows more
+rises_more m n rows more le rises id h = let from = rises id h in (from.0, from.1, from.2, omega (arith, from.3, le), from.4)
+
+added_ids : (id : ℤ) (m n : ℕ) → (id +ℤ pos m) +ℤ pos n ≡ id +ℤ pos (m + n)
+added_ids id m n = omega (arith, ints)
+
+pub rises_after : (m n : ℕ) (one two three : List Row) → RisesFrom m one two → RisesFrom n two three → RisesFrom (m + n) one three
+rises_after m n one two three first second id h =
+    let b = second id h in
+    let a = first b.0 b.1 in
+    (a.0, a.1, a.2 + b.2, omega (arith, a.3, b.3), b.4 ∙ ap (λ z. z +ℤ pos b.2) a.4 ∙ added_ids a.0 a.2 b.2)
+
+-- a row that is put in place of others has a rowid at most one above one that was there
+pub rises_put : (old mid new : Trees) (values : Row) → ((r : Row) → Has (mid users_tree) r → Has (old users_tree) r) → IsAdded users_tree values mid new → RisesFrom 1 (old users_tree) (new users_tree)
+rises_put old mid new values there added id (inl none) = (id, inl none, 0, omega arith, same_id id)
+rises_put old mid new values there added id (inr (r, h, is)) = elim (added_has users_tree values mid new r added h) [
+  | inl put ↦
+      let first = next_follows (mid users_tree) in
+      (first.0, wider (old users_tree) (mid users_tree) first.0 there first.1, 1, omega arith, is ∙ ap (λ (x : Row). id_in (rowid x)) put ∙ first.2)
+  | inr was ↦ (id, inr (r, there r was, is), 0, omega arith, same_id id)
+]
+
+pub program_rises : (old one two new : State) (user : List ℕ) (found : Option Row) (values : Row) → Steps (Reads (λ db. IsFound users_tree (equals 1 (Text user)) (columns (2 ∷ 3 ∷ [])) db found)) old one
+    → Steps (IsTaken users_tree (equals 1 (Text user))) one two → Steps (IsAdded users_tree values) two new
+    → (before : Entries) → Stands old.now before → RisesFrom 1 (old.now.trees users_tree) (new.now.trees users_tree)
+program_rises old one two new user found values reads takes adds before stands =
+    let a = reads stands.schema in
+    let b = takes a.schema in
+    let c = adds b.schema in
+    let rows = b.change.rows (subst (λ (t : Trees). IsTable (t users_tree)) (sym a.change.0) stands.tables.users_rise) (subst (λ (t : Trees). AllByRecursion (λ r. IsTrue (is_int (rowid r))) (t users_tree)) (sym a.change.0) (user_keys old before stands)) in
+    rises_put old.now.trees two.now.trees new.now.trees values (λ r h.
+    subst (λ (t : Trees). Has (t users_tree) r) a.change.0 (has_filtered (λ r. not (equals 1 (Text user) r)) (one.now.trees users_tree) r (subst (λ l. Has l r) rows h)).0) c.change
+
+-- so many rows later the rowids had run out before
+pub ran_out : (m n : ℕ) (old mid : List Row) → m < n → RisesFrom m old mid → RunsOut mid 1 → RunsOut old n
+ran_out m n old mid lt rises (id, h, k, le, full) =
+    let from = rises id h in
+    (from.0, from.1, from.2 + k, omega (arith, from.3, le, lt), ap fits_i64 (sym (ap (λ z. z +ℤ pos k) from.4 ∙ added_ids from.0 from.2 k)) ∙ full)
