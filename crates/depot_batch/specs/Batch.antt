@@ -179,6 +179,19 @@ module _ {S : Type 0} (g : Ghosts S) where
       StopsAt octets 10 × (outcome : Outcome) × (mid : Office S) × IsAnswered name octets outcome old mid × (outcome ≢ Refused Database)
       × AreAnswered name lines mid new
 
+  -- the trees are what a command of one of the lines makes of what the lines before it left
+  pub record IsMadeAtOne (name : Text) (lines : List (List ℕ)) (old : Office S) (trees : Trees) : Type 0 where
+    pub before : List (List ℕ)
+    pub octets : List ℕ
+    pub later : List (List ℕ)
+    pub are : lines ≡ before ++ octets ∷ later
+    pub mid : Office S
+    pub answered : AreAnswered name before old mid
+    pub request : Request
+    pub asked : IsAsked octets request
+    pub file : List ℕ
+    pub made : MayAdd (command_of request file) (state g mid.depot) trees
+
   -- Why a batch ends, with this status, after these octets: none, at the end of the input; a line that is refused `Database`; one whose answer
   -- broke off, which is told on standard error; or what came of a line before reading failed, which is told there.
   abbrev pub Ends : Text → ℕ → Option (List ℕ) → List ℕ → ℕ → Office S → Office S → Output → Output → Type 0

@@ -9,6 +9,7 @@
 mod answering;
 mod batch;
 mod fault;
+pub mod laws;
 mod line;
 mod outcome;
 mod request;
