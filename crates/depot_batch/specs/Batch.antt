@@ -21,6 +21,7 @@ use Rattle.depot_cli.specs.Tasks.{HasAnswered, HasDone, HasRefused, MayAdd}
 use Rattle.refusals.specs.declared.refusal.Refusal.{Refusal}
 use Rattle.refusals.specs.declared.refusal.Refusal.TheVariants.{Database, Memory, Read, Write}
 use Rattle.depot_batch.specs.Requests.{AskNothing, Asks, Text}
+use Rattle.depot_batch.specs.Sentences.{wrong_line}
 use Rattle.depot_batch.specs.Words.{words_of}
 use Rattle.depot_batch.specs.declared.fault.LineFault.{LineFault}
 use Rattle.depot_batch.specs.declared.fault.LineFault.TheVariants as faults
@@ -48,10 +49,6 @@ IsWrong octets faults.NotText = (words : List (List ℕ)) × HasWords octets wor
 IsWrong octets fault = (words : List Text) × HasWords octets words × AskNothing words fault
 
 -- ---- what is answered
-
--- the line of what is wrong
-abbrev pub IsWrongLine : List ℕ → Type 0
-IsWrongLine text = (sentence : List ℕ) × (text ≡ codes "? " ++ line sentence) × All (λ octet. octet ≢ 10) sentence
 
 -- the line that ends an answer
 abbrev pub closing : Outcome → List ℕ
@@ -149,7 +146,7 @@ module _ {S : Type 0} (g : Ghosts S) where
   HasCome name octets (Refused refusal) text old new =
       (text ≡ refusal_line refusal)
       × (((refusal ≡ Memory) × IsIdle old new) ⊎ ((request : Request) × IsAsked octets request × IsRefused g name request refusal old.depot new.depot old.host new.host))
-  HasCome name octets Wrong text old new = (fault : LineFault) × IsWrong octets fault × IsWrongLine text × IsIdle old new
+  HasCome name octets Wrong text old new = (fault : LineFault) × IsWrong octets fault × (text ≡ wrong_line fault) × IsIdle old new
 
   -- what a crash may leave of the depot at a line: what it could have left before, or what the line's command makes of it
   abbrev pub Outlasts : List ℕ → Office S → Office S → Type 0
@@ -195,8 +192,8 @@ module _ {S : Type 0} (g : Ghosts S) where
   -- Why a batch ends, with this status, after these octets: none, at the end of the input; a line that is refused `Database`; one whose answer
   -- broke off, which is told on standard error; or what came of a line before reading failed, which is told there.
   abbrev pub Ends : Text → ℕ → Option (List ℕ) → List ℕ → ℕ → Office S → Office S → Output → Output → Type 0
-  Ends name status left last lines old new err err2 =
-      ((status ≡ 0) × (last ≡ []) × (IsAtEnd left ⊎ (lines ≡ 2 ^ 64 - 1)) × (new ≡ old) × (err2 ≡ err))
+  Ends name status rest last lines old new err err2 =
+      ((status ≡ 0) × (last ≡ []) × (IsAtEnd rest ⊎ (lines ≡ 2 ^ 64 - 1)) × (new ≡ old) × (err2 ≡ err))
       ⊎ ((status ≡ 1) × StopsAt last 10 × IsAnswered name last (Refused Database) old new × (err2 ≡ err))
       ⊎ ((status ≡ 1) × StopsAt last 10 × IsBrokenOff name last old new × HasTold Write err err2)
       ⊎ ((status ≡ 1) × (new ≡ old) × (refusal : Refusal) × ((refusal ≡ Memory) ⊎ (refusal ≡ Read)) × HasTold refusal err err2)
@@ -205,7 +202,9 @@ module _ {S : Type 0} (g : Ghosts S) where
   pub record HasServed (name : Text) (status : ℕ) (given left : Option (List ℕ)) (old new : Office S) (err err2 : Output) : Type 0 where
     pub lines : List (List ℕ)
     pub last : List ℕ
-    pub read : Consumes given left (concat lines ++ last)
+    pub rest : Option (List ℕ)
+    pub read : Consumes given rest (concat lines)
+    pub read_last : Consumes rest left last
     pub mid : Office S
     pub answered : AreAnswered name lines old mid
-    pub ended : Ends name status left last (length lines) mid new err err2
+    pub ended : Ends name status rest last (length lines) mid new err err2

@@ -115,8 +115,8 @@ fn file_of<'a>(request: Request<'a>) -> Option<&'a str>
 // The task of a request that is no export, with the octets of its file.
 fn task_of<'a>(request: Request<'a>, octets: &'a [u8]) -> Task<'a>
     requires { is_export request ≡ false }
-    ensures command { tasks_command result ≡ command_of request octets.entry.now }
-    ensures replies { IsExport (command_of request octets.entry.now) → ⊥ }
+    ensures command { tasks_command result ≡ command_of request.entry octets.entry.now }
+    ensures replies { IsExport (command_of request.entry octets.entry.now) → ⊥ }
 {
     match request {
         Request::Script { user, .. } => Task::Script {

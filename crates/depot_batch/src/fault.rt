@@ -1,4 +1,8 @@
 // Why a line is no command.
+ghost use Rattle.std.specs.Prelude.{◌≡◌};
+ghost use Rattle.depot_batch.specs.Requests.{words_after};
+ghost use Rattle.depot_batch.specs.Sentences.{sentence_of};
+ghost use Rattle.depot_batch.specs.declared.fault.LineFault.TheVariants as faults;
 
 /// The form of a command.
 #[derive(Clone, Copy)]
@@ -33,7 +37,9 @@ pub enum LineFault {
 
 impl LineFault {
     /// What is wrong, in words.
-    pub fn sentence(self) -> &'static str {
+    pub fn sentence(self) -> &'static str
+        ensures { result.now ≡ sentence_of self }
+    {
         match self {
             LineFault::Unfinished => "the input ended within this line",
             LineFault::Words => "words have one space between them, and others stand in quotes",
@@ -51,8 +57,22 @@ impl LineFault {
 }
 
 impl Form {
+    /// How many words come after the command's name.
+    pub fn words_after(self) -> usize
+        ensures { result ≡ words_after self }
+    {
+        match self {
+            Form::Script | Form::Code | Form::Deliver | Form::Remove => 2,
+            Form::List => 1,
+            Form::Export => 4,
+            Form::Migrate => 0,
+        }
+    }
+
     // The words of the command.
-    fn words(self) -> &'static str {
+    fn words(self) -> &'static str
+        ensures { result.now ≡ sentence_of (faults.Form self) }
+    {
         match self {
             Form::Script => "script USER SCRIPT",
             Form::Code => "code USER PROGRAM",

@@ -7,7 +7,7 @@
 #![tactic(auto)]
 
 mod answering;
-mod batch;
+mod serving;
 mod fault;
 pub mod laws;
 mod line;
@@ -15,7 +15,7 @@ mod outcome;
 mod request;
 mod words;
 
-pub use batch::batch;
+pub use serving::batch;
 pub use fault::{Form, LineFault};
 pub use outcome::Outcome;
 pub use request::{Export, Request, request_of};

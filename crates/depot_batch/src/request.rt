@@ -1,7 +1,7 @@
 // What a line asks for.
-ghost use Rattle.std.specs.Prelude.{◌≡◌, ◌≢◌, ◌∷◌, [], ℕ, List, MatchOption, MatchResult, IfErr, IfOk, length, map};
-ghost use Rattle.depot_batch.specs.Requests.{Asks, AskNothing, IsEntryNumber, encoding_of, words_after};
-ghost use Rattle.depot_batch.specs.declared.fault.LineFault.TheVariants as faults;
+ghost use Rattle.std.specs.Prelude.{◌≡◌, ◌∷◌, [], ℕ, MatchOption, IfErr, IfOk, codes, length, map};
+ghost use Rattle.depot_batch.specs.Requests.{Asks, AskNothing, IsEntryNumber, encoding_of, name_of, words_after};
+ghost use Rattle.depot_batch.specs.declared.fault.Form.{Form};
 
 use crate::fault::{Form, LineFault};
 use depot_actions::Encoding;
@@ -68,84 +68,145 @@ pub fn request_of<'a>(words: &[&'a str]) -> Result<Request<'a>, LineFault>
     let [name, rest @ ..] = words else {
         return Err(LineFault::NoCommand);
     };
-    match *name {
-        "script" => {
-            let (user, script) = two(rest, Form::Script)?;
-            Ok(Request::Script { user, script })
-        }
-        "code" => {
-            let (user, program) = two(rest, Form::Code)?;
-            Ok(Request::Code { user, program })
-        }
-        "deliver" => {
-            let (user, message) = two(rest, Form::Deliver)?;
-            Ok(Request::Deliver { user, message })
-        }
-        "list" => match rest {
-            [user] => Ok(Request::List { user }),
-            _ => Err(LineFault::Form(Form::List)),
-        },
-        "export" => match rest {
-            [user, digits, name, file] => Ok(Request::Export(Export {
-                user,
-                number: number_of(digits)?,
-                encoding: encoding_of(name)?,
-                file,
-            })),
-            _ => Err(LineFault::Form(Form::Export)),
-        },
-        "remove" => {
-            let (user, digits) = two(rest, Form::Remove)?;
-            Ok(Request::Remove {
-                user,
-                number: number_of(digits)?,
-            })
-        }
-        "migrate" => match rest {
-            [] => Ok(Request::Migrate),
-            _ => Err(LineFault::Form(Form::Migrate)),
-        },
-        _ => Err(LineFault::NoCommand),
+    match form_of(name) {
+        Some(form) if rest.len() != form.words_after() => Err(LineFault::Form(form)),
+        Some(form) => request_in(form, rest),
+        None => Err(LineFault::NoCommand),
     }
 }
 
-// The two words after the name of a command that takes two.
-fn two<'a>(rest: &[&'a str], form: Form) -> Result<(&'a str, &'a str), LineFault>
-    requires { words_after form ≡ 2 }
-    ensures { MatchResult result
-        (λ words. map (λ w. w.now) rest.now ≡ words.0.now ∷ words.1.now ∷ [])
-        (λ e. (e ≡ faults.Form form) × (length rest.now ≢ 2)) }
+// The form of the command of a name.
+fn form_of(name: &str) -> Option<Form>
+    ensures { MatchOption result ((form : Form) → name.now ≡ name_of form → ⊥)
+        (λ form. name.now ≡ name_of form) }
+{
+    match name {
+        "script" => Some(Form::Script),
+        "code" => Some(Form::Code),
+        "deliver" => Some(Form::Deliver),
+        "list" => Some(Form::List),
+        "export" => Some(Form::Export),
+        "remove" => Some(Form::Remove),
+        "migrate" => Some(Form::Migrate),
+        _ => None,
+    }
+}
+
+// What a command asks for, with as many words after its name as it takes.
+fn request_in<'a>(form: Form, rest: &[&'a str]) -> Result<Request<'a>, LineFault>
+    requires { length rest.now ≡ words_after form }
+    ensures asks { IfOk result (Asks (name_of form ∷ map (λ w. w.now) rest.now)) }
+    ensures nothing { IfErr result (AskNothing (name_of form ∷ map (λ w. w.now) rest.now)) }
+{
+    match form {
+        Form::Script => {
+            let (user, script) = two(rest);
+            Ok(Request::Script { user, script })
+        }
+        Form::Code => {
+            let (user, program) = two(rest);
+            Ok(Request::Code { user, program })
+        }
+        Form::Deliver => {
+            let (user, message) = two(rest);
+            Ok(Request::Deliver { user, message })
+        }
+        Form::List => Ok(Request::List { user: one(rest) }),
+        Form::Export => export_in(rest),
+        Form::Remove => remove_in(rest),
+        Form::Migrate => Ok(Request::Migrate),
+    }
+}
+
+// What the words after `export` ask for.
+fn export_in<'a>(rest: &[&'a str]) -> Result<Request<'a>, LineFault>
+    requires { length rest.now ≡ 4 }
+    ensures asks { IfOk result (Asks (codes "export" ∷ map (λ w. w.now) rest.now)) }
+    ensures nothing { IfErr result (AskNothing (codes "export" ∷ map (λ w. w.now) rest.now)) }
+{
+    let (user, digits, name, file) = four(rest);
+    match (number_of(digits), encoding_of(name)) {
+        (Some(number), Some(encoding)) => Ok(Request::Export(Export {
+            user,
+            number,
+            encoding,
+            file,
+        })),
+        (None, _) => Err(LineFault::Number),
+        (_, None) => Err(LineFault::Encoding),
+    }
+}
+
+// What the words after `remove` ask for.
+fn remove_in<'a>(rest: &[&'a str]) -> Result<Request<'a>, LineFault>
+    requires { length rest.now ≡ 2 }
+    ensures asks { IfOk result (Asks (codes "remove" ∷ map (λ w. w.now) rest.now)) }
+    ensures nothing { IfErr result (AskNothing (codes "remove" ∷ map (λ w. w.now) rest.now)) }
+{
+    let (user, digits) = two(rest);
+    match number_of(digits) {
+        Some(number) => Ok(Request::Remove { user, number }),
+        None => Err(LineFault::Number),
+    }
+}
+
+// One word.
+fn one<'a>(rest: &[&'a str]) -> &'a str
+    requires { length rest.now ≡ 1 }
+    ensures { map (λ w. w.now) rest.now ≡ result.now ∷ [] }
 {
     match rest {
-        [first, second] => Ok((first, second)),
-        _ => Err(LineFault::Form(form)),
+        [word] => word,
+        _ => unreachable!(),
+    }
+}
+
+// Two words.
+fn two<'a>(rest: &[&'a str]) -> (&'a str, &'a str)
+    requires { length rest.now ≡ 2 }
+    ensures { map (λ w. w.now) rest.now ≡ result.0.now ∷ result.1.now ∷ [] }
+{
+    match rest {
+        [first, second] => (first, second),
+        _ => unreachable!(),
+    }
+}
+
+// Four words.
+fn four<'a>(rest: &[&'a str]) -> (&'a str, &'a str, &'a str, &'a str)
+    requires { length rest.now ≡ 4 }
+    ensures { map (λ w. w.now) rest.now
+        ≡ result.0.now ∷ result.1.now ∷ result.2.now ∷ result.3.now ∷ [] }
+{
+    match rest {
+        [first, second, third, fourth] => (first, second, third, fourth),
+        _ => unreachable!(),
     }
 }
 
 // The number of an entry.
-fn number_of(digits: &str) -> Result<u32, LineFault>
-    ensures { MatchResult result (IsEntryNumber digits.now)
-        (λ e. (e ≡ faults.Number) × ((number : ℕ) → IsEntryNumber digits.now number → ⊥)) }
+fn number_of(digits: &str) -> Option<u32>
+    ensures { MatchOption result ((number : ℕ) → IsEntryNumber digits.now number → ⊥)
+        (IsEntryNumber digits.now) }
 {
     match digits.parse::<u32>() {
-        Ok(number) if number > 0 => Ok(number),
-        _ => Err(LineFault::Number),
+        Ok(number) if number > 0 => Some(number),
+        _ => None,
     }
 }
 
 // The encoding of a name.
-fn encoding_of(name: &str) -> Result<Encoding, LineFault>
-    ensures { MatchResult result (λ encoding. encoding_of name.now ≡ Some encoding)
-        (λ e. (e ≡ faults.Encoding) × (encoding_of name.now ≡ None)) }
+fn encoding_of(name: &str) -> Option<Encoding>
+    ensures { result ≡ encoding_of name.now }
 {
     match name {
-        "raw" => Ok(Encoding::Raw),
-        "base64" => Ok(Encoding::Base64),
-        "base64-mime" => Ok(Encoding::Base64Mime),
-        "base32" => Ok(Encoding::Base32),
-        "base32hex" => Ok(Encoding::Base32Hex),
-        "base16" => Ok(Encoding::Base16),
-        "qp" => Ok(Encoding::Qp),
-        _ => Err(LineFault::Encoding),
+        "raw" => Some(Encoding::Raw),
+        "base64" => Some(Encoding::Base64),
+        "base64-mime" => Some(Encoding::Base64Mime),
+        "base32" => Some(Encoding::Base32),
+        "base32hex" => Some(Encoding::Base32Hex),
+        "base16" => Some(Encoding::Base16),
+        "qp" => Some(Encoding::Qp),
+        _ => None,
     }
 }
