@@ -111,6 +111,7 @@ Help.
     2>   remove       Removes an entry
     2>   migrate      Gives the filters of all users the latest version of the bytecode
     2>   inspect      Says what a file is, and what the depot in it holds; changes nothing
+    2>   batch        Does commands on a depot, one a line of standard input, and answers each
     2>   help         Print this message or the help of the given subcommand(s)
     2>
     2> Options:
@@ -151,6 +152,7 @@ Help.
     2>   remove       Removes an entry
     2>   migrate      Gives the filters of all users the latest version of the bytecode
     2>   inspect      Says what a file is, and what the depot in it holds; changes nothing
+    2>   batch        Does commands on a depot, one a line of standard input, and answers each
     2>   help         Print this message or the help of the given subcommand(s)
     2>
     2> Options:
@@ -544,6 +546,33 @@ Help.
     2> Status 0: it is a depot. 1: it is none, and the line says why; or refused, or the answer broke off,
     2> with one line on standard error. 2: the words aren't those of a command.
     2> Refusals: 1, 43, 45. docs/SPECIFICATION.md says what each means, and what to do.
+    [2]
+
+## help batch
+    $ depot help batch
+    2> Does commands on a depot, one a line of standard input, and answers each
+    2>
+    2> Usage: depot batch <DB>
+    2>
+    2> Arguments:
+    2>   <DB>  The file of the depot, which is made if it isn't there
+    2>
+    2> Options:
+    2>   -h, --help  Print help
+    2>
+    2> The lines, without DB:
+    2>   script USER SCRIPT, code USER PROGRAM, deliver USER MESSAGE, list USER,
+    2>   export USER NUMBER ENCODING FILE, remove USER NUMBER, migrate
+    2> One space stands between two words. A word with a space, a quote or another octet stands in
+    2> quotes, as depot prints it. Each answer goes to standard output, with one line after it:
+    2> = 0 (done), = 1 (refused) or = 2 (the line is no command; the answer begins with ?).
+    2>
+    2> Example:
+    2>   echo deliver ann mail.eml | depot batch mail.depot
+    2>
+    2> Status 0: the input has ended. 1: a line was refused 43, or this process 1, 43, 45 or 46, with one
+    2> line on standard error. 2: the words aren't those of a command.
+    2> docs/SPECIFICATION.md says what each refusal means, and what to do.
     [2]
 
 ## help encode

@@ -7,13 +7,18 @@ mod streams;
 use crate::place::{Obstacle, look_at};
 use crate::streams::hold_closed;
 use depot_actions::{Depot, OfWrite, Sink};
+use depot_batch::batch;
 use depot_cli::{
     Errand, Host, Next, Refusal, Saving, System, carry, inspect_opened, run, save, tell,
     tell_no_depot, tell_no_words, texts, words,
 };
 use sqlite::{File, FileStore};
+use std::io::{BufReader, BufWriter};
 use std::process::ExitCode;
 use std::{env, io, process};
+
+/// How many octets of a batch's lines are read, and how many of its answers are held back, at a time.
+const PIECE: usize = 65_536;
 
 fn main(rt: HostRuntime) -> ExitCode {
     let mut out = OfWrite::new(rt.stdout());
@@ -41,6 +46,7 @@ fn start<O: Sink, E: Sink>(rt: &HostRuntime, out: &mut O, err: &mut E) -> u8 {
         Next::Perform(errand) => perform_errand(rt, &errand, out, err),
         Next::Inspect(name) => inspect_file(rt, name, out, err),
         Next::Save(saving) => save_program(rt, saving, &mut host, out, err),
+        Next::Batch(name) => take_batch(rt, name, &mut host, err),
     }
 }
 
@@ -74,6 +80,26 @@ fn save_program<H: Host, O: Sink, E: Sink>(
     let status = save(rt.alloc(), saving, &mut opened, host, out, err);
     close(opened);
     status
+}
+
+// Opens the depot that a batch is on, and has the lines of standard input done on it.
+fn take_batch<H: Host, E: Sink>(rt: &HostRuntime, name: &str, host: &mut H, err: &mut E) -> u8 {
+    let (mut input, writer) = match streams_of(rt) {
+        Ok(streams) => streams,
+        Err(_) => return tell(err, &Refusal::Memory),
+    };
+    let mut out = OfWrite::new(writer);
+    let mut opened = Depot::open(rt, name);
+    let status = batch(rt.alloc(), name, &mut opened, host, &mut input, &mut out, err);
+    close(opened);
+    status
+}
+
+// Standard input and output, with a buffer each.
+fn streams_of(rt: &HostRuntime) -> io::Result<(BufReader<Reader>, BufWriter<Stdout>)> {
+    let input = BufReader::with_capacity(rt.alloc(), PIECE, rt.reader())?;
+    let out = BufWriter::with_capacity(rt.alloc(), PIECE, rt.stdout())?;
+    Ok((input, out))
 }
 
 // Says what a file is, and gives the status. What can be seen without opening it is looked at before.

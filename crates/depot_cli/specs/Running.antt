@@ -17,7 +17,7 @@ use Rattle.refusals.specs.declared.refusal.Refusal.TheVariants.{Memory, MessageT
 use Rattle.depot_cli.specs.declared.job.Job.{Job}
 use Rattle.depot_cli.specs.declared.job.Job.TheVariants as jobs
 use Rattle.depot_cli.specs.declared.line.CommandLine.{CommandLine}
-use Rattle.depot_cli.specs.declared.line.CommandLine.TheVariants.{NoWords, Check, Explain, Compile, Verify, Run, Disassemble, Assemble, Eval, Parts, Encode, Decode, Script, Code as CodeOf, Program, Deliver, List as ListAll, Export, Remove, Migrate, Inspect}
+use Rattle.depot_cli.specs.declared.line.CommandLine.TheVariants.{NoWords, Check, Explain, Compile, Verify, Run, Disassemble, Assemble, Eval, Parts, Encode, Decode, Script, Code as CodeOf, Program, Deliver, List as ListAll, Export, Remove, Migrate, Inspect, Batch}
 use Rattle.depot_cli.specs.declared.errand.Errand.{Errand}
 use Rattle.depot_cli.specs.declared.errand.Order.{Order}
 use Rattle.depot_cli.specs.declared.errand.Order.TheVariants as orders
@@ -52,6 +52,7 @@ origins_of (Export depot user number encoding) = []
 origins_of (Remove depot user number) = []
 origins_of (Migrate depot) = []
 origins_of (Inspect depot) = []
+origins_of (Batch depot) = []
 
 -- the same of what the code says that it reads; nothing public rests on this
 abbrev pub origins_in : Inputs → List Origin
@@ -126,6 +127,16 @@ is_inspection _ = false
 abbrev pub IsInspected : CommandLine → Text → Type 0
 IsInspected (Inspect depot) name = name ≡ depot.now
 IsInspected _ name = ⊥
+
+-- the command takes others, one after another
+abbrev pub is_batch : CommandLine → Bool
+is_batch (Batch depot) = true
+is_batch _ = false
+
+-- the file of the depot that those are on
+abbrev pub IsBatchOn : CommandLine → Text → Type 0
+IsBatchOn (Batch depot) name = name ≡ depot.now
+IsBatchOn _ name = ⊥
 
 -- the command saves a user's program as a file
 abbrev pub is_saving : CommandLine → Bool
@@ -222,12 +233,13 @@ pub record HasNotWorked (line : CommandLine) (status : ℕ) (old new : World) : 
   pub is_refused : status ≡ refused
 
 -- what comes of a command: it was carried out with a status, or its refusal was told; or it is an errand to a depot; or a file is to be
--- inspected, or a program to be saved, and nothing was done
+-- inspected, a program to be saved, or a batch to be taken, and nothing was done
 abbrev pub LeadsTo : CommandLine → Next → World → World → Type 0
 LeadsTo line (next.Exit status) old new = HasWorked line status old new ⊎ HasNotWorked line status old new
 LeadsTo line (next.Perform errand) old new = HasPrepared line errand old new
 LeadsTo line (next.Inspect name) old new = IsInspected line name.now × (new ≡ old)
 LeadsTo line (next.Save saving) old new = IsSavingOf line saving × (new ≡ old)
+LeadsTo line (next.Batch name) old new = IsBatchOn line name.now × (new ≡ old)
 
 -- the words say this command
 abbrev pub IsLine : List Text → CommandLine → Type 0

@@ -1,8 +1,8 @@
 -- What tasks ask of a depot, and what performing one does.
-use Rattle.std.specs.Prelude.{◌≡◌, ◌≢◌, ◌⊎◌, ℕ, List}
+use Rattle.std.specs.Prelude.{◌≡◌, ◌≢◌, ◌⊎◌, ℕ, List, map}
 use Rattle.sqlite.specs.State.{HasCleanDisk, State}
 use Rattle.sqlite_trees.specs.Tree.{Trees}
-use Rattle.part_store.specs.Standing.{Spares}
+use Rattle.part_store.specs.Standing.{Spares, listed}
 use Rattle.depot_actions.specs.Causes.{HasCause, IsExport}
 use Rattle.depot_actions.specs.DepotState.{Command, Does, MayLeave, Reply, SetScript, SetCode, ListAll}
 use Rattle.depot_actions.specs.DepotState as depot
@@ -10,7 +10,10 @@ use Rattle.depot_actions.specs.Device.{HasBegun, HasBroken, HasTaken, Output}
 use Rattle.refusals.specs.declared.refusal.Refusal.{Refusal}
 use Rattle.refusals.specs.declared.refusal.Refusal.TheVariants.{Memory, Write}
 use Rattle.depot_cli.specs.Jobs.{HasTold}
-use Rattle.depot_cli.specs.Printed.{reply_text}
+use Rattle.depot_cli.specs.Printed.{entries_text, migrated_text, removed_text, reply_text, stored_text}
+use Rattle.depot_cli.specs.declared.entries.Detail.TheVariants.{Brief, Full}
+use Rattle.depot_cli.specs.declared.task.Reply.{Reply as Replied}
+use Rattle.depot_cli.specs.declared.task.Reply.TheVariants.{Stored, Filed, Listed, Removed, Migrated}
 use Rattle.depot_cli.specs.declared.errand.Order.{Order}
 use Rattle.depot_cli.specs.declared.errand.Order.TheVariants as orders
 use Rattle.depot_cli.specs.declared.task.Task.{Task}
@@ -62,6 +65,24 @@ desk store out err = record { store = store; out = out; err = err }
 -- the depot did the command with this reply, as long as its disk returns what was written
 abbrev pub HasDone : Command → Reply → State → State → Type 0
 HasDone command reply old new = HasCleanDisk new → Does command reply old new
+
+-- a reply of the code, as what is printed of it
+abbrev pub text_in : Replied → List ℕ
+text_in Stored = stored_text
+text_in (Filed rows) = entries_text Brief (map listed rows.items)
+text_in (Listed rows) = entries_text Full (map listed rows.items)
+text_in (Removed number) = removed_text number
+text_in (Migrated count) = migrated_text count
+
+-- the depot did the command, and this is what is printed of its reply
+abbrev pub HasAnswered : Command → List ℕ → State → State → Type 0
+HasAnswered command text old new =
+    (reply : Reply) × HasDone command reply old new × (text ≡ reply_text command reply)
+
+-- the depot refused the command, and is as it was
+abbrev pub HasRefused : Command → Refusal → State → State → Type 0
+HasRefused command refusal old new =
+    HasCleanDisk new → HasCause refusal command old × Spares old new
 
 -- and the reply was written whole
 abbrev pub HasReplied : Command → Desk → Desk → Type 0

@@ -8,7 +8,7 @@ use Rattle.clap.specs.declared.builder.value_parser.ValueParser.TheVariants as p
 use Rattle.depot_actions.specs.declared.encoding.Encoding.{Encoding}
 use Rattle.depot_actions.specs.declared.encoding.Encoding.TheVariants.{Raw, Base64, Base64Mime, Base32, Base32Hex, Base16, Qp}
 use Rattle.depot_cli.specs.declared.line.CommandLine.{CommandLine}
-use Rattle.depot_cli.specs.declared.line.CommandLine.TheVariants.{NoWords, Check, Explain, Compile, Verify, Run, Disassemble, Assemble, Eval, Parts, Encode, Decode, Script, Code, Program, Deliver, List as ListAll, Export, Remove, Migrate, Inspect}
+use Rattle.depot_cli.specs.declared.line.CommandLine.TheVariants.{NoWords, Check, Explain, Compile, Verify, Run, Disassemble, Assemble, Eval, Parts, Encode, Decode, Script, Code, Program, Deliver, List as ListAll, Export, Remove, Migrate, Inspect, Batch}
 use Rattle.octets.specs.Limits.{max_entry_number}
 
 -- an argument that has to be there
@@ -155,13 +155,21 @@ migrate_app = with_rule (new_app (codes "migrate")) (required_rule (codes "DB"))
 abbrev pub inspect_app : App
 inspect_app = with_rule (new_app (codes "inspect")) (required_rule (codes "DB"))
 
+-- batch DB
+abbrev pub batch_app : App
+batch_app = with_rule (new_app (codes "batch")) (required_rule (codes "DB"))
+
 -- the program with those, and the commands on entries that are there
 abbrev pub entries_app : Texts → App
 entries_app names = with_subcommand (with_subcommand (delivery_app names) (export_app names).top) remove_app.top
 
+-- the program with those, and the commands of whoever keeps a depot
+abbrev pub keeper_app : Texts → App
+keeper_app names = with_subcommand (with_subcommand (entries_app names) migrate_app.top) inspect_app.top
+
 -- the program with its commands
 abbrev pub depot_app : Texts → App
-depot_app names = with_subcommand (with_subcommand (entries_app names) migrate_app.top) inspect_app.top
+depot_app names = with_subcommand (keeper_app names) batch_app.top
 
 -- the program with its commands
 abbrev pub IsDepot : App → Type 0
@@ -204,7 +212,9 @@ IsNoMailCommand name =
 -- nor of a command on a depot
 abbrev pub IsNoDepotCommand : Text → Type 0
 IsNoDepotCommand name =
-    (name ≢ codes "script") × (name ≢ codes "code") × (name ≢ codes "deliver") × (name ≢ codes "list") × (name ≢ codes "export") × (name ≢ codes "remove") × (name ≢ codes "migrate") × (name ≢ codes "inspect")
+    (name ≢ codes "script") × (name ≢ codes "code") × (name ≢ codes "program") × (name ≢ codes "deliver")
+    × (name ≢ codes "list") × (name ≢ codes "export") × (name ≢ codes "remove") × (name ≢ codes "migrate")
+    × (name ≢ codes "inspect") × (name ≢ codes "batch")
 
 -- the depot and the user of a command
 pub record IsOf (rows : List Row) (depot user : Text) : Type 0 where
@@ -248,3 +258,4 @@ Says (Remove depot user number) matches =
     (rows : List Row) × IsCommand (codes "remove") matches rows × IsOf rows depot.now user.now × IsNumber (argument (codes "NUMBER") rows) number
 Says (Migrate depot) matches = (rows : List Row) × IsCommand (codes "migrate") matches rows × (depot.now ≡ argument (codes "DB") rows)
 Says (Inspect depot) matches = (rows : List Row) × IsCommand (codes "inspect") matches rows × (depot.now ≡ argument (codes "DB") rows)
+Says (Batch depot) matches = (rows : List Row) × IsCommand (codes "batch") matches rows × (depot.now ≡ argument (codes "DB") rows)

@@ -2,7 +2,7 @@
 ghost use Rattle.std.specs.Prelude.{◌≡◌, IfOk, false};
 ghost use Rattle.clap.specs.Words.{app_of};
 ghost use Rattle.clap.specs.declared.builder.command.Command.TheViews.{out-Command as fields_of};
-ghost use Rattle.depot_cli.specs.Words.{assemble_app, check_app, checks_app, code_app, codecs_app, compile_app, decode_app, deliver_app, delivery_app, depot_app, disassemble_app, encode_app, entries_app, eval_app, explain_app, export_app, filing_app, filters_app, inspect_app, keeping_app, list_app, listings_app, mail_app, migrate_app, parts_app, program_app, remove_app, run_app, script_app, scripts_app, user_app, verify_app};
+ghost use Rattle.depot_cli.specs.Words.{assemble_app, batch_app, check_app, checks_app, code_app, codecs_app, compile_app, decode_app, deliver_app, delivery_app, depot_app, disassemble_app, encode_app, entries_app, eval_app, explain_app, export_app, filing_app, filters_app, inspect_app, keeper_app, keeping_app, list_app, listings_app, mail_app, migrate_app, parts_app, program_app, remove_app, run_app, script_app, scripts_app, user_app, verify_app};
 
 use crate::arguments::{
     any_file, depot_file, encoding_name, entry_number, listing_file, message_file, out_file,
@@ -15,6 +15,14 @@ use std::alloc::{AllocError, Global};
 /// The program with its commands.
 pub fn depot_command<'a>(alloc: Global, names: &'a [&'a str]) -> Result<Command<'a>, AllocError>
     ensures app { IfOk result (λ c. app_of c ≡ depot_app names.entry) }
+    ensures local { IfOk result (λ c. (fields_of c).has_globals ≡ false) }
+{
+    keeper_command(alloc, names)?.subcommand(batch_command(alloc)?)
+}
+
+// The program with all commands but the one that takes others.
+fn keeper_command<'a>(alloc: Global, names: &'a [&'a str]) -> Result<Command<'a>, AllocError>
+    ensures app { IfOk result (λ c. app_of c ≡ keeper_app names.entry) }
     ensures local { IfOk result (λ c. (fields_of c).has_globals ≡ false) }
 {
     entries_command(alloc, names)?
@@ -375,4 +383,15 @@ fn inspect_command<'a>(alloc: Global) -> Result<Command<'a>, AllocError>
         .about("Says what a file is, and what the depot in it holds; changes nothing")
         .after_help(help::INSPECT)
         .arg(any_file(alloc))
+}
+
+// The command batch.
+fn batch_command<'a>(alloc: Global) -> Result<Command<'a>, AllocError>
+    ensures app { IfOk result (λ c. app_of c ≡ batch_app) }
+    ensures local { IfOk result (λ c. (fields_of c).has_globals ≡ false) }
+{
+    Command::new(alloc, "batch")
+        .about("Does commands on a depot, one a line of standard input, and answers each")
+        .after_help(help::BATCH)
+        .arg(depot_file(alloc))
 }

@@ -110,3 +110,16 @@ pub const INSPECT: &str = concat!(
     "with one line on standard error. 2: the words aren't those of a command.\n",
     "Refusals: 1, 43, 45. docs/SPECIFICATION.md says what each means, and what to do."
 );
+
+pub const BATCH: &str = concat!(
+    "The lines, without DB:\n",
+    "  script USER SCRIPT, code USER PROGRAM, deliver USER MESSAGE, list USER,\n",
+    "  export USER NUMBER ENCODING FILE, remove USER NUMBER, migrate\n",
+    "One space stands between two words. A word with a space, a quote or another octet stands in\n",
+    "quotes, as depot prints it. Each answer goes to standard output, with one line after it:\n",
+    "= 0 (done), = 1 (refused) or = 2 (the line is no command; the answer begins with ?).\n\n",
+    "Example:\n  echo deliver ann mail.eml | depot batch mail.depot\n\n",
+    "Status 0: the input has ended. 1: a line was refused 43, or this process 1, 43, 45 or 46, with one\n",
+    "line on standard error. 2: the words aren't those of a command.\n",
+    "docs/SPECIFICATION.md says what each refusal means, and what to do."
+);

@@ -112,6 +112,10 @@ pub enum CommandLine<'a> {
     Inspect {
         depot: &'a str,
     },
+    /// Commands on a depot, from the lines of standard input.
+    Batch {
+        depot: &'a str,
+    },
 }
 
 /// The names of the encodings.
@@ -221,6 +225,7 @@ fn depot_line_in<'a>(name: &str, found: &ArgMatches<'a>) -> CommandLine<'a>
         },
         "migrate" => CommandLine::Migrate { depot },
         "inspect" => CommandLine::Inspect { depot },
+        "batch" => CommandLine::Batch { depot },
         _ => CommandLine::NoWords,
     }
 }

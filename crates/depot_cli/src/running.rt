@@ -6,7 +6,7 @@ ghost use Rattle.bytecode_format.specs.Spelling.{spelling};
 ghost use Rattle.depot_cli.specs.Host.{HostState, origin_of};
 ghost use Rattle.depot_cli.specs.Jobs.{HasTold, world};
 ghost use Rattle.refusals.specs.declared.refusal.Refusal.TheVariants.{Memory};
-ghost use Rattle.depot_cli.specs.Running.{LeadsTo, HasNotRead, HasRead, HasRun, HasShown, HasToldUsage, HaveNotRead, HaveRead, IsDepotOf, IsInspected, IsJobOf, IsOrderOf, IsSavingOf, input, is_inspection, is_on_depot, is_saving, keeping_code, origins_in, origins_of, refused, usage};
+ghost use Rattle.depot_cli.specs.Running.{LeadsTo, HasNotRead, HasRead, HasRun, HasShown, HasToldUsage, HaveNotRead, HaveRead, IsBatchOn, IsDepotOf, IsInspected, IsJobOf, IsOrderOf, IsSavingOf, input, is_batch, is_inspection, is_on_depot, is_saving, keeping_code, origins_in, origins_of, refused, usage};
 
 use crate::errand::{Errand, Order};
 use crate::host::{Host, Input};
@@ -57,11 +57,13 @@ pub enum Next<'a> {
     Inspect(&'a str),
     /// To save a user's program as a file. Nothing was done yet.
     Save(Saving<'a>),
+    /// To do commands on the depot of this name, one after another. None was read yet.
+    Batch(&'a str),
 }
 
 /// Carries out what the words say, of which the first is the program's name; but a command on a
-/// depot is handed back, for whoever opens the depot to perform, and so is one that inspects, or
-/// that saves a program.
+/// depot is handed back, for whoever opens the depot to perform, and so is one that inspects, that
+/// saves a program, or that takes others.
 ///
 /// What the command reads is read in the order of its words, before anything is done with it; each
 /// at most one octet past the limit. Where it can't be read, the refusal is told, and nothing after
@@ -120,10 +122,11 @@ fn lead<'a, H: Host, O: Sink, E: Sink>(
         (world (H.state host.old) (O.output out.old) (E.output err.old))
         (world (H.state host.new) (O.output out.new) (E.output err.new)) }
 {
-    match (inspected(line), saved(line)) {
-        (Some(name), _) => Next::Inspect(name),
-        (None, Some(saving)) => Next::Save(saving),
-        (None, None) => carry_out(alloc, line, host, out, err),
+    match (inspected(line), saved(line), batched(line)) {
+        (Some(name), _, _) => Next::Inspect(name),
+        (None, Some(saving), _) => Next::Save(saving),
+        (None, None, Some(name)) => Next::Batch(name),
+        (None, None, None) => carry_out(alloc, line, host, out, err),
     }
 }
 
@@ -134,6 +137,17 @@ fn inspected<'a>(line: CommandLine<'a>) -> Option<&'a str>
 {
     match line {
         CommandLine::Inspect { depot } => Some(depot),
+        _ => None,
+    }
+}
+
+// The depot of the commands that a command takes, if it does.
+fn batched<'a>(line: CommandLine<'a>) -> Option<&'a str>
+    ensures { MatchOption result (is_batch line.entry ≡ false)
+        (λ name. IsBatchOn line.entry name.now) }
+{
+    match line {
+        CommandLine::Batch { depot } => Some(depot),
         _ => None,
     }
 }
@@ -163,6 +177,7 @@ fn carry_out<'a, H: Host, O: Sink, E: Sink>(
 ) -> Next<'a>
     requires inspects { is_inspection line ≡ false }
     requires saves { is_saving line ≡ false }
+    requires batches { is_batch line ≡ false }
     ensures { LeadsTo line.entry result
         (world (H.state host.old) (O.output out.old) (E.output err.old))
         (world (H.state host.new) (O.output out.new) (E.output err.new)) }
@@ -246,7 +261,8 @@ fn inputs_of<'a>(line: CommandLine<'a>) -> Inputs<'a>
         | CommandLine::Export { .. }
         | CommandLine::Remove { .. }
         | CommandLine::Migrate { .. }
-        | CommandLine::Inspect { .. } => Inputs::None,
+        | CommandLine::Inspect { .. }
+        | CommandLine::Batch { .. } => Inputs::None,
     }
 }
 
@@ -256,6 +272,7 @@ fn job_of<'a>(line: CommandLine<'a>, first: &'a [u8], second: &'a [u8]) -> Job<'
     requires elsewhere { is_on_depot line ≡ false }
     requires inspects { is_inspection line ≡ false }
     requires saves { is_saving line ≡ false }
+    requires batches { is_batch line ≡ false }
     ensures { (inputs : List (List ℕ)) → first.entry.now ≡ input inputs 0
         → second.entry.now ≡ input inputs 1 → IsJobOf line.entry inputs result }
 {
@@ -328,8 +345,17 @@ fn read_inputs<H: Host>(
     }
 }
 
-// The octets of a file, or of standard input.
-fn read_input<H: Host>(alloc: Global, input: Input<'_>, host: &mut H) -> Result<Vec<u8>, Refusal>
+/// The octets of a file, or of standard input: at most 64 MiB of them.
+///
+/// # Errors
+///
+/// `MessageTooLarge` where there are more, of which one was read; `Read` where it can't be opened
+/// or read; `Memory` where an allocation was refused.
+pub fn read_input<H: Host>(
+    alloc: Global,
+    input: Input<'_>,
+    host: &mut H,
+) -> Result<Vec<u8>, Refusal>
     ensures read { IfOk result (λ octets. HasRead (origin_of input.entry) octets.items
         (H.state host.old) (H.state host.new)) }
     ensures refused { IfErr result (λ e. HasNotRead e (origin_of input.entry) (H.state host.old)

@@ -1,18 +1,20 @@
 // Tasks on a depot, and their replies.
-ghost use Rattle.std.specs.Prelude.{◌≡◌, OnErr, OnOk};
+ghost use Rattle.std.specs.Prelude.{◌≡◌, IfErr, IfOk, OnErr, OnOk};
 ghost use Rattle.sqlite.specs.Held.{state};
 ghost use Rattle.sqlite.specs.State.{Survives};
+ghost use Rattle.depot_actions.specs.Causes.{IsExport};
 ghost use Rattle.depot_actions.specs.Device.{HasBroken, HasTaken};
 ghost use Rattle.refusals.specs.declared.refusal.Refusal.TheVariants.{Write};
 ghost use Rattle.depot_cli.specs.Jobs.{HasTold};
 ghost use Rattle.depot_cli.specs.Printed.{migrated_text, removed_text};
-ghost use Rattle.depot_cli.specs.Tasks.{HasPerformed, MayAdd, command_of, desk};
+ghost use Rattle.depot_cli.specs.Tasks.{HasAnswered, HasPerformed, HasRefused, MayAdd, command_of, desk, text_in};
 
 use crate::entries::{Detail, put_entries};
 use crate::job::{SUCCESS, tell};
 use crate::piece::Piece;
 use crate::printing::{put_line, put_pieces};
 use depot_actions::{Depot, DeviceFailed, Encoding, Sink};
+use part_store::EntryRow;
 use refusals::Refusal;
 use sqlite::Alter;
 use std::alloc::Global;
@@ -54,6 +56,21 @@ pub enum Task<'a> {
     Migrate,
 }
 
+/// What a depot replies to a task that it did, but for an export, whose reply is a text.
+#[derive(Drop)]
+pub enum Reply {
+    /// A filter was stored.
+    Stored,
+    /// A message was filed: the rows of its new entries.
+    Filed(Vec<EntryRow>),
+    /// The rows of a user's entries.
+    Listed(Vec<EntryRow>),
+    /// The entry of this number was removed.
+    Removed(u32),
+    /// So many filters were given the latest version.
+    Migrated(usize),
+}
+
 /// Has the depot do a task: writes its reply to `out` and gives 0, or writes the line of its
 /// refusal to `err` and gives 1.
 ///
@@ -78,22 +95,6 @@ pub fn perform<S: Alter, O: Sink, E: Sink>(
         (MayAdd (command_of task.entry) (state S.Store depot.old)) }
 {
     match task {
-        Task::Script { user, script } => match depot.set_script(alloc, user, script) {
-            Ok(()) => finish(err, put_line(out, "stored")),
-            Err(refusal) => tell(err, &refusal),
-        },
-        Task::Code { user, program } => match depot.set_code(alloc, user, program) {
-            Ok(()) => finish(err, put_line(out, "stored")),
-            Err(refusal) => tell(err, &refusal),
-        },
-        Task::Deliver { user, message } => match depot.deliver(alloc, user, message) {
-            Ok(rows) => finish(err, put_entries(out, Detail::Brief, &rows)),
-            Err(refusal) => tell(err, &refusal),
-        },
-        Task::List { user } => match depot.list(user) {
-            Ok(rows) => finish(err, put_entries(out, Detail::Full, &rows)),
-            Err(refusal) => tell(err, &refusal),
-        },
         Task::Export {
             user,
             number,
@@ -102,14 +103,75 @@ pub fn perform<S: Alter, O: Sink, E: Sink>(
             Ok(()) => SUCCESS,
             Err(refusal) => tell(err, &refusal),
         },
-        Task::Remove { user, number } => match depot.remove(user, number) {
-            Ok(()) => finish(err, put_removed(out, number)),
+        _ => match reply_to(alloc, task, depot) {
+            Ok(reply) => finish(err, put_reply(out, &reply)),
             Err(refusal) => tell(err, &refusal),
+        },
+    }
+}
+
+/// Has the depot do a task other than an export, and gives its reply.
+///
+/// A crash, at any moment, leaves what it could have left before, or what the command makes of it,
+/// and never a part of that.
+///
+/// # Errors
+///
+/// The depot refused the command, and is as it was.
+pub fn reply_to<S: Alter>(
+    alloc: Global,
+    task: Task<'_>,
+    depot: &mut Depot<S>,
+) -> Result<Reply, Refusal>
+    requires tells { IsExport (command_of task) → ⊥ }
+    ensures done { IfOk result (λ reply. HasAnswered (command_of task.entry) (text_in reply)
+        (state S.Store depot.old) (state S.Store depot.new)) }
+    ensures refused { IfErr result (λ e. HasRefused (command_of task.entry) e
+        (state S.Store depot.old) (state S.Store depot.new)) }
+    ensures survives { Survives (state S.Store depot.old) (state S.Store depot.new)
+        (MayAdd (command_of task.entry) (state S.Store depot.old)) }
+{
+    match task {
+        Task::Script { user, script } => match depot.set_script(alloc, user, script) {
+            Ok(()) => Ok(Reply::Stored),
+            Err(refusal) => Err(refusal),
+        },
+        Task::Code { user, program } => match depot.set_code(alloc, user, program) {
+            Ok(()) => Ok(Reply::Stored),
+            Err(refusal) => Err(refusal),
+        },
+        Task::Deliver { user, message } => match depot.deliver(alloc, user, message) {
+            Ok(rows) => Ok(Reply::Filed(rows)),
+            Err(refusal) => Err(refusal),
+        },
+        Task::List { user } => match depot.list(user) {
+            Ok(rows) => Ok(Reply::Listed(rows)),
+            Err(refusal) => Err(refusal),
+        },
+        Task::Remove { user, number } => match depot.remove(user, number) {
+            Ok(()) => Ok(Reply::Removed(number)),
+            Err(refusal) => Err(refusal),
         },
         Task::Migrate => match depot.migrate(alloc) {
-            Ok(count) => finish(err, put_migrated(out, count)),
-            Err(refusal) => tell(err, &refusal),
+            Ok(count) => Ok(Reply::Migrated(count)),
+            Err(refusal) => Err(refusal),
         },
+        Task::Export { .. } => unreachable!(),
+    }
+}
+
+/// Writes the lines of a reply.
+pub fn put_reply<O: Sink>(out: &mut O, reply: &Reply) -> Result<(), DeviceFailed>
+    ensures ok { OnOk result (HasTaken (text_in reply.now) (O.output out.old) (O.output out.new)) }
+    ensures err { OnErr result (HasBroken (text_in reply.now) (O.output out.old)
+        (O.output out.new)) }
+{
+    match reply {
+        Reply::Stored => put_line(out, "stored"),
+        Reply::Filed(rows) => put_entries(out, Detail::Brief, rows),
+        Reply::Listed(rows) => put_entries(out, Detail::Full, rows),
+        Reply::Removed(number) => put_removed(out, *number),
+        Reply::Migrated(count) => put_migrated(out, *count),
     }
 }
 

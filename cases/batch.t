@@ -1,0 +1,213 @@
+# Batches: commands on one open depot, a line each
+
+## each line is answered, and its status ends the answer
+    $ cat > lines <<'END'
+    > script ann examples/documents.sieve
+    > deliver ann examples/invoice.eml
+    > list ann
+    > export ann 1 base16 attached
+    > remove ann 1
+    > remove ann 1
+    > list ann
+    > code bob examples/keep.svbc
+    > migrate
+    > END
+    $ depot batch mail.depot < lines
+    stored
+    = 0
+    1 part "Documents"
+    2 message "INBOX"
+    = 0
+    1 part "Documents" "rechnung-2026-0417.pdf" application/pdf 9016
+    2 message "INBOX" "" message/rfc822 19165
+    = 0
+    exported 1
+    = 0
+    removed 1
+    = 0
+    refused 40 NoSuchEntry
+    = 1
+    2 message "INBOX" "" message/rfc822 19165
+    = 0
+    stored
+    = 0
+    migrated 1
+    = 0
+    $ depot list mail.depot ann
+    2 message "INBOX" "" message/rfc822 19165
+    $ wc -c < attached
+    18032
+    $ depot decode base16 < attached | head -c 5
+    %PDF-
+    [no line break]
+
+## no lines
+    $ depot batch mail.depot < /dev/null
+    $ depot inspect mail.depot
+    depot
+    no log
+    contents 0 octets 0
+
+## what is no command is told, and nothing happens
+    $ cat > lines <<'END'
+    > deliver ann
+    > deliver ann examples/invoice.eml more
+    > List ann
+    > list ann bob
+    > export ann 1 base16
+    > export ann 1 base17 file
+    > export ann 0 raw file
+    > remove ann 4294967296
+    > remove ann one
+    > migrate mail.depot
+    > batch mail.depot
+    > check examples/documents.sieve
+    >
+    > list  ann
+    >  list ann
+    > list ann 
+    > list "ann
+    > list "ann"bob
+    > list a"nn
+    > list "an\6"
+    > list "an\6g"
+    > END
+    $ depot batch mail.depot < lines
+    ? deliver USER MESSAGE
+    = 2
+    ? deliver USER MESSAGE
+    = 2
+    ? the commands are script, code, deliver, list, export, remove and migrate
+    = 2
+    ? list USER
+    = 2
+    ? export USER NUMBER ENCODING FILE
+    = 2
+    ? ENCODING is raw, base64, base64-mime, base32, base32hex, base16 or qp
+    = 2
+    ? NUMBER is 1 to 4294967295
+    = 2
+    ? NUMBER is 1 to 4294967295
+    = 2
+    ? NUMBER is 1 to 4294967295
+    = 2
+    ? migrate
+    = 2
+    ? the commands are script, code, deliver, list, export, remove and migrate
+    = 2
+    ? the commands are script, code, deliver, list, export, remove and migrate
+    = 2
+    ? words have one space between them, and others stand in quotes
+    = 2
+    ? words have one space between them, and others stand in quotes
+    = 2
+    ? words have one space between them, and others stand in quotes
+    = 2
+    ? words have one space between them, and others stand in quotes
+    = 2
+    ? words have one space between them, and others stand in quotes
+    = 2
+    ? words have one space between them, and others stand in quotes
+    = 2
+    ? words have one space between them, and others stand in quotes
+    = 2
+    ? words have one space between them, and others stand in quotes
+    = 2
+    ? words have one space between them, and others stand in quotes
+    = 2
+    $ ls
+    depot
+    examples
+    lines
+    mail.depot
+
+## a word in quotes
+    $ cp examples/invoice.eml 'a mail "of" Jörg'
+    $ printf 'deliver "ann" "a mail \\22of\\22 J\\c3\\b6rg"\n' | depot batch mail.depot
+    1 message "INBOX"
+    = 0
+    $ printf 'deliver "\\61nn" "a mail \\22of\\22 J\303\266rg"\nlist ""\n' | depot batch mail.depot
+    2 message "INBOX"
+    = 0
+    refused 44 UserName
+    = 1
+    $ printf 'list "\\ff"\n' | depot batch mail.depot
+    ? a word isn't UTF-8
+    = 2
+    $ rm 'a mail "of" Jörg'
+
+## a line that the input ends within isn't done
+    $ printf 'deliver ann examples/invoice.eml\ndeliver ann examples/invoice.eml' | depot batch mail.depot
+    1 message "INBOX"
+    = 0
+    ? the input ended within this line
+    = 2
+    $ depot list mail.depot ann
+    1 message "INBOX" "" message/rfc822 19165
+
+## a long line
+    $ { head -c 67108864 /dev/zero | tr '\0' 'a'; printf '\nlist ann\n'; } | depot batch mail.depot
+    ? the commands are script, code, deliver, list, export, remove and migrate
+    = 2
+    none
+    = 0
+
+## files that can't be read, and messages that are refused
+    $ printf 'deliver ann nothing\nscript ann examples/invoice.eml\ndeliver Ann examples/invoice.eml\n' > lines
+    $ printf 'deliver ann %s\nlist ann\n' "$FILES/too-large" >> lines
+    $ depot batch mail.depot < lines
+    refused 46 Read
+    = 1
+    refused 12 Syntax at 8
+    = 1
+    refused 44 UserName
+    = 1
+    refused 2 MessageTooLarge
+    = 1
+    none
+    = 0
+
+## an export doesn't replace the depot, and what fails leaves the file as it was
+    $ printf 'deliver ann examples/ticket.eml\nexport ann 1 raw mail.depot\nexport ann 2 raw kept\nexport ann 1 raw no/such\n' > lines
+    $ echo before > kept
+    $ depot batch mail.depot < lines
+    1 message "INBOX"
+    = 0
+    refused 45 Write
+    = 1
+    refused 40 NoSuchEntry
+    = 1
+    refused 45 Write
+    = 1
+    $ cat kept
+    before
+    $ depot export mail.depot ann 1 raw | cmp - examples/ticket.eml
+
+## a depot that is held, and output that is full
+    $ depot script mail.depot ann examples/documents.sieve
+    stored
+    $ mkfifo in
+    $ { depot batch mail.depot < in > out; echo "$?" >> out; } &
+    > exec 3> in; echo 'list ann' >&3; until grep -q = out; do sleep 0.1; done
+    > depot batch mail.depot < /dev/null; echo "$?"; exec 3>&-; wait; cat out
+    1
+    none
+    = 0
+    0
+    2> refused 43 Database
+    $ echo 'deliver ann examples/ticket.eml' | depot batch mail.depot > /dev/full
+    2> refused 45 Write
+    [1]
+    $ depot list mail.depot ann
+    1 message "INBOX" "" message/rfc822 3678
+    $ rm in out
+
+## the answer is there before the next line is written
+    $ mkfifo in out
+    $ depot batch mail.depot < in > out & exec 3> in 4< out
+    > for n in 1 2 3; do echo 'deliver ann examples/ticket.eml' >&3; read -r entry <&4; read -r status <&4; echo "$entry $status"; done
+    > exec 3>&-; wait
+    1 message "INBOX" = 0
+    2 message "INBOX" = 0
+    3 message "INBOX" = 0
+    $ rm in out

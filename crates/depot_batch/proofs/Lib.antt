@@ -1,0 +1,4 @@
+mod WordLemmas
+mod Folding
+mod Writing
+mod Requesting

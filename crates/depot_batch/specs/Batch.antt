@@ -1,0 +1,210 @@
+-- What a batch does, line by line.
+use Rattle.std.specs.Prelude.{◌≡◌, ◌≢◌, ◌⊎◌, ℕ, ◌-◌, ◌^◌, List, [], ◌∷◌, ◌++◌, Option, None, Some, codes, length}
+use Rattle.std.specs.Fmt.{decimal}
+use Rattle.std.specs.Io.{StopsAt}
+use Rattle.std.specs.Io.KnownBytes.{Consumes, IsAtEnd}
+use Rattle.std.specs.List.{All, concat}
+use Rattle.std.specs.Str.{IsUtf8}
+use Rattle.sqlite_trees.specs.declared.store.Store.{Ghosts}
+use Rattle.sqlite_trees.specs.Tree.{Trees}
+use Rattle.sqlite.specs.Held.{Held, state}
+use Rattle.sqlite.specs.State.{HasCleanDisk, State, Survives}
+use Rattle.part_store.specs.Standing.{Spares}
+use Rattle.depot_actions.specs.Causes.{HasCause}
+use Rattle.depot_actions.specs.DepotState.{Command, SetScript, SetCode, Deliver, ListAll, Export as Exports, Remove, Migrate, Text as Written}
+use Rattle.depot_actions.specs.Device.{HasBroken, HasTaken, Output}
+use Rattle.depot_cli.specs.Host.{HasMade, HasNotMade, HostState, file, makes, with_call}
+use Rattle.depot_cli.specs.Jobs.{HasTold}
+use Rattle.depot_cli.specs.Printed.{line, refusal_line}
+use Rattle.depot_cli.specs.Running.{HasNotRead, HasRead}
+use Rattle.depot_cli.specs.Tasks.{HasAnswered, HasDone, HasRefused, MayAdd}
+use Rattle.refusals.specs.declared.refusal.Refusal.{Refusal}
+use Rattle.refusals.specs.declared.refusal.Refusal.TheVariants.{Database, Memory, Read, Write}
+use Rattle.depot_batch.specs.Requests.{AskNothing, Asks, Text}
+use Rattle.depot_batch.specs.Sentences.{wrong_line}
+use Rattle.depot_batch.specs.Words.{words_of}
+use Rattle.depot_batch.specs.declared.fault.LineFault.{LineFault}
+use Rattle.depot_batch.specs.declared.fault.LineFault.TheVariants as faults
+use Rattle.depot_batch.specs.declared.outcome.Outcome.{Outcome}
+use Rattle.depot_batch.specs.declared.outcome.Outcome.TheVariants.{Done, Refused, Wrong}
+use Rattle.depot_batch.specs.declared.request.Export.{Export}
+use Rattle.depot_batch.specs.declared.request.Request.{Request}
+use Rattle.depot_batch.specs.declared.request.Request.TheVariants as requests
+
+-- ---- what a line asks for
+
+-- the words of a line, which a line break ends
+abbrev pub HasWords : List ℕ → List (List ℕ) → Type 0
+HasWords octets words = (text : List ℕ) × (octets ≡ text ++ 10 ∷ []) × (words_of text ≡ Some words)
+
+-- what a line asks for
+abbrev pub IsAsked : List ℕ → Request → Type 0
+IsAsked octets request = (words : List Text) × HasWords octets words × Asks words request
+
+-- why it asks for nothing
+abbrev pub IsWrong : List ℕ → LineFault → Type 0
+IsWrong octets faults.Unfinished = (text : List ℕ) → octets ≡ text ++ 10 ∷ [] → ⊥
+IsWrong octets faults.Words = (text : List ℕ) × (octets ≡ text ++ 10 ∷ []) × (words_of text ≡ None)
+IsWrong octets faults.NotText = (words : List (List ℕ)) × HasWords octets words × (All IsUtf8 words → ⊥)
+IsWrong octets fault = (words : List Text) × HasWords octets words × AskNothing words fault
+
+-- ---- what is answered
+
+-- the line that ends an answer
+abbrev pub closing : Outcome → List ℕ
+closing Done = line (codes "= 0")
+closing (Refused refusal) = line (codes "= 1")
+closing Wrong = line (codes "= 2")
+
+-- that an entry was exported
+abbrev pub exported_text : ℕ → List ℕ
+exported_text number = line (codes "exported " ++ decimal number)
+
+-- the file that a request reads
+abbrev pub file_of : Request → Option Text
+file_of (requests.Script user script) = Some script.now
+file_of (requests.Code user program) = Some program.now
+file_of (requests.Deliver user message) = Some message.now
+file_of (requests.List user) = None
+file_of (requests.Export export) = None
+file_of (requests.Remove user number) = None
+file_of requests.Migrate = None
+
+-- what it asks of the depot, with the octets of that file
+abbrev pub command_of : Request → List ℕ → Command
+command_of (requests.Script user script) octets = SetScript user.now octets
+command_of (requests.Code user program) octets = SetCode user.now octets
+command_of (requests.Deliver user message) octets = Deliver user.now octets
+command_of (requests.List user) octets = ListAll user.now
+command_of (requests.Export export) octets = Exports export.user.now export.number export.encoding
+command_of (requests.Remove user number) octets = Remove user.now number
+command_of requests.Migrate octets = Migrate
+
+-- the file was read, if there is one
+abbrev pub HasReadFile : Option Text → List ℕ → HostState → HostState → Type 0
+HasReadFile None octets old new = (octets ≡ []) × (new ≡ old)
+HasReadFile (Some name) octets old new = HasRead (file name) octets old new
+
+-- it was not read
+abbrev pub HasNotReadFile : Refusal → Option Text → HostState → HostState → Type 0
+HasNotReadFile refusal None old new = ⊥
+HasNotReadFile refusal (Some name) old new = HasNotRead refusal (file name) old new
+
+module _ {S : Type 0} (g : Ghosts S) where
+  -- what a request reads was read, and the depot did what is asked, with this text as the answer
+  abbrev pub HasReplied : Request → List ℕ → Held S → Held S → HostState → HostState → Type 0
+  HasReplied request text old new host host2 =
+      (octets : List ℕ) × HasReadFile (file_of request) octets host host2 × HasAnswered (command_of request octets) text (state g old) (state g new)
+
+  -- It was not read, and nothing was asked of the depot; or the depot refused what was asked, and is as it was.
+  abbrev pub HasNotReplied : Request → Refusal → Held S → Held S → HostState → HostState → Type 0
+  HasNotReplied request refusal old new host host2 =
+      (HasNotReadFile refusal (file_of request) host host2 × (new ≡ old))
+      ⊎ ((octets : List ℕ) × HasReadFile (file_of request) octets host host2 × HasRefused (command_of request octets) refusal (state g old) (state g new))
+
+  -- the text of an entry was made a file, which isn't the depot's own
+  abbrev pub HasExported : Text → Export → Held S → Held S → HostState → HostState → Type 0
+  HasExported name export old new host host2 =
+      (text : List ℕ) × HasMade export.file.now name text host host2
+      × HasDone (Exports export.user.now export.number export.encoding) (Written text) (state g old) (state g new)
+
+  -- It was not: the file could not be made, or the depot refused. No file was kept, and the depot is as it was.
+  abbrev pub HasNotExported : Text → Export → Refusal → Held S → Held S → HostState → HostState → Type 0
+  HasNotExported name export refusal old new host host2 =
+      (HasNotMade refusal export.file.now name host host2
+      ⊎ ((host2 ≡ with_call (makes export.file.now name) host)
+      × (HasCleanDisk (state g new) → HasCause refusal (Exports export.user.now export.number export.encoding) (state g old))))
+      × (HasCleanDisk (state g new) → Spares (state g old) (state g new))
+
+  -- a request was done, with this text as the answer
+  abbrev pub IsDone : Text → Request → List ℕ → Held S → Held S → HostState → HostState → Type 0
+  IsDone name (requests.Export export) text old new host host2 = (text ≡ exported_text export.number) × HasExported name export old new host host2
+  IsDone name request text old new host host2 = HasReplied request text old new host host2
+
+  -- a request was refused
+  abbrev pub IsRefused : Text → Request → Refusal → Held S → Held S → HostState → HostState → Type 0
+  IsRefused name (requests.Export export) refusal old new host host2 = HasNotExported name export refusal old new host host2
+  IsRefused name request refusal old new host host2 = HasNotReplied request refusal old new host host2
+
+-- what lines are answered with: the depot, the host and standard output
+pub record Office (S : Type 0) : Type 0 where
+  pub depot : Held S
+  pub host : HostState
+  pub out : Output
+
+module _ {S : Type 0} (g : Ghosts S) where
+  abbrev pub office : Held S → HostState → Output → Office S
+  office depot host out = record { depot = depot; host = host; out = out }
+
+  -- nothing happened to the depot and the host
+  abbrev pub IsIdle : Office S → Office S → Type 0
+  IsIdle old new = (new.depot ≡ old.depot) × (new.host ≡ old.host)
+
+  -- what came of a line, and the text of its answer
+  abbrev pub HasCome : Text → List ℕ → Outcome → List ℕ → Office S → Office S → Type 0
+  HasCome name octets Done text old new = (request : Request) × IsAsked octets request × IsDone g name request text old.depot new.depot old.host new.host
+  HasCome name octets (Refused refusal) text old new =
+      (text ≡ refusal_line refusal)
+      × (((refusal ≡ Memory) × IsIdle old new) ⊎ ((request : Request) × IsAsked octets request × IsRefused g name request refusal old.depot new.depot old.host new.host))
+  HasCome name octets Wrong text old new = (fault : LineFault) × IsWrong octets fault × (text ≡ wrong_line fault) × IsIdle old new
+
+  -- what a crash may leave of the depot at a line: what it could have left before, or what the line's command makes of it
+  abbrev pub Outlasts : List ℕ → Office S → Office S → Type 0
+  Outlasts octets old new =
+      Survives (state g old.depot) (state g new.depot)
+      (λ trees. (request : Request) × IsAsked octets request × (file : List ℕ) × MayAdd (command_of request file) (state g old.depot) trees)
+
+  -- a line was answered: its text and what ends that were written
+  pub record IsAnswered (name octets : List ℕ) (outcome : Outcome) (old new : Office S) : Type 0 where
+    pub text : List ℕ
+    pub come : HasCome name octets outcome text old new
+    pub written : HasTaken (text ++ closing outcome) old.out new.out
+    pub outlasts : Outlasts octets old new
+
+  -- or the sink broke while they were
+  pub record IsBrokenOff (name octets : List ℕ) (old new : Office S) : Type 0 where
+    pub outcome : Outcome
+    pub text : List ℕ
+    pub come : HasCome name octets outcome text old new
+    pub broken : HasBroken (text ++ closing outcome) old.out new.out
+    pub outlasts : Outlasts octets old new
+
+  -- the lines of a batch were answered, one after another; none was refused `Database`
+  abbrev pub AreAnswered : Text → List (List ℕ) → Office S → Office S → Type 0
+  AreAnswered name [] old new = new ≡ old
+  AreAnswered name (octets ∷ lines) old new =
+      StopsAt octets 10 × (outcome : Outcome) × (mid : Office S) × IsAnswered name octets outcome old mid × (outcome ≢ Refused Database)
+      × AreAnswered name lines mid new
+
+  -- the trees are what a command of one of the lines makes of what the lines before it left
+  pub record IsMadeAtOne (name : Text) (lines : List (List ℕ)) (old : Office S) (trees : Trees) : Type 0 where
+    pub before : List (List ℕ)
+    pub octets : List ℕ
+    pub later : List (List ℕ)
+    pub are : lines ≡ before ++ octets ∷ later
+    pub mid : Office S
+    pub answered : AreAnswered name before old mid
+    pub request : Request
+    pub asked : IsAsked octets request
+    pub file : List ℕ
+    pub made : MayAdd (command_of request file) (state g mid.depot) trees
+
+  -- Why a batch ends, with this status, after these octets: none, at the end of the input; a line that is refused `Database`; one whose answer
+  -- broke off, which is told on standard error; or what came of a line before reading failed, which is told there.
+  abbrev pub Ends : Text → ℕ → Option (List ℕ) → List ℕ → ℕ → Office S → Office S → Output → Output → Type 0
+  Ends name status rest last lines old new err err2 =
+      ((status ≡ 0) × (last ≡ []) × (IsAtEnd rest ⊎ (lines ≡ 2 ^ 64 - 1)) × (new ≡ old) × (err2 ≡ err))
+      ⊎ ((status ≡ 1) × StopsAt last 10 × IsAnswered name last (Refused Database) old new × (err2 ≡ err))
+      ⊎ ((status ≡ 1) × StopsAt last 10 × IsBrokenOff name last old new × HasTold Write err err2)
+      ⊎ ((status ≡ 1) × (new ≡ old) × (refusal : Refusal) × ((refusal ≡ Memory) ⊎ (refusal ≡ Read)) × HasTold refusal err err2)
+
+  -- a batch was served, with this status: lines were read and answered one after another, until it ended
+  pub record HasServed (name : Text) (status : ℕ) (given left : Option (List ℕ)) (old new : Office S) (err err2 : Output) : Type 0 where
+    pub lines : List (List ℕ)
+    pub last : List ℕ
+    pub rest : Option (List ℕ)
+    pub read : Consumes given rest (concat lines)
+    pub read_last : Consumes rest left last
+    pub mid : Office S
+    pub answered : AreAnswered name lines old mid
+    pub ended : Ends name status rest last (length lines) mid new err err2

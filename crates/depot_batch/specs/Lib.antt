@@ -1,0 +1,5 @@
+pub mod Words
+pub mod Requests
+pub mod Sentences
+pub mod Batch
+pub mod Answers

@@ -1,0 +1,77 @@
+-- What the words of a line ask for.
+use Rattle.std.specs.Prelude.{◌≡◌, ◌≢◌, ◌⊎◌, ℕ, ◌≤◌, List, [], ◌∷◌, Option, Some, None, codes, if◌then◌else◌, length}
+use Rattle.std.specs.Str.{bytes_eq}
+use Rattle.std.specs.Str.Parse.{digits_value, without_leading_plus}
+use Rattle.depot_actions.specs.declared.encoding.Encoding.{Encoding}
+use Rattle.depot_actions.specs.declared.encoding.Encoding.TheVariants.{Raw, Base64, Base64Mime, Base32, Base32Hex, Base16, Qp}
+use Rattle.depot_cli.specs.Words.{IsNumberText}
+use Rattle.depot_batch.specs.declared.fault.LineFault.{LineFault}
+use Rattle.depot_batch.specs.declared.fault.LineFault.TheVariants as faults
+use Rattle.depot_batch.specs.declared.fault.Form.{Form}
+use Rattle.depot_batch.specs.declared.fault.Form.TheVariants as forms
+use Rattle.depot_batch.specs.declared.request.Request.{Request}
+use Rattle.depot_batch.specs.declared.request.Request.TheVariants as requests
+
+abbrev pub Text : Type 0
+Text = List ℕ
+
+-- the number of an entry: decimal digits, perhaps after a plus sign, of 1 to 2^32 - 1
+pub record IsEntryNumber (text : Text) (number : ℕ) : Type 0 where
+  pub numeral : IsNumberText text
+  pub value : number ≡ digits_value 10 (without_leading_plus text)
+  pub some : 1 ≤ number
+
+-- the encoding of a name
+abbrev pub encoding_of : Text → Option Encoding
+encoding_of name =
+    if bytes_eq name (codes "raw") then Some Raw
+    else if bytes_eq name (codes "base64") then Some Base64
+    else if bytes_eq name (codes "base64-mime") then Some Base64Mime
+    else if bytes_eq name (codes "base32") then Some Base32
+    else if bytes_eq name (codes "base32hex") then Some Base32Hex
+    else if bytes_eq name (codes "base16") then Some Base16
+    else if bytes_eq name (codes "qp") then Some Qp
+    else None
+
+-- words ask for this
+abbrev pub Asks : List Text → Request → Type 0
+Asks words (requests.Script user script) = words ≡ codes "script" ∷ user.now ∷ script.now ∷ []
+Asks words (requests.Code user program) = words ≡ codes "code" ∷ user.now ∷ program.now ∷ []
+Asks words (requests.Deliver user message) = words ≡ codes "deliver" ∷ user.now ∷ message.now ∷ []
+Asks words (requests.List user) = words ≡ codes "list" ∷ user.now ∷ []
+Asks words (requests.Export export) =
+    (digits name : Text) × (words ≡ codes "export" ∷ export.user.now ∷ digits ∷ name ∷ export.file.now ∷ []) × IsEntryNumber digits export.number
+    × (encoding_of name ≡ Some export.encoding)
+Asks words (requests.Remove user number) =
+    (digits : Text) × (words ≡ codes "remove" ∷ user.now ∷ digits ∷ []) × IsEntryNumber digits number
+Asks words requests.Migrate = words ≡ codes "migrate" ∷ []
+
+-- the form of a command: its name, and how many words come after that
+abbrev pub name_of : Form → Text
+name_of forms.Script = codes "script"
+name_of forms.Code = codes "code"
+name_of forms.Deliver = codes "deliver"
+name_of forms.List = codes "list"
+name_of forms.Export = codes "export"
+name_of forms.Remove = codes "remove"
+name_of forms.Migrate = codes "migrate"
+
+abbrev pub words_after : Form → ℕ
+words_after forms.Script = 2
+words_after forms.Code = 2
+words_after forms.Deliver = 2
+words_after forms.List = 1
+words_after forms.Export = 4
+words_after forms.Remove = 2
+words_after forms.Migrate = 0
+
+-- Why words ask for nothing: the first is no command's name; so many don't come after it; or one that should be a number or an encoding
+-- is none.
+abbrev pub AskNothing : List Text → LineFault → Type 0
+AskNothing words faults.NoCommand = (form : Form) (rest : List Text) → words ≡ name_of form ∷ rest → ⊥
+AskNothing words (faults.Form form) = (rest : List Text) × (words ≡ name_of form ∷ rest) × (length rest ≢ words_after form)
+AskNothing words faults.Number =
+    (name user digits : Text) × (rest : List Text) × (words ≡ name ∷ user ∷ digits ∷ rest) × ((number : ℕ) → IsEntryNumber digits number → ⊥)
+AskNothing words faults.Encoding =
+    (name user digits encoding : Text) × (rest : List Text) × (words ≡ name ∷ user ∷ digits ∷ encoding ∷ rest) × (encoding_of encoding ≡ None)
+AskNothing words fault = ⊥

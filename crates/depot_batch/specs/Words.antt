@@ -1,0 +1,117 @@
+-- The words of a line.
+use Rattle.std.specs.Prelude.{ℕ, ◌+◌, ◌*◌, ◌==◌, ◌&&◌, nat_lt, Bool, false, true, not, List, [], ◌∷◌, ◌++◌, take, drop, Option, Some, None, if◌then◌else◌}
+use Rattle.std.specs.Option.{option_map}
+use Rattle.std.specs.List.{list_any}
+use Rattle.std.specs.Char.{digit_value}
+
+-- a quotation mark
+abbrev pub is_quote : ℕ → Bool
+is_quote octet = octet == 34
+
+-- the value of a hexadecimal digit of either case
+abbrev pub hex_value : ℕ → Option ℕ
+hex_value octet = if nat_lt (digit_value octet) 16 then Some (digit_value octet) else None
+
+-- the octet of two values of digits
+abbrev pub both_digits : Option ℕ → Option ℕ → Option ℕ
+both_digits None low = None
+both_digits (Some high) low = option_map (λ l. 16 * high + l) low
+
+-- the octet of two such digits
+abbrev pub octet_of : ℕ → ℕ → Option ℕ
+octet_of high low = both_digits (hex_value high) (hex_value low)
+
+-- ---- the texts of the words
+
+-- octets before those of the first text
+abbrev pub before_first : List ℕ → List (List ℕ) → List (List ℕ)
+before_first octets [] = octets ∷ []
+before_first octets (text ∷ texts) = (octets ++ text) ∷ texts
+
+-- a space in no quotes, which ends a text
+abbrev pub is_gap : ℕ → Bool → Bool
+is_gap octet quoted = (octet == 32) && not quoted
+
+-- whether what comes after an octet stands in quotes
+abbrev pub is_quoted_after : ℕ → Bool → Bool
+is_quoted_after octet quoted = if is_quote octet then not quoted else quoted
+
+-- the texts between the spaces in no quotes; whether the octets begin in quotes is told
+unfoldable pub texts_from : Bool → List ℕ → List (List ℕ)
+texts_from quoted [] = [] ∷ []
+texts_from quoted (octet ∷ rest) =
+    if is_gap octet quoted then [] ∷ texts_from false rest
+    else before_first (octet ∷ []) (texts_from (is_quoted_after octet quoted) rest)
+
+-- the texts of a line's words
+abbrev pub texts_of : List ℕ → List (List ℕ)
+texts_of line = texts_from false line
+
+-- the texts of a line: the first, and those after its space; nothing public rests on this
+abbrev pub parted : List ℕ → List ℕ → List (List ℕ)
+parted text [] = text ∷ []
+parted text (space ∷ rest) = text ∷ texts_of rest
+
+-- the same, where the first has so many octets
+abbrev pub parted_at : ℕ → List ℕ → List (List ℕ)
+parted_at len line = parted (take len line) (drop len line)
+
+-- ---- what they say
+
+-- nothing more is said, if nothing comes after
+abbrev pub ending : List ℕ → Option (List ℕ)
+ending [] = Some []
+ending (octet ∷ rest) = None
+
+-- an octet before what else is said
+abbrev pub said_before : Option ℕ → Option (List ℕ) → Option (List ℕ)
+said_before None said = None
+said_before (Some octet) said = option_map (λ others. octet ∷ others) said
+
+-- Where the reading of a text in quotes stands: after an octet; after a backslash; after that and one octet.
+pub data Stand : Type 0 where
+  Plain : Stand
+  Escape : Stand
+  Half : ℕ → Stand
+
+-- What is said up to the quotation mark that ends the text: an octet says itself, and a backslash with two hexadecimal digits the octet
+-- of that value.
+unfoldable pub said_from : Stand → List ℕ → Option (List ℕ)
+said_from stand [] = None
+said_from Plain (octet ∷ rest) =
+    if is_quote octet then ending rest
+    else if octet == 92 then said_from Escape rest
+    else said_before (Some octet) (said_from Plain rest)
+said_from Escape (high ∷ rest) = said_from (Half high) rest
+said_from (Half high) (low ∷ rest) = said_before (octet_of high low) (said_from Plain rest)
+
+-- how the code goes on: the octet that digits say, and what is left; and the octet that one says with those after it; nothing public rests
+-- on these
+abbrev pub escape_at : List ℕ → Option (ℕ × List ℕ)
+escape_at (high ∷ low ∷ rest) = option_map (λ octet. (octet, rest)) (octet_of high low)
+escape_at _ = None
+
+abbrev pub said_at : ℕ → List ℕ → Option (ℕ × List ℕ)
+said_at octet rest = if octet == 92 then escape_at rest else Some (octet, rest)
+
+-- what a text says: one in quotes what is between them; one without quotes itself
+abbrev pub word_in : List ℕ → Option (List ℕ)
+word_in [] = None
+word_in (octet ∷ rest) =
+    if is_quote octet then said_from Plain rest
+    else if list_any is_quote rest then None
+    else Some (octet ∷ rest)
+
+-- a word and those after it, where all are words
+abbrev pub with_word : Option (List ℕ) → Option (List (List ℕ)) → Option (List (List ℕ))
+with_word None words = None
+with_word (Some word) words = option_map (λ others. word ∷ others) words
+
+-- what texts say, one after another, if each says something
+unfoldable pub words_in : List (List ℕ) → Option (List (List ℕ))
+words_in [] = Some []
+words_in (text ∷ texts) = with_word (word_in text) (words_in texts)
+
+-- the words of a line, if it is made of words
+abbrev pub words_of : List ℕ → Option (List (List ℕ))
+words_of line = words_in (texts_of line)

@@ -1,0 +1,22 @@
+//! Many commands over one open depot: `depot batch DB`.
+//!
+//! [`batch`] reads lines, each of which is a command on the depot in words ([`words_of`],
+//! `specs/Words`; [`request_of`], `specs/Requests`), does it, and writes the answer, which a line with
+//! its status ends (`specs/Batch`). So whoever is at the other end of a pipe sees what came of a
+//! command when it has happened.
+#![tactic(auto)]
+
+mod answering;
+mod serving;
+mod fault;
+pub mod laws;
+mod line;
+mod outcome;
+mod request;
+mod words;
+
+pub use serving::batch;
+pub use fault::{Form, LineFault};
+pub use outcome::Outcome;
+pub use request::{Export, Request, request_of};
+pub use words::words_of;

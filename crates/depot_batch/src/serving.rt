@@ -1,0 +1,72 @@
+// The lines of a batch.
+ghost use Rattle.std.specs.Prelude.{◌≡◌, ◌⊎◌, IfErr, IfOk, OnErr, length, List, ℕ};
+ghost use Rattle.std.specs.Io.{StopsAt};
+ghost use Rattle.std.specs.Io.KnownBytes.{Consumes, IsAtEnd};
+ghost use Rattle.refusals.specs.declared.refusal.Refusal.TheVariants.{Memory, Read};
+ghost use Rattle.depot_batch.specs.Batch.{HasServed, office};
+
+use crate::line::serve;
+use crate::outcome::Outcome;
+use depot_actions::{Depot, DeviceFailed, OfWrite, Sink};
+use depot_cli::{Host, Refusal, tell};
+use sqlite::Alter;
+use std::alloc::Global;
+use std::io::{BufRead, ErrorKind, Write};
+
+/// The status of a batch whose input has ended.
+const SUCCESS: u8 = 0;
+
+/// The status of one that ended before.
+const REFUSED: u8 = 1;
+
+/// Does the commands of the lines that the input has, one after another, on the depot in the file
+/// of this name, and answers each before the next one is read. Gives 0 at the end of the input.
+///
+/// It gives 1 after a line that is refused `Database`, since a failure may have shut the depot's
+/// store; and where the input or `out` fails, or memory is refused for a line, of which the line of
+/// `Read`, `Write` or `Memory` is written to `err`. It ends after 2^64 - 1 lines, too.
+pub fn batch<S: Alter, H: Host, R: BufRead, W: Write + Drop, E: Sink>(
+    alloc: Global,
+    name: &str,
+    depot: &mut Depot<S>,
+    host: &mut H,
+    input: &mut R,
+    out: &mut OfWrite<W>,
+    err: &mut E,
+) -> u8
+    ensures { HasServed S.Store name.now result (R.remaining input.old) (R.remaining input.new)
+        (office S.Store depot.old (H.state host.old) (⟦<OfWrite<W> as Sink>⟧.output out.old))
+        (office S.Store depot.new (H.state host.new) (⟦<OfWrite<W> as Sink>⟧.output out.new))
+        (E.output err.old) (E.output err.new) }
+{
+    let mut line = Vec::new(alloc);
+    'lines: for _ in 0..u64::MAX {
+        match next_line(input, &mut line) {
+            Ok(0) => return SUCCESS,
+            Ok(_) => match serve(alloc, name, &line, depot, host, out) {
+                Ok(Outcome::Refused(Refusal::Database)) => return REFUSED,
+                Ok(_) => {}
+                Err(DeviceFailed) => return tell(err, &Refusal::Write),
+            },
+            Err(refusal) => return tell(err, &refusal),
+        }
+    }
+    SUCCESS
+}
+
+// The next line of the input, with its line break unless the input ends within it: how many octets
+// it has, none at the end.
+fn next_line<R: BufRead>(input: &mut R, line: &mut Vec<u8>) -> Result<usize, Refusal>
+    ensures length { IfOk result (λ n. n ≡ length line.new.items) }
+    ensures end { IfOk result (λ n. n ≡ 0 → IsAtEnd (R.remaining input.old)) }
+    ensures stops { StopsAt line.new.items 10 }
+    ensures read { Consumes (R.remaining input.old) (R.remaining input.new) line.new.items }
+    ensures refused { IfErr result (λ e. (e ≡ Memory) ⊎ (e ≡ Read)) }
+{
+    line.clear();
+    match input.read_until(b'\n', line) {
+        Ok(octets) => Ok(octets),
+        Err(fault) if fault.kind() == ErrorKind::OutOfMemory => Err(Refusal::Memory),
+        Err(_) => Err(Refusal::Read),
+    }
+}

@@ -1,0 +1,173 @@
+// The words of a line.
+ghost use Rattle.std.specs.Prelude.{◌≡◌, ◌∷◌, [], IfOk, length, take, drop, ◌≤◌, map, option_map, IfSome, MatchOption};
+ghost use Rattle.std.specs.List.{list_any};
+ghost use Rattle.depot_batch.specs.Words.{Plain, escape_at, hex_value, is_gap, octet_of, said_at, is_quoted_after, parted_at, is_quote, said_from, texts_of, word_in, words_in, words_of};
+
+use std::alloc::{AllocError, Global};
+
+/// The words of a line, in their order: `None` where it isn't made of words.
+///
+/// # Errors
+///
+/// An allocation was refused.
+pub fn words_of(alloc: Global, line: &[u8]) -> Result<Option<Vec<Vec<u8>>>, AllocError>
+    ensures { IfOk result (λ found. option_map (λ words. map (λ w. w.items) words.items) found ≡ words_of line.now) }
+{
+    let texts = texts_of(alloc, line)?;
+    let mut words = Vec::new(alloc);
+    'texts: for text in texts.iter() {
+        match word_in(alloc, text)? {
+            Some(word) => words.push(word)?,
+            None => return Ok(None),
+        }
+    }
+    Ok(Some(words))
+}
+
+// The texts between the spaces of a line that stand in no quotes.
+fn texts_of<'a>(alloc: Global, line: &'a [u8]) -> Result<Vec<&'a [u8]>, AllocError>
+    ensures { IfOk result (λ texts. map (λ t. t.now) texts.items ≡ texts_of line.entry.now) }
+{
+    let mut texts = Vec::new(alloc);
+    let mut rest = line;
+    'texts: loop {
+        let (text, after) = rest.split_at(first_len(rest));
+        texts.push(text)?;
+        match after {
+            [_, later @ ..] => rest = later,
+            [] => return Ok(texts),
+        }
+    }
+}
+
+// How many octets stand before the first space that stands in no quotes.
+fn first_len(octets: &[u8]) -> usize
+    ensures bound { result ≤ length octets.now }
+    ensures first { texts_of octets.now ≡ parted_at result octets.now }
+{
+    let mut len = 0;
+    let mut quoted = false;
+    'octets: while len < octets.len() {
+        let octet = octets[len];
+        if is_gap(octet, quoted) {
+            return len;
+        }
+        quoted = is_quoted_after(octet, quoted);
+        len += 1;
+    }
+    len
+}
+
+// Whether an octet ends a text.
+fn is_gap(octet: u8, quoted: bool) -> bool
+    ensures { result ≡ is_gap octet quoted }
+{
+    octet == b' ' && !quoted
+}
+
+// Whether what comes after an octet stands in quotes.
+fn is_quoted_after(octet: u8, quoted: bool) -> bool
+    ensures { result ≡ is_quoted_after octet quoted }
+{
+    if octet == b'"' { !quoted } else { quoted }
+}
+
+// What a text says.
+fn word_in(alloc: Global, text: &[u8]) -> Result<Option<Vec<u8>>, AllocError>
+    ensures { IfOk result (λ said. option_map (λ w. w.items) said ≡ word_in text.now) }
+{
+    match text {
+        [] => Ok(None),
+        [b'"', rest @ ..] => said_in(alloc, rest),
+        [_, rest @ ..] if has_quote(rest) => Ok(None),
+        _ => Ok(Some(text.to_vec(alloc)?)),
+    }
+}
+
+// Whether a quotation mark is among octets.
+fn has_quote(octets: &[u8]) -> bool
+    ensures { result ≡ list_any is_quote octets.now }
+{
+    octets.iter().any(|octet| *octet == b'"')
+}
+
+// The first octet, and those after it.
+fn first(octets: &[u8]) -> Option<(u8, &[u8])>
+    ensures { MatchOption result (octets.now ≡ []) (λ x. octets.now ≡ x.0 ∷ x.1.now) }
+{
+    match octets {
+        [octet, rest @ ..] => Some((*octet, rest)),
+        [] => None,
+    }
+}
+
+// What is said up to the quotation mark that ends a text.
+fn said_in(alloc: Global, octets: &[u8]) -> Result<Option<Vec<u8>>, AllocError>
+    ensures { IfOk result (λ said. option_map (λ w. w.items) said ≡ said_from Plain octets.now) }
+{
+    let mut said = Vec::new(alloc);
+    let mut rest = octets;
+    'octets: while let Some((octet, after)) = first(rest) {
+        if octet == b'"' {
+            if after.is_empty() {
+                return Ok(Some(said));
+            }
+            return Ok(None);
+        }
+        match said_of(octet, after) {
+            Some((one, later)) => {
+                said.push(one)?;
+                rest = later;
+            }
+            None => return Ok(None),
+        }
+    }
+    Ok(None)
+}
+
+// The octet that one says with those after it, and what is left.
+fn said_of(octet: u8, rest: &[u8]) -> Option<(u8, &[u8])>
+    ensures said { option_map (λ x. (x.0, x.1.now)) result ≡ said_at octet rest.now }
+    ensures shorter { IfSome result (λ x. length x.1.now ≤ length rest.now) }
+{
+    if octet == b'\\' {
+        escape_of(rest)
+    } else {
+        Some((octet, rest))
+    }
+}
+
+// The octet whose digits stand first, and what is left after them.
+fn escape_of(octets: &[u8]) -> Option<(u8, &[u8])>
+    ensures said { option_map (λ x. (x.0, x.1.now)) result ≡ escape_at octets.now }
+    ensures shorter { IfSome result (λ x. length x.1.now ≤ length octets.now) }
+{
+    let [high, low, rest @ ..] = octets else {
+        return None;
+    };
+    match octet_of(*high, *low) {
+        Some(octet) => Some((octet, rest)),
+        None => None,
+    }
+}
+
+// The octet of two hexadecimal digits of either case.
+fn octet_of(high: u8, low: u8) -> Option<u8>
+    ensures { result ≡ octet_of high low }
+{
+    let high = hex_value(high)?;
+    let low = hex_value(low)?;
+    Some(16 * high + low)
+}
+
+// The value of a hexadecimal digit of either case.
+fn hex_value(octet: u8) -> Option<u8>
+    ensures { result ≡ hex_value octet }
+{
+    match octet {
+        b'0'..=b'9' => Some(octet - b'0'),
+        b'a'..=b'f' => Some(octet - b'a' + 10),
+        b'A'..=b'F' => Some(octet - b'A' + 10),
+        _ => None,
+    }
+}
