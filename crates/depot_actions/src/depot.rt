@@ -253,6 +253,8 @@ impl<S: Alter> Depot<S> {
         ensures spared { HasCleanDisk (state S.Store self.new) → OnErr result (Spares (state S.Store self.old) (state S.Store self.new)) }
         ensures which { IfErr result (MayRefuse Migrate) }
         ensures refused { HasCleanDisk (state S.Store self.new) → IfErr result (λ e. HasCause e Migrate (state S.Store self.old)) }
+        ensures cause { HasCleanDisk (state S.Store self.new) → AreNamed (state S.Store self.old).now.trees
+            → IfErr result (IsFault Migrate (state S.Store self.old) (state S.Store self.new)) }
         ensures survives { Survives (state S.Store self.old) (state S.Store self.new) (MayLeave Migrate (state S.Store self.old)) }
     {
         let stored = self.store.programs().map_err(refused)?;
