@@ -1,7 +1,7 @@
 use Rattle.part_store.specs.Standing.{listed}
 use Rattle.part_store.specs.Entries.{Listing}
 use Rattle.std.proofs.lemmas.Result.{IfErr-weaker}
-use Rattle.std.proofs.Common.{◌^◌, ◌≤◌, ◌∙◌, ap, inr, map, string_bytes, subst, sum_by}
+use Rattle.std.proofs.Common.{◌^◌, ◌≤◌, ◌∙◌, ap, inr, map, subst, sum_by}
 use Rattle.depot_actions.proofs.inspecting.summary.Goals as goal
 
 pub returns-clause-cause : goal.returns-clause-cause

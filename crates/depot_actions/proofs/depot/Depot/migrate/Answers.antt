@@ -88,7 +88,7 @@ returns-in_err-stored-clause-cause g c clean named =
     let new = state g.S.Store c.programs.new.self in
     let names = subst (λ h. AreNamed (state g.S.Store h).now.trees) (sym c.self.view_is) named in
     let fault = failure_told (IsHindered Migrate) old new c.programs.result c.map_err.result c.map_err.ensures.cases
-        (IfErr-weaker c.programs.result _ _ (λ e h is before stands. h is before stands names) (c.programs.ensures.cause clean)) in
+    (IfErr-weaker c.programs.result _ _ (λ e h is before stands. h is before stands names) (c.programs.ensures.cause clean)) in
     subst (λ h. IfErr c.from_residual.result (IsFault Migrate (state g.S.Store h) new)) c.self.view_is
     (passed_on c.from_residual.result _ _ c.from_residual.ensures.1 (of_refusal c.map_err.result _ _ c.in_err-stored.was fault))
 
