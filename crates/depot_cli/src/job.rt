@@ -316,10 +316,7 @@ fn list_refused(alloc: Global, program: &Program, rule: BrokenRule) -> Result<Li
         return Err(Refusal::Memory);
     }
     let listing = disassemble_refused(alloc, program, &rule)?;
-    Ok(Lines::Listing(
-        listing,
-        Verdict::Refused(Refusal::from(rule)),
-    ))
+    Ok(Lines::Listing(listing, Verdict::Refused(Refusal::from(rule))))
 }
 
 // Makes the file of the program that a listing says; or says in words what is wrong with the
