@@ -1,9 +1,10 @@
 // The lines of a batch.
-ghost use Rattle.std.specs.Prelude.{◌≡◌, ◌⊎◌, IfErr, IfOk, OnErr, length, List, ℕ};
+ghost use Rattle.std.specs.Prelude.{◌≡◌, ◌⊎◌, IfErr, IfOk, length, true, false};
 ghost use Rattle.std.specs.Io.{StopsAt};
 ghost use Rattle.std.specs.Io.KnownBytes.{Consumes, IsAtEnd};
-ghost use Rattle.refusals.specs.declared.refusal.Refusal.TheVariants.{Memory, Read};
+ghost use Rattle.refusals.specs.declared.refusal.Refusal.TheVariants.{Database, Memory, Read};
 ghost use Rattle.depot_batch.specs.Batch.{HasServed, office};
+ghost use Rattle.depot_batch.specs.declared.outcome.Outcome.TheVariants.{Refused};
 
 use crate::line::serve;
 use crate::outcome::Outcome;
@@ -44,14 +45,28 @@ pub fn batch<S: Alter, H: Host, R: BufRead, W: Write + Drop, E: Sink>(
         match next_line(input, &mut line) {
             Ok(0) => return SUCCESS,
             Ok(_) => match serve(alloc, name, &line, depot, host, out) {
-                Ok(Outcome::Refused(Refusal::Database)) => return REFUSED,
-                Ok(_) => {}
+                Ok(outcome) => {
+                    if is_shut_by(&outcome) {
+                        return REFUSED;
+                    }
+                }
                 Err(DeviceFailed) => return tell(err, &Refusal::Write),
             },
             Err(refusal) => return tell(err, &refusal),
         }
     }
     SUCCESS
+}
+
+// Whether the depot may be shut after what came of a line.
+fn is_shut_by(outcome: &Outcome) -> bool
+    ensures shut { result ≡ true → outcome.now ≡ Refused Database }
+    ensures goes_on { result ≡ false → outcome.now ≡ Refused Database → ⊥ }
+{
+    match outcome {
+        Outcome::Refused(Refusal::Database) => true,
+        Outcome::Done | Outcome::Refused(_) | Outcome::Wrong => false,
+    }
 }
 
 // The next line of the input, with its line break unless the input ends within it: how many octets
