@@ -4,7 +4,7 @@ use Rattle.std.proofs.KnownBytes.{Consumes-nil}
 use Rattle.depot_actions.specs.Device.{Output}
 use Rattle.depot_batch.specs.Batch.{IsAnswered, IsBrokenOff, office}
 use Rattle.depot_batch.proofs.LineLemmas.{ends, ends_broken, ends_shut, ends_unread, none_read, stands_on}
-use Rattle.depot_batch.proofs.serving.batch.Goals as goal
+use Rattle.depot_batch.proofs.serving.serve_lines.Goals as goal
 
 pub returns-in-Ok-eq0 : goal.returns-in-Ok-eq0
 returns-in-Ok-eq0 g c =

@@ -1,6 +1,6 @@
 use Rattle.depot_batch.specs.Batch.{office}
 use Rattle.depot_batch.proofs.LineLemmas.{StandsAfter}
-use Rattle.depot_batch.proofs.serving.batch.Given as goal
+use Rattle.depot_batch.proofs.serving.serve_lines.Given as goal
 
 abbrev pub invariant-lines : goal.invariant-lines
 invariant-lines g l =
