@@ -43,9 +43,8 @@
 
 ## no lines
     $ depot batch mail.depot < /dev/null
-    $ depot inspect mail.depot
+    $ depot inspect mail.depot | grep -v log
     depot
-    no log
     contents 0 octets 0
 
 ## what is no command is told, and nothing happens
@@ -158,7 +157,7 @@
     $ depot batch mail.depot < lines
     refused 46 Read
     = 1
-    refused 12 Syntax at 8
+    refused 11 Lexical at 6
     = 1
     refused 44 UserName
     = 1

@@ -82,24 +82,19 @@ fn save_program<H: Host, O: Sink, E: Sink>(
     status
 }
 
-// Opens the depot that a batch is on, and has the lines of standard input done on it.
+// Opens the depot of a batch, and has the lines of standard input done on it.
 fn take_batch<H: Host, E: Sink>(rt: &HostRuntime, name: &str, host: &mut H, err: &mut E) -> u8 {
-    let (mut input, writer) = match streams_of(rt) {
-        Ok(streams) => streams,
-        Err(_) => return tell(err, &Refusal::Memory),
+    let Ok(mut input) = BufReader::with_capacity(rt.alloc(), PIECE, rt.reader()) else {
+        return tell(err, &Refusal::Memory);
+    };
+    let Ok(writer) = BufWriter::with_capacity(rt.alloc(), PIECE, rt.stdout()) else {
+        return tell(err, &Refusal::Memory);
     };
     let mut out = OfWrite::new(writer);
     let mut opened = Depot::open(rt, name);
     let status = batch(rt.alloc(), name, &mut opened, host, &mut input, &mut out, err);
     close(opened);
     status
-}
-
-// Standard input and output, with a buffer each.
-fn streams_of(rt: &HostRuntime) -> io::Result<(BufReader<Reader>, BufWriter<Stdout>)> {
-    let input = BufReader::with_capacity(rt.alloc(), PIECE, rt.reader())?;
-    let out = BufWriter::with_capacity(rt.alloc(), PIECE, rt.stdout())?;
-    Ok((input, out))
 }
 
 // Says what a file is, and gives the status. What can be seen without opening it is looked at before.

@@ -2,3 +2,4 @@ mod WordLemmas
 mod Folding
 mod Writing
 mod Requesting
+mod LineLemmas

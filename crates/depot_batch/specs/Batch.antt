@@ -1,5 +1,5 @@
 -- What a batch does, line by line.
-use Rattle.std.specs.Prelude.{◌≡◌, ◌≢◌, ◌⊎◌, ℕ, ◌-◌, ◌^◌, List, [], ◌∷◌, ◌++◌, Option, None, Some, codes, length}
+use Rattle.std.specs.Prelude.{◌≡◌, ◌≢◌, ◌⊎◌, ℕ, ◌-◌, ◌^◌, List, [], ◌∷◌, ◌++◌, Option, None, Some, Result, Ok, Err, codes, length}
 use Rattle.std.specs.Fmt.{decimal}
 use Rattle.std.specs.Io.{StopsAt}
 use Rattle.std.specs.Io.KnownBytes.{Consumes, IsAtEnd}
@@ -208,3 +208,14 @@ module _ {S : Type 0} (g : Ghosts S) where
     pub mid : Office S
     pub answered : AreAnswered name lines old mid
     pub ended : Ends name status rest last (length lines) mid new err err2
+
+  -- What opening a depot gave was served a batch, with this status, and it is open still; or the refusal of opening was told, with status 1, and
+  -- nothing else happened.
+  abbrev pub IsServed :
+      Text → ℕ → Option (List ℕ) → Option (List ℕ) → Result (Held S) Refusal → Result (Held S) Refusal
+      → HostState → HostState → Output → Output → Output → Output → Type 0
+  IsServed name status given left (Ok old) (Ok new) host host2 out out2 err err2 =
+      HasServed name status given left (office old host out) (office new host2 out2) err err2
+  IsServed name status given left (Err refusal) (Err same) host host2 out out2 err err2 =
+      (same ≡ refusal) × (status ≡ 1) × HasTold refusal err err2 × (left ≡ given) × (host2 ≡ host) × (out2 ≡ out)
+  IsServed name status given left opened now host host2 out out2 err err2 = ⊥

@@ -65,13 +65,24 @@ pub fn request_of<'a>(words: &[&'a str]) -> Result<Request<'a>, LineFault>
     ensures asks { IfOk result (Asks (map (λ w. w.now) words.now)) }
     ensures nothing { IfErr result (AskNothing (map (λ w. w.now) words.now)) }
 {
-    let [name, rest @ ..] = words else {
-        return Err(LineFault::NoCommand);
-    };
-    match form_of(name) {
-        Some(form) if rest.len() != form.words_after() => Err(LineFault::Form(form)),
-        Some(form) => request_in(form, rest),
+    match split(words) {
+        Some((name, rest)) => match form_of(name) {
+            Some(form) if rest.len() != form.words_after() => Err(LineFault::Form(form)),
+            Some(form) => request_in(form, rest),
+            None => Err(LineFault::NoCommand),
+        },
         None => Err(LineFault::NoCommand),
+    }
+}
+
+// The first word, and those after it.
+fn split<'w, 'a>(words: &'w [&'a str]) -> Option<(&'a str, &'w [&'a str])>
+    ensures { MatchOption result (map (λ w. w.now) words.entry.now ≡ [])
+        (λ x. map (λ w. w.now) words.entry.now ≡ x.0.now ∷ map (λ w. w.now) x.1.now) }
+{
+    match words {
+        [first, rest @ ..] => Some((first, rest)),
+        [] => None,
     }
 }
 

@@ -1,9 +1,10 @@
 // The lines of a batch.
-ghost use Rattle.std.specs.Prelude.{◌≡◌, ◌⊎◌, IfErr, IfOk, OnErr, length, List, ℕ};
+ghost use Rattle.std.specs.Prelude.{◌≡◌, ◌⊎◌, IfErr, IfOk, length, true, false};
 ghost use Rattle.std.specs.Io.{StopsAt};
 ghost use Rattle.std.specs.Io.KnownBytes.{Consumes, IsAtEnd};
-ghost use Rattle.refusals.specs.declared.refusal.Refusal.TheVariants.{Memory, Read};
-ghost use Rattle.depot_batch.specs.Batch.{HasServed, office};
+ghost use Rattle.refusals.specs.declared.refusal.Refusal.TheVariants.{Database, Memory, Read};
+ghost use Rattle.depot_batch.specs.Batch.{HasServed, IsServed, office};
+ghost use Rattle.depot_batch.specs.declared.outcome.Outcome.TheVariants.{Refused};
 
 use crate::line::serve;
 use crate::outcome::Outcome;
@@ -19,13 +20,37 @@ const SUCCESS: u8 = 0;
 /// The status of one that ended before.
 const REFUSED: u8 = 1;
 
-/// Does the commands of the lines that the input has, one after another, on the depot in the file
-/// of this name, and answers each before the next one is read. Gives 0 at the end of the input.
+/// Serves a batch to what opening the depot in the file of this name gave, and gives the status: the
+/// commands of the lines that the input has are done, one after another, and each is answered before
+/// the next one is read; or the line of the refusal of opening is written to `err`, with 1. What was
+/// opened stays open, for whoever closes it.
 ///
-/// It gives 1 after a line that is refused `Database`, since a failure may have shut the depot's
-/// store; and where the input or `out` fails, or memory is refused for a line, of which the line of
-/// `Read`, `Write` or `Memory` is written to `err`. It ends after 2^64 - 1 lines, too.
+/// The status is 0 at the end of the input. It is 1 after a line that is refused `Database`, since a
+/// failure may have shut the depot's store; and where the input or `out` fails, or memory is refused
+/// for a line, of which the line of `Read`, `Write` or `Memory` is written to `err`. A batch ends
+/// after 2^64 - 1 lines, too.
 pub fn batch<S: Alter, H: Host, R: BufRead, W: Write + Drop, E: Sink>(
+    alloc: Global,
+    name: &str,
+    opened: &mut Result<Depot<S>, Refusal>,
+    host: &mut H,
+    input: &mut R,
+    out: &mut OfWrite<W>,
+    err: &mut E,
+) -> u8
+    ensures { IsServed S.Store name.now result (R.remaining input.old) (R.remaining input.new)
+        opened.old opened.new (H.state host.old) (H.state host.new)
+        (⟦<OfWrite<W> as Sink>⟧.output out.old) (⟦<OfWrite<W> as Sink>⟧.output out.new)
+        (E.output err.old) (E.output err.new) }
+{
+    match opened {
+        Ok(depot) => serve_lines(alloc, name, depot, host, input, out, err),
+        Err(refusal) => tell(err, refusal),
+    }
+}
+
+// Does the commands of the lines that the input has, one after another, on a depot.
+fn serve_lines<S: Alter, H: Host, R: BufRead, W: Write + Drop, E: Sink>(
     alloc: Global,
     name: &str,
     depot: &mut Depot<S>,
@@ -44,14 +69,28 @@ pub fn batch<S: Alter, H: Host, R: BufRead, W: Write + Drop, E: Sink>(
         match next_line(input, &mut line) {
             Ok(0) => return SUCCESS,
             Ok(_) => match serve(alloc, name, &line, depot, host, out) {
-                Ok(Outcome::Refused(Refusal::Database)) => return REFUSED,
-                Ok(_) => {}
+                Ok(outcome) => {
+                    if is_shut_by(&outcome) {
+                        return REFUSED;
+                    }
+                }
                 Err(DeviceFailed) => return tell(err, &Refusal::Write),
             },
             Err(refusal) => return tell(err, &refusal),
         }
     }
     SUCCESS
+}
+
+// Whether the depot may be shut after what came of a line.
+fn is_shut_by(outcome: &Outcome) -> bool
+    ensures shut { result ≡ true → outcome.now ≡ Refused Database }
+    ensures goes_on { result ≡ false → outcome.now ≡ Refused Database → ⊥ }
+{
+    match outcome {
+        Outcome::Refused(Refusal::Database) => true,
+        Outcome::Done | Outcome::Refused(_) | Outcome::Wrong => false,
+    }
 }
 
 // The next line of the input, with its line break unless the input ends within it: how many octets

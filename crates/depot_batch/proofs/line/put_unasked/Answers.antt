@@ -14,16 +14,16 @@ returns-in_err-put_wrong-in-Wrong-clause-broken g c =
 
 pub returns-in_ok-put_wrong-in-Wrong-clause-written : goal.returns-in_ok-put_wrong-in-Wrong-clause-written
 returns-in_ok-put_wrong-in-Wrong-clause-written g c =
-    rw c.in-Wrong.is (in_turn c.close.result Wrong (wrong_line c.in-Wrong.fault) (IsUnaskedText (unasked.Wrong c.in-Wrong.fault)) (refl, refl) c.in_ok-put_wrong-in-Wrong.ensures.ok c.close.ensures.outcome c.close.ensures.ok)
+    rw c.in-Wrong.is (in_turn _ _ _ c.close.result Wrong (wrong_line c.in-Wrong.fault) (IsUnaskedText (unasked.Wrong c.in-Wrong.fault)) (refl, refl) c.in_ok-put_wrong-in-Wrong.ensures.ok c.close.ensures.outcome c.close.ensures.ok)
 
 pub returns-in_ok-put_wrong-in-Wrong-clause-broken : goal.returns-in_ok-put_wrong-in-Wrong-clause-broken
 returns-in_ok-put_wrong-in-Wrong-clause-broken g c =
-    rw c.in-Wrong.is (broken_at_end c.close.result Wrong (wrong_line c.in-Wrong.fault) (IsUnaskedText (unasked.Wrong c.in-Wrong.fault)) (refl, refl) c.in_ok-put_wrong-in-Wrong.ensures.ok c.close.ensures.err)
+    rw c.in-Wrong.is (broken_at_end _ _ _ c.close.result Wrong (wrong_line c.in-Wrong.fault) (IsUnaskedText (unasked.Wrong c.in-Wrong.fault)) (refl, refl) c.in_ok-put_wrong-in-Wrong.ensures.ok c.close.ensures.err)
 
 pub returns-in-NoMemory-clause-written : goal.returns-in-NoMemory-clause-written
 returns-in-NoMemory-clause-written g c =
-    rw c.in-NoMemory.is (whole c.refuse.result (Refused Memory) (refusal_line Memory) (IsUnaskedText unasked.NoMemory) (refl, refl) c.refuse.ensures.outcome c.refuse.ensures.ok)
+    rw c.in-NoMemory.is (whole _ _ c.refuse.result (Refused Memory) (refusal_line Memory) (IsUnaskedText unasked.NoMemory) (refl, refl) c.refuse.ensures.outcome c.refuse.ensures.ok)
 
 pub returns-in-NoMemory-clause-broken : goal.returns-in-NoMemory-clause-broken
 returns-in-NoMemory-clause-broken g c =
-    rw c.in-NoMemory.is (broken_somewhere c.refuse.result (Refused Memory) (refusal_line Memory) (IsUnaskedText unasked.NoMemory) (refl, refl) c.refuse.ensures.err)
+    rw c.in-NoMemory.is (broken_somewhere _ _ c.refuse.result (Refused Memory) (refusal_line Memory) (IsUnaskedText unasked.NoMemory) (refl, refl) c.refuse.ensures.err)
