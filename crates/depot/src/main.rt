@@ -92,7 +92,15 @@ fn take_batch<H: Host, E: Sink>(rt: &HostRuntime, name: &str, host: &mut H, err:
     };
     let mut out = OfWrite::new(writer);
     let mut opened = Depot::open(rt, name);
-    let status = batch(rt.alloc(), name, &mut opened, host, &mut input, &mut out, err);
+    let status = batch(
+        rt.alloc(),
+        name,
+        &mut opened,
+        host,
+        &mut input,
+        &mut out,
+        err,
+    );
     close(opened);
     status
 }

@@ -10,7 +10,9 @@ ghost use Rattle.depot_batch.specs.Batch.{HasExported, HasNotExported, HasNotRea
 
 use crate::request::{Export, Request};
 use depot_actions::{Depot, DeviceFailed, Sink};
-use depot_cli::{Host, Input, Piece, Refusal, Reply, Task, put_pieces, put_reply, read_input, reply_to};
+use depot_cli::{
+    Host, Input, Piece, Refusal, Reply, Task, put_pieces, put_reply, read_input, reply_to,
+};
 use sqlite::Alter;
 use std::alloc::Global;
 
@@ -82,11 +84,7 @@ fn reply<S: Alter, H: Host>(
 }
 
 // The octets of the file of a request, none where it has none.
-fn read_file<H: Host>(
-    alloc: Global,
-    request: Request<'_>,
-    host: &mut H,
-) -> Result<Vec<u8>, Refusal>
+fn read_file<H: Host>(alloc: Global, request: Request<'_>, host: &mut H) -> Result<Vec<u8>, Refusal>
     ensures read { IfOk result (λ octets. HasReadFile (file_of request.entry) octets.items
         (H.state host.old) (H.state host.new)) }
     ensures unread { IfErr result (λ e. HasNotReadFile e (file_of request.entry)
@@ -153,7 +151,13 @@ fn export<S: Alter, H: Host>(
     ensures survives { Survives (state S.Store depot.old) (state S.Store depot.new) (λ _. ⊥) }
 {
     let mut file = host.create(alloc, wanted.file, name)?;
-    match depot.export(alloc, wanted.user, wanted.number, wanted.encoding, &mut file) {
+    match depot.export(
+        alloc,
+        wanted.user,
+        wanted.number,
+        wanted.encoding,
+        &mut file,
+    ) {
         Ok(()) => match host.persist(file) {
             Ok(()) => Ok(()),
             Err(DeviceFailed) => Err(Refusal::Write),

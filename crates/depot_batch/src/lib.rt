@@ -7,16 +7,16 @@
 #![tactic(auto)]
 
 mod answering;
-mod serving;
 mod fault;
 pub mod laws;
 mod line;
 mod outcome;
 mod request;
+mod serving;
 mod words;
 
-pub use serving::batch;
 pub use fault::{Form, LineFault};
 pub use outcome::Outcome;
 pub use request::{Export, Request, request_of};
+pub use serving::batch;
 pub use words::words_of;

@@ -170,10 +170,7 @@ fn put_wrong<O: Sink>(out: &mut O, fault: LineFault) -> Result<(), DeviceFailed>
 }
 
 // Writes the line of a refusal, and what ends the answer.
-fn refuse<W: Write + Drop>(
-    out: &mut OfWrite<W>,
-    refusal: Refusal,
-) -> Result<Outcome, DeviceFailed>
+fn refuse<W: Write + Drop>(out: &mut OfWrite<W>, refusal: Refusal) -> Result<Outcome, DeviceFailed>
     ensures outcome { IfOk result (λ outcome. outcome ≡ Refused refusal) }
     ensures ok { OnOk result (HasWritten (Refused refusal) (refusal_line refusal)
         (⟦<OfWrite<W> as Sink>⟧.output out.old) (⟦<OfWrite<W> as Sink>⟧.output out.new)) }
@@ -185,10 +182,7 @@ fn refuse<W: Write + Drop>(
 }
 
 // Writes the line that ends an answer, and has all of the answer written.
-fn close<W: Write + Drop>(
-    out: &mut OfWrite<W>,
-    outcome: Outcome,
-) -> Result<Outcome, DeviceFailed>
+fn close<W: Write + Drop>(out: &mut OfWrite<W>, outcome: Outcome) -> Result<Outcome, DeviceFailed>
     ensures outcome { IfOk result (λ same. same ≡ outcome) }
     ensures ok { OnOk result (HasTaken (closing outcome)
         (⟦<OfWrite<W> as Sink>⟧.output out.old) (⟦<OfWrite<W> as Sink>⟧.output out.new)) }
