@@ -30,3 +30,7 @@ Only if: python3 -c 'import sqlite3' # there is no sqlite3 for python3
 ## forty commands, each a process of its own
     $ "$TOP/cases/forty_commands" depot
     41 commands over one file, 0 answered otherwise than over memory
+
+## a batch answers as its commands do alone, and loses nothing where it is killed
+    $ "$TOP/cases/batches" depot
+    303 lines, 0 answered otherwise than alone; 20 batches killed, 0 left something else
