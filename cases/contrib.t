@@ -106,9 +106,42 @@ What a reader of mail did stays, and a second run adds what is new.
     2> refilter: check wrong: refused 15 UnknownCommand at 0
     [1]
 
+## an archive filtered anew, and gone on with
+    $ printf 'require "fileinto"; if header "Subject" "two" { fileinto "Two"; }' > script
+    $ mkdir archive
+    $ for n in one two 'th"ree'; do printf 'Subject: %s\n\n%s\n' "$n" "$n" > "archive/$n mail"; done
+    $ ls archive/* > list
+    $ head -n 1 list | "$TOP/contrib/refile" new.depot ann script journal
+    1 mails: 0 filed before, 1 filed now, 0 refused
+    $ depot deliver new.depot ann archive/'th"ree mail'
+    2 message "INBOX"
+    $ "$TOP/contrib/refile" new.depot ann script journal < list
+    3 mails: 1 filed before, 2 filed now, 0 refused
+    $ "$TOP/contrib/refile" new.depot ann script journal < list
+    3 mails: 3 filed before, 0 filed now, 0 refused
+    $ depot list new.depot ann
+    1 message "INBOX" "" message/rfc822 18
+    2 message "INBOX" "" message/rfc822 24
+    3 message "Two" "" message/rfc822 18
+    $ cut -f 1,2 journal | tr '\t' ' '
+    0 1
+    0 2
+    0 3
+    $ echo none | "$TOP/contrib/refile" new.depot ann script journal
+    1 mails: 0 filed before, 0 filed now, 1 refused
+    [1]
+    $ tail -n 1 journal | tr '\t' ' '
+    1 refused 46 Read 3 none
+    $ echo 'vacation;' > wrong
+    $ "$TOP/contrib/refile" new.depot ann wrong journal < list
+    2> refile: the script was refused: refused 15 UnknownCommand at 0
+    [1]
+    $ rm -r archive
+
 ## the tools without words say how they are called
-    $ for tool in deliver test_deliver to_maildir refilter; do "$TOP/contrib/$tool" > /dev/null 2> said; echo "$tool $?"; grep -c . said > lines; [ -s lines ] || echo silent; done
+    $ for tool in deliver test_deliver to_maildir refilter refile; do "$TOP/contrib/$tool" > /dev/null 2> said; echo "$tool $?"; grep -c . said > lines; [ -s lines ] || echo silent; done
     deliver 64
     test_deliver 2
     to_maildir 2
     refilter 2
+    refile 2
