@@ -114,7 +114,7 @@
     = 2
     ? words have one space between them, and others stand in quotes
     = 2
-    $ ls
+    $ ls | grep -v -e -wal
     depot
     examples
     lines
