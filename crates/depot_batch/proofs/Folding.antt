@@ -1,5 +1,5 @@
 -- The lines of a batch as calls of its depot.
-use Rattle.std.proofs.Common.{◌≡◌, ◌⊎◌, ◌++◌, ap, arith, inl, inr, refl, subst, sym, ℕ, List, [], ◌∷◌, Option, Some, None}
+use Rattle.std.proofs.Common.{◌≡◌, ◌⊎◌, ap, arith, inl, inr, refl, subst, ℕ, List, [], ◌∷◌, Some, None}
 use Rattle.sqlite_trees.specs.declared.store.Store.{Ghosts}
 use Rattle.sqlite_trees.specs.Tree.{Trees}
 use Rattle.sqlite.specs.Held.{Held, state}
@@ -8,7 +8,7 @@ use Rattle.depot_actions.specs.DepotState.{Export as Exports, Text as Written}
 use Rattle.depot_actions.specs.History.{Answers, AreAnswered as HaveReplied, Call}
 use Rattle.depot_cli.specs.Host.{HostState}
 use Rattle.refusals.specs.declared.refusal.Refusal.{Refusal}
-use Rattle.depot_batch.specs.Batch.{AreAnswered, HasCome, HasNotReplied, HasReplied, IsAnswered, IsDone, IsMadeAtOne, IsRefused, Office, command_of}
+use Rattle.depot_batch.specs.Batch.{AreAnswered, HasCome, HasNotReplied, HasReplied, IsDone, IsMadeAtOne, IsRefused, Office, command_of}
 use Rattle.depot_batch.specs.declared.outcome.Outcome.{Outcome}
 use Rattle.depot_batch.specs.declared.outcome.Outcome.TheVariants.{Done, Refused, Wrong}
 use Rattle.depot_batch.specs.declared.request.Request.{Request}

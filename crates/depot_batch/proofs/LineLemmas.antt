@@ -1,23 +1,21 @@
 -- What comes of a line, from what came of its words and of its request.
-use Rattle.std.proofs.Common.{◌≡◌, ◌≢◌, ◌⊎◌, ◌+◌, ◌-◌, ◌^◌, ◌++◌, ◌∙◌, append-nil, length-append, ap, inl, inr, refl, subst, sym, arith, ℕ, List, [], ◌∷◌, Option, Some, None, Result, Ok, Err, IfOk, OnErr, length}
+use Rattle.std.proofs.Common.{◌≡◌, ◌⊎◌, ◌+◌, ◌-◌, ◌^◌, ◌++◌, ◌∙◌, append-nil, length-append, ap, inl, inr, refl, subst, sym, arith, ℕ, List, [], ◌∷◌, Option, Result, Ok, Err, IfOk, OnErr, length}
 use Rattle.std.specs.List.{concat}
 use Rattle.std.specs.Io.{StopsAt}
 use Rattle.std.specs.Io.KnownBytes.{Consumes, IsAtEnd}
 use Rattle.std.proofs.KnownBytes.{Consumes-nil, Consumes-trans}
 use Rattle.std.proofs.lemmas.List.Folds.{concat-append}
-use Rattle.std.proofs.lemmas.Result.{IfOk-weaker, on_err_weaker}
 use Rattle.sqlite_trees.specs.declared.store.Store.{Ghosts}
 use Rattle.sqlite_trees.specs.Tree.{Trees}
-use Rattle.sqlite.specs.Held.{Held, state}
-use Rattle.sqlite.specs.State.{HasCleanDisk, State, Survives}
+use Rattle.sqlite.specs.Held.{state}
+use Rattle.sqlite.specs.State.{State, Survives}
 use Rattle.depot_actions.specs.Device.{HasBroken, HasTaken, Output}
-use Rattle.depot_cli.specs.Host.{HostState}
 use Rattle.depot_cli.specs.Tasks.{MayAdd}
 use Rattle.refusals.specs.declared.refusal.Refusal.{Refusal}
 use Rattle.refusals.specs.declared.refusal.Refusal.TheVariants.{Database, Memory, Read, Write}
 use Rattle.depot_cli.specs.Jobs.{HasTold}
 use Rattle.depot_batch.proofs.Requesting.{answered_more}
-use Rattle.depot_batch.specs.Answers.{AreNoTexts, HasComeOf, HasLineWords, IsUnasked, IsUnaskedText}
+use Rattle.depot_batch.specs.Answers.{AreNoTexts, HasComeOf, IsUnasked, IsUnaskedText}
 use Rattle.depot_batch.specs.Batch.{AreAnswered, HasCome, HasServed, HasWords, IsAnswered, IsAsked, IsBrokenOff, IsWrong, Office, Outlasts, closing, command_of}
 use Rattle.depot_batch.specs.Requests.{AskNothing}
 use Rattle.depot_batch.specs.declared.fault.LineFault.{LineFault}

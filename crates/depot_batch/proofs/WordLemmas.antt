@@ -1,13 +1,12 @@
 -- How texts and words are read, octet by octet.
-use Rattle.std.proofs.Common.{arith, ◌≡◌, ◌∙◌, ◌⊎◌, ◌<◌, ◌≤◌, ap, refl, sym, subst, ℕ, zero, suc, ◌+◌, Bool, true, false, not, List, [], ◌∷◌, ◌++◌, ◌==◌, ◌&&◌, Option, Some, None, map, take, drop, length, if◌then◌else◌}
+use Rattle.std.proofs.Common.{arith, ◌≡◌, ◌∙◌, ◌<◌, ◌≤◌, ap, refl, sym, subst, ℕ, suc, ◌+◌, Bool, true, false, List, [], ◌∷◌, ◌++◌, ◌==◌, Option, Some, None, map, take, drop, length, if◌then◌else◌}
 use Rattle.std.proofs.lemmas.List.{drop_all, drop_more}
 use Rattle.std.proofs.Math.ListN.{get_or}
 use Rattle.std.proofs.lemmas.List.{append-nil, append_assoc}
-use Rattle.std.proofs.lemmas.Bool.{true≢false}
 use Rattle.std.specs.Borrow.{Bor}
 use Rattle.std.proofs.lemmas.Bool.Decides.{nat_tests}
 use Rattle.std.specs.Option.{option_map}
-use Rattle.depot_batch.specs.Words.{Escape, Plain, before_first, ending, is_gap, is_quote, escape_at, is_quoted_after, octet_of, parted, said_at, parted_at, said_before, said_from, texts_from, texts_of, with_word, word_in, words_in, words_of}
+use Rattle.depot_batch.specs.Words.{Escape, Plain, before_first, ending, is_gap, escape_at, is_quoted_after, octet_of, parted, said_at, parted_at, said_before, said_from, texts_from, texts_of, with_word, word_in, words_in, words_of}
 
 -- octets that begin with what ends a text
 pub at_gap : (quoted : Bool) (octet : ℕ) (rest : List ℕ) → is_gap octet quoted ≡ true → texts_from quoted (octet ∷ rest) ≡ parted_at 0 (octet ∷ rest)

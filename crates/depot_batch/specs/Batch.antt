@@ -8,7 +8,7 @@ use Rattle.std.specs.Str.{IsUtf8}
 use Rattle.sqlite_trees.specs.declared.store.Store.{Ghosts}
 use Rattle.sqlite_trees.specs.Tree.{Trees}
 use Rattle.sqlite.specs.Held.{Held, state}
-use Rattle.sqlite.specs.State.{HasCleanDisk, State, Survives}
+use Rattle.sqlite.specs.State.{HasCleanDisk, Survives}
 use Rattle.part_store.specs.Standing.{Spares}
 use Rattle.depot_actions.specs.Causes.{HasCause}
 use Rattle.depot_actions.specs.DepotState.{Command, SetScript, SetCode, Deliver, ListAll, Export as Exports, Remove, Migrate, Text as Written}

@@ -1,4 +1,4 @@
-use Rattle.std.proofs.Common.{refl, ℕ, List}
+use Rattle.std.proofs.Common.{refl}
 use Rattle.depot_cli.specs.Printed.{refusal_line}
 use Rattle.depot_batch.specs.Answers.{HasComeOf, text_in}
 use Rattle.depot_batch.specs.declared.outcome.Outcome.TheVariants.{Done, Refused}

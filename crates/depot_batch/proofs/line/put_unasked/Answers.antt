@@ -1,4 +1,4 @@
-use Rattle.std.proofs.Common.{refl, ℕ, List}
+use Rattle.std.proofs.Common.{refl}
 use Rattle.refusals.specs.declared.refusal.Refusal.TheVariants.{Memory}
 use Rattle.depot_cli.specs.Printed.{refusal_line}
 use Rattle.depot_batch.specs.Answers.{IsUnaskedText}

@@ -1,4 +1,4 @@
-use Rattle.std.proofs.Common.{◌≡◌, ◌∙◌, ap, map, refl, subst, sym, ℕ, List, Vec, Global}
+use Rattle.std.proofs.Common.{◌≡◌, ◌∙◌, ap, map, refl, subst, ℕ, List, Vec, Global}
 use Rattle.std.specs.Borrow.{Bor}
 use Rattle.depot_batch.specs.Answers.{AreNoTexts}
 use Rattle.depot_batch.specs.Batch.{IsAsked}

@@ -1,4 +1,4 @@
-use Rattle.std.proofs.Common.{◌≡◌, refl, subst, sym, ℕ, Vec, Global}
+use Rattle.std.proofs.Common.{refl, subst, ℕ, Vec, Global}
 use Rattle.std.specs.Str.{IsUtf8}
 use Rattle.depot_batch.proofs.Requesting.{no_text}
 use Rattle.depot_batch.proofs.line.texts.Goals as goal

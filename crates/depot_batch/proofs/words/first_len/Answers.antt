@@ -1,4 +1,4 @@
-use Rattle.std.proofs.Common.{◌≡◌, ◌∙◌, ◌+◌, ℕ, suc, arith, subst, sym, length, drop, List, [], false}
+use Rattle.std.proofs.Common.{◌≡◌, ◌∙◌, ◌+◌, suc, arith, subst, sym, drop, false}
 use Rattle.depot_batch.specs.Words.{parted_at, texts_from}
 use Rattle.depot_batch.proofs.WordLemmas.{at_end, at_gap, from_place, nothing_from, one_more}
 use Rattle.depot_batch.proofs.words.first_len.Goals as goal

@@ -1,5 +1,4 @@
-use Rattle.std.proofs.Common.{◌≡◌, ◌∙◌, [], ◌∷◌, ap, sym}
-use Rattle.depot_batch.specs.Words.{Plain, said_from}
+use Rattle.std.proofs.Common.{◌∙◌, sym}
 use Rattle.depot_batch.proofs.WordLemmas.{empty_len, ended, not_ended, some_len, said_breaks, said_ends, said_goes_on, said_stops}
 use Rattle.depot_batch.proofs.words.said_in.Goals as goal
 

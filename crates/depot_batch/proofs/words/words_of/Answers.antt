@@ -1,4 +1,4 @@
-use Rattle.std.proofs.Common.{◌≡◌, ◌∙◌, ◌+◌, ◌++◌, [], ◌∷◌, ap, subst, sym, map, refl}
+use Rattle.std.proofs.Common.{◌≡◌, ◌+◌, ◌++◌, [], ◌∷◌, subst, sym, map, refl}
 use Rattle.std.proofs.lemmas.List.{map-append}
 use Rattle.depot_batch.specs.Words.{words_of}
 use Rattle.depot_batch.proofs.WordLemmas.{after_words, words_begin, words_from, words_end, words_go_on, words_stop}
