@@ -74,6 +74,8 @@ fn come(rt: &HostRuntime, words: &[&str], room: usize) -> Seen {
         Next::Perform(errand) => carry(rt.alloc(), &errand, &mut out, &mut err),
         Next::Inspect(_) => look(rt.alloc(), &mut out, &mut err),
         Next::Save(saving) => fetch(rt.alloc(), saving, &mut host, &mut out, &mut err),
+        // no row has lines
+        Next::Batch(_) => 2,
     };
     let Shelf {
         asked,
