@@ -198,7 +198,8 @@
     2> refused 45 Write
     [1]
     $ depot list mail.depot ann
-    1 message "INBOX" "" message/rfc822 3678
+    1 part "Documents" "contract 2025.pdf" application/pdf 508
+    2 message "INBOX" "" message/rfc822 3678
     $ rm in out
 
 ## the answer is there before the next line is written
