@@ -10,8 +10,8 @@ No word: a message is read from standard input and kept.
 Words that are wrong.
 
 ## unknown command
-    $ depot launch
-    2> error: unrecognized subcommand 'launch'
+    $ depot quarantine
+    2> error: unrecognized subcommand 'quarantine'
     2>
     2> Usage: depot [COMMAND]
     2>
