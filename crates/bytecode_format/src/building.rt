@@ -8,10 +8,10 @@ ghost use Rattle.bytecode_format.specs.Spelling.{string, Fits, IsProgram};
 use crate::error::FormatError;
 use crate::instruction::Instruction;
 use crate::program::{
-    MAX_INSTRUCTIONS, MAX_PROGRAM, MAX_STRING, MAX_TABLE, MAX_VARIABLES, OPENING, Program,
+    MAX_INSTRUCTIONS, MAX_PROGRAM, MAX_TABLE, MAX_VARIABLES, OPENING, Program,
     is_version,
 };
-use octets::Octets;
+use octets::{MAX_STRING, Octets};
 
 /// How many octets the version takes.
 const VERSION_LEN: usize = 1;

@@ -21,9 +21,6 @@ pub(crate) const MAX_VARIABLES: u16 = 128;
 /// The most numbers that a program has, and the most strings.
 pub(crate) const MAX_TABLE: usize = 65_535;
 
-/// The most octets that a string has.
-pub(crate) const MAX_STRING: usize = 16_384;
-
 /// The most instructions that a program has.
 pub(crate) const MAX_INSTRUCTIONS: usize = 65_536;
 

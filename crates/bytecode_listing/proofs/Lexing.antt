@@ -5,9 +5,11 @@ use Rattle.std.specs.List.{prefix_len, take_while}
 use Rattle.std.specs.Char.{digit_value}
 use Rattle.std.proofs.lemmas.List.{append-nil}
 use Rattle.std.proofs.lemmas.Bool.Decides.{nat_tests}
-use Rattle.bytecode_listing.specs.Tokens.{Token, Word, Text, Wrong, Placed, Stand, Between, Comment, InWord, InText, Escape, Digit, Stopped, is_white, is_word_octet, is_hex, begun, after, ended, tokens_from, tokens_of}
+use Rattle.bytecode_listing.specs.Tokens.{Token, Word, Text, Wrong, Placed, Stand, Between, Comment, InWord, InText, Escape, Digit, Stopped, is_white, is_word_octet, begun, after, ended, tokens_from, tokens_of}
 use Rattle.bytecode_listing.specs.Items.{Tokens, word_in, word_at, text_in, text_at, left_at, is_left}
-use Rattle.bytecode_listing.specs.Readers.{IsStart, led, escape_at, said_at}
+use Rattle.bytecode_listing.specs.Readers.{IsStart, led}
+use Rattle.octets.specs.Escapes.{is_hex, escape_at, said_at, octet_of_digits}
+use Rattle.std.specs.Option.{option_map}
 
 -- ---- blanks and comments
 
@@ -177,10 +179,10 @@ no_escape [] h = refl
 no_escape (x ∷ []) h = refl
 no_escape (x ∷ y ∷ rest) h = absurd (omega arith)
 
-both : {A : Type 0} (a b : Bool) (x y : A) → (if a && b then Some x else None) ≡ Some y → (a ≡ true) × (b ≡ true) × (x ≡ y)
-both true true x y h = (refl, refl, cc)
-both true false x y h = absurd cc
-both false b x y h = absurd cc
+both : {A : Type 0} (a b : Bool) (x : ℕ) (f : ℕ → A) (y : A) → option_map f (if a && b then Some x else None) ≡ Some y → (a ≡ true) × (b ≡ true) × (f x ≡ y)
+both true true x f y h = (refl, refl, cc)
+both true false x f y h = absurd cc
+both false b x f y h = absurd cc
 
 -- an escape is the octet that it stands for
 pub escape_read : (start : ℕ) (said octets : List ℕ) (o : ℕ) (rest : List ℕ) → escape_at octets ≡ Some (o, rest) → tokens_from (Escape start said) octets ≡ tokens_from (InText start (said ++ o ∷ [])) rest
@@ -188,7 +190,7 @@ unfolding tokens_from
 escape_read start said [] o rest e = absurd cc
 escape_read start said (x ∷ []) o rest e = absurd cc
 escape_read start said (x ∷ y ∷ more) o rest e =
-    let h = both (is_hex x) (is_hex y) (16 * digit_value x + digit_value y, more) (o, rest) e in
+    let h = both (is_hex x) (is_hex y) (16 * digit_value x + digit_value y) (λ octet. (octet, more)) (o, rest) e in
     let value : 16 * digit_value x + digit_value y ≡ o = ap (λ (p : ℕ × List ℕ). p.0) h.2 in
     let same : more ≡ rest = ap (λ (p : ℕ × List ℕ). p.1) h.2 in
     ap (λ b. tokens_from (if b then Digit start said (digit_value x) else Stopped start) (y ∷ more)) h.0
@@ -202,7 +204,7 @@ escape_stops start said [] e = refl
 escape_stops start said (x ∷ []) e = choice (is_hex x) (λ s. text_at (tokens_from s []) ≡ Err start) (Digit start said (digit_value x)) (Stopped start) refl refl
 escape_stops start said (x ∷ y ∷ more) e = first_class (is_hex x) (by_class (is_hex x) (is_hex y) e)
   where
-    by_class : (a b : Bool) → (let o : Option (ℕ × List ℕ) = if a && b then Some (16 * digit_value x + digit_value y, more) else None in o) ≡ None
+    by_class : (a b : Bool) → (let o : Option (ℕ × List ℕ) = option_map (λ octet. (octet, more)) (if a && b then Some (16 * digit_value x + digit_value y) else None) in o) ≡ None
         → text_at (tokens_from (if a then (if b then InText start (said ++ (16 * digit_value x + digit_value y) ∷ []) else Stopped start) else Stopped start) more) ≡ Err start
     by_class true true h = absurd cc
     by_class true false h = stopped_text start more

@@ -10,10 +10,10 @@ use Rattle.bytecode_format.specs.Operations.{operation_of}
 use Rattle.bytecode_format.specs.declared.operation.Operation.{Operation}
 use Rattle.bytecode_listing.specs.Names.{name_of, named_among, octet_named}
 use Rattle.bytecode_listing.specs.Listing.{two_digits, is_plain, escaped_octet, quoted, title, operation_text}
-use Rattle.bytecode_listing.specs.Tokens.{InText, is_hex, is_word_octet, tokens_from, tokens_of}
+use Rattle.bytecode_listing.specs.Tokens.{InText, is_word_octet, tokens_from, tokens_of}
 use Rattle.bytecode_listing.specs.Labels.{◌>>=◌}
 use Rattle.bytecode_listing.specs.Items.{Tokens, word_at, text_at, left_at, octet_in, octet_at, found, operation_at}
-use Rattle.bytecode_listing.specs.Readers.{escape_at}
+use Rattle.octets.specs.Escapes.{escape_at, is_hex}
 use Rattle.bytecode_listing.proofs.Lexing.{quote_first, said_goes_on, text_ends}
 use Rattle.bytecode_listing.proofs.Words.{Stops, IsWord, word_reads, word_then}
 

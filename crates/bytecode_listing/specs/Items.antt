@@ -1,7 +1,8 @@
 -- What a listing says: the items that its tokens are, in their order.
 use Rattle.std.specs.Prelude.{◌≡◌, ℕ, zero, suc, ◌+◌, ◌++◌, ◌-◌, ◌*◌, ◌^◌, ◌&&◌, nat_le, Bool, true, false, List, [], ◌∷◌, length, Option, Some, None, is_some, unwrap_or, Result, Ok, Err, is_ok, MatchResult, bytes_eq, codes, if◌then◌else◌}
 use Rattle.std.specs.Str.{all_ascii_digits}
-use Rattle.std.specs.Char.{digit_value, is_ascii_digit}
+use Rattle.std.specs.Char.{is_ascii_digit}
+use Rattle.octets.specs.Escapes.{octet_of_digits}
 use Rattle.octets.specs.Limits.{max_variables, max_string}
 use Rattle.bytecode_format.specs.Code.{Code}
 use Rattle.bytecode_format.specs.Spelling.{IsProgram}
@@ -20,7 +21,7 @@ use Rattle.bytecode_listing.specs.declared.drafts.Line.TheVariants.{Label, Step}
 use Rattle.bytecode_listing.specs.declared.error.FaultKind.{FaultKind}
 use Rattle.bytecode_listing.specs.declared.error.FaultKind.TheVariants.{Misplaced, SecondLabel, NoLabel, Limits}
 use Rattle.bytecode_listing.specs.Labels.{◌>>=◌, count, double_after, resolved}
-use Rattle.bytecode_listing.specs.Tokens.{Token, Word, Text, Wrong, Placed, is_hex, tokens_of}
+use Rattle.bytecode_listing.specs.Tokens.{Token, Word, Text, Wrong, Placed, tokens_of}
 
 abbrev pub Tokens : Type 0
 Tokens = List Placed
@@ -94,13 +95,9 @@ number_at low high tokens = do
   read ← word_at tokens
   if is_within low high read.0 then Ok (value_from 0 read.0, read.1) else Err (left_at tokens)
 
--- the octet of two hexadecimal digits
-abbrev pub octet_from : ℕ → ℕ → Option ℕ
-octet_from high low =
-    if is_hex high && is_hex low then Some (16 * digit_value high + digit_value low) else None
-
+-- the octet that a word of two hexadecimal digits writes
 abbrev pub octet_in : List ℕ → Option ℕ
-octet_in (high ∷ low ∷ []) = octet_from high low
+octet_in (high ∷ low ∷ []) = octet_of_digits high low
 octet_in _ = None
 
 abbrev pub found : {A : Type 0} → Option A → ℕ → Tokens → Read A

@@ -9,7 +9,7 @@ use Rattle.bytecode_listing.specs.declared.error.FaultKind.{FaultKind}
 use Rattle.bytecode_listing.specs.declared.error.ListingError.{ListingError}
 use Rattle.bytecode_listing.specs.declared.error.ListingError.TheVariants as listings
 use Rattle.bytecode_listing.specs.declared.error.ListingError.TheVariants.{Fault}
-use Rattle.bytecode_listing.specs.Tokens.{is_white, is_hex, tokens_of}
+use Rattle.bytecode_listing.specs.Tokens.{is_white, tokens_of}
 use Rattle.bytecode_listing.specs.Items.{Tokens, Drafted, Fields, value_from}
 use Rattle.bytecode_listing.specs.declared.assembling.Parts.{Parts}
 use Rattle.bytecode_listing.specs.declared.items.Fields as items
@@ -69,17 +69,6 @@ IsStart (octet ∷ rest) = (is_white octet ≡ false) × ((octet == 59) ≡ fals
 abbrev pub led : List ℕ → List ℕ → Result (List ℕ × Tokens) ℕ
 led [] rest = Err (length rest)
 led (octet ∷ octets) rest = Ok (octet ∷ octets, tokens_of rest)
-
--- the octet that stands first as two hexadecimal digits, and what is left after them
-abbrev pub escape_at : List ℕ → Option (ℕ × List ℕ)
-escape_at [] = None
-escape_at (high ∷ []) = None
-escape_at (high ∷ low ∷ rest) =
-    if is_hex high && is_hex low then Some (16 * digit_value high + digit_value low, rest) else None
-
--- what an octet of a string says with those after it, and what is left
-abbrev pub said_at : ℕ → List ℕ → Option (ℕ × List ℕ)
-said_at octet rest = if octet == 92 then escape_at rest else Some (octet, rest)
 
 -- the number that digits spell after those of n, where 64 bits hold it
 abbrev pub decimal_on : ℕ → List ℕ → Option ℕ

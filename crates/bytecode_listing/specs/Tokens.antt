@@ -1,6 +1,7 @@
 -- The tokens of a listing: words and strings, with blanks and comments between them.
-use Rattle.std.specs.Prelude.{ℕ, suc, ◌+◌, ◌*◌, ◌==◌, ◌||◌, nat_lt, Bool, List, [], ◌∷◌, ◌++◌, length, if◌then◌else◌}
+use Rattle.std.specs.Prelude.{ℕ, suc, ◌+◌, ◌*◌, ◌==◌, ◌||◌, Bool, List, [], ◌∷◌, ◌++◌, length, if◌then◌else◌}
 use Rattle.std.specs.Char.{digit_value, is_ascii_alphanumeric}
+use Rattle.octets.specs.Escapes.{is_hex}
 
 -- a token; Wrong is what begins like none, or a string that doesn't end well
 pub data Token : Type 0 where
@@ -20,10 +21,6 @@ is_white octet = (octet == 32) || (octet == 9) || (octet == 10) || (octet == 13)
 -- a letter, a digit or `_`
 abbrev pub is_word_octet : ℕ → Bool
 is_word_octet octet = is_ascii_alphanumeric octet || (octet == 95)
-
--- a hexadecimal digit of either case
-abbrev pub is_hex : ℕ → Bool
-is_hex octet = nat_lt (digit_value octet) 16
 
 -- Where the reading of a listing stands: between tokens; in a comment; in a word; in a string;
 -- after a backslash in a string; after that and a digit; after what is no token. Within a token: how

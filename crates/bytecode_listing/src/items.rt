@@ -11,11 +11,11 @@ use crate::drafts::{Draft, Line, Target};
 use crate::error::ReadError;
 use crate::names::octet_named;
 use crate::tokens::{
-    begins_number, begins_with, begins_word, first, left_at, octet_from, text_of, word_of,
+    begins_number, begins_with, begins_word, first, left_at, text_of, word_of,
 };
 use crate::wording::{COUNTS, worded_of};
 use bytecode_format::Operation;
-use octets::Octets;
+use octets::{Octets, octet_of_digits};
 use std::alloc::Global;
 
 /// The most parameters, and the most keys, that c counts.
@@ -88,7 +88,7 @@ fn octet_of(word: &[u8]) -> Option<u8>
     ensures { result ≡ octet_in word.now }
 {
     match word {
-        [high, low] => octet_from(*high, *low),
+        [high, low] => octet_of_digits(*high, *low),
         _ => None,
     }
 }

@@ -1,17 +1,13 @@
 // The tokens of a listing, one at a time.
-ghost use Rattle.std.specs.Prelude.{◌≡◌, ◌∷◌, ◌≤◌, ◌<◌, [], length, MatchOption, MatchResult, option_map, IfSome, Some, None, if◌then◌else◌, is_ok};
+ghost use Rattle.std.specs.Prelude.{◌≡◌, ◌∷◌, ◌≤◌, ◌<◌, [], length, MatchOption, MatchResult, is_ok};
 ghost use Rattle.std.specs.List.{take_while};
-ghost use Rattle.bytecode_listing.specs.Tokens.{Comment, InText, Text, is_white, is_hex, is_word_octet, tokens_of, tokens_from};
-ghost use Rattle.bytecode_listing.specs.Items.{word_at, text_in, text_at, left_at, is_left, begins_with, begins_number, octet_from};
-ghost use Rattle.bytecode_listing.specs.Readers.{Fails, Gives, and_rest, IsStart, escape_at, led, said_at};
-ghost use Rattle.std.specs.Char.{digit_value};
+ghost use Rattle.bytecode_listing.specs.Tokens.{Comment, InText, Text, is_white, is_word_octet, tokens_of, tokens_from};
+ghost use Rattle.bytecode_listing.specs.Items.{word_at, text_in, text_at, left_at, is_left, begins_with, begins_number};
+ghost use Rattle.bytecode_listing.specs.Readers.{Fails, Gives, and_rest, IsStart, led};
 
 use crate::error::ReadError;
-use octets::Octets;
+use octets::{MAX_STRING, Octets, said_of};
 use std::alloc::Global;
-
-/// The most octets that a string of a program has.
-const MAX_STRING: usize = 16_384;
 
 /// The first octet, and those after it.
 pub fn first(octets: &[u8]) -> Option<(u8, &[u8])>
@@ -140,53 +136,6 @@ pub fn begins_word(octets: &[u8]) -> bool
 {
     let (read, _) = leading_word(octets);
     !read.is_empty()
-}
-
-// The value of a hexadecimal digit of either case.
-fn hex_value(octet: u8) -> Option<u8>
-    ensures { result ≡ (if is_hex octet then Some (digit_value octet) else None) }
-{
-    match octet {
-        b'0'..=b'9' => Some(octet - b'0'),
-        b'a'..=b'f' => Some(octet - b'a' + 10),
-        b'A'..=b'F' => Some(octet - b'A' + 10),
-        _ => None,
-    }
-}
-
-/// The octet of two hexadecimal digits of either case.
-pub fn octet_from(high: u8, low: u8) -> Option<u8>
-    ensures { result ≡ octet_from high low }
-{
-    let high = hex_value(high)?;
-    let low = hex_value(low)?;
-    Some(16 * high + low)
-}
-
-// The octet whose digits stand first, and what is left after them.
-fn escape_of(octets: &[u8]) -> Option<(u8, &[u8])>
-    ensures octet { option_map (λ x. (x.0, x.1.now)) result ≡ escape_at octets.now }
-    ensures shorter { IfSome result (λ x. length x.1.now ≤ length octets.now) }
-{
-    let [high, low, rest @ ..] = octets else {
-        return None;
-    };
-    match octet_from(*high, *low) {
-        Some(octet) => Some((octet, rest)),
-        None => None,
-    }
-}
-
-// What an octet of a string says with those after it, and what is left.
-fn said_of(octet: u8, rest: &[u8]) -> Option<(u8, &[u8])>
-    ensures octet { option_map (λ x. (x.0, x.1.now)) result ≡ said_at octet rest.now }
-    ensures shorter { IfSome result (λ x. length x.1.now ≤ length rest.now) }
-{
-    if octet == b'\\' {
-        escape_of(rest)
-    } else {
-        Some((octet, rest))
-    }
 }
 
 // What is left after the quote that the tokens begin with, and how many octets are left where it

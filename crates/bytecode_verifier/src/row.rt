@@ -3,6 +3,7 @@ ghost use Rattle.std.specs.Prelude.{◌≡◌, ◌&&◌};
 ghost use Rattle.bytecode_verifier.specs.Rows;
 
 use bytecode_format::{Instruction, Modifiers, Operation};
+use octets::MAX_VALUE;
 
 /// The most strings in the lists of a test.
 const MAX_TEST_STRINGS: u32 = 512;
@@ -24,9 +25,6 @@ const PARAMS: u32 = 4;
 
 /// What a parameter counts in the number of keys and parameters.
 const PARAMS_UNIT: u32 = 65_536;
-
-/// The most octets that the value of a variable has, or a capture.
-pub const MAX_VALUE: u32 = 4096;
 
 /// The version that has all operations.
 const VERSION_TWO: u8 = 2;
@@ -202,7 +200,7 @@ fn row_of(operation: Operation) -> Row
             ..PLAIN
         },
         Operation::Take => Row {
-            b: Range::Between(1, MAX_VALUE),
+            b: Range::Between(1, MAX_VALUE as u32),
             c: Range::Any,
             index: Some(Table::Variables),
             since_two: true,

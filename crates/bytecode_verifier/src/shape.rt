@@ -7,16 +7,14 @@ ghost use Rattle.bytecode_verifier.specs.Budget.{one_charge, cap_of_octets, cap_
 ghost use Rattle.bytecode_verifier.specs.Pass.{IsSmall, Passes, Takes, TakesLists};
 
 use crate::cap::{Cap, ONE_CHARGE};
-use crate::row::{MAX_VALUE, keys_in, params_in};
+use crate::row::{keys_in, params_in};
 use bytecode_format::{Instruction, Operation, Program};
+use octets::{MAX_STRING, MAX_VALUE};
 use std::alloc::{AllocError, Global};
 use std::marker::Model;
 
 /// How many entries the stack takes at most.
 const MAX_STACK: usize = 1024;
-
-/// How many octets a text has at most.
-const MAX_STRING: usize = 16_384;
 
 /// How many octets a digest has.
 const DIGEST_LENGTH: u64 = 64;
@@ -119,7 +117,7 @@ impl Shape {
             ) => self.is_empty(),
             Some(Operation::Literal) => self.push_string(program, c)?,
             Some(Operation::Variable | Operation::Capture) => self.push(Entry::Text(
-                MAX_VALUE as usize,
+                MAX_VALUE,
             ))?,
             Some(Operation::Bool | Operation::Size | Operation::PartSize) => self.push(
                 Entry::Truth,

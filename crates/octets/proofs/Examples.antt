@@ -1,7 +1,8 @@
--- Lists that have each element once, by computation.
+-- Lists that have each element once, and escapes, by computation.
 use Rattle.std.proofs.Common.{◌≡◌, true, false, nat_eq, [], ◌∷◌, Some, None, refl}
 use Rattle.octets.specs.Once.{each_once, is_listed, with_one, with_more, place_in, found_in}
 use Rattle.octets.specs.Ascii.{lowercase_of}
+use Rattle.octets.specs.Escapes.{octet_of_digits, said_at}
 use Rattle.std.specs.Cmp.Lexicographic.{pointwise}
 
 first_places_stay : each_once nat_eq (3 ∷ 1 ∷ 3 ∷ 2 ∷ 1 ∷ []) ≡ 3 ∷ 1 ∷ 2 ∷ []
@@ -25,3 +26,11 @@ places = (refl, refl, refl)
 
 found_or_not : (found_in nat_eq (3 ∷ 1 ∷ 2 ∷ []) 1 ≡ Some 1) × (found_in nat_eq (3 ∷ 1 ∷ []) 2 ≡ None)
 found_or_not = (refl, refl)
+
+-- `4a`, `FF`, and `g0`, which is none
+digits_read : (octet_of_digits 52 97 ≡ Some 74) × (octet_of_digits 70 70 ≡ Some 255) × (octet_of_digits 103 48 ≡ None)
+digits_read = (refl, refl, refl)
+
+-- `A` says itself, `\41` says `A`, and `\4` says nothing
+said_or_not : (said_at 65 (66 ∷ []) ≡ Some (65, 66 ∷ [])) × (said_at 92 (52 ∷ 49 ∷ 66 ∷ []) ≡ Some (65, 66 ∷ [])) × (said_at 92 (52 ∷ []) ≡ None)
+said_or_not = (refl, refl, refl)

@@ -1,13 +1,19 @@
-//! Octets: the owned octet string, the case of ASCII letters, and blanks.
+//! Octets: the owned octet string, the case of ASCII letters, blanks, escapes in quoted texts, and
+//! limits.
 //!
 //! Everything above stands on these definitions: `specs/Ascii` says what "without ASCII case" means,
-//! and `specs/Blank` what SP and TAB at the ends of a text are.
+//! `specs/Blank` what SP and TAB at the ends of a text are, and `specs/Escapes` which octet two
+//! hexadecimal digits write.
 #![tactic(auto)]
 
 mod ascii;
 mod blank;
+mod escape;
+mod limits;
 mod owned;
 
 pub use ascii::{equal_ignoring_case, to_lowercase, to_uppercase};
 pub use blank::{trim_blanks, trim_leading_blanks, trim_trailing_blanks};
+pub use escape::{octet_of_digits, said_of};
+pub use limits::{MAX_STRING, MAX_VALUE};
 pub use owned::Octets;

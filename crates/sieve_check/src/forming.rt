@@ -18,12 +18,9 @@ use crate::surroundings::Surroundings;
 use crate::test_forms::test;
 use crate::typed::{Branch, Command, Test};
 use bytecode_format::Modifiers;
-use octets::to_lowercase;
+use octets::{MAX_VALUE, to_lowercase};
 use sieve_parser::{Argument, Command as Tree, Head, Invocation};
 use std::alloc::{AllocError, Global};
-
-/// The most octets of a variable's value.
-const MAX_VALUE: u64 = 4_096;
 
 // The command that files the message into the folder which the arguments are.
 fn file_into(
@@ -94,7 +91,8 @@ fn setting(
 fn most_of(tags: Tags) -> u16
     ensures { result ≡ most_of tags }
 {
-    tags.first.unwrap_or(MAX_VALUE).min(MAX_VALUE) as u16
+    let most = MAX_VALUE as u64;
+    tags.first.unwrap_or(most).min(most) as u16
 }
 
 // The command that gives the first octets of the current part's content to the variable of the name, which the arguments are. The

@@ -46,7 +46,7 @@ pub use signature::{
     Ending, Positional, Reading, Signature, Tags, Tests, command_signature, ending_of, first_list,
     first_number, first_tag, first_text, test_signature,
 };
-pub use string_faults::{MAX_STRING, MAX_TEST_STRINGS, StringFault, has_many_strings};
+pub use string_faults::{MAX_TEST_STRINGS, StringFault, has_many_strings};
 pub use surroundings::{Surroundings, head_in};
 pub use typed::{Branch, Command, Order, Scope, Segment, Selection, Test};
 pub use variable_names::MAX_VARIABLES;

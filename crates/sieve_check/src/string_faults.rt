@@ -8,14 +8,12 @@ ghost use Rattle.sieve_check.specs.Reading.{all_lists};
 use crate::names::capability_named;
 use crate::references::{has_large_references, has_wrong_reference};
 use crate::signature::{Lists, Signature};
-use octets::Octets;
+use octets::{MAX_STRING, Octets};
 use sieve_parser::{Argument, Head};
-
-/// The most octets of a string.
-pub const MAX_STRING: usize = 16_384;
 
 /// The most strings in the lists of one test.
 pub const MAX_TEST_STRINGS: usize = 512;
+
 /// What may be wrong with a string.
 #[derive(Clone, Copy)]
 pub enum StringFault {

@@ -7,12 +7,9 @@ use crate::variables::Variables;
 use bytecode_format::{Action, ActionList, Modifiers};
 use mail_matching::Captured;
 use mime_decode::Message;
-use octets::Octets;
+use octets::{MAX_VALUE, Octets};
 use sieve_check::{Checked, Command, Segment};
 use std::alloc::{AllocError, Global};
-
-/// The most octets of a variable's value.
-const MAX_VALUE: usize = 4_096;
 
 /// What was done so far.
 #[derive(Drop)]

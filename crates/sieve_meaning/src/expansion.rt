@@ -4,12 +4,9 @@ ghost use Rattle.octets.specs.Limits.{max_stack, max_string};
 ghost use Rattle.mail_matching.specs.Texts.{AreTexts};
 
 use crate::evaluator::Evaluator;
-use octets::Octets;
+use octets::{MAX_STRING, Octets};
 use sieve_check::Segment;
 use std::alloc::{AllocError, Global};
-
-/// The most octets of an expanded string.
-const MAX_STRING: usize = 16_384;
 
 // Appends a value, up to the limit of an expanded string.
 fn append(value: &[u8], text: &mut Vec<u8>) -> Result<(), AllocError>

@@ -5,13 +5,8 @@ ghost use Rattle.octets.specs.Limits.{max_string, max_value};
 ghost use Rattle.mail_matching.specs.Texts.{AreTexts};
 
 use mail_matching::Texts;
+use octets::{MAX_STRING, MAX_VALUE};
 use std::alloc::{AllocError, Global};
-
-/// The most octets of a text that others are joined to.
-const MAX_STRING: usize = 16_384;
-
-/// The most octets of a variable's value.
-pub const MAX_VALUE: usize = 4096;
 
 /// As many octets as a variable's value has at most.
 #[tactic(auto, using(std::proofs::lemmas::List::take_min))]

@@ -3,8 +3,8 @@ ghost use Rattle.std.specs.Prelude.{◌≡◌, IfOk, length, nat_le, take};
 ghost use Rattle.octets.specs.Limits.{max_value};
 ghost use Rattle.sieve_vm.specs.SharedTexts.{items_of};
 
-use crate::joining::{MAX_VALUE, first};
-use octets::Octets;
+use crate::joining::first;
+use octets::{MAX_VALUE, Octets};
 use std::alloc::{AllocError, Global};
 use std::rc::Rc;
 

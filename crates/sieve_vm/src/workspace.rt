@@ -14,11 +14,11 @@ ghost use Rattle.sieve_vm.specs.Standing.{IsNew, held_of, value_of, octets_of, t
 
 use crate::entry::Entry;
 use crate::held_captures::HeldCaptures;
-use crate::joining::{MAX_VALUE, joined, total_len};
+use crate::joining::{joined, total_len};
 use crate::shared_text::{SharedText, copied};
 use bytecode_format::Modifiers;
 use mail_matching::{Outcome, Texts};
-use octets::Octets;
+use octets::{MAX_VALUE, Octets};
 use std::alloc::{AllocError, Global};
 
 /// The stack, the variables and the captures. What a variable or a capture holds isn't copied where it is pushed:

@@ -1,0 +1,53 @@
+// Octets written as two hexadecimal digits, after a backslash in a quoted text.
+ghost use Rattle.std.specs.Prelude.{◌≡◌, ◌≤◌, length, IfSome, Some, None, if◌then◌else◌};
+ghost use Rattle.std.specs.Option.{option_map};
+ghost use Rattle.std.specs.Char.{digit_value};
+ghost use Rattle.octets.specs.Escapes.{escape_at, is_hex, octet_of_digits, said_at};
+
+/// The octet of two hexadecimal digits of either case; `None` where one is no digit.
+pub fn octet_of_digits(high: u8, low: u8) -> Option<u8>
+    ensures { result ≡ octet_of_digits high low }
+{
+    let high = hex_value(high)?;
+    let low = hex_value(low)?;
+    Some(16 * high + low)
+}
+
+/// What an octet of a quoted text says with those after it, and what is left after that: itself, or
+/// after a backslash the octet of the two hexadecimal digits; `None` where the digits are missing.
+pub fn said_of(octet: u8, rest: &[u8]) -> Option<(u8, &[u8])>
+    ensures said { option_map (λ x. (x.0, x.1.now)) result ≡ said_at octet rest.now }
+    ensures shorter { IfSome result (λ x. length x.1.now ≤ length rest.now) }
+{
+    if octet == b'\\' {
+        escape_of(rest)
+    } else {
+        Some((octet, rest))
+    }
+}
+
+// The octet whose digits stand first, and what is left after them.
+fn escape_of(octets: &[u8]) -> Option<(u8, &[u8])>
+    ensures said { option_map (λ x. (x.0, x.1.now)) result ≡ escape_at octets.now }
+    ensures shorter { IfSome result (λ x. length x.1.now ≤ length octets.now) }
+{
+    let [high, low, rest @ ..] = octets else {
+        return None;
+    };
+    match octet_of_digits(*high, *low) {
+        Some(octet) => Some((octet, rest)),
+        None => None,
+    }
+}
+
+// The value of a hexadecimal digit of either case.
+fn hex_value(octet: u8) -> Option<u8>
+    ensures { result ≡ (if is_hex octet then Some (digit_value octet) else None) }
+{
+    match octet {
+        b'0'..=b'9' => Some(octet - b'0'),
+        b'a'..=b'f' => Some(octet - b'a' + 10),
+        b'A'..=b'F' => Some(octet - b'A' + 10),
+        _ => None,
+    }
+}
