@@ -139,8 +139,9 @@ What a reader of mail did stays, and a second run adds what is new.
     $ rm -r archive
 
 ## the tools without words say how they are called
-    $ for tool in deliver test_deliver to_maildir refilter refile; do "$TOP/contrib/$tool" > /dev/null 2> said; echo "$tool $?"; grep -c . said > lines; [ -s lines ] || echo silent; done
+    $ for tool in deliver hold test_deliver to_maildir refilter refile; do "$TOP/contrib/$tool" > /dev/null 2> said; echo "$tool $?"; grep -c . said > lines; [ -s lines ] || echo silent; done
     deliver 64
+    hold 2
     test_deliver 2
     to_maildir 2
     refilter 2

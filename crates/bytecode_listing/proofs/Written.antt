@@ -3,6 +3,7 @@ use Rattle.std.proofs.Common.{◌≡◌, ℕ, ◌+◌, ◌*◌, ◌/◌, ◌%◌
 use Rattle.std.specs.Prelude.{not, bytes_eq}
 use Rattle.std.specs.List.{flat_map, list_all, AllByRecursion}
 use Rattle.std.specs.Fmt.{digit_glyph}
+use Rattle.std.specs.Option.{option_map}
 use Rattle.std.specs.Char.{digit_value}
 use Rattle.std.proofs.lemmas.Bool.{and_parts, agree_below_at}
 use Rattle.std.proofs.lemmas.Bool.Decides.{nat_tests}
@@ -13,7 +14,7 @@ use Rattle.bytecode_listing.specs.Listing.{two_digits, is_plain, escaped_octet, 
 use Rattle.bytecode_listing.specs.Tokens.{InText, is_word_octet, tokens_from, tokens_of}
 use Rattle.bytecode_listing.specs.Labels.{◌>>=◌}
 use Rattle.bytecode_listing.specs.Items.{Tokens, word_at, text_at, left_at, octet_in, octet_at, found, operation_at}
-use Rattle.octets.specs.Escapes.{escape_at, is_hex}
+use Rattle.octets.specs.Escapes.{escape_at, is_hex, octet_of_digits}
 use Rattle.bytecode_listing.proofs.Lexing.{quote_first, said_goes_on, text_ends}
 use Rattle.bytecode_listing.proofs.Words.{Stops, IsWord, word_reads, word_then}
 
@@ -51,16 +52,15 @@ digits_word octet h =
     let low = (low_digit octet).word in
     record { some = omega arith; octets = ap (λ b. b && (is_word_octet (digit_glyph false (octet % 16)) && true)) high ∙ ap (λ b. b && true) low }
 
--- two digits of either reader
-both_digits : {A : Type 0} (octet : ℕ) (f : ℕ → A) → octet < 256
-    → (let high : ℕ = digit_glyph false (octet / 16) in let low : ℕ = digit_glyph false (octet % 16) in if is_hex high && is_hex low then Some (f (16 * digit_value high + digit_value low)) else None) ≡ Some (f octet)
-both_digits {A} octet f h =
+-- two digits
+both_digits : (octet : ℕ) → octet < 256 → octet_of_digits (digit_glyph false (octet / 16)) (digit_glyph false (octet % 16)) ≡ Some octet
+both_digits octet h =
     let high = high_digit octet h in
     let low = low_digit octet in
     let same : 16 * digit_value (digit_glyph false (octet / 16)) + digit_value (digit_glyph false (octet % 16)) ≡ octet = omega (arith, high.value, low.value) in
-    ap (λ b. if b && is_hex (digit_glyph false (octet % 16)) then Some (f (16 * digit_value (digit_glyph false (octet / 16)) + digit_value (digit_glyph false (octet % 16)))) else None) high.hex
-    ∙ ap (λ b. if b then Some (f (16 * digit_value (digit_glyph false (octet / 16)) + digit_value (digit_glyph false (octet % 16)))) else None) low.hex
-    ∙ ap (λ n. Some (f n)) same
+    ap (λ b. if b && is_hex (digit_glyph false (octet % 16)) then Some (16 * digit_value (digit_glyph false (octet / 16)) + digit_value (digit_glyph false (octet % 16))) else None) high.hex
+    ∙ ap (λ b. if b then Some (16 * digit_value (digit_glyph false (octet / 16)) + digit_value (digit_glyph false (octet % 16))) else None) low.hex
+    ∙ ap Some same
 
 -- ---- operations
 
@@ -111,7 +111,7 @@ operation_reads octet rest h s = by_operation (operation_of octet) refl
         (word_then (codes "OP") 32 digits (record { some = omega arith; octets = refl }) refl refl)
         (read_on (word_at (tokens_of digits)) (two_digits octet, tokens_of rest) (λ read. found (octet_in read.0) (left_at (tokens_of digits)) read.1) (Ok (octet, tokens_of rest))
         (word_reads (two_digits octet) rest (digits_word octet h) s)
-        (ap (λ (o : Option ℕ). found o (left_at (tokens_of digits)) (tokens_of rest)) (both_digits octet (λ n. n) h)))
+        (ap (λ (o : Option ℕ). found o (left_at (tokens_of digits)) (tokens_of rest)) (both_digits octet h)))
     by_operation (Some operation) e =
         let is = named octet operation h e in
         let text : Tokens = tokens_of (name_of operation ++ rest) in
@@ -134,7 +134,7 @@ octet_said start said rest octet h = by_class (is_plain octet) refl
         said_goes_on start said (octet ∷ rest) rest octet octet rest refl plain.0 (ap (λ b. if b then escape_at rest else Some (octet, rest)) plain.1)
     by_class false e =
         let digits : List ℕ = two_digits octet ++ rest in
-        said_goes_on start said (92 ∷ digits) digits 92 octet rest refl refl (both_digits octet (λ n. let p : ℕ × List ℕ = (n, rest) in p) h)
+        said_goes_on start said (92 ∷ digits) digits 92 octet rest refl refl (ap (option_map (λ o. let p : ℕ × List ℕ = (o, rest) in p)) (both_digits octet h))
 
 octets_said : (start : ℕ) (said octets rest : List ℕ) → AllByRecursion (λ octet. octet < 256) octets → tokens_from (InText start said) (flat_map escaped_octet octets ++ rest) ≡ tokens_from (InText start (said ++ octets)) rest
 octets_said start said [] rest h = ap (λ (t : List ℕ). tokens_from (InText start t) rest) (sym (append-nil said))

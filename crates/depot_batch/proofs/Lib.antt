@@ -1,4 +1,5 @@
 mod WordLemmas
+mod Spoken
 mod Folding
 mod Writing
 mod Requesting

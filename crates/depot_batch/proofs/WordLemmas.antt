@@ -6,7 +6,8 @@ use Rattle.std.proofs.lemmas.List.{append-nil, append_assoc}
 use Rattle.std.specs.Borrow.{Bor}
 use Rattle.std.proofs.lemmas.Bool.Decides.{nat_tests}
 use Rattle.std.specs.Option.{option_map}
-use Rattle.depot_batch.specs.Words.{Escape, Plain, before_first, ending, is_gap, escape_at, is_quoted_after, octet_of, parted, said_at, parted_at, said_before, said_from, texts_from, texts_of, with_word, word_in, words_in, words_of}
+use Rattle.octets.specs.Escapes.{escape_at, octet_of_digits, said_at}
+use Rattle.depot_batch.specs.Words.{Escape, Plain, before_first, ending, is_gap, is_quoted_after, parted, parted_at, said_before, said_from, texts_from, texts_of, with_word, word_in, words_in, words_of}
 
 -- octets that begin with what ends a text
 pub at_gap : (quoted : Bool) (octet : ℕ) (rest : List ℕ) → is_gap octet quoted ≡ true → texts_from quoted (octet ∷ rest) ≡ parted_at 0 (octet ∷ rest)
@@ -22,7 +23,7 @@ joined : (octet : ℕ) (text rest : List ℕ) → before_first (octet ∷ []) (p
 joined octet text [] = refl
 joined octet text (space ∷ rest) = refl
 
-step : (quoted : Bool) (octet : ℕ) (rest : List ℕ) → is_gap octet quoted ≡ false
+pub step : (quoted : Bool) (octet : ℕ) (rest : List ℕ) → is_gap octet quoted ≡ false
     → texts_from quoted (octet ∷ rest) ≡ before_first (octet ∷ []) (texts_from (is_quoted_after octet quoted) rest)
 unfolding texts_from
 step quoted octet rest other = rw other refl
@@ -73,7 +74,7 @@ escape_said : (octets : List ℕ) → said_from Escape octets ≡ said_first (es
 unfolding said_from
 escape_said [] = refl
 escape_said (one ∷ []) = refl
-escape_said (high ∷ low ∷ rest) = by_digits (octet_of high low) rest
+escape_said (high ∷ low ∷ rest) = by_digits (octet_of_digits high low) rest
 
 by_octet : (slash : Bool) (octet : ℕ) (rest : List ℕ) → (if slash then said_from Escape rest else said_before (Some octet) (said_from Plain rest)) ≡ said_first (if slash then escape_at rest else Some (octet, rest))
 by_octet true octet rest = escape_said rest
@@ -135,11 +136,11 @@ word_one_more words word (Some others) = ap Some (sym (append_assoc words (word 
 pub nothing_from : (octets : List ℕ) (place : ℕ) → length octets ≤ place → drop place octets ≡ []
 nothing_from octets place past = drop_all place octets past
 
-words_step : (text : List ℕ) (texts : List (List ℕ)) → words_in (text ∷ texts) ≡ with_word (word_in text) (words_in texts)
+pub words_step : (text : List ℕ) (texts : List (List ℕ)) → words_in (text ∷ texts) ≡ with_word (word_in text) (words_in texts)
 unfolding words_in
 words_step text texts = refl
 
-words_none : words_in [] ≡ Some []
+pub words_none : words_in [] ≡ Some []
 unfolding words_in
 words_none = refl
 

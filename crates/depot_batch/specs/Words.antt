@@ -1,25 +1,13 @@
 -- The words of a line.
-use Rattle.std.specs.Prelude.{ℕ, ◌+◌, ◌*◌, ◌==◌, ◌&&◌, nat_lt, Bool, false, not, List, [], ◌∷◌, ◌++◌, take, drop, Option, Some, None, if◌then◌else◌}
+use Rattle.std.specs.Prelude.{ℕ, ◌==◌, ◌&&◌, ◌≡◌, ◌≢◌, ◌⊎◌, Bool, false, not, List, [], ◌∷◌, ◌++◌, take, drop, Option, Some, None, if◌then◌else◌}
 use Rattle.std.specs.Option.{option_map}
-use Rattle.std.specs.List.{list_any}
-use Rattle.std.specs.Char.{digit_value}
+use Rattle.std.specs.List.{All, list_any}
+use Rattle.depot_cli.specs.Printed.{quoted}
+use Rattle.octets.specs.Escapes.{octet_of_digits}
 
 -- a quotation mark
 abbrev pub is_quote : ℕ → Bool
 is_quote octet = octet == 34
-
--- the value of a hexadecimal digit of either case
-abbrev pub hex_value : ℕ → Option ℕ
-hex_value octet = if nat_lt (digit_value octet) 16 then Some (digit_value octet) else None
-
--- the octet of two values of digits
-abbrev pub both_digits : Option ℕ → Option ℕ → Option ℕ
-both_digits None low = None
-both_digits (Some high) low = option_map (λ l. 16 * high + l) low
-
--- the octet of two such digits
-abbrev pub octet_of : ℕ → ℕ → Option ℕ
-octet_of high low = both_digits (hex_value high) (hex_value low)
 
 -- ---- the texts of the words
 
@@ -83,16 +71,7 @@ said_from Plain (octet ∷ rest) =
     else if octet == 92 then said_from Escape rest
     else said_before (Some octet) (said_from Plain rest)
 said_from Escape (high ∷ rest) = said_from (Half high) rest
-said_from (Half high) (low ∷ rest) = said_before (octet_of high low) (said_from Plain rest)
-
--- how the code goes on: the octet that digits say, and what is left; and the octet that one says with those after it; nothing public rests
--- on these
-abbrev pub escape_at : List ℕ → Option (ℕ × List ℕ)
-escape_at (high ∷ low ∷ rest) = option_map (λ octet. (octet, rest)) (octet_of high low)
-escape_at _ = None
-
-abbrev pub said_at : ℕ → List ℕ → Option (ℕ × List ℕ)
-said_at octet rest = if octet == 92 then escape_at rest else Some (octet, rest)
+said_from (Half high) (low ∷ rest) = said_before (octet_of_digits high low) (said_from Plain rest)
 
 -- what a text says: one in quotes what is between them; one without quotes itself
 abbrev pub word_in : List ℕ → Option (List ℕ)
@@ -115,3 +94,19 @@ words_in (text ∷ texts) = with_word (word_in text) (words_in texts)
 -- the words of a line, if it is made of words
 abbrev pub words_of : List ℕ → Option (List (List ℕ))
 words_of line = words_in (texts_of line)
+
+-- ---- how words are written
+
+-- texts with one space between two
+unfoldable pub spaced : List ℕ → List (List ℕ) → List ℕ
+spaced text [] = text
+spaced text (next ∷ texts) = text ++ 32 ∷ spaced next texts
+
+-- a word that may stand without quotes: it has an octet at least, and no space and no quotation mark
+pub record IsBare (word : List ℕ) : Type 0 where
+  pub some : word ≢ []
+  pub plain : All (λ octet. ((octet == 32) ≡ false) × (is_quote octet ≡ false)) word
+
+-- a text that writes a word: the word between quotes as it is printed, or the word itself
+abbrev pub Writes : List ℕ → List ℕ → Type 0
+Writes text word = (text ≡ quoted word) ⊎ ((text ≡ word) × IsBare word)

@@ -1,12 +1,22 @@
 //! What holds of the definitions alone.
-ghost use Rattle.std.specs.Prelude.{◌⊎◌, List, ℕ};
+ghost use Rattle.std.specs.Prelude.{◌≡◌, ◌<◌, ◌⊎◌, ◌∷◌, List, Some, map, ℕ};
+ghost use Rattle.std.specs.List.{All};
 ghost use Rattle.sqlite.specs.Held.{state};
 ghost use Rattle.sqlite.specs.State.{HasCleanDisk};
 ghost use Rattle.sqlite_trees.specs.Tree.{Trees};
 ghost use Rattle.depot_actions.specs.History.{AreAnswered as HaveReplied, Call};
 ghost use Rattle.depot_batch.specs.Batch.{AreAnswered, IsMadeAtOne, Office};
+ghost use Rattle.depot_batch.specs.Words.{Writes, spaced, words_of};
 
 use sqlite::Alter;
+
+/// A line of texts that write words, with one space between two, has these words: so each word, of
+/// whatever octets, can be said.
+pub fn lines_say_their_words()
+    ensures { (first : List ℕ × List ℕ) (others : List (List ℕ × List ℕ))
+        → All (λ w. Writes w.0 w.1 × All (λ octet. octet < 256) w.1) (first ∷ others)
+        → words_of (spaced first.0 (map (λ w. w.0) others)) ≡ Some (map (λ w. w.1) (first ∷ others)) }
+{}
 
 /// The lines of a batch are calls of its depot, one after another, of which each is done or refused. So what the depot holds is the fold of
 /// the accepted commands (`commands_are_a_fold` of depot_actions).

@@ -16,7 +16,6 @@ mod serving;
 mod words;
 
 pub use fault::{Form, LineFault};
-pub use outcome::Outcome;
 pub use request::{Export, Request, request_of};
 pub use serving::batch;
 pub use words::words_of;

@@ -27,8 +27,8 @@ const REFUSED: u8 = 1;
 ///
 /// The status is 0 at the end of the input. It is 1 after a line that is refused `Database`, since a
 /// failure may have shut the depot's store; and where the input or `out` fails, or memory is refused
-/// for a line, of which the line of `Read`, `Write` or `Memory` is written to `err`. A batch ends
-/// after 2^64 - 1 lines, too.
+/// while a line is read, of which the line of `Read`, `Write` or `Memory` is written to `err`. Memory
+/// that is refused for what a line asks is that line's answer. A batch ends after 2^64 - 1 lines, too.
 pub fn batch<S: Alter, H: Host, R: BufRead, W: Write + Drop, E: Sink>(
     alloc: Global,
     name: &str,

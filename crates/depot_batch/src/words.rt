@@ -1,8 +1,9 @@
 // The words of a line.
-ghost use Rattle.std.specs.Prelude.{◌≡◌, ◌∷◌, [], IfOk, length, take, drop, ◌≤◌, map, option_map, IfSome, MatchOption};
+ghost use Rattle.std.specs.Prelude.{◌≡◌, ◌∷◌, [], IfOk, length, ◌≤◌, map, option_map, MatchOption};
 ghost use Rattle.std.specs.List.{list_any};
-ghost use Rattle.depot_batch.specs.Words.{Plain, escape_at, hex_value, is_gap, octet_of, said_at, is_quoted_after, parted_at, is_quote, said_from, texts_of, word_in, words_in, words_of};
+ghost use Rattle.depot_batch.specs.Words.{Plain, is_gap, is_quoted_after, parted_at, is_quote, said_from, texts_of, word_in, words_of};
 
+use octets::said_of;
 use std::alloc::{AllocError, Global};
 
 /// The words of a line, in their order: `None` where it isn't made of words.
@@ -123,51 +124,4 @@ fn said_in(alloc: Global, octets: &[u8]) -> Result<Option<Vec<u8>>, AllocError>
         }
     }
     Ok(None)
-}
-
-// The octet that one says with those after it, and what is left.
-fn said_of(octet: u8, rest: &[u8]) -> Option<(u8, &[u8])>
-    ensures said { option_map (λ x. (x.0, x.1.now)) result ≡ said_at octet rest.now }
-    ensures shorter { IfSome result (λ x. length x.1.now ≤ length rest.now) }
-{
-    if octet == b'\\' {
-        escape_of(rest)
-    } else {
-        Some((octet, rest))
-    }
-}
-
-// The octet whose digits stand first, and what is left after them.
-fn escape_of(octets: &[u8]) -> Option<(u8, &[u8])>
-    ensures said { option_map (λ x. (x.0, x.1.now)) result ≡ escape_at octets.now }
-    ensures shorter { IfSome result (λ x. length x.1.now ≤ length octets.now) }
-{
-    let [high, low, rest @ ..] = octets else {
-        return None;
-    };
-    match octet_of(*high, *low) {
-        Some(octet) => Some((octet, rest)),
-        None => None,
-    }
-}
-
-// The octet of two hexadecimal digits of either case.
-fn octet_of(high: u8, low: u8) -> Option<u8>
-    ensures { result ≡ octet_of high low }
-{
-    let high = hex_value(high)?;
-    let low = hex_value(low)?;
-    Some(16 * high + low)
-}
-
-// The value of a hexadecimal digit of either case.
-fn hex_value(octet: u8) -> Option<u8>
-    ensures { result ≡ hex_value octet }
-{
-    match octet {
-        b'0'..=b'9' => Some(octet - b'0'),
-        b'a'..=b'f' => Some(octet - b'a' + 10),
-        b'A'..=b'F' => Some(octet - b'A' + 10),
-        _ => None,
-    }
 }

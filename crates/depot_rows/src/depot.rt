@@ -17,7 +17,7 @@ pub const SCRIPT: &[u8] =
 // A program that keeps every message, and one that jumps to where it stands.
 pub const KEEP: &[u8] = b"SVBC\x01\0\0\0\0\0\0\0\0\0\x02\x13\0\0\0\0\0\0\0\x01\0\0\0\0\0\0\0";
 
-const JUMP: &[u8] = b"SVBC\x01\0\0\0\0\0\0\0\0\0\x02\x09\0\0\0\0\0\0\0\x01\0\0\0\0\0\0\0";
+pub const JUMP: &[u8] = b"SVBC\x01\0\0\0\0\0\0\0\0\0\x02\x09\0\0\0\0\0\0\0\x01\0\0\0\0\0\0\0";
 
 // The text of an entry in an encoding.
 fn exported(

@@ -6,6 +6,8 @@ mod altered_programs;
 #[cfg(test)]
 mod answers;
 #[cfg(test)]
+mod batches;
+#[cfg(test)]
 mod depot;
 #[cfg(test)]
 mod devices;

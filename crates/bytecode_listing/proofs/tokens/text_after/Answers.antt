@@ -15,11 +15,11 @@ returns-then-octet-eq34 c =
 pub returns-in_default-said_of : goal.returns-in_default-said_of
 returns-in_default-said_of c =
     sym c.octets.invariant
-    ∙ said_stops c.args.left c.octets.text.items c.octets.rest.now c.in-Some.after.now c.in-Some.octet c.in-Some.ensures (unequal c.in-Some.octet 34 c.if-octet-eq34.false) (sym c.in_default-said_of.ensures.octet)
+    ∙ said_stops c.args.left c.octets.text.items c.octets.rest.now c.in-Some.after.now c.in-Some.octet c.in-Some.ensures (unequal c.in-Some.octet 34 c.if-octet-eq34.false) (sym c.in_default-said_of.ensures.said)
 
 pub octets-preserved : goal.octets-preserved
 octets-preserved c =
-    let step = said_goes_on c.args.left c.octets.text.items c.octets.rest.now c.in-Some.after.now c.in-Some.octet c.in-Some-said_of.said c.in-Some-said_of.after.now c.in-Some.ensures (unequal c.in-Some.octet 34 c.if-octet-eq34.false) (sym c.in-Some-said_of.ensures.octet) in
+    let step = said_goes_on c.args.left c.octets.text.items c.octets.rest.now c.in-Some.after.now c.in-Some.octet c.in-Some-said_of.said c.in-Some-said_of.after.now c.in-Some.ensures (unequal c.in-Some.octet 34 c.if-octet-eq34.false) (sym c.in-Some-said_of.ensures.said) in
     rw c.in_ok-push.ensures.items (ap text_at (sym step) ∙ c.octets.invariant)
 
 pub returns : goal.returns

@@ -1,0 +1,213 @@
+// Batches on a depot in memory, over a shelf: what each line is answered, and what breaks off.
+use crate::depot::{JUMP, KEEP, MESSAGE};
+use crate::devices::Calls;
+use crate::shelf::{Known, Shelf};
+use depot_actions::{Depot, OfWrite, Refusal};
+use depot_batch::batch;
+use sqlite::MemStore;
+use std::alloc::Global;
+use std::io;
+use std::io::{BufReader, Error, ErrorKind, Read, Write};
+use std::test::Fail;
+
+const PROGRAM: Known<'static> = Known {
+    name: "program",
+    octets: KEEP,
+};
+
+const WRONG: Known<'static> = Known {
+    name: "wrong",
+    octets: JUMP,
+};
+
+const EMPTY: Known<'static> = Known {
+    name: "empty",
+    octets: b"",
+};
+
+const MAIL: Known<'static> = Known {
+    name: "mail",
+    octets: MESSAGE,
+};
+
+const DISCARD: Known<'static> = Known {
+    name: "discard",
+    octets: b"discard;",
+};
+
+// Three deliveries, and what they are answered.
+const THREE: &[u8] = b"deliver ann mail\ndeliver ann mail\ndeliver ann mail\n";
+
+const ANSWERS: &[u8] = b"1 message \"INBOX\"\n= 0\n2 message \"INBOX\"\n= 0\n3 message \"INBOX\"\n= 0\n";
+
+/// What came of a batch.
+#[derive(Drop)]
+struct Seen<W> {
+    status: u8,
+    out: W,
+    err: Vec<u8>,
+}
+
+/// Gives its octets, and fails after the last.
+#[derive(Drop)]
+struct Failing<'a> {
+    octets: &'a [u8],
+}
+
+impl Read for Failing<'_> {
+    fn read(&mut self, room: &mut [u8]) -> io::Result<usize> {
+        let n = self.octets.len().min(room.len());
+        if n == 0 {
+            return Err(Error::from(ErrorKind::Other));
+        }
+        let (first, others) = self.octets.split_at(n);
+        room[..n].copy_from_slice(first);
+        self.octets = others;
+        Ok(n)
+    }
+}
+
+// Serves the lines of a reader to a depot, with two files, and answers them to a writer.
+fn served<R: Read + Drop, W: Write + Drop>(
+    alloc: Global,
+    depot: &mut Result<Depot<MemStore>, Refusal>,
+    files: [Known<'static>; 2],
+    lines: R,
+    out: W,
+) -> Result<Seen<W>, Fail> {
+    let [first, second] = files;
+    let mut host = Shelf::new(alloc, first, second, b"", 1_000);
+    let mut input = BufReader::with_capacity(alloc, 64, lines)?;
+    let mut out = OfWrite::new(out);
+    let mut err = OfWrite::new(Vec::new(alloc));
+    let status = batch(
+        alloc, "d", depot, &mut host, &mut input, &mut out, &mut err,
+    );
+    Ok(Seen {
+        status,
+        out: out.inner,
+        err: err.inner,
+    })
+}
+
+// Whether lines are answered so, with status 0.
+fn answers(
+    alloc: Global,
+    depot: &mut Result<Depot<MemStore>, Refusal>,
+    files: [Known<'static>; 2],
+    lines: &[u8],
+    answer: &[u8],
+) -> Result<bool, Fail> {
+    let seen = served(alloc, depot, files, lines, Vec::new(alloc))?;
+    Ok(seen.status == 0 && seen.out.as_slice() == answer && seen.err.is_empty())
+}
+
+// How many entries ann has.
+fn entries(depot: &mut Result<Depot<MemStore>, Refusal>) -> Result<usize, Fail> {
+    match depot {
+        Ok(depot) => Ok(depot.list("ann")?.len()),
+        Err(_) => Ok(0),
+    }
+}
+
+#[test]
+fn lines_are_answered(rt: HostRuntime) -> Result<(), Fail> {
+    let alloc = rt.alloc();
+    let mut depot = Depot::in_memory(alloc);
+    let stored = answers(
+        alloc,
+        &mut depot,
+        [PROGRAM, WRONG],
+        b"code cat program\ncode cat wrong\ncode cat none\n",
+        b"stored\n= 0\nrefused 25 Jump at 0\n= 1\nrefused 46 Read\n= 1\n",
+    )?;
+    assert!(rt; stored, "programs");
+    let delivered = answers(
+        alloc,
+        &mut depot,
+        [EMPTY, DISCARD],
+        b"deliver cat empty\ndeliver dan empty\nlist cat\nexport cat 1 raw made\nscript eve discard\ndeliver eve empty\nlist eve\n",
+        b"1 message \"INBOX\"\n= 0\n1 message \"INBOX\"\n= 0\n1 message \"INBOX\" \"\" message/rfc822 0\n= 0\nexported 1\n= 0\nstored\n= 0\nnone\n= 0\nnone\n= 0\n",
+    )?;
+    assert!(rt; delivered, "deliveries");
+    let told = answers(
+        alloc,
+        &mut depot,
+        [EMPTY, MAIL],
+        b"\"deliver\" \"\\63at\" mail\nremove cat 1\nremove cat 1\nlist Cat\nlist  cat\nlist cat",
+        b"2 message \"INBOX\"\n= 0\nremoved 1\n= 0\nrefused 40 NoSuchEntry\n= 1\nrefused 44 UserName\n= 1\n? words have one space between them, and others stand in quotes\n= 2\n? the input ended within this line\n= 2\n",
+    )?;
+    assert!(rt; told, "refusals");
+    Ok(())
+}
+
+#[test]
+fn many_lines(rt: HostRuntime) -> Result<(), Fail> {
+    let alloc = rt.alloc();
+    let mut depot = Depot::in_memory(alloc);
+    let mut lines = Vec::new(alloc);
+    let mut answer = Vec::new(alloc);
+    for _ in 0..20_000u32 {
+        lines.extend_from_slice(b"list ann\n")?;
+        answer.extend_from_slice(b"none\n= 0\n")?;
+    }
+    let same = answers(alloc, &mut depot, [EMPTY, MAIL], &lines, &answer)?;
+    assert!(rt; same);
+    Ok(())
+}
+
+#[test]
+fn answers_that_break_off(rt: HostRuntime) -> Result<(), Fail> {
+    let alloc = rt.alloc();
+    let one = ANSWERS.len() / 3;
+    for calls in 0..ANSWERS.len() {
+        let mut depot = Depot::in_memory(alloc);
+        let seen = served(
+            alloc,
+            &mut depot,
+            [EMPTY, MAIL],
+            THREE,
+            Calls::new(&rt, 1, calls),
+        )?;
+        assert_eq!(rt; seen.status, 1, "{calls}");
+        assert!(rt; seen.out.octets.as_slice() == &ANSWERS[..calls], "{calls}");
+        assert!(rt; seen.err.as_slice() == b"refused 45 Write\n".as_slice(), "{calls}");
+        assert_eq!(rt; entries(&mut depot)?, calls / one + 1, "{calls}");
+    }
+    Ok(())
+}
+
+#[test]
+fn lines_that_break_off(rt: HostRuntime) -> Result<(), Fail> {
+    let alloc = rt.alloc();
+    let line = THREE.len() / 3;
+    let one = ANSWERS.len() / 3;
+    for len in 0..THREE.len() + 1 {
+        let mut depot = Depot::in_memory(alloc);
+        let octets = &THREE[..len];
+        let seen = served(
+            alloc,
+            &mut depot,
+            [EMPTY, MAIL],
+            Failing { octets },
+            Vec::new(alloc),
+        )?;
+        let whole = len / line;
+        assert_eq!(rt; seen.status, 1, "{len}");
+        assert!(rt; seen.out.as_slice() == &ANSWERS[..whole * one], "{len}");
+        assert!(rt; seen.err.as_slice() == b"refused 46 Read\n".as_slice(), "{len}");
+        assert_eq!(rt; entries(&mut depot)?, whole, "{len}");
+    }
+    Ok(())
+}
+
+#[test]
+fn a_depot_that_was_not_opened(rt: HostRuntime) -> Result<(), Fail> {
+    let alloc = rt.alloc();
+    let mut depot = Err(Refusal::Database);
+    let seen = served(alloc, &mut depot, [EMPTY, MAIL], THREE, Vec::new(alloc))?;
+    assert_eq!(rt; seen.status, 1);
+    assert!(rt; seen.out.is_empty());
+    assert!(rt; seen.err.as_slice() == b"refused 43 Database\n".as_slice());
+    Ok(())
+}
