@@ -154,7 +154,8 @@ fn put_scope(out: &mut Vec<u8>, a: u8) -> Result<(), AllocError>
 // Appends the comment of a selection and of counts.
 fn put_selection(out: &mut Vec<u8>, a: u8, counts: u32) -> Result<(), AllocError>
     ensures { OnOk result (out.new.items ≡ out.old.items
-        ++ comment (option_map (λ words. said_a words ++ counts_words counts) (selection_words a))) }
+        ++ comment (option_map (λ words. said_a words ++ counts_words counts)
+        (selection_words a))) }
 {
     match (match_words(a % 8), scope_words(a)) {
         (Some((matched, comparator)), Some((scope, selector))) => {

@@ -172,7 +172,8 @@ fn export<S: Alter, H: Host>(
 /// Writes the lines of an answer.
 pub fn put_answer<O: Sink>(out: &mut O, answer: &Answer) -> Result<(), DeviceFailed>
     ensures ok { OnOk result (HasTaken (text_in answer.now) (O.output out.old) (O.output out.new)) }
-    ensures err { OnErr result (HasBroken (text_in answer.now) (O.output out.old) (O.output out.new)) }
+    ensures err { OnErr result (HasBroken (text_in answer.now) (O.output out.old)
+        (O.output out.new)) }
 {
     match answer {
         Answer::Replied(reply) => put_reply(out, reply),

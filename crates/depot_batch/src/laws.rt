@@ -15,20 +15,23 @@ use sqlite::Alter;
 pub fn lines_say_their_words()
     ensures { (first : List ℕ × List ℕ) (others : List (List ℕ × List ℕ))
         → All (λ w. Writes w.0 w.1 × All (λ octet. octet < 256) w.1) (first ∷ others)
-        → words_of (spaced first.0 (map (λ w. w.0) others)) ≡ Some (map (λ w. w.1) (first ∷ others)) }
+        → words_of (spaced first.0 (map (λ w. w.0) others))
+        ≡ Some (map (λ w. w.1) (first ∷ others)) }
 {}
 
 /// The lines of a batch are calls of its depot, one after another, of which each is done or refused. So what the depot holds is the fold of
 /// the accepted commands (`commands_are_a_fold` of depot_actions).
 pub fn batches_are_calls<S: Alter>()
-    ensures { (name : List ℕ) (lines : List (List ℕ)) (old new : Office S) → AreAnswered S.Store name lines old new
-        → HasCleanDisk (state S.Store new.depot) → (calls : List Call) × HaveReplied S.Store calls old.depot new.depot }
+    ensures { (name : List ℕ) (lines : List (List ℕ)) (old new : Office S)
+        → AreAnswered S.Store name lines old new → HasCleanDisk (state S.Store new.depot)
+        → (calls : List Call) × HaveReplied S.Store calls old.depot new.depot }
 {}
 
 /// A crash, at any moment of a batch, leaves what it could have left before the batch, or what the command of one of the lines makes of what
 /// the lines before it left: never a part of that.
 pub fn crashes_leave_one_line_whole<S: Alter>()
-    ensures { (name : List ℕ) (lines : List (List ℕ)) (old new : Office S) → AreAnswered S.Store name lines old new
-        → HasCleanDisk (state S.Store new.depot) → (trees : Trees) → (state S.Store new.depot).may_leave trees
+    ensures { (name : List ℕ) (lines : List (List ℕ)) (old new : Office S)
+        → AreAnswered S.Store name lines old new → HasCleanDisk (state S.Store new.depot)
+        → (trees : Trees) → (state S.Store new.depot).may_leave trees
         → (state S.Store old.depot).may_leave trees ⊎ IsMadeAtOne S.Store name lines old trees }
 {}

@@ -12,7 +12,8 @@ use std::alloc::{AllocError, Global};
 ///
 /// An allocation was refused.
 pub fn words_of(alloc: Global, line: &[u8]) -> Result<Option<Vec<Vec<u8>>>, AllocError>
-    ensures { IfOk result (λ found. option_map (λ words. map (λ w. w.items) words.items) found ≡ words_of line.now) }
+    ensures { IfOk result (λ found. option_map (λ words. map (λ w. w.items) words.items) found
+        ≡ words_of line.now) }
 {
     let texts = texts_of(alloc, line)?;
     let mut words = Vec::new(alloc);

@@ -16,7 +16,9 @@ use std::alloc::Global;
 /// `Memory` where memory ran out.
 pub fn decode32(alloc: Global, text: &[u8]) -> Result<Vec<u8>, Refusal>
     ensures octets { IfOk result (λ octets. Spells Base32 text.now octets.items) }
-    ensures refused { IfErr result (λ e. e ≡ NotCanonical → (octets : List ℕ) → IsOctets octets → Spells Base32 text.now octets → ⊥) }
+    ensures refused { IfErr result
+        (λ e. e ≡ NotCanonical → (octets : List ℕ) → IsOctets octets → Spells Base32 text.now octets
+        → ⊥) }
 {
     decode(alloc, text, Alphabet::Base32)
 }
@@ -28,7 +30,9 @@ pub fn decode32(alloc: Global, text: &[u8]) -> Result<Vec<u8>, Refusal>
 /// As `decode32`, in the alphabet of base32hex.
 pub fn decode32hex(alloc: Global, text: &[u8]) -> Result<Vec<u8>, Refusal>
     ensures octets { IfOk result (λ octets. Spells Base32Hex text.now octets.items) }
-    ensures refused { IfErr result (λ e. e ≡ NotCanonical → (octets : List ℕ) → IsOctets octets → Spells Base32Hex text.now octets → ⊥) }
+    ensures refused { IfErr result
+        (λ e. e ≡ NotCanonical → (octets : List ℕ) → IsOctets octets
+        → Spells Base32Hex text.now octets → ⊥) }
 {
     decode(alloc, text, Alphabet::Base32Hex)
 }
@@ -38,7 +42,9 @@ pub fn decode32hex(alloc: Global, text: &[u8]) -> Result<Vec<u8>, Refusal>
 #[inline(always)]
 fn decode(alloc: Global, text: &[u8], alphabet: Alphabet) -> Result<Vec<u8>, Refusal>
     ensures octets { IfOk result (λ octets. Spells alphabet text.now octets.items) }
-    ensures refused { IfErr result (λ e. e ≡ NotCanonical → (octets : List ℕ) → IsOctets octets → Spells alphabet text.now octets → ⊥) }
+    ensures refused { IfErr result
+        (λ e. e ≡ NotCanonical → (octets : List ℕ) → IsOctets octets
+        → Spells alphabet text.now octets → ⊥) }
 {
     let mut out = Vec::with_capacity(alloc, octets_len(text, alphabet))?;
     let mut rest = text;
@@ -66,7 +72,9 @@ fn octets_len(text: &[u8], alphabet: Alphabet) -> usize
 // The first block and what follows it, where something does.
 #[inline(always)]
 fn first_block(text: &[u8]) -> Option<(&[u8; 32], &[u8])>
-    ensures { MatchOption result (length text.now ≤ 32) (λ parts. (parts.0.now ≡ take 32 text.now) × (parts.1.now ≡ drop 32 text.now) × (length parts.1.now + 32 ≡ length text.now) × (32 < length text.now)) }
+    ensures { MatchOption result (length text.now ≤ 32)
+        (λ parts. (parts.0.now ≡ take 32 text.now) × (parts.1.now ≡ drop 32 text.now)
+        × (length parts.1.now + 32 ≡ length text.now) × (32 < length text.now)) }
 {
     if text.len() <= 32 {
         return None;
@@ -77,8 +85,12 @@ fn first_block(text: &[u8]) -> Option<(&[u8; 32], &[u8])>
 // Appends the octets of a block, all of whose octets have to be symbols.
 #[inline(always)]
 fn append_block(block: &[u8; 32], alphabet: Alphabet, out: &mut Vec<u8>) -> Result<(), Refusal>
-    ensures octets { OnOk result ((octets : List ℕ) × (out.new.items ≡ out.old.items ++ octets) × (length octets ≡ 4 * width alphabet) × Spells alphabet block.now octets) }
-    ensures refused { IfErr result (λ e. e ≡ NotCanonical → (octets : List ℕ) → length octets ≡ 4 * width alphabet → Spells alphabet block.now octets → ⊥) }
+    ensures octets { OnOk result
+        ((octets : List ℕ) × (out.new.items ≡ out.old.items ++ octets)
+        × (length octets ≡ 4 * width alphabet) × Spells alphabet block.now octets) }
+    ensures refused { IfErr result
+        (λ e. e ≡ NotCanonical → (octets : List ℕ) → length octets ≡ 4 * width alphabet
+        → Spells alphabet block.now octets → ⊥) }
 {
     let classes = classify(block, alphabet);
     if has_stray(&classes) {
@@ -91,8 +103,12 @@ fn append_block(block: &[u8; 32], alphabet: Alphabet, out: &mut Vec<u8>) -> Resu
 // Appends the octets of the last block, which may be shorter and padded.
 fn append_last(text: &[u8], alphabet: Alphabet, out: &mut Vec<u8>) -> Result<(), Refusal>
     requires { length text.now ≤ 32 }
-    ensures octets { OnOk result ((octets : List ℕ) × (out.new.items ≡ out.old.items ++ octets) × Spells alphabet text.now octets) }
-    ensures refused { IfErr result (λ e. e ≡ NotCanonical → (octets : List ℕ) → IsOctets octets → Spells alphabet text.now octets → ⊥) }
+    ensures octets { OnOk result
+        ((octets : List ℕ) × (out.new.items ≡ out.old.items ++ octets)
+        × Spells alphabet text.now octets) }
+    ensures refused { IfErr result
+        (λ e. e ≡ NotCanonical → (octets : List ℕ) → IsOctets octets
+        → Spells alphabet text.now octets → ⊥) }
 {
     let (octets, n) = block_octets(text, alphabet);
     let octets = &octets[..n];

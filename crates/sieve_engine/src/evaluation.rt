@@ -20,10 +20,12 @@ use std::alloc::Global;
 /// Else the first refusal of the script: of its length, then its tokens, its grammar and its rules.
 /// [`Refusal::Memory`] comes only where an allocation was refused, and never for more octets than the limit.
 pub fn check_script(alloc: Global, script: &[u8]) -> Result<Checked, Refusal>
-    ensures checked { IfOk result (λ checked. IsScript script.now (commands_form checked.commands)) }
+    ensures checked { IfOk result
+        (λ checked. IsScript script.now (commands_form checked.commands)) }
     ensures script { IfOk result (λ checked. IsParsed script.now (commands_tree checked.script)) }
     ensures refused { IfErr result (λ e. IsScriptRefusal script.now e) }
-    ensures large { max_script < length script.now → IsErrAnd result (λ e. e ≡ Refusal.ScriptTooLong) }
+    ensures large { max_script < length script.now
+        → IsErrAnd result (λ e. e ≡ Refusal.ScriptTooLong) }
 {
     let script = parse(alloc, script)?;
     Ok(check(alloc, script)?)
@@ -36,7 +38,8 @@ pub fn check_script(alloc: Global, script: &[u8]) -> Result<Checked, Refusal>
 pub fn compile_script(alloc: Global, script: &[u8]) -> Result<Program, Refusal>
     ensures compiled { IfOk result (λ program. IsCompiled script.now program) }
     ensures refused { IfErr result (λ e. IsScriptRefusal script.now e) }
-    ensures large { max_script < length script.now → IsErrAnd result (λ e. e ≡ Refusal.ScriptTooLong) }
+    ensures large { max_script < length script.now
+        → IsErrAnd result (λ e. e ≡ Refusal.ScriptTooLong) }
 {
     let checked = check_script(alloc, script)?;
     Ok(compile(alloc, &checked)?)
@@ -47,9 +50,12 @@ pub fn compile_script(alloc: Global, script: &[u8]) -> Result<Program, Refusal>
 /// The answer is the first refusal of the script, then of the message; else the final actions of the script's
 /// meaning on the message, with the charge and the limit of its code's run.
 pub fn evaluate(alloc: Global, script: &[u8], message: &[u8]) -> Result<Report, Refusal>
-    ensures evaluated { IfOk result (λ report. IsEvaluation script.now message.now report.outcome.actions.items report.outcome.charged report.limit) }
+    ensures evaluated { IfOk result
+        (λ report. IsEvaluation script.now message.now report.outcome.actions.items
+        report.outcome.charged report.limit) }
     ensures refused { IfErr result (λ e. IsEvaluationRefusal script.now message.now e) }
-    ensures large { max_script < length script.now → IsErrAnd result (λ e. e ≡ Refusal.ScriptTooLong) }
+    ensures large { max_script < length script.now
+        → IsErrAnd result (λ e. e ≡ Refusal.ScriptTooLong) }
 {
     let program = compile_script(alloc, script)?;
     match verify(alloc, program) {

@@ -42,7 +42,9 @@ pub fn check_program(alloc: Global, program: &[u8]) -> Result<Verified, Refusal>
 /// The answer is the first refusal of the program, then of the message; else the outcome of the one
 /// run that the definitions give, and the limit that it stays within.
 pub fn execute(alloc: Global, program: &[u8], message: &[u8]) -> Result<Report, Refusal>
-    ensures executed { IfOk result (λ report. IsExecution program.now message.now report.outcome.actions.items report.outcome.charged report.limit) }
+    ensures executed { IfOk result
+        (λ report. IsExecution program.now message.now report.outcome.actions.items
+        report.outcome.charged report.limit) }
     ensures refused { IfErr result (λ e. IsRefusal program.now message.now e) }
     ensures large { max_program < length program.now → IsErrAnd result (λ e. e ≡ Refusal.Spelling) }
 {
@@ -53,7 +55,9 @@ pub fn execute(alloc: Global, program: &[u8], message: &[u8]) -> Result<Report, 
 /// The report of an accepted program's run on the message that the octets are.
 pub(crate) fn run_on(alloc: Global, verified: &Verified, message: &[u8]) -> Result<Report, Refusal>
     requires { IsAccepted verified.now }
-    ensures reported { IfOk result (λ report. IsReport verified.now message.now report.outcome.actions.items report.outcome.charged report.limit) }
+    ensures reported { IfOk result
+        (λ report. IsReport verified.now message.now report.outcome.actions.items
+        report.outcome.charged report.limit) }
     ensures refused { IfErr result (λ e. IsUnread message.now e) }
 {
     let message = Message::read(alloc, message)?;

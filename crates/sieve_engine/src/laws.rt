@@ -13,13 +13,21 @@ ghost use Rattle.sieve_meaning.specs.Meaning.{meaning};
 /// script on it: they come to the final actions of the script's meaning, charge no more than the budget, and are refused for the
 /// message alone.
 pub fn written_code_means_its_script()
-    ensures accepted { (script program : List ℕ) (form : CommandForms) → IsScript script form → Spells program (code_of form) → IsChecked program (code_of form) }
-    ensures runs { (script program message : List ℕ) (form : CommandForms) → IsScript script form → Spells program (code_of form) → IsReadable message
-        → (charged : ℕ) × ((limit : ℕ) × IsExecution program message (meaning (mail_of message) form) charged limit) }
-    ensures means { (script program message : List ℕ) (form : CommandForms) (actions : List Action) (charged limit : ℕ) → IsScript script form → Spells program (code_of form)
-        → IsExecution program message actions charged limit → (actions ≡ meaning (mail_of message) form) × (charged ≤ limit) }
-    ensures evaluates { (script program message : List ℕ) (form : CommandForms) (actions : List Action) (charged limit : ℕ) → IsScript script form → Spells program (code_of form)
-        → IsExecution program message actions charged limit → IsEvaluation script message actions charged limit }
-    ensures refused { (script program message : List ℕ) (form : CommandForms) (e : Refusal) → IsScript script form → Spells program (code_of form)
-        → IsRefusal program message e → IsUnread message e }
+    ensures accepted { (script program : List ℕ) (form : CommandForms) → IsScript script form
+        → Spells program (code_of form) → IsChecked program (code_of form) }
+    ensures runs { (script program message : List ℕ) (form : CommandForms) → IsScript script form
+        → Spells program (code_of form) → IsReadable message
+        → (charged : ℕ) × ((limit : ℕ)
+        × IsExecution program message (meaning (mail_of message) form) charged limit) }
+    ensures means { (script program message : List ℕ) (form : CommandForms) (actions : List Action)
+        (charged limit : ℕ) → IsScript script form → Spells program (code_of form)
+        → IsExecution program message actions charged limit
+        → (actions ≡ meaning (mail_of message) form) × (charged ≤ limit) }
+    ensures evaluates { (script program message : List ℕ) (form : CommandForms)
+        (actions : List Action) (charged limit : ℕ) → IsScript script form
+        → Spells program (code_of form) → IsExecution program message actions charged limit
+        → IsEvaluation script message actions charged limit }
+    ensures refused { (script program message : List ℕ) (form : CommandForms) (e : Refusal)
+        → IsScript script form → Spells program (code_of form) → IsRefusal program message e
+        → IsUnread message e }
 {}

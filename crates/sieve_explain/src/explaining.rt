@@ -36,7 +36,8 @@ fn push_heading(
     sentence: &Sentence<'_>,
 ) -> Result<(), AllocError>
     requires { place ≤ length script.now }
-    ensures { OnOk result (out.new.items ≡ out.old.items ++ heading kind.now name.now script.now place (filled (blanks_of sentence.now))) }
+    ensures { OnOk result (out.new.items ≡ out.old.items
+        ++ heading kind.now name.now script.now place (filled (blanks_of sentence.now))) }
 {
     out.extend_from_slice(name.as_bytes())?;
     out.extend_from_slice(b":")?;
@@ -58,7 +59,8 @@ fn remark(
     sentence: &Sentence<'_>,
 ) -> Result<Vec<u8>, AllocError>
     requires { place ≤ length script.now }
-    ensures { IfOk result (λ text. text.items ≡ remark kind.now name.now script.now place (blanks_of sentence.now)) }
+    ensures { IfOk result (λ text. text.items
+        ≡ remark kind.now name.now script.now place (blanks_of sentence.now)) }
 {
     let mut text = Vec::new(alloc);
     push_heading(&mut text, kind, name, script, place, sentence)?;
@@ -76,7 +78,8 @@ fn told(
     sentence: &Sentence<'_>,
 ) -> Result<Vec<u8>, AllocError>
     requires { place ≤ length script.now }
-    ensures { IfOk result (λ text. text.items ≡ told name.now script.now place (blanks_of sentence.now)) }
+    ensures { IfOk result (λ text. text.items
+        ≡ told name.now script.now place (blanks_of sentence.now)) }
 {
     remark(alloc, ": error: ", name, script, place, sentence)
 }
@@ -285,7 +288,8 @@ fn string_marked(
     number: usize,
 ) -> Option<Token>
     requires { HasTokens script.now tokens.now }
-    ensures token { result ≡ string_marked script.now (option_map view_of reason.entry) tokens.now number }
+    ensures token { result ≡ string_marked script.now (option_map view_of reason.entry) tokens.now
+        number }
     ensures within { IfSome result (λ t. (t.start ≤ t.end) × (t.end ≤ length script.now)) }
 {
     let command = token_numbered(script, tokens, number);
@@ -304,7 +308,8 @@ fn marked_token(
     number: usize,
 ) -> Option<Token>
     requires { HasTokens script.now tokens.now }
-    ensures token { result ≡ marked_token script.now fault (option_map view_of reason.entry) tokens.now number }
+    ensures token { result ≡ marked_token script.now fault (option_map view_of reason.entry)
+        tokens.now number }
     ensures within { IfSome result (λ t. (t.start ≤ t.end) × (t.end ≤ length script.now)) }
 {
     match fault {
@@ -322,7 +327,8 @@ fn arguments_sentence<'a>(
     tokens: &[Token],
     number: usize,
 ) -> Sentence<'a>
-    ensures { blanks_of result ≡ arguments_blanks script.now (option_map view_of reason.entry) tokens.now number }
+    ensures { blanks_of result ≡ arguments_blanks script.now (option_map view_of reason.entry)
+        tokens.now number }
 {
     if has_unit(script, tokens_from(tokens_from(tokens, number), 1)) {
         unit_sentence()
@@ -339,7 +345,8 @@ fn fault_sentence<'a>(
     tokens: &[Token],
     number: usize,
 ) -> Sentence<'a>
-    ensures { blanks_of result ≡ fault_blanks script.now fault (option_map view_of reason.entry) tokens.now number }
+    ensures { blanks_of result ≡ fault_blanks script.now fault (option_map view_of reason.entry)
+        tokens.now number }
 {
     match fault {
         Fault::BadArguments => arguments_sentence(script, reason, tokens, number),
@@ -361,7 +368,9 @@ fn reason_told(
     number: usize,
 ) -> Result<Vec<u8>, AllocError>
     requires { HasTokens script.now tokens.now }
-    ensures { IfOk result (λ text. text.items ≡ reason_told name.now script.now fault (option_map view_of reason.entry) tokens.now number) }
+    ensures { IfOk result (λ text. text.items
+        ≡ reason_told name.now script.now fault (option_map view_of reason.entry) tokens.now
+        number) }
 {
     let place = start_of(script, marked_token(script, fault, reason, tokens, number));
     let sentence = fault_sentence(script, fault, reason, tokens, number);

@@ -10,7 +10,8 @@ use sieve_parser::laws::parsed_trees_are_unique;
 
 /// What is told of a refusal of a script is one text, since a script has one list of tokens and one tree at most.
 pub fn explanations_are_unique()
-    ensures { (name script : List ℕ) (refusal : Refusal) (text other : List ℕ) → Explains name script refusal text → Explains name script refusal other → text ≡ other }
+    ensures { (name script : List ℕ) (refusal : Refusal) (text other : List ℕ)
+        → Explains name script refusal text → Explains name script refusal other → text ≡ other }
 {
     tokens_are_unique();
     parsed_trees_are_unique();
@@ -18,10 +19,13 @@ pub fn explanations_are_unique()
 
 /// What is told of a refusal is printable characters of ASCII and ends of lines, whoever wrote the script, where the script's name is.
 pub fn explanations_are_printable()
-    ensures { (name script : List ℕ) (refusal : Refusal) (text : List ℕ) → IsTrue (are_printable name) → Explains name script refusal text → IsTrue (are_printable text) }
+    ensures { (name script : List ℕ) (refusal : Refusal) (text : List ℕ)
+        → IsTrue (are_printable name) → Explains name script refusal text
+        → IsTrue (are_printable text) }
 {}
 
 /// So is what is told of a listing.
 pub fn listing_explanations_are_printable()
-    ensures { (name listing : List ℕ) (place : ℕ) (kind : FaultKind) → IsTrue (are_printable name) → IsTrue (are_printable (listing_told name listing place kind)) }
+    ensures { (name listing : List ℕ) (place : ℕ) (kind : FaultKind) → IsTrue (are_printable name)
+        → IsTrue (are_printable (listing_told name listing place kind)) }
 {}

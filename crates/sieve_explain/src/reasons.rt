@@ -12,8 +12,8 @@ use crate::sentence::{Sentence, plain};
 use crate::words::is_word;
 use octets::MAX_STRING;
 use sieve_check::{
-    Capability, Ending, MAX_LOOPS, MAX_NAME, MAX_SEGMENTS, MAX_TEST_STRINGS,
-    MAX_VARIABLES, Positional, Tag, Tests, command_named,
+    Capability, Ending, MAX_LOOPS, MAX_NAME, MAX_SEGMENTS, MAX_TEST_STRINGS, MAX_VARIABLES,
+    Positional, Tag, Tests, command_named,
 };
 use sieve_reasons::{Reason, ReasonKind};
 

@@ -36,7 +36,8 @@ pub fn plain(text: &'static str) -> Sentence<'static>
 
 // Appends what stands in the sentence for an octet of its text.
 fn push_filled(out: &mut Vec<u8>, sentence: &Sentence<'_>, octet: u8) -> Result<(), AllocError>
-    ensures { OnOk result (out.new.items ≡ out.old.items ++ filled_octet (blanks_of sentence.now) octet) }
+    ensures { OnOk result (out.new.items ≡ out.old.items
+        ++ filled_octet (blanks_of sentence.now) octet) }
 {
     match octet {
         b'@' => push_named(out, sentence.name),

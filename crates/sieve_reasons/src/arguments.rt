@@ -182,7 +182,8 @@ fn number_of(positional: Positional) -> usize
 
 // What is wrong with the arguments behind the tags.
 fn positional_cause(signature: Signature, arguments: &[Argument]) -> Option<Cause<'_>>
-    ensures { option_map cause_view result ≡ positional_cause signature.positional (map argument_tree arguments.now) }
+    ensures { option_map cause_view result
+        ≡ positional_cause signature.positional (map argument_tree arguments.now) }
 {
     if let Some(name) = first_label(arguments) {
         return Some(Cause::about(ReasonKind::LateTag, name));
@@ -202,7 +203,8 @@ fn positional_cause(signature: Signature, arguments: &[Argument]) -> Option<Caus
 
 // What is wrong with tags, of which each is taken, and which stand among the arguments.
 fn missing_cause(signature: Signature, tags: Tags, arguments: &[Argument]) -> Option<Cause<'_>>
-    ensures { option_map cause_view result ≡ missing_cause signature tags (map argument_tree arguments.now) }
+    ensures { option_map cause_view result
+        ≡ missing_cause signature tags (map argument_tree arguments.now) }
 {
     if signature.order && tags.order.is_none() {
         Some(Cause::plain(ReasonKind::MissingOrder))
@@ -215,7 +217,8 @@ fn missing_cause(signature: Signature, tags: Tags, arguments: &[Argument]) -> Op
 
 /// What is wrong with arguments, where the signature can't read them.
 pub fn arguments_cause(signature: Signature, arguments: &[Argument]) -> Option<Cause<'_>>
-    ensures { option_map cause_view result ≡ arguments_cause signature (map argument_tree arguments.now) }
+    ensures { option_map cause_view result
+        ≡ arguments_cause signature (map argument_tree arguments.now) }
 {
     let mut reading = Reading {
         tags: Tags::none(),

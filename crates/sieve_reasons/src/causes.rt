@@ -88,7 +88,8 @@ fn ill_formed_command<'t>(
     found: Found<'t>,
     ending: Ending,
 ) -> Option<Cause<'t>>
-    ensures { option_map cause_view result ≡ ill_formed_command (context_of surroundings.entry) name (found_view found.entry) ending }
+    ensures { option_map cause_view result
+        ≡ ill_formed_command (context_of surroundings.entry) name (found_view found.entry) ending }
 {
     if let Some(cause) = shape_cause(command_signature(name), found.head, found.tests) {
         return Some(cause);
@@ -105,7 +106,8 @@ fn ill_formed_test<'t>(
     name: TestName,
     found: Found<'t>,
 ) -> Option<Cause<'t>>
-    ensures { option_map cause_view result ≡ ill_formed_test (context_of surroundings.entry) name (found_view found.entry) }
+    ensures { option_map cause_view result
+        ≡ ill_formed_test (context_of surroundings.entry) name (found_view found.entry) }
 {
     if let Some(cause) = shape_cause(test_signature(name), found.head, found.tests) {
         return Some(cause);
@@ -120,7 +122,8 @@ fn bad_command<'t>(
     found: Found<'t>,
     ending: Ending,
 ) -> Cause<'t>
-    ensures { cause_view result ≡ bad_command (context_of surroundings.entry) name (found_view found.entry) ending }
+    ensures { cause_view result ≡ bad_command (context_of surroundings.entry) name
+        (found_view found.entry) ending }
 {
     match ill_formed_command(surroundings, name, found, ending) {
         Some(cause) => cause,
@@ -130,7 +133,8 @@ fn bad_command<'t>(
 
 // What is wrong with a test that is known by that name, or with its place.
 fn bad_test<'t>(surroundings: Surroundings<'_>, name: TestName, found: Found<'t>) -> Cause<'t>
-    ensures { cause_view result ≡ bad_test (context_of surroundings.entry) name (found_view found.entry) }
+    ensures { cause_view result ≡ bad_test (context_of surroundings.entry) name
+        (found_view found.entry) }
 {
     match ill_formed_test(surroundings, name, found) {
         Some(cause) => cause,
@@ -184,7 +188,8 @@ fn oversized_command<'t>(
     name: CommandName,
     found: Found<'t>,
 ) -> Option<Cause<'t>>
-    ensures { option_map cause_view result ≡ oversized_command (context_of surroundings.entry) name (found_view found.entry) }
+    ensures { option_map cause_view result
+        ≡ oversized_command (context_of surroundings.entry) name (found_view found.entry) }
 {
     if let Some(cause) = long_string_cause(found.head) {
         return Some(cause);
@@ -198,7 +203,8 @@ fn oversized_test<'t>(
     name: TestName,
     found: Found<'t>,
 ) -> Option<Cause<'t>>
-    ensures { option_map cause_view result ≡ oversized_test (context_of surroundings.entry) name (found_view found.entry) }
+    ensures { option_map cause_view result
+        ≡ oversized_test (context_of surroundings.entry) name (found_view found.entry) }
 {
     if let Some(cause) = long_string_cause(found.head) {
         return Some(cause);
@@ -215,7 +221,8 @@ fn large_command<'t>(
     name: CommandName,
     found: Found<'t>,
 ) -> Cause<'t>
-    ensures { cause_view result ≡ large_command (context_of surroundings.entry) name (found_view found.entry) }
+    ensures { cause_view result ≡ large_command (context_of surroundings.entry) name
+        (found_view found.entry) }
 {
     match oversized_command(surroundings, name, found) {
         Some(cause) => cause,
@@ -225,7 +232,8 @@ fn large_command<'t>(
 
 // What of a test that is known by that name, or with it of the script, is beyond a limit.
 fn large_test<'t>(surroundings: Surroundings<'_>, name: TestName, found: Found<'t>) -> Cause<'t>
-    ensures { cause_view result ≡ large_test (context_of surroundings.entry) name (found_view found.entry) }
+    ensures { cause_view result ≡ large_test (context_of surroundings.entry) name
+        (found_view found.entry) }
 {
     match oversized_test(surroundings, name, found) {
         Some(cause) => cause,
@@ -243,8 +251,10 @@ fn unknown_cause(head: &Head) -> Option<Cause<'_>>
 
 // The first capability that a command lacks, if it lacks one.
 fn command_lacking<'t>(surroundings: Surroundings<'_>, found: Found<'t>) -> Option<Cause<'t>>
-    ensures { option_map cause_view result ≡ option_map lacking
-        (option_and_then (λ name. first_lacking (command_needs name) (context_of surroundings.entry).required) (command_named (found_view found.entry).name)) }
+    ensures { option_map cause_view result
+        ≡ option_map lacking (option_and_then
+        (λ name. first_lacking (command_needs name) (context_of surroundings.entry).required)
+        (command_named (found_view found.entry).name)) }
 {
     let name = command_named(found.head.name.as_slice())?;
     let capability = surroundings.required.first_lacking(command_needs(name))?;
@@ -253,8 +263,11 @@ fn command_lacking<'t>(surroundings: Surroundings<'_>, found: Found<'t>) -> Opti
 
 // The first capability that a test lacks, if it lacks one.
 fn test_lacking<'t>(surroundings: Surroundings<'_>, found: Found<'t>) -> Option<Cause<'t>>
-    ensures { option_map cause_view result ≡ option_map lacking (option_and_then
-        (λ name. first_lacking (test_needs name (found_view found.entry).arguments) (context_of surroundings.entry).required) (test_named (found_view found.entry).name)) }
+    ensures { option_map cause_view result
+        ≡ option_map lacking (option_and_then
+        (λ name. first_lacking (test_needs name (found_view found.entry).arguments)
+        (context_of surroundings.entry).required)
+        (test_named (found_view found.entry).name)) }
 {
     let name = test_named(found.head.name.as_slice())?;
     let capability = surroundings
@@ -270,7 +283,8 @@ fn command_cause<'t>(
     found: Found<'t>,
     ending: Ending,
 ) -> Option<Cause<'t>>
-    ensures { option_map cause_view result ≡ command_cause (context_of surroundings.entry) fault (found_view found.entry) ending }
+    ensures { option_map cause_view result
+        ≡ command_cause (context_of surroundings.entry) fault (found_view found.entry) ending }
 {
     match fault {
         Fault::UnknownCommand => Some(Cause::plain(ReasonKind::UnknownCommand)),
@@ -293,7 +307,8 @@ fn test_cause<'t>(
     fault: Fault,
     found: Found<'t>,
 ) -> Option<Cause<'t>>
-    ensures { option_map cause_view result ≡ test_cause (context_of surroundings.entry) fault (found_view found.entry) }
+    ensures { option_map cause_view result
+        ≡ test_cause (context_of surroundings.entry) fault (found_view found.entry) }
 {
     match fault {
         Fault::UnknownCommand => Some(Cause::plain(ReasonKind::UnknownTest)),
@@ -312,7 +327,8 @@ fn test_cause<'t>(
 
 // What is wrong with a command or test that is refused for this fault.
 fn cause_of<'t>(surroundings: Surroundings<'_>, fault: Fault, found: Found<'t>) -> Option<Cause<'t>>
-    ensures { option_map cause_view result ≡ cause_of (context_of surroundings.entry) fault (found_view found.entry) }
+    ensures { option_map cause_view result
+        ≡ cause_of (context_of surroundings.entry) fault (found_view found.entry) }
 {
     match found.ending {
         Some(ending) => command_cause(surroundings, fault, found, ending),

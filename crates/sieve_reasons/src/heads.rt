@@ -39,7 +39,8 @@ impl<'t> Found<'t> {
 // The first that has the token, of an invocation that ends so and its tests.
 #[cycle(tests)]
 fn in_invocation(invocation: &Invocation, ending: Option<Ending>, token: usize) -> Option<Found<'_>>
-    ensures { option_map found_view result ≡ at_token token (heads_in ending (invocation_tree invocation.now)) }
+    ensures { option_map found_view result
+        ≡ at_token token (heads_in ending (invocation_tree invocation.now)) }
 {
     match invocation {
         Invocation::Plain(head) => Found {
@@ -79,7 +80,8 @@ fn in_invocation(invocation: &Invocation, ending: Option<Ending>, token: usize) 
 // The same of the tests of a list after its first.
 #[cycle(tests)]
 fn in_tests(list: &[Invocation], token: usize) -> Option<Found<'_>>
-    ensures { option_map found_view result ≡ at_token token (more_heads (more_tests_of (map invocation_tree list.now))) }
+    ensures { option_map found_view result
+        ≡ at_token token (more_heads (more_tests_of (map invocation_tree list.now))) }
 {
     'list: for invocation in list {
         if let Some(found) = in_invocation(invocation, None, token) {
@@ -92,7 +94,8 @@ fn in_tests(list: &[Invocation], token: usize) -> Option<Found<'_>>
 // The first that has the token, of a command, its tests, and what stands in its block.
 #[cycle(commands)]
 fn in_command(command: &Command, token: usize) -> Option<Found<'_>>
-    ensures { option_map found_view result ≡ at_token token (command_heads (command_tree command.now)) }
+    ensures { option_map found_view result
+        ≡ at_token token (command_heads (command_tree command.now)) }
 {
     match command {
         Command::Simple(invocation) => in_invocation(invocation, Some(Ending::Semicolon), token),
@@ -108,7 +111,8 @@ fn in_command(command: &Command, token: usize) -> Option<Found<'_>>
 /// The first command or test of a script or block whose identifier is that token.
 #[cycle(commands)]
 pub fn in_commands(commands: &[Command], token: usize) -> Option<Found<'_>>
-    ensures { option_map found_view result ≡ at_token token (commands_heads (commands_tree commands.now)) }
+    ensures { option_map found_view result
+        ≡ at_token token (commands_heads (commands_tree commands.now)) }
 {
     'trees: for command in commands {
         if let Some(found) = in_command(command, token) {

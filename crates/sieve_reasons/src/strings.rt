@@ -24,7 +24,8 @@ fn first_of(fault: StringFault, strings: &[Octets]) -> Option<&[u8]>
 
 // The first string of the argument with which this is wrong.
 fn first_in_argument(fault: StringFault, argument: &Argument) -> Option<&[u8]>
-    ensures { name_in result ≡ first_where (string_has fault) (strings_in (argument_tree argument.now)) }
+    ensures { name_in result ≡ first_where (string_has fault)
+        (strings_in (argument_tree argument.now)) }
 {
     match argument {
         Argument::Text(string) => {
@@ -47,7 +48,8 @@ fn first_in_argument(fault: StringFault, argument: &Argument) -> Option<&[u8]>
 
 /// The first string of the arguments with which this is wrong.
 pub fn first_string(fault: StringFault, arguments: &[Argument]) -> Option<&[u8]>
-    ensures { name_in result ≡ first_where (string_has fault) (strings_of (map argument_tree arguments.now)) }
+    ensures { name_in result ≡ first_where (string_has fault)
+        (strings_of (map argument_tree arguments.now)) }
 {
     for argument in arguments {
         if let Some(string) = first_in_argument(fault, argument) {
@@ -59,7 +61,8 @@ pub fn first_string(fault: StringFault, arguments: &[Argument]) -> Option<&[u8]>
 
 /// The first string with which this is wrong, of those that are expanded.
 pub fn first_expanded<'t>(fault: StringFault, mentions: Mentions<'t>) -> Option<&'t [u8]>
-    ensures { name_in result ≡ first_where (string_has fault) (mentions_in mentions.entry).expanded }
+    ensures { name_in result ≡ first_where (string_has fault)
+        (mentions_in mentions.entry).expanded }
 {
     let lists = mentions.expanded;
     if let Some(string) = first_string(fault, lists.first) {
