@@ -38,7 +38,8 @@ const DISCARD: Known<'static> = Known {
 // Three deliveries, and what they are answered.
 const THREE: &[u8] = b"deliver ann mail\ndeliver ann mail\ndeliver ann mail\n";
 
-const ANSWERS: &[u8] = b"1 message \"INBOX\"\n= 0\n2 message \"INBOX\"\n= 0\n3 message \"INBOX\"\n= 0\n";
+const ANSWERS: &[u8] =
+    b"1 message \"INBOX\"\n= 0\n2 message \"INBOX\"\n= 0\n3 message \"INBOX\"\n= 0\n";
 
 /// What came of a batch.
 #[derive(Drop)]
@@ -80,9 +81,7 @@ fn served<R: Read + Drop, W: Write + Drop>(
     let mut input = BufReader::with_capacity(alloc, 64, lines)?;
     let mut out = OfWrite::new(out);
     let mut err = OfWrite::new(Vec::new(alloc));
-    let status = batch(
-        alloc, "d", depot, &mut host, &mut input, &mut out, &mut err,
-    );
+    let status = batch(alloc, "d", depot, &mut host, &mut input, &mut out, &mut err);
     Ok(Seen {
         status,
         out: out.inner,
@@ -171,7 +170,10 @@ fn answers_that_break_off(rt: HostRuntime) -> Result<(), Fail> {
         )?;
         assert_eq!(rt; seen.status, 1, "{calls}");
         assert!(rt; seen.out.octets.as_slice() == &ANSWERS[..calls], "{calls}");
-        assert!(rt; seen.err.as_slice() == b"refused 45 Write\n".as_slice(), "{calls}");
+        assert!(rt;
+            seen.err.as_slice() == b"refused 45 Write\n".as_slice(),
+            "{calls}"
+        );
         assert_eq!(rt; entries(&mut depot)?, calls / one + 1, "{calls}");
     }
     Ok(())
@@ -195,7 +197,10 @@ fn lines_that_break_off(rt: HostRuntime) -> Result<(), Fail> {
         let whole = len / line;
         assert_eq!(rt; seen.status, 1, "{len}");
         assert!(rt; seen.out.as_slice() == &ANSWERS[..whole * one], "{len}");
-        assert!(rt; seen.err.as_slice() == b"refused 46 Read\n".as_slice(), "{len}");
+        assert!(rt;
+            seen.err.as_slice() == b"refused 46 Read\n".as_slice(),
+            "{len}"
+        );
         assert_eq!(rt; entries(&mut depot)?, whole, "{len}");
     }
     Ok(())

@@ -108,7 +108,9 @@ impl<'a> Shelf<'a> {
 
     // Notes what was asked, if there is memory for it.
     fn note(&mut self, asked: Asked) -> bool
-        ensures { state_of self.new ≡ (if result then with_call (call_of asked) (state_of self.old) else state_of self.old) }
+        ensures { state_of self.new
+            ≡ (if result then with_call (call_of asked) (state_of self.old) else state_of
+            self.old) }
     {
         self.asked.push(asked).is_ok()
     }
