@@ -151,6 +151,46 @@
     none
     = 0
 
+## refused code leaves the filter, empty messages, and one that is thrown away
+    $ printf 'SVBC\1\0\0\0\0\0\0\0\0\0\2' > jump
+    $ printf '\t\0\0\0\0\0\0\0' >> jump # JMP
+    $ printf '\1\0\0\0\0\0\0\0' >> jump # HALT
+    $ : > empty
+    $ echo 'discard;' > nothing
+    $ cat > lines <<'END'
+    > code cat examples/keep.svbc
+    > code cat jump
+    > deliver cat empty
+    > deliver dan empty
+    > list cat
+    > export cat 1 raw kept
+    > script eve nothing
+    > deliver eve empty
+    > list eve
+    > END
+    $ depot batch mail.depot < lines
+    stored
+    = 0
+    refused 25 Jump at 0
+    = 1
+    1 message "INBOX"
+    = 0
+    1 message "INBOX"
+    = 0
+    1 message "INBOX" "" message/rfc822 0
+    = 0
+    exported 1
+    = 0
+    stored
+    = 0
+    none
+    = 0
+    none
+    = 0
+    $ wc -c < kept
+    0
+    $ rm jump empty nothing kept
+
 ## files that can't be read, and messages that are refused
     $ printf 'deliver ann nothing\nscript ann examples/invoice.eml\ndeliver Ann examples/invoice.eml\n' > lines
     $ printf 'deliver ann %s\nlist ann\n' "$FILES/too-large" >> lines
