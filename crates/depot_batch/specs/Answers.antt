@@ -57,7 +57,8 @@ module _ {S : Type 0} (g : Ghosts S) where
   -- what came of a request, and the text of its answer
   abbrev pub HasComeOf : List ℕ → Request → Outcome → List ℕ → Held S → Held S → HostState → HostState → Type 0
   HasComeOf name request outcomes.Done text old new host host2 = IsDone g name request text old new host host2
-  HasComeOf name request (outcomes.Refused refusal) text old new host host2 = (text ≡ refusal_line refusal) × IsRefused g name request refusal old new host host2
+  HasComeOf name request (outcomes.Refused refusal) text old new host host2 = (text ≡ refusal_line refusal)
+      × IsRefused g name request refusal old new host host2
   HasComeOf name request outcomes.Wrong text old new host host2 = ⊥
 
 -- a text and the line that ends it were written, or the sink broke while they were

@@ -94,13 +94,15 @@ module _ {S : Type 0} (g : Ghosts S) where
   -- what a request reads was read, and the depot did what is asked, with this text as the answer
   abbrev pub HasReplied : Request → List ℕ → Held S → Held S → HostState → HostState → Type 0
   HasReplied request text old new host host2 =
-      (octets : List ℕ) × HasReadFile (file_of request) octets host host2 × HasAnswered (command_of request octets) text (state g old) (state g new)
+      (octets : List ℕ) × HasReadFile (file_of request) octets host host2
+      × HasAnswered (command_of request octets) text (state g old) (state g new)
 
   -- It was not read, and nothing was asked of the depot; or the depot refused what was asked, and is as it was.
   abbrev pub HasNotReplied : Request → Refusal → Held S → Held S → HostState → HostState → Type 0
   HasNotReplied request refusal old new host host2 =
       (HasNotReadFile refusal (file_of request) host host2 × (new ≡ old))
-      ⊎ ((octets : List ℕ) × HasReadFile (file_of request) octets host host2 × HasRefused (command_of request octets) refusal (state g old) (state g new))
+      ⊎ ((octets : List ℕ) × HasReadFile (file_of request) octets host host2
+      × HasRefused (command_of request octets) refusal (state g old) (state g new))
 
   -- the text of an entry was made a file, which isn't the depot's own
   abbrev pub HasExported : Text → Export → Held S → Held S → HostState → HostState → Type 0
@@ -118,7 +120,8 @@ module _ {S : Type 0} (g : Ghosts S) where
 
   -- a request was done, with this text as the answer
   abbrev pub IsDone : Text → Request → List ℕ → Held S → Held S → HostState → HostState → Type 0
-  IsDone name (requests.Export export) text old new host host2 = (text ≡ exported_text export.number) × HasExported name export old new host host2
+  IsDone name (requests.Export export) text old new host host2 = (text ≡ exported_text export.number)
+      × HasExported name export old new host host2
   IsDone name request text old new host host2 = HasReplied request text old new host host2
 
   -- a request was refused
@@ -142,17 +145,23 @@ module _ {S : Type 0} (g : Ghosts S) where
 
   -- what came of a line, and the text of its answer
   abbrev pub HasCome : Text → List ℕ → Outcome → List ℕ → Office S → Office S → Type 0
-  HasCome name octets Done text old new = (request : Request) × IsAsked octets request × IsDone g name request text old.depot new.depot old.host new.host
+  HasCome name octets Done text old new = (request : Request) × IsAsked octets request
+      × IsDone g name request text old.depot new.depot old.host new.host
   HasCome name octets (Refused refusal) text old new =
       (text ≡ refusal_line refusal)
-      × (((refusal ≡ Memory) × IsIdle old new) ⊎ ((request : Request) × IsAsked octets request × IsRefused g name request refusal old.depot new.depot old.host new.host))
-  HasCome name octets Wrong text old new = (fault : LineFault) × IsWrong octets fault × (text ≡ wrong_line fault) × IsIdle old new
+      × (((refusal ≡ Memory) × IsIdle old new)
+      ⊎ ((request : Request) × IsAsked octets request
+      × IsRefused g name request refusal old.depot new.depot old.host new.host))
+  HasCome name octets Wrong text old new = (fault : LineFault) × IsWrong octets fault × (text ≡ wrong_line fault)
+      × IsIdle old new
 
-  -- what a crash may leave of the depot at a line: what it could have left before, or what the line's command makes of it
+  -- what a crash may leave of the depot at a line: what it could have left before, or what the
+  -- line's command makes of it
   abbrev pub Outlasts : List ℕ → Office S → Office S → Type 0
   Outlasts octets old new =
       Survives (state g old.depot) (state g new.depot)
-      (λ trees. (request : Request) × IsAsked octets request × (file : List ℕ) × MayAdd (command_of request file) (state g old.depot) trees)
+      (λ trees. (request : Request) × IsAsked octets request × (file : List ℕ)
+      × MayAdd (command_of request file) (state g old.depot) trees)
 
   -- a line was answered: its text and what ends that were written
   pub record IsAnswered (name octets : List ℕ) (outcome : Outcome) (old new : Office S) : Type 0 where
@@ -173,7 +182,8 @@ module _ {S : Type 0} (g : Ghosts S) where
   abbrev pub AreAnswered : Text → List (List ℕ) → Office S → Office S → Type 0
   AreAnswered name [] old new = new ≡ old
   AreAnswered name (octets ∷ lines) old new =
-      StopsAt octets 10 × (outcome : Outcome) × (mid : Office S) × IsAnswered name octets outcome old mid × (outcome ≢ Refused Database)
+      StopsAt octets 10 × (outcome : Outcome) × (mid : Office S) × IsAnswered name octets outcome old mid
+      × (outcome ≢ Refused Database)
       × AreAnswered name lines mid new
 
   -- the trees are what a command of one of the lines makes of what the lines before it left
@@ -189,14 +199,16 @@ module _ {S : Type 0} (g : Ghosts S) where
     pub file : List ℕ
     pub made : MayAdd (command_of request file) (state g mid.depot) trees
 
-  -- Why a batch ends, with this status, after these octets: none, at the end of the input; a line that is refused `Database`; one whose answer
-  -- broke off, which is told on standard error; or what came of a line before reading failed, which is told there.
+  -- Why a batch ends, with this status, after these octets: none, at the end of the input; a line
+  -- that is refused `Database`; one whose answer broke off, which is told on standard error; or
+  -- what came of a line before reading failed, which is told there.
   abbrev pub Ends : Text → ℕ → Option (List ℕ) → List ℕ → ℕ → Office S → Office S → Output → Output → Type 0
   Ends name status rest last lines old new err err2 =
       ((status ≡ 0) × (last ≡ []) × (IsAtEnd rest ⊎ (lines ≡ 2 ^ 64 - 1)) × (new ≡ old) × (err2 ≡ err))
       ⊎ ((status ≡ 1) × StopsAt last 10 × IsAnswered name last (Refused Database) old new × (err2 ≡ err))
       ⊎ ((status ≡ 1) × StopsAt last 10 × IsBrokenOff name last old new × HasTold Write err err2)
-      ⊎ ((status ≡ 1) × (new ≡ old) × (refusal : Refusal) × ((refusal ≡ Memory) ⊎ (refusal ≡ Read)) × HasTold refusal err err2)
+      ⊎ ((status ≡ 1) × (new ≡ old) × (refusal : Refusal) × ((refusal ≡ Memory) ⊎ (refusal ≡ Read))
+      × HasTold refusal err err2)
 
   -- a batch was served, with this status: lines were read and answered one after another, until it ended
   pub record HasServed (name : Text) (status : ℕ) (given left : Option (List ℕ)) (old new : Office S) (err err2 : Output) : Type 0 where
@@ -209,8 +221,8 @@ module _ {S : Type 0} (g : Ghosts S) where
     pub answered : AreAnswered name lines old mid
     pub ended : Ends name status rest last (length lines) mid new err err2
 
-  -- What opening a depot gave was served a batch, with this status, and it is open still; or the refusal of opening was told, with status 1, and
-  -- nothing else happened.
+  -- What opening a depot gave was served a batch, with this status, and it is open still; or the
+  -- refusal of opening was told, with status 1, and nothing else happened.
   abbrev pub IsServed :
       Text → ℕ → Option (List ℕ) → Option (List ℕ) → Result (Held S) Refusal → Result (Held S) Refusal
       → HostState → HostState → Output → Output → Output → Output → Type 0

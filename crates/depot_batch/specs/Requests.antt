@@ -40,7 +40,8 @@ Asks words (requests.Code user program) = words ≡ codes "code" ∷ user.now �
 Asks words (requests.Deliver user message) = words ≡ codes "deliver" ∷ user.now ∷ message.now ∷ []
 Asks words (requests.List user) = words ≡ codes "list" ∷ user.now ∷ []
 Asks words (requests.Export export) =
-    (digits name : Text) × (words ≡ codes "export" ∷ export.user.now ∷ digits ∷ name ∷ export.file.now ∷ []) × IsEntryNumber digits export.number
+    (digits name : Text) × (words ≡ codes "export" ∷ export.user.now ∷ digits ∷ name ∷ export.file.now ∷ [])
+    × IsEntryNumber digits export.number
     × (encoding_of name ≡ Some export.encoding)
 Asks words (requests.Remove user number) =
     (digits : Text) × (words ≡ codes "remove" ∷ user.now ∷ digits ∷ []) × IsEntryNumber digits number
@@ -65,13 +66,16 @@ words_after forms.Export = 4
 words_after forms.Remove = 2
 words_after forms.Migrate = 0
 
--- Why words ask for nothing: the first is no command's name; so many don't come after it; or one that should be a number or an encoding
--- is none.
+-- Why words ask for nothing: the first is no command's name; so many don't come after it; or one
+-- that should be a number or an encoding is none.
 abbrev pub AskNothing : List Text → LineFault → Type 0
 AskNothing words faults.NoCommand = (form : Form) (rest : List Text) → words ≡ name_of form ∷ rest → ⊥
-AskNothing words (faults.Form form) = (rest : List Text) × (words ≡ name_of form ∷ rest) × (length rest ≢ words_after form)
+AskNothing words (faults.Form form) = (rest : List Text) × (words ≡ name_of form ∷ rest)
+    × (length rest ≢ words_after form)
 AskNothing words faults.Number =
-    (name user digits : Text) × (rest : List Text) × (words ≡ name ∷ user ∷ digits ∷ rest) × ((number : ℕ) → IsEntryNumber digits number → ⊥)
+    (name user digits : Text) × (rest : List Text) × (words ≡ name ∷ user ∷ digits ∷ rest)
+    × ((number : ℕ) → IsEntryNumber digits number → ⊥)
 AskNothing words faults.Encoding =
-    (name user digits encoding : Text) × (rest : List Text) × (words ≡ name ∷ user ∷ digits ∷ encoding ∷ rest) × (encoding_of encoding ≡ None)
+    (name user digits encoding : Text) × (rest : List Text) × (words ≡ name ∷ user ∷ digits ∷ encoding ∷ rest)
+    × (encoding_of encoding ≡ None)
 AskNothing words fault = ⊥

@@ -62,8 +62,8 @@ pub data Stand : Type 0 where
   Escape : Stand
   Half : ℕ → Stand
 
--- What is said up to the quotation mark that ends the text: an octet says itself, and a backslash with two hexadecimal digits the octet
--- of that value.
+-- What is said up to the quotation mark that ends the text: an octet says itself, and a backslash
+-- with two hexadecimal digits the octet of that value.
 unfoldable pub said_from : Stand → List ℕ → Option (List ℕ)
 said_from stand [] = None
 said_from Plain (octet ∷ rest) =

@@ -17,15 +17,16 @@ abbrev pub origin_of : Input → Origin
 origin_of Standard = standard
 origin_of (File name) = file name.now
 
--- what a host is asked for: to open what gives octets; to make a file of a name, unless that is the file of another name; and to
--- keep the file that it made, with the octets that it took
+-- what a host is asked for: to open what gives octets; to make a file of a name, unless that is the
+-- file of another name; and to keep the file that it made, with the octets that it took
 pub data Call : Type 0 where
   opens : Origin → Call
   makes : List ℕ → List ℕ → Call
   keeps : List ℕ → Call
 
--- what is known of a host: what is read from where, as far as that is told; what it was asked for so far, in turn, where that is
--- told; how many octets it gave, at most 2^64 - 1; and how many calls have failed
+-- what is known of a host: what is read from where, as far as that is told; what it was asked for
+-- so far, in turn, where that is told; how many octets it gave, at most 2^64 - 1; and how many
+-- calls have failed
 pub record HostState : Type 0 where
   pub contents : Origin → Option (List ℕ)
   pub calls : Option (List Call)

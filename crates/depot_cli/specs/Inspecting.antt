@@ -16,20 +16,24 @@ use Rattle.depot_cli.specs.declared.no_depot.NoDepot.{NoDepot}
 -- the depot told what it holds, and holds that still, as long as its disk returns what was written
 abbrev pub HasSeen : Overview → State → State → Type 0
 HasSeen x old new =
-    HasCleanDisk new → IsTrue old.is_open × ((before : Entries) → Stands old.now before → IsOverview old.now.trees before x) × Spares old new
+    HasCleanDisk new → IsTrue old.is_open
+    × ((before : Entries) → Stands old.now before → IsOverview old.now.trees before x) × Spares old new
 
 -- and that was written whole
 abbrev pub HasShownAll : Option ℕ → Desk → Desk → Type 0
-HasShownAll log old new = (x : Overview) × HasSeen x old.store new.store × HasTaken (overview_text log x) old.out new.out × (new.err ≡ old.err)
+HasShownAll log old new = (x : Overview) × HasSeen x old.store new.store
+    × HasTaken (overview_text log x) old.out new.out × (new.err ≡ old.err)
 
 -- or broke off
 abbrev pub HasShownSome : Option ℕ → Desk → Desk → Type 0
-HasShownSome log old new = (x : Overview) × HasSeen x old.store new.store × HasBroken (overview_text log x) old.out new.out × HasTold Write old.err new.err
+HasShownSome log old new = (x : Overview) × HasSeen x old.store new.store
+    × HasBroken (overview_text log x) old.out new.out × HasTold Write old.err new.err
 
 -- or memory was refused, or the database failed; nothing was written, and the depot is as it was
 abbrev pub HasShownNone : Desk → Desk → Type 0
 HasShownNone old new =
-    (refusal : Refusal) × ((refusal ≡ Memory) ⊎ (refusal ≡ Database)) × (HasCleanDisk new.store → Spares old.store new.store)
+    (refusal : Refusal) × ((refusal ≡ Memory) ⊎ (refusal ≡ Database))
+    × (HasCleanDisk new.store → Spares old.store new.store)
     × HasTold refusal old.err new.err × (new.out ≡ old.out)
 
 -- a depot was inspected with this status: 0 where what it holds was written whole, else 1
@@ -40,4 +44,5 @@ HasInspected log status old new =
 -- why a file is no depot was written, or the sink broke while it was
 abbrev pub HasSaidWhy : NoDepot → Output → Output → Output → Output → Type 0
 HasSaidWhy reason out err out2 err2 =
-    (HasTaken (no_depot_text reason) out out2 × (err2 ≡ err)) ⊎ (HasBroken (no_depot_text reason) out out2 × HasTold Write err err2)
+    (HasTaken (no_depot_text reason) out out2 × (err2 ≡ err))
+    ⊎ (HasBroken (no_depot_text reason) out out2 × HasTold Write err err2)

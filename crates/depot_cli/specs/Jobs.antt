@@ -31,38 +31,51 @@ use Rattle.depot_cli.specs.declared.job.Job.TheVariants.{Check, Explain, Compile
 abbrev pub commented : List ℕ → List ℕ
 commented verdict = codes "; " ++ verdict
 
--- a program's listing, and what the verifier says of it: what each instruction of an accepted one adds to the budget, and that; of a
--- refused one the refusal, at its place and at the end
+-- a program's listing, and what the verifier says of it: what each instruction of an accepted one
+-- adds to the budget, and that; of a refused one the refusal, at its place and at the end
 abbrev pub IsListing : List ℕ → List ℕ → Type 0
 IsListing octets text =
-    ((code : Code) × IsChecked octets code × (text ≡ accepted_listing code ++ commented (line (budget_text (budget_of code)))))
+    ((code : Code) × IsChecked octets code
+    × (text ≡ accepted_listing code ++ commented (line (budget_text (budget_of code)))))
     ⊎ ((code : Code) × (rule : BrokenRule) × Spells octets code × (refusal_of code ≡ Some rule)
     × (text ≡ refused_listing rule code ++ commented (refusal_line (of_verifier rule))))
 
--- The text of a job's answer: that the script has no fault, how many octets the program of the script or the listing has, the budget of
--- the accepted program, the program's listing and what the verifier says of it, the lines of the run, those of the message's parts, or
--- the octets and nothing else. The program of a script or a listing was made a file; no other job asks anything of the host.
+-- The text of a job's answer: that the script has no fault, how many octets the program of the
+-- script or the listing has, the budget of the accepted program, the program's listing and what the
+-- verifier says of it, the lines of the run, those of the message's parts, or the octets and
+-- nothing else. The program of a script or a listing was made a file; no other job asks anything of
+-- the host.
 abbrev pub IsAnswer : Job → List ℕ → HostState → HostState → Type 0
-IsAnswer (Check script) text old new = (form : CommandForms) × IsScript script.now form × (text ≡ line ok_text) × (new ≡ old)
-IsAnswer (Explain script name) text old new = (form : CommandForms) × IsScript script.now form × (text ≡ line ok_text) × (new ≡ old)
+IsAnswer (Check script) text old new = (form : CommandForms) × IsScript script.now form × (text ≡ line ok_text)
+    × (new ≡ old)
+IsAnswer (Explain script name) text old new = (form : CommandForms) × IsScript script.now form × (text ≡ line ok_text)
+    × (new ≡ old)
 IsAnswer (Compile script name out) text old new =
-    (code : Code) × IsCompiled script.now code × (text ≡ line (wrote_text (length (spelling code)))) × HasMade out.now name.now (spelling code) old new
-IsAnswer (Verify program) text old new = (code : Code) × IsChecked program.now code × (text ≡ line (budget_text (budget_of code))) × (new ≡ old)
+    (code : Code) × IsCompiled script.now code × (text ≡ line (wrote_text (length (spelling code))))
+    × HasMade out.now name.now (spelling code) old new
+IsAnswer (Verify program) text old new = (code : Code) × IsChecked program.now code
+    × (text ≡ line (budget_text (budget_of code))) × (new ≡ old)
 IsAnswer (Run program message) text old new =
-    (actions : List Action) × (charged : ℕ) × (limit : ℕ) × IsExecution program.now message.now actions charged limit × (text ≡ report_text actions charged limit) × (new ≡ old)
+    (actions : List Action) × (charged : ℕ) × (limit : ℕ) × IsExecution program.now message.now actions charged limit
+    × (text ≡ report_text actions charged limit) × (new ≡ old)
 IsAnswer (Disassemble program) text old new = IsListing program.now text × (new ≡ old)
 IsAnswer (Assemble listing name out) text old new =
-    (code : Code) × Lists listing.now code × (text ≡ line (wrote_text (length (spelling code)))) × HasMade out.now name.now (spelling code) old new
+    (code : Code) × Lists listing.now code × (text ≡ line (wrote_text (length (spelling code))))
+    × HasMade out.now name.now (spelling code) old new
 IsAnswer (Eval script message) text old new =
-    (actions : List Action) × (charged : ℕ) × (limit : ℕ) × IsEvaluation script.now message.now actions charged limit × (text ≡ report_text actions charged limit) × (new ≡ old)
-IsAnswer (Parts message) text old new = IsReadable message.now × (text ≡ parts_text (mail_of message.now).parts) × (new ≡ old)
+    (actions : List Action) × (charged : ℕ) × (limit : ℕ) × IsEvaluation script.now message.now actions charged limit
+    × (text ≡ report_text actions charged limit) × (new ≡ old)
+IsAnswer (Parts message) text old new = IsReadable message.now × (text ≡ parts_text (mail_of message.now).parts)
+    × (new ≡ old)
 IsAnswer (Encode encoding octets) text old new = (text ≡ text_of encoding octets.now) × (new ≡ old)
 IsAnswer (Decode encoding text) octets old new = IsOctets octets × Reads encoding text.now octets × (new ≡ old)
 
--- What a job finds, beside its refusal: the fault of a script, or of a listing, in words, which goes to standard output.
+-- What a job finds, beside its refusal: the fault of a script, or of a listing, in words, which
+-- goes to standard output.
 abbrev pub IsFinding : Job → List ℕ → Refusal → HostState → HostState → Type 0
 IsFinding (Explain script name) text refusal old new =
-    (refusal ≢ refusals.Memory) × IsScriptRefusal script.now refusal × Explains name.now script.now refusal text × (new ≡ old)
+    (refusal ≢ refusals.Memory) × IsScriptRefusal script.now refusal × Explains name.now script.now refusal text
+    × (new ≡ old)
 IsFinding (Assemble listing name out) text refusal old new =
     (place : ℕ) × (refusal ≡ refusals.Listing place) × FaultsAt listing.now place
     × (text ≡ listing_told name.now listing.now place (kind_of listing.now)) × (new ≡ old)
@@ -75,7 +88,8 @@ IsShown job text (Some refusal) old new = IsFinding job text refusal old new
 
 -- the octets spell no program, or memory was refused
 abbrev pub IsUnspelled : List ℕ → Refusal → Type 0
-IsUnspelled octets refusal = (refusal ≡ refusals.Memory) ⊎ ((refusal ≡ refusals.Spelling) × ((code : Code) → Spells octets code → ⊥))
+IsUnspelled octets refusal = (refusal ≡ refusals.Memory)
+    ⊎ ((refusal ≡ refusals.Spelling) × ((code : Code) → Spells octets code → ⊥))
 
 -- The first refusal of a job's octets, of which the host isn't asked anything; or the job's file could not be made.
 abbrev pub IsJobRefusal : Job → Refusal → HostState → HostState → Type 0
@@ -88,14 +102,15 @@ IsJobRefusal (Verify program) refusal old new = IsProgramRefusal program.now ref
 IsJobRefusal (Run program message) refusal old new = IsRefusal program.now message.now refusal × (new ≡ old)
 IsJobRefusal (Disassemble program) refusal old new = IsUnspelled program.now refusal × (new ≡ old)
 IsJobRefusal (Assemble listing name out) refusal old new =
-    ((refusal ≡ refusals.Memory) × (new ≡ old)) ⊎ ((code : Code) × Lists listing.now code × HasNotMade refusal out.now name.now old new)
+    ((refusal ≡ refusals.Memory) × (new ≡ old))
+    ⊎ ((code : Code) × Lists listing.now code × HasNotMade refusal out.now name.now old new)
 IsJobRefusal (Eval script message) refusal old new = IsEvaluationRefusal script.now message.now refusal × (new ≡ old)
 IsJobRefusal (Parts message) refusal old new = engine.IsUnread message.now refusal × (new ≡ old)
 IsJobRefusal (Encode encoding octets) refusal old new = (refusal ≡ refusals.Memory) × (new ≡ old)
 IsJobRefusal (Decode encoding text) refusal old new = IsUnread encoding text.now refusal × (new ≡ old)
 
--- The job's script, or its program, has more octets than the limit, which is judged before memory is taken. To explain a script takes
--- memory, however long it is.
+-- The job's script, or its program, has more octets than the limit, which is judged before memory
+-- is taken. To explain a script takes memory, however long it is.
 abbrev pub HasLongScript : Job → Type 0
 HasLongScript (Check script) = max_script < length script.now
 HasLongScript (Compile script name out) = max_script < length script.now
@@ -125,18 +140,22 @@ HasTold refusal old new = HasTaken (refusal_line refusal) old new ⊎ HasBroken 
 
 -- the job was done, and its answer was written whole
 abbrev pub HasAnswered : Job → World → World → Type 0
-HasAnswered job old new = (text : List ℕ) × IsAnswer job text old.host new.host × HasTaken text old.out new.out × (new.err ≡ old.err)
+HasAnswered job old new = (text : List ℕ) × IsAnswer job text old.host new.host × HasTaken text old.out new.out
+    × (new.err ≡ old.err)
 
 -- what the job found was written whole, and its refusal was told
 abbrev pub HasFound : Job → World → World → Type 0
 HasFound job old new =
-    (text : List ℕ) × (refusal : Refusal) × IsFinding job text refusal old.host new.host × HasTaken text old.out new.out × HasTold refusal old.err new.err
+    (text : List ℕ) × (refusal : Refusal) × IsFinding job text refusal old.host new.host × HasTaken text old.out new.out
+    × HasTold refusal old.err new.err
 
 -- the job was done, but its answer, or what it found, broke off
 abbrev pub HasStopped : Job → World → World → Type 0
 HasStopped job old new =
-    (text : List ℕ) × (found : Option Refusal) × IsShown job text found old.host new.host × HasBroken text old.out new.out × HasTold refusals.Write old.err new.err
+    (text : List ℕ) × (found : Option Refusal) × IsShown job text found old.host new.host
+    × HasBroken text old.out new.out × HasTold refusals.Write old.err new.err
 
 -- the job was refused
 abbrev pub HasRefused : Job → World → World → Type 0
-HasRefused job old new = (refusal : Refusal) × IsJobRefusal job refusal old.host new.host × HasTold refusal old.err new.err × (new.out ≡ old.out)
+HasRefused job old new = (refusal : Refusal) × IsJobRefusal job refusal old.host new.host
+    × HasTold refusal old.err new.err × (new.out ≡ old.out)

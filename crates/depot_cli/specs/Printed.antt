@@ -32,7 +32,8 @@ use Rattle.depot_cli.specs.declared.piece.Setting.TheVariants.{Quotes, Text}
 abbrev pub line : List ℕ → List ℕ
 line text = text ++ 10 ∷ []
 
--- an octet that is printed as it is: 32 to 126; between quotes without the quote and the backslash, in a text also a line break
+-- an octet that is printed as it is: 32 to 126; between quotes without the quote and the backslash,
+-- in a text also a line break
 abbrev pub is_plain : Setting → ℕ → Bool
 is_plain Quotes octet = (nat_le 32 octet && nat_le octet 126) && not (octet == 34 || octet == 92)
 is_plain Text octet = (nat_le 32 octet && nat_le octet 126) || octet == 10
@@ -75,12 +76,14 @@ report_text actions charged limit = actions_text actions ++ line (charge_text ch
 -- a part of a message: its place, its depth, its media type, how many octets its content has, and their digest
 abbrev pub part_text : ℕ → ℕ → MediaType → List ℕ → List ℕ
 part_text place depth media content =
-    decimal place ++ codes " " ++ decimal depth ++ codes " " ++ media_text media ++ codes " " ++ decimal (length content) ++ codes " " ++ digest_of content
+    decimal place ++ codes " " ++ decimal depth ++ codes " " ++ media_text media ++ codes " "
+    ++ decimal (length content) ++ codes " " ++ digest_of content
 
 -- a line for each part, of which the first has this place
 abbrev pub parts_text_from : ℕ → List Part → List ℕ
 parts_text_from place [] = []
-parts_text_from place (part ∷ parts) = line (part_text place part.depth part.media part.content) ++ parts_text_from (suc place) parts
+parts_text_from place (part ∷ parts) = line (part_text place part.depth part.media part.content)
+    ++ parts_text_from (suc place) parts
 
 -- a line for each part of a message
 abbrev pub parts_text : List Part → List ℕ
@@ -108,7 +111,8 @@ kind_text Piece = codes "part"
 abbrev pub entry_text : Detail → Listing → List ℕ
 entry_text Brief entry = decimal entry.number ++ codes " " ++ kind_text entry.kind ++ codes " " ++ quoted entry.folder
 entry_text Full entry =
-    decimal entry.number ++ codes " " ++ kind_text entry.kind ++ codes " " ++ quoted entry.folder ++ codes " " ++ quoted entry.name ++ codes " " ++ entry.media ++ codes " "
+    decimal entry.number ++ codes " " ++ kind_text entry.kind ++ codes " " ++ quoted entry.folder ++ codes " "
+    ++ quoted entry.name ++ codes " " ++ entry.media ++ codes " "
     ++ decimal entry.octets
 
 -- a line for each entry, or one that there is none
@@ -170,12 +174,15 @@ log_text (Some octets) = codes "log " ++ decimal octets ++ codes " octets"
 abbrev pub state_line : ProgramState → List ℕ
 state_line Missing = line (codes "none")
 state_line (Accepted version) = codes "accepted version " ++ (decimal version ++ 10 ∷ [])
-state_line (Refused refusal) = codes "refused " ++ (decimal (number_of refusal) ++ (codes " " ++ (name_of refusal ++ 10 ∷ [])))
+state_line (Refused refusal) = codes "refused "
+    ++ (decimal (number_of refusal) ++ (codes " " ++ (name_of refusal ++ 10 ∷ [])))
 
 -- the numbers of a user: the last one of an entry, how many entries there are, and their octets
 abbrev pub numbers_text : UserOverview → List ℕ
 numbers_text x =
-    codes "user " ++ (quoted (string_bytes x.user) ++ (codes " last " ++ (decimal x.last ++ (codes " entries " ++ (decimal x.entries ++ (codes " octets " ++ (decimal x.octets
+    codes "user " ++ (quoted (string_bytes x.user)
+    ++ (codes " last " ++ (decimal x.last
+    ++ (codes " entries " ++ (decimal x.entries ++ (codes " octets " ++ (decimal x.octets
     ++ codes " program ")))))))
 
 -- the line of a user: these numbers, and the state of the filter

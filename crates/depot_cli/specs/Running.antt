@@ -70,25 +70,30 @@ pub record HasRead (origin : Origin) (octets : List ℕ) (old new : HostState) :
   pub told : IfSome (old.contents origin) (λ all. octets ≡ all)
   pub state : new ≡ after_reading origin (length octets) old
 
--- Octets were not read: memory was refused or a call failed, with no more octets given than the limit; or one octet more was given,
--- of more than the limit, where that is told.
+-- Octets were not read: memory was refused or a call failed, with no more octets given than the
+-- limit; or one octet more was given, of more than the limit, where that is told.
 abbrev pub HasNotRead : Refusal → Origin → HostState → HostState → Type 0
-HasNotRead Memory origin old new = (new ≡ old) ⊎ ((given : ℕ) × (given ≤ max_input) × (new ≡ after_reading origin given old))
-HasNotRead MessageTooLarge origin old new = IfSome (old.contents origin) (λ all. max_input < length all) × (new ≡ after_reading origin (max_input + 1) old)
-HasNotRead Read origin old new = (given : ℕ) × (given ≤ max_input) × (new ≡ with_faults 1 (after_reading origin given old))
+HasNotRead Memory origin old new = (new ≡ old)
+    ⊎ ((given : ℕ) × (given ≤ max_input) × (new ≡ after_reading origin given old))
+HasNotRead MessageTooLarge origin old new = IfSome (old.contents origin) (λ all. max_input < length all)
+    × (new ≡ after_reading origin (max_input + 1) old)
+HasNotRead Read origin old new = (given : ℕ) × (given ≤ max_input)
+    × (new ≡ with_faults 1 (after_reading origin given old))
 HasNotRead _ origin old new = ⊥
 
 -- octets were read, one after another
 abbrev pub HaveRead : List Origin → List (List ℕ) → HostState → HostState → Type 0
 HaveRead [] [] old new = new ≡ old
-HaveRead (origin ∷ origins) (octets ∷ inputs) old new = (mid : HostState) × HasRead origin octets old mid × HaveRead origins inputs mid new
+HaveRead (origin ∷ origins) (octets ∷ inputs) old new = (mid : HostState) × HasRead origin octets old mid
+    × HaveRead origins inputs mid new
 HaveRead origins inputs old new = ⊥
 
 -- the octets before were read, and some were not; none after them were asked for
 abbrev pub HaveNotRead : Refusal → List Origin → HostState → HostState → Type 0
 HaveNotRead refusal [] old new = ⊥
 HaveNotRead refusal (origin ∷ origins) old new =
-    HasNotRead refusal origin old new ⊎ ((octets : List ℕ) × (mid : HostState) × HasRead origin octets old mid × HaveNotRead refusal origins mid new)
+    HasNotRead refusal origin old new
+    ⊎ ((octets : List ℕ) × (mid : HostState) × HasRead origin octets old mid × HaveNotRead refusal origins mid new)
 
 -- ---- what is done
 
@@ -151,20 +156,30 @@ IsSavingOf _ saving = ⊥
 
 -- the job of a command, with the octets that were read; a command on a depot has none
 abbrev pub IsJobOf : CommandLine → List (List ℕ) → Job → Type 0
-IsJobOf NoWords inputs job = (program message : Bor (List ℕ)) × (job ≡ jobs.Run program message) × (program.now ≡ spelling keeping_code) × (message.now ≡ input inputs 0)
+IsJobOf NoWords inputs job = (program message : Bor (List ℕ)) × (job ≡ jobs.Run program message)
+    × (program.now ≡ spelling keeping_code) × (message.now ≡ input inputs 0)
 IsJobOf (Check name) inputs job = (script : Bor (List ℕ)) × (job ≡ jobs.Check script) × (script.now ≡ input inputs 0)
-IsJobOf (Explain name) inputs job = (script : Bor (List ℕ)) × (from : Bor Text) × (job ≡ jobs.Explain script from) × (script.now ≡ input inputs 0) × (from.now ≡ name.now)
+IsJobOf (Explain name) inputs job = (script : Bor (List ℕ)) × (from : Bor Text) × (job ≡ jobs.Explain script from)
+    × (script.now ≡ input inputs 0) × (from.now ≡ name.now)
 IsJobOf (Compile name out) inputs job =
-    (script : Bor (List ℕ)) × (from to : Bor Text) × (job ≡ jobs.Compile script from to) × (script.now ≡ input inputs 0) × (from.now ≡ name.now) × (to.now ≡ out.now)
-IsJobOf (Verify name) inputs job = (program : Bor (List ℕ)) × (job ≡ jobs.Verify program) × (program.now ≡ input inputs 0)
-IsJobOf (Run name other) inputs job = (program message : Bor (List ℕ)) × (job ≡ jobs.Run program message) × (program.now ≡ input inputs 0) × (message.now ≡ input inputs 1)
-IsJobOf (Disassemble name) inputs job = (program : Bor (List ℕ)) × (job ≡ jobs.Disassemble program) × (program.now ≡ input inputs 0)
+    (script : Bor (List ℕ)) × (from to : Bor Text) × (job ≡ jobs.Compile script from to) × (script.now ≡ input inputs 0)
+    × (from.now ≡ name.now) × (to.now ≡ out.now)
+IsJobOf (Verify name) inputs job = (program : Bor (List ℕ)) × (job ≡ jobs.Verify program)
+    × (program.now ≡ input inputs 0)
+IsJobOf (Run name other) inputs job = (program message : Bor (List ℕ)) × (job ≡ jobs.Run program message)
+    × (program.now ≡ input inputs 0) × (message.now ≡ input inputs 1)
+IsJobOf (Disassemble name) inputs job = (program : Bor (List ℕ)) × (job ≡ jobs.Disassemble program)
+    × (program.now ≡ input inputs 0)
 IsJobOf (Assemble name out) inputs job =
-    (listing : Bor (List ℕ)) × (from to : Bor Text) × (job ≡ jobs.Assemble listing from to) × (listing.now ≡ input inputs 0) × (from.now ≡ name.now) × (to.now ≡ out.now)
-IsJobOf (Eval name other) inputs job = (script message : Bor (List ℕ)) × (job ≡ jobs.Eval script message) × (script.now ≡ input inputs 0) × (message.now ≡ input inputs 1)
+    (listing : Bor (List ℕ)) × (from to : Bor Text) × (job ≡ jobs.Assemble listing from to)
+    × (listing.now ≡ input inputs 0) × (from.now ≡ name.now) × (to.now ≡ out.now)
+IsJobOf (Eval name other) inputs job = (script message : Bor (List ℕ)) × (job ≡ jobs.Eval script message)
+    × (script.now ≡ input inputs 0) × (message.now ≡ input inputs 1)
 IsJobOf (Parts name) inputs job = (message : Bor (List ℕ)) × (job ≡ jobs.Parts message) × (message.now ≡ input inputs 0)
-IsJobOf (Encode encoding) inputs job = (octets : Bor (List ℕ)) × (job ≡ jobs.Encode encoding octets) × (octets.now ≡ input inputs 0)
-IsJobOf (Decode encoding) inputs job = (text : Bor (List ℕ)) × (job ≡ jobs.Decode encoding text) × (text.now ≡ input inputs 0)
+IsJobOf (Encode encoding) inputs job = (octets : Bor (List ℕ)) × (job ≡ jobs.Encode encoding octets)
+    × (octets.now ≡ input inputs 0)
+IsJobOf (Decode encoding) inputs job = (text : Bor (List ℕ)) × (job ≡ jobs.Decode encoding text)
+    × (text.now ≡ input inputs 0)
 IsJobOf _ inputs job = ⊥
 
 -- the file of the depot that a command is on
@@ -203,7 +218,8 @@ usage = 2
 
 -- a job was answered with this status
 abbrev pub HasOutcome : Job → ℕ → World → World → Type 0
-HasOutcome job status old new = ((status ≡ success) × HasAnswered job old new) ⊎ ((status ≡ refused) × (HasFound job old new ⊎ (HasStopped job old new ⊎ HasRefused job old new)))
+HasOutcome job status old new = ((status ≡ success) × HasAnswered job old new)
+    ⊎ ((status ≡ refused) × (HasFound job old new ⊎ (HasStopped job old new ⊎ HasRefused job old new)))
 
 -- what a command reads was read, and its job was answered with this status
 pub record HasWorked (line : CommandLine) (status : ℕ) (old new : World) : Type 0 where
@@ -214,7 +230,8 @@ pub record HasWorked (line : CommandLine) (status : ℕ) (old new : World) : Typ
   pub is_job : IsJobOf line inputs job
   pub outcome : HasOutcome job status (world mid old.out old.err) new
 
--- what a command on a depot reads was read, and nothing else was done: the errand is the depot's name, and what is asked of it with these octets
+-- what a command on a depot reads was read, and nothing else was done: the errand is the depot's
+-- name, and what is asked of it with these octets
 pub record HasPrepared (line : CommandLine) (errand : Errand) (old new : World) : Type 0 where
   pub inputs : List (List ℕ)
   pub read : HaveRead (origins_of line) inputs old.host new.host
@@ -232,8 +249,9 @@ pub record HasNotWorked (line : CommandLine) (status : ℕ) (old new : World) : 
   pub out : new.out ≡ old.out
   pub is_refused : status ≡ refused
 
--- what comes of a command: it was carried out with a status, or its refusal was told; or it is an errand to a depot; or a file is to be
--- inspected, a program to be saved, or a batch to be taken, and nothing was done
+-- what comes of a command: it was carried out with a status, or its refusal was told; or it is an
+-- errand to a depot; or a file is to be inspected, a program to be saved, or a batch to be taken,
+-- and nothing was done
 abbrev pub LeadsTo : CommandLine → Next → World → World → Type 0
 LeadsTo line (next.Exit status) old new = HasWorked line status old new ⊎ HasNotWorked line status old new
 LeadsTo line (next.Perform errand) old new = HasPrepared line errand old new
@@ -264,7 +282,8 @@ KeepsOthers old new = (new.host ≡ old.host) × (new.out ≡ old.out)
 -- what comes of words that say no command: memory was refused while they were read, or the user was told
 abbrev pub HasNoLine : List Text → ℕ → World → World → Type 0
 HasNoLine words status old new =
-    ((status ≡ refused) × KeepsOthers old new × HasTold Memory old.err new.err) ⊎ ((status ≡ usage) × IsNoLine words × KeepsOthers old new × HasToldUsage old.err new.err)
+    ((status ≡ refused) × KeepsOthers old new × HasTold Memory old.err new.err)
+    ⊎ ((status ≡ usage) × IsNoLine words × KeepsOthers old new × HasToldUsage old.err new.err)
 
 -- what comes of words: their command is carried out, or they say none
 abbrev pub HasRun : List Text → Next → World → World → Type 0

@@ -3,8 +3,8 @@ use Rattle.std.specs.Prelude.{◌≡◌, ℕ, List, Option, Bool, true, length}
 use Rattle.std.specs.Io.KnownBytes.{Consumes, IsAtEnd, Keeps}
 use Rattle.depot_actions.specs.Device.{counted}
 
--- what is known of a source: the octets that are left, where they are told; how many it gave, at most 2^64 - 1; whether the last
--- call met the end; and how many of its calls have failed
+-- what is known of a source: the octets that are left, where they are told; how many it gave, at
+-- most 2^64 - 1; whether the last call met the end; and how many of its calls have failed
 pub record Supply : Type 0 where
   pub left : Option (List ℕ)
   pub given : ℕ

@@ -41,8 +41,8 @@ command_in orders.Migrate octets = depot.Migrate
 
 -- ---- what performing does
 
--- What a crash may leave of a command that it couldn't leave before it: tables that stand for what the command leaves. A command that only
--- looks adds nothing.
+-- What a crash may leave of a command that it couldn't leave before it: tables that stand for what
+-- the command leaves. A command that only looks adds nothing.
 abbrev pub MayAdd : Command → State → Trees → Type 0
 MayAdd (SetScript user script) old trees = MayLeave (SetScript user script) old trees
 MayAdd (SetCode user program) old trees = MayLeave (SetCode user program) old trees
@@ -87,24 +87,31 @@ HasRefused command refusal old new =
 -- and the reply was written whole
 abbrev pub HasReplied : Command → Desk → Desk → Type 0
 HasReplied command old new =
-    (reply : Reply) × HasDone command reply old.store new.store × HasTaken (reply_text command reply) old.out new.out × (new.err ≡ old.err)
+    (reply : Reply) × HasDone command reply old.store new.store × HasTaken (reply_text command reply) old.out new.out
+    × (new.err ≡ old.err)
 
 -- or broke off, which the command outlasts
 abbrev pub HasBrokenOff : Command → Desk → Desk → Type 0
 HasBrokenOff command old new =
-    (reply : Reply) × HasDone command reply old.store new.store × HasBroken (reply_text command reply) old.out new.out × HasTold Write old.err new.err
+    (reply : Reply) × HasDone command reply old.store new.store × HasBroken (reply_text command reply) old.out new.out
+    × HasTold Write old.err new.err
 
 -- or memory was refused for the next piece of an export, of which the first were written
 abbrev pub HasRunOut : Command → Desk → Desk → Type 0
 HasRunOut command old new =
-    IsExport command × (reply : Reply) × HasDone command reply old.store new.store × HasBegun (reply_text command reply) old.out new.out × HasTold Memory old.err new.err
+    IsExport command × (reply : Reply) × HasDone command reply old.store new.store
+    × HasBegun (reply_text command reply) old.out new.out × HasTold Memory old.err new.err
 
--- the depot refused the command, and is as it was; of an export that is none of Write, which has no cause in any other command
+-- the depot refused the command, and is as it was; of an export that is none of Write, which has no
+-- cause in any other command
 abbrev pub HasDeclined : Command → Desk → Desk → Type 0
 HasDeclined command old new =
-    (refusal : Refusal) × (IsExport command → refusal ≢ Write) × (HasCleanDisk new.store → HasCause refusal command old.store × Spares old.store new.store) × HasTold refusal old.err new.err × (new.out ≡ old.out)
+    (refusal : Refusal) × (IsExport command → refusal ≢ Write)
+    × (HasCleanDisk new.store → HasCause refusal command old.store × Spares old.store new.store)
+    × HasTold refusal old.err new.err × (new.out ≡ old.out)
 
 -- a command was performed, with this status: 0 for a reply that was written whole, else 1
 abbrev pub HasPerformed : Command → ℕ → Desk → Desk → Type 0
 HasPerformed command status old new =
-    ((status ≡ 0) × HasReplied command old new) ⊎ ((status ≡ 1) × (HasBrokenOff command old new ⊎ HasRunOut command old new ⊎ HasDeclined command old new))
+    ((status ≡ 0) × HasReplied command old new)
+    ⊎ ((status ≡ 1) × (HasBrokenOff command old new ⊎ HasRunOut command old new ⊎ HasDeclined command old new))

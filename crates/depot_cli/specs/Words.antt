@@ -206,8 +206,10 @@ pub record IsNumber (text : Text) (number : ℕ) : Type 0 where
 -- the name isn't that of a command on a message, a script, a program or a listing, nor of one that encodes or decodes
 abbrev pub IsNoMailCommand : Text → Type 0
 IsNoMailCommand name =
-    (name ≢ codes "check") × (name ≢ codes "explain") × (name ≢ codes "compile") × (name ≢ codes "verify") × (name ≢ codes "run")
-    × (name ≢ codes "disassemble") × (name ≢ codes "assemble") × (name ≢ codes "eval") × (name ≢ codes "parts") × (name ≢ codes "encode") × (name ≢ codes "decode")
+    (name ≢ codes "check") × (name ≢ codes "explain") × (name ≢ codes "compile") × (name ≢ codes "verify")
+    × (name ≢ codes "run")
+    × (name ≢ codes "disassemble") × (name ≢ codes "assemble") × (name ≢ codes "eval") × (name ≢ codes "parts")
+    × (name ≢ codes "encode") × (name ≢ codes "decode")
 
 -- nor of a command on a depot
 abbrev pub IsNoDepotCommand : Text → Type 0
@@ -224,38 +226,58 @@ pub record IsOf (rows : List Row) (depot user : Text) : Type 0 where
 -- the command line says what the matches say: which command there is, and its arguments
 abbrev pub Says : CommandLine → Option (Text × List Row) → Type 0
 Says NoWords matches = IfSome matches (λ m. IsNoMailCommand m.0 × IsNoDepotCommand m.0)
-Says (Check script) matches = (rows : List Row) × IsCommand (codes "check") matches rows × (script.now ≡ argument (codes "SCRIPT") rows)
-Says (Explain script) matches = (rows : List Row) × IsCommand (codes "explain") matches rows × (script.now ≡ argument (codes "SCRIPT") rows)
+Says (Check script) matches = (rows : List Row) × IsCommand (codes "check") matches rows
+    × (script.now ≡ argument (codes "SCRIPT") rows)
+Says (Explain script) matches = (rows : List Row) × IsCommand (codes "explain") matches rows
+    × (script.now ≡ argument (codes "SCRIPT") rows)
 Says (Compile script out) matches =
-    (rows : List Row) × IsCommand (codes "compile") matches rows × (script.now ≡ argument (codes "SCRIPT") rows) × (out.now ≡ argument (codes "OUT") rows)
+    (rows : List Row) × IsCommand (codes "compile") matches rows × (script.now ≡ argument (codes "SCRIPT") rows)
+    × (out.now ≡ argument (codes "OUT") rows)
 Says (Eval script message) matches =
-    (rows : List Row) × IsCommand (codes "eval") matches rows × (script.now ≡ argument (codes "SCRIPT") rows) × (message.now ≡ argument (codes "MESSAGE") rows)
-Says (Verify program) matches = (rows : List Row) × IsCommand (codes "verify") matches rows × (program.now ≡ argument (codes "PROGRAM") rows)
+    (rows : List Row) × IsCommand (codes "eval") matches rows × (script.now ≡ argument (codes "SCRIPT") rows)
+    × (message.now ≡ argument (codes "MESSAGE") rows)
+Says (Verify program) matches = (rows : List Row) × IsCommand (codes "verify") matches rows
+    × (program.now ≡ argument (codes "PROGRAM") rows)
 Says (Run program message) matches =
-    (rows : List Row) × IsCommand (codes "run") matches rows × (program.now ≡ argument (codes "PROGRAM") rows) × (message.now ≡ argument (codes "MESSAGE") rows)
+    (rows : List Row) × IsCommand (codes "run") matches rows × (program.now ≡ argument (codes "PROGRAM") rows)
+    × (message.now ≡ argument (codes "MESSAGE") rows)
 Says (Disassemble program) matches =
     (rows : List Row) × IsCommand (codes "disassemble") matches rows × (program.now ≡ argument (codes "PROGRAM") rows)
 Says (Assemble listing out) matches =
-    (rows : List Row) × IsCommand (codes "assemble") matches rows × (listing.now ≡ argument (codes "LISTING") rows) × (out.now ≡ argument (codes "OUT") rows)
-Says (Parts message) matches = (rows : List Row) × IsCommand (codes "parts") matches rows × (message.now ≡ argument (codes "MESSAGE") rows)
+    (rows : List Row) × IsCommand (codes "assemble") matches rows × (listing.now ≡ argument (codes "LISTING") rows)
+    × (out.now ≡ argument (codes "OUT") rows)
+Says (Parts message) matches = (rows : List Row) × IsCommand (codes "parts") matches rows
+    × (message.now ≡ argument (codes "MESSAGE") rows)
 Says (Encode encoding) matches =
-    (rows : List Row) × IsCommand (codes "encode") matches rows × (encoding ≡ encoding_named (argument (codes "ENCODING") rows))
+    (rows : List Row) × IsCommand (codes "encode") matches rows
+    × (encoding ≡ encoding_named (argument (codes "ENCODING") rows))
 Says (Decode encoding) matches =
-    (rows : List Row) × IsCommand (codes "decode") matches rows × (encoding ≡ encoding_named (argument (codes "ENCODING") rows))
+    (rows : List Row) × IsCommand (codes "decode") matches rows
+    × (encoding ≡ encoding_named (argument (codes "ENCODING") rows))
 Says (Script depot user script) matches =
-    (rows : List Row) × IsCommand (codes "script") matches rows × IsOf rows depot.now user.now × (script.now ≡ argument (codes "SCRIPT") rows)
+    (rows : List Row) × IsCommand (codes "script") matches rows × IsOf rows depot.now user.now
+    × (script.now ≡ argument (codes "SCRIPT") rows)
 Says (Code depot user program) matches =
-    (rows : List Row) × IsCommand (codes "code") matches rows × IsOf rows depot.now user.now × (program.now ≡ argument (codes "PROGRAM") rows)
+    (rows : List Row) × IsCommand (codes "code") matches rows × IsOf rows depot.now user.now
+    × (program.now ≡ argument (codes "PROGRAM") rows)
 Says (Program depot user out) matches =
-    (rows : List Row) × IsCommand (codes "program") matches rows × IsOf rows depot.now user.now × (out.now ≡ argument (codes "OUT") rows)
+    (rows : List Row) × IsCommand (codes "program") matches rows × IsOf rows depot.now user.now
+    × (out.now ≡ argument (codes "OUT") rows)
 Says (Deliver depot user message) matches =
-    (rows : List Row) × IsCommand (codes "deliver") matches rows × IsOf rows depot.now user.now × (message.now ≡ argument (codes "MESSAGE") rows)
-Says (ListAll depot user) matches = (rows : List Row) × IsCommand (codes "list") matches rows × IsOf rows depot.now user.now
+    (rows : List Row) × IsCommand (codes "deliver") matches rows × IsOf rows depot.now user.now
+    × (message.now ≡ argument (codes "MESSAGE") rows)
+Says (ListAll depot user) matches = (rows : List Row) × IsCommand (codes "list") matches rows
+    × IsOf rows depot.now user.now
 Says (Export depot user number encoding) matches =
-    (rows : List Row) × IsCommand (codes "export") matches rows × IsOf rows depot.now user.now × IsNumber (argument (codes "NUMBER") rows) number
+    (rows : List Row) × IsCommand (codes "export") matches rows × IsOf rows depot.now user.now
+    × IsNumber (argument (codes "NUMBER") rows) number
     × (encoding ≡ encoding_named (argument (codes "ENCODING") rows))
 Says (Remove depot user number) matches =
-    (rows : List Row) × IsCommand (codes "remove") matches rows × IsOf rows depot.now user.now × IsNumber (argument (codes "NUMBER") rows) number
-Says (Migrate depot) matches = (rows : List Row) × IsCommand (codes "migrate") matches rows × (depot.now ≡ argument (codes "DB") rows)
-Says (Inspect depot) matches = (rows : List Row) × IsCommand (codes "inspect") matches rows × (depot.now ≡ argument (codes "DB") rows)
-Says (Batch depot) matches = (rows : List Row) × IsCommand (codes "batch") matches rows × (depot.now ≡ argument (codes "DB") rows)
+    (rows : List Row) × IsCommand (codes "remove") matches rows × IsOf rows depot.now user.now
+    × IsNumber (argument (codes "NUMBER") rows) number
+Says (Migrate depot) matches = (rows : List Row) × IsCommand (codes "migrate") matches rows
+    × (depot.now ≡ argument (codes "DB") rows)
+Says (Inspect depot) matches = (rows : List Row) × IsCommand (codes "inspect") matches rows
+    × (depot.now ≡ argument (codes "DB") rows)
+Says (Batch depot) matches = (rows : List Row) × IsCommand (codes "batch") matches rows
+    × (depot.now ≡ argument (codes "DB") rows)

@@ -107,4 +107,5 @@ place_text (Some place) = codes " at " ++ decimal place
 
 -- the line of a refusal, without its end
 abbrev pub refusal_text : Refusal → List ℕ
-refusal_text refusal = codes "refused " ++ decimal (number_of refusal) ++ codes " " ++ name_of refusal ++ place_text (place_of refusal)
+refusal_text refusal = codes "refused " ++ decimal (number_of refusal) ++ codes " " ++ name_of refusal
+    ++ place_text (place_of refusal)

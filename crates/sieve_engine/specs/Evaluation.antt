@@ -48,11 +48,14 @@ IsScriptRefusal octets _ = ⊥
 
 -- the first refusal of a script and a message, the script's first
 abbrev pub IsEvaluationRefusal : List ℕ → List ℕ → Refusal → Type 0
-IsEvaluationRefusal script message MessageTooLarge = IsMessageRefusal message mail.MessageTooLarge × ((form : CommandForms) × IsScript script form)
-IsEvaluationRefusal script message TooManyParts = IsMessageRefusal message mail.TooManyParts × ((form : CommandForms) × IsScript script form)
+IsEvaluationRefusal script message MessageTooLarge = IsMessageRefusal message mail.MessageTooLarge
+    × ((form : CommandForms) × IsScript script form)
+IsEvaluationRefusal script message TooManyParts = IsMessageRefusal message mail.TooManyParts
+    × ((form : CommandForms) × IsScript script form)
 IsEvaluationRefusal script message error = IsScriptRefusal script error
 
--- the program is the script's code, is accepted, and on every message its run ends with the final actions of the script's meaning
+-- the program is the script's code, is accepted, and on every message its run ends with the final
+-- actions of the script's meaning
 pub record IsCompiled (script : List ℕ) (code : Code) : Type 0 where
   pub form : CommandForms
   pub checked : IsScript script form
@@ -60,7 +63,8 @@ pub record IsCompiled (script : List ℕ) (code : Code) : Type 0 where
   pub accepted : IsAccepted code
   pub means : (mail : Mail) → IsMail mail → (charged : ℕ) × IsOutcome code mail (meaning mail form) charged
 
--- the actions are the final actions of the script's meaning on the message, and this is the report of the run of its code
+-- the actions are the final actions of the script's meaning on the message, and this is the report
+-- of the run of its code
 pub record IsEvaluation (script message : List ℕ) (actions : List Action) (charged limit : ℕ) : Type 0 where
   pub form : CommandForms
   pub checked : IsScript script form

@@ -44,8 +44,10 @@ IsProgramRefusal octets _ = ⊥
 
 -- the first refusal of a program and a message, the program's first
 abbrev pub IsRefusal : List ℕ → List ℕ → Refusal → Type 0
-IsRefusal program message MessageTooLarge = IsMessageRefusal message mail.MessageTooLarge × ((code : Code) × IsChecked program code)
-IsRefusal program message TooManyParts = IsMessageRefusal message mail.TooManyParts × ((code : Code) × IsChecked program code)
+IsRefusal program message MessageTooLarge = IsMessageRefusal message mail.MessageTooLarge
+    × ((code : Code) × IsChecked program code)
+IsRefusal program message TooManyParts = IsMessageRefusal message mail.TooManyParts
+    × ((code : Code) × IsChecked program code)
 IsRefusal program message error = IsProgramRefusal program error
 
 -- why a message isn't read

@@ -24,7 +24,8 @@ use Rattle.sieve_explain.specs.Shown.{excerpt, line}
 -- the script, the line and the column of a place in it, what kind of remark it is, and a sentence
 abbrev pub heading : List ℕ → List ℕ → List ℕ → ℕ → List ℕ → List ℕ
 heading kind name script place sentence =
-    name ++ codes ":" ++ decimal (line_number script place) ++ codes ":" ++ decimal (column script place) ++ kind ++ sentence
+    name ++ codes ":" ++ decimal (line_number script place) ++ codes ":" ++ decimal (column script place) ++ kind
+    ++ sentence
 
 -- a remark of that kind about a place of the script, with the line of the place and a mark under it
 abbrev pub remark : List ℕ → List ℕ → List ℕ → ℕ → Blanks → List ℕ
@@ -60,7 +61,8 @@ opened name script (Some brace) = remark (codes ": note: ") name script brace.st
 
 -- of the token at fault; of the end, also which brace is never closed, where one isn't
 abbrev pub syntax_told : List ℕ → List ℕ → List Token → Option Token → List ℕ
-syntax_told name script tokens None = told name script (length script) (syntax_blanks script None) ++ opened name script (unclosed tokens)
+syntax_told name script tokens None = told name script (length script) (syntax_blanks script None)
+    ++ opened name script (unclosed tokens)
 syntax_told name script tokens (Some token) = told name script token.start (syntax_blanks script (Some token))
 
 -- 13, at the token with that number, the first being 0
@@ -103,17 +105,20 @@ reason_told name script fault reason tokens number =
 
 -- 15 to 19
 abbrev pub TellsReason : List ℕ → List ℕ → Fault → ℕ → List ℕ → Type 0
-TellsReason name script fault number text = (tokens : List Token) × ((tree : Option CommandsTree) × (HasTokens script tokens × HasTree script tree
+TellsReason name script fault number text = (tokens : List Token)
+    × ((tree : Option CommandsTree) × (HasTokens script tokens × HasTree script tree
     × (text ≡ reason_told name script fault (reason_in tree fault number) tokens number)))
 
 -- what is told of a listing of a program, whose fault is of that kind: its place, a sentence and the line
 abbrev pub listing_told : List ℕ → List ℕ → ℕ → FaultKind → List ℕ
 listing_told name listing place kind = let at = min place (length listing) in told name listing at (listing_blanks kind (drop at listing))
 
--- what is told of a refused script: the refusal's place, a sentence and the line; nothing of a refusal that no script has
+-- what is told of a refused script: the refusal's place, a sentence and the line; nothing of a
+-- refusal that no script has
 abbrev pub Explains : List ℕ → List ℕ → Refusal → List ℕ → Type 0
 Explains name script (refused.Lexical place) text = let at = min place (length script) in text ≡ told name script at (lexical_blanks (drop at script))
-Explains name script refused.ScriptTooLong text = text ≡ told name script (min max_script (length script)) too_long_blanks
+Explains name script refused.ScriptTooLong text = text
+    ≡ told name script (min max_script (length script)) too_long_blanks
 Explains name script (refused.Syntax number) text = TellsSyntax name script number text
 Explains name script (refused.TooDeep number) text = TellsDepth name script number text
 Explains name script (refused.UnknownCommand number) text = TellsReason name script UnknownCommand number text

@@ -1,4 +1,5 @@
--- The line and the column of a place in a script, and the text of its line. LF ends a line; the end of the script is a place, too.
+-- The line and the column of a place in a script, and the text of its line. LF ends a line; the end
+-- of the script is a place, too.
 use Rattle.std.specs.Prelude.{ℕ, ◌+◌, ◌-◌, Bool, not, ◌==◌, if◌then◌else◌, List, length, reverse, take, drop, slice_index, slice_range, count_by, take_while}
 
 abbrev pub is_line_feed : ℕ → Bool

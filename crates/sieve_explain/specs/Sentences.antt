@@ -19,8 +19,9 @@ blanks_of s = record { text = s.text.now; name = s.name.now; subject = s.subject
 abbrev pub plain : List ℕ → Blanks
 plain text = record { text = text; name = []; subject = []; words = []; number = 0 }
 
--- what stands in the sentence for an octet of its text: for `@` the name, for `#` the subject as a tag and for `$` as a string, for `&` the
--- words, for `%` the number, and for every other octet itself
+-- what stands in the sentence for an octet of its text: for `@` the name, for `#` the subject as a
+-- tag and for `$` as a string, for `&` the words, for `%` the number, and for every other octet
+-- itself
 abbrev pub filled_octet : Blanks → ℕ → List ℕ
 filled_octet blanks octet =
     if octet == 64 then named blanks.name else

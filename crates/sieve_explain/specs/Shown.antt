@@ -11,7 +11,8 @@ max_shown = 60
 abbrev pub cut_mark : List ℕ
 cut_mark = codes "..."
 
--- an octet as it is printed: 32 to 126 as it is, TAB as a space, any other as a backslash and its two hexadecimal digits
+-- an octet as it is printed: 32 to 126 as it is, TAB as a space, any other as a backslash and its
+-- two hexadecimal digits
 abbrev pub shown_octet : ℕ → List ℕ
 shown_octet octet =
     if nat_le 32 octet && nat_le octet 126 then octet ∷ []
@@ -44,7 +45,8 @@ quoted text = codes "\"" ++ shown_start text ++ codes "\""
 abbrev pub line : List ℕ → List ℕ
 line text = text ++ 10 ∷ []
 
--- a line of a script, cut around the place before which that many of its octets stand, and under it a mark at that place
+-- a line of a script, cut around the place before which that many of its octets stand, and under it
+-- a mark at that place
 abbrev pub marked : List ℕ → ℕ → List ℕ
 marked text place =
     let before = shown_end (take place text) in

@@ -96,7 +96,8 @@ named_so name tag = record { tag = tag; name = name }
 abbrev pub awaiting : List ℕ → Tag → Option Awaiting
 awaiting name tag = option_map (named_so name) (awaited tag)
 
--- after these tags of all the arguments, of which the last may await its argument: what is wrong with those that are still to come
+-- after these tags of all the arguments, of which the last may await its argument: what is wrong
+-- with those that are still to come
 abbrev pub rest_cause : Signature → List ArgumentTree → Given → Option Awaiting → List ArgumentTree → Option Cause
 rest_cause signature all given None (label name ∷ args) =
     or_cause (tag_named name) (about UnknownTag name) (λ tag.

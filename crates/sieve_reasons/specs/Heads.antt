@@ -11,8 +11,8 @@ use Rattle.sieve_check.specs.Rules.{after_invocation, invocation_of, kind_of}
 use Rattle.sieve_check.specs.Surroundings.{Context}
 use Rattle.sieve_reasons.specs.Causes.{first_where}
 
--- a command or test: the number of its identifier's token, its name and arguments, which tests follow, and how it ends, where it
--- is a command
+-- a command or test: the number of its identifier's token, its name and arguments, which tests
+-- follow, and how it ends, where it is a command
 pub record Found : Type 0 where
   pub token : ℕ
   pub name : List ℕ
@@ -60,8 +60,8 @@ is_require _ = false
 abbrev pub is_requiring : InvocationTree → Bool
 is_requiring (invocation token name args tests) = is_require (command_named name)
 
--- The surroundings behind each `require` that commands begin with. A reason needs of them what was required; a `require` that stands
--- later is at fault itself.
+-- The surroundings behind each `require` that commands begin with. A reason needs of them what was
+-- required; a `require` that stands later is at fault itself.
 abbrev pub behind_requires : Context → CommandsTree → Context
 behind_requires s no_command = s
 behind_requires s (command c cs) = if is_requiring (invocation_of c) then behind_requires (after_invocation s (invocation_of c)) cs else s

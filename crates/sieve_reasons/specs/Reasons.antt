@@ -126,7 +126,8 @@ oversized_test s name found =
     option_or (long_string_cause found.arguments)
     (option_or (many_strings_cause (test_signature name) found.arguments) (large_mention_cause (test_mentions s name found.arguments)))
 
--- or else what the script has too many of with it: open loops where it is a loop, and variables where it is anything else
+-- or else what the script has too many of with it: open loops where it is a loop, and variables
+-- where it is anything else
 abbrev pub many_kind : CommandName → ReasonKind
 many_kind ForEveryPart = ManyLoops
 many_kind Require = ManyVariables

@@ -28,6 +28,10 @@ view_of reason = record { kind = reason.kind; name = reason.name.now; subject = 
 -- what was read, with the argument that the tag takes; nothing where it isn't there, which is then what is wrong
 abbrev pub Settles : Reading → Tag → Option Reading → Type 0
 Settles before tag answer = MatchOption answer
-    ((signature : Signature) (all : List ArgumentTree) (name : List ℕ) → rest_cause signature all (given_of before) (awaiting name tag) (left_of before) ≡ Some (about (TagArgument tag) name))
+    ((signature : Signature) (all : List ArgumentTree) (name : List ℕ)
+    → rest_cause signature all (given_of before) (awaiting name tag) (left_of before)
+    ≡ Some (about (TagArgument tag) name))
     (λ after. (length after.positional.now ≤ length before.positional.now)
-    × ((signature : Signature) (all : List ArgumentTree) (name : List ℕ) → rest_cause signature all (given_of before) (awaiting name tag) (left_of before) ≡ rest_cause signature all (given_of after) None (left_of after)))
+    × ((signature : Signature) (all : List ArgumentTree) (name : List ℕ)
+    → rest_cause signature all (given_of before) (awaiting name tag) (left_of before)
+    ≡ rest_cause signature all (given_of after) None (left_of after)))

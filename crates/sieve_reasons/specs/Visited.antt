@@ -18,7 +18,8 @@ visited s found = record { around = s; found = found }
 abbrev mutual
   pub command_visited : Context → CommandTree → List Visited
   command_visited s (simple i) = map (visited s) (heads_in (Some Semicolon) i)
-  command_visited s (block i cs) = map (visited s) (heads_in (Some Block) i) ++ commands_visited (in_block (loops_opened i) s) cs
+  command_visited s (block i cs) = map (visited s) (heads_in (Some Block) i)
+      ++ commands_visited (in_block (loops_opened i) s) cs
 
   pub commands_visited : Context → CommandsTree → List Visited
   commands_visited s no_command = []
