@@ -1,6 +1,7 @@
 pub mod Bits
 pub mod Pieces
 pub mod Symbols
+mod Tables
 pub mod Texts
 pub mod ReadBack
 pub mod Lanes
