@@ -17,7 +17,6 @@ mod Reading
 mod Filed
 mod FiledAll
 mod Entering
-mod Unmoved
 mod Removing
 mod Listed
 mod NameOrder
