@@ -32,6 +32,7 @@ pub mod Stored
 mod Crashed
 mod Faults
 mod Asked
+mod FirstRow
 pub mod Failing
 mod Readable
 mod Shown
