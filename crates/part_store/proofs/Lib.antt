@@ -30,6 +30,7 @@ mod ListedFailing
 mod Opened
 pub mod Stored
 mod Crashed
+mod Unfinished
 mod Faults
 mod Asked
 mod FirstRow
