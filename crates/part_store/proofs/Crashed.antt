@@ -5,7 +5,8 @@ use Rattle.sqlite_disk.specs.declared.Disk.{Ghosts}
 use Rattle.sqlite_trees.specs.Tree.{Trees}
 use Rattle.sqlite.specs.declared.FileStore.{FileStore}
 use Rattle.sqlite.specs.Effect.{Database}
-use Rattle.sqlite.specs.Files.{file_state, HoldsDatabase}
+use Rattle.sqlite.specs.Files.{file_state, HoldsDatabase, IsClosed}
+use Rattle.sqlite.specs.FileStore.{recovers}
 use Rattle.sqlite.specs.Held.{Held}
 use Rattle.sqlite.specs.Recovery.{Image}
 use Rattle.sqlite.specs.State.{HasCleanDisk, Survives}
@@ -14,7 +15,7 @@ use Rattle.part_store.specs.Tables.{store_schema}
 use Rattle.part_store.specs.Entries.{Entries}
 use Rattle.part_store.specs.Standing.{IsStored, MayMake}
 use Rattle.part_store.specs.Opening.{HoldsStore, IsAt}
-use Rattle.part_store.specs.Crashes.{HasNumberedTrees, HoldsOneLeft, LeavesStores, MayLeaveFiles}
+use Rattle.part_store.specs.Crashes.{HasNumberedTrees, HoldsOneLeft, KeepsState, LeavesStores, MayLeaveFiles}
 use Rattle.part_store.proofs.Stored.{stored_as}
 
 -- files that hold the trees of a store hold the store
@@ -50,3 +51,15 @@ module _ {D : Type 0} {g : Ghosts D} where
   holds_either image c one other either numbered may =
       ∥∥₁_map (holds_one c numbered (λ trees left. some_state trees one other (either trees left)) image may)
       (λ it. let r : HoldsStore image one ⊎ HoldsStore image other = elim (either it.trees it.may) [ inl is ↦ inl (it.holds one is) | inr is ↦ inr (it.holds other is) ] in r)
+
+  -- a close commits nothing, and each outcome of a crash in it is a database
+  pub keeps_state : (c : Held (FileStore D g)) (last : FileStore D g)
+      → ((trees : Trees) → IsTrue (file_state c).is_open → (file_state c).may_leave trees → trees ≡ (file_state c).committed.trees)
+      → IsClosed c last → (e : Entries) → IsAt e (file_state c) → KeepsState last e
+  keeps_state c last settled closed e at =
+      let stored = λ (trees : Trees) (left : recovers last trees).
+      let r : IsStored trees e = stored_as trees (file_state c).now e (settled trees at.2 (closed.quiet.outcomes trees left) ∙ ap (λ (d : Database). d.trees) at.1) at.0 in r in
+      record {
+        trees = stored;
+        files = λ clean numbered image may. ∥∥₁_map (opens_again last numbered (closed.sound clean) image may) (λ found. holds_stored image found.0 e found.2 (stored found.0 found.1));
+      }

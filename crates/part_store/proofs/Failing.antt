@@ -12,7 +12,6 @@ use Rattle.sqlite.specs.Held.{Held, state}
 use Rattle.sqlite.specs.State.{State, HasCleanDisk, Survives}
 use Rattle.part_store.specs.Entries.{Entries}
 use Rattle.part_store.specs.Refusals.{refusal_of, HasFailed, Blames, BlamesOr, Faults}
-use Rattle.part_store.specs.Standing.{Stands}
 use Rattle.part_store.specs.declared.error.StoreError.{StoreError}
 use Rattle.part_store.specs.declared.error.StoreError.TheVariants.{Database}
 use Rattle.part_store.proofs.Faults.{failed, never}
@@ -36,9 +35,6 @@ module _ {P Q : Trees → Type 0} (old mid new : State) (one : Survives old mid 
     | inr off ↦ inr (inl off)
   ]
   later_failed (inr (inr limited)) = inr (inr (subst IsSome one.limit limited))
-
-  pub blamed_later : (e : StoreError) → ((before : Entries) → Stands old.now before → Stands mid.now before) → Blames mid new e → Blames old new e
-  blamed_later e on h is before stands = later_failed (h is before (on before stands))
 
 -- where the tables stand for a state they are the three
 pub faulted : (old new : State) (e : Error) → Faults old new e → Blames old new (refusal_of e)

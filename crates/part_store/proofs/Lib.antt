@@ -17,7 +17,6 @@ mod Reading
 mod Filed
 mod FiledAll
 mod Entering
-mod Unmoved
 mod Removing
 mod Listed
 mod NameOrder
@@ -31,8 +30,10 @@ mod ListedFailing
 mod Opened
 pub mod Stored
 mod Crashed
+mod Unfinished
 mod Faults
 mod Asked
+mod FirstRow
 pub mod Failing
 mod Readable
 mod Shown

@@ -1,5 +1,5 @@
 -- What is opened stands for what the files held.
-use Rattle.std.proofs.Common.{◌≡◌, ◌⊎◌, Option, None, Some, IfSome, Result, Ok, Err, IfOk, IsTrue, inl, inr, List, [], length, refl, sym, ap, subst, ◌∙◌, arith, true}
+use Rattle.std.proofs.Common.{◌≡◌, ◌⊎◌, ℕ, Bool, ◌∷◌, Option, None, Some, IfSome, Result, Ok, Err, IfOk, IsTrue, inl, inr, List, [], length, refl, sym, ap, subst, ◌∙◌, arith, true}
 use Rattle.std.proofs.Math.Logic.{∥∥₁_elim}
 use Rattle.std.proofs.lemmas.Bool.{true≢false}
 use Rattle.sqlite_disk.specs.declared.Disk.{Ghosts}
@@ -16,6 +16,9 @@ use Rattle.sqlite.specs.Files.{file_state, image_of, FailsToOpenFiles, HoldsData
 use Rattle.sqlite.specs.Recovery.{Image}
 use Rattle.sqlite.specs.Closing.{HoldsAlone, IsCopied}
 use Rattle.sqlite.specs.Start.{FindsIn}
+use Rattle.sqlite.specs.WalFiles.{outcomes}
+use Rattle.sqlite_disk.specs.Events.{Event, replay, settled}
+use Rattle.sqlite_disk.specs.History.{MayLeave}
 use Rattle.sqlite_catalog.specs.Listing.{Lists}
 use Rattle.sqlite_catalog.proofs.ReadLemmas.{lists_once}
 use Rattle.sqlite_schema.specs.declared.schema.Schema.{Schema}
@@ -96,11 +99,18 @@ module _ {D : Type 0} {g : Ghosts D} (image : Image) (now : Held (FileStore D g)
   opens_none (inr (d, holds, none)) = from.ready.made clean (ap (λ (x : Database). x.schema) (found_is d holds) ∙ none)
 
 -- what the database's open tells of files that held the image
-pub tells : {D : Type 0} {g : Ghosts D} (image : Image) (P Q : Files D → Type 0) (same : (files : Files D) → P files → Q files → image_of g files ≡ image) (left : Option (Leftover D g)) (e : Error)
+pub tells : {D : Type 0} {g : Ghosts D} (image : Image) (P Q : Files D → Type 0) (same : (files : Files D) → P files → Q files → image_of g files ≡ image)
+    (only : (files : Files D) → P files → Q files → (other : Image) → outcomes g files.log files.db other → other ≡ image) (left : Option (Leftover D g)) (e : Error)
     → (left ≡ None → (e ≡ SqliteFailure CannotOpen) ⊎ ((e ≡ SqliteFailure OutOfMemory) ⊎ (e ≡ SqliteFailure DatabaseBusy)))
     → IfSome left (λ it. (files : Files D) × P files × Q files × (IsCleanLeft it → FailsToOpenFiles files it e × LeavesFiles files it)) → IsUnopened image left e
-tells image P Q same None e system caused = system refl
-tells image P Q same (Some left) e system caused = (caused.0, same caused.0 caused.1 caused.2, caused.3)
+tells image P Q same only None e system caused = system refl
+tells image P Q same only (Some left) e system caused = (caused.0, same caused.0 caused.1 caused.2, caused.3, only caused.0 caused.1 caused.2)
+
+-- a file that was settled, and to which nothing has happened since, is left by a crash as it was
+pub left_alone : (mixes : Bool) (start : List ℕ) (history : List Event) (key : ℕ) → history ≡ settled key ∷ [] → (c : List ℕ)
+    → MayLeave mixes (replay start history).seen (replay start history).synced (replay start history).steps c → c ≡ start
+left_alone mixes start history key is c may =
+    elim (subst (λ h. MayLeave mixes (replay start h).seen (replay start h).synced (replay start h).steps c) is may) [ inl same ↦ same | inr same ↦ same ]
 
 -- a refusal of files that had no tables
 pub unmade : {D : Type 0} {g : Ghosts D} (image : Image) (result : Result (Held (FileStore D g)) StoreError) (found : Held (FileStore D g)) → IsFoundIn image found

@@ -1,13 +1,18 @@
 -- What a crash leaves of a store over files, for the next open.
-use Rattle.std.specs.Prelude.{IsTrue}
+use Rattle.std.specs.Prelude.{◌≡◌, IsTrue, ⊤}
 use Rattle.sqlite_disk.specs.declared.Disk.{Ghosts}
 use Rattle.sqlite_trees.specs.Tree.{Trees}
+use Rattle.sqlite_trees.specs.View.{IsClean}
 use Rattle.sqlite.specs.declared.FileStore.{FileStore}
 use Rattle.sqlite.specs.FileStore as store
-use Rattle.sqlite.specs.Files.{file_state}
+use Rattle.sqlite.specs.Files.{file_state, HoldsDatabase}
 use Rattle.sqlite.specs.Held.{Held}
 use Rattle.sqlite.specs.Recovery.{Image}
 use Rattle.sqlite.specs.State.{State}
+use Rattle.sqlite.specs.WalFiles.{outcomes}
+use Rattle.sqlite.specs.declared.file.Leftover.{Leftover}
+use Rattle.sqlite.specs.declared.file.Leftover.TheVariants as left
+use Rattle.sqlite_store.specs.Unopened.{state_of}
 use Rattle.part_store.specs.Entries.{Entries}
 use Rattle.part_store.specs.Opening.{HoldsStore}
 use Rattle.part_store.specs.Standing.{IsStored}
@@ -30,3 +35,21 @@ module _ {D : Type 0} {g : Ghosts D} where
     pub trees : Trees
     pub may : (file_state c).may_leave trees
     pub holds : (e : Entries) → IsStored trees e → HoldsStore image e
+
+  -- Whatever a crash leaves of the files of a store that stood for this state is that state's store again. Of the files themselves that is so
+  -- where their trees are numbered, as they are while their connection holds them.
+  pub record KeepsState (last : FileStore D g) (e : Entries) : Type 0 where
+    pub trees : (trees : Trees) → store.recovers last trees → IsStored trees e
+    pub files : IsClean (store.view last) → IsTrue (store.view last).is_numbered → (image : Image) → (store.state last).may_leave image → ∥ HoldsStore image e ∥₁
+
+  -- What a crash may leave of the files in a database's open that was refused, or after it. Of a store that it had made that is said where its
+  -- trees are numbered.
+  abbrev pub MayLeaveRefused : Leftover D g → Image → Type 0
+  MayLeaveRefused (left.Files files) image = outcomes g files.log files.db image
+  MayLeaveRefused (left.Unopened files) image = (state_of files).may_leave image
+  MayLeaveRefused (left.Store it) image = IsTrue (store.view it).is_numbered × (store.state it).may_leave image
+
+  -- the open took the page size of the database that the files hold
+  abbrev pub TakesSize : Image → Leftover D g → Type 0
+  TakesSize image (left.Unopened files) = (db : Trees) (held : HoldsDatabase image db) → held.0 ≡ (state_of files).page_size
+  TakesSize image _ = ⊤

@@ -77,11 +77,13 @@ pub record IsReadyFrom {D : Type 0} {g : Ghosts D} (image : Image) (now : Held (
   pub ready : IsReady now
   pub finds : HasCleanDisk (file_state ready.found) → FindsIn image (file_state ready.found)
 
--- Why the files weren't opened. With none left the system refused them; else they are left as the database's open leaves them.
+-- Why the files weren't opened. With none left the system refused them; else they are left as the database's open leaves them, which began with
+-- nothing that a crash could take back.
 abbrev pub IsUnopened : {D : Type 0} {g : Ghosts D} → Image → Option (Leftover D g) → Error → Type 0
 IsUnopened image None e = (e ≡ SqliteFailure CannotOpen) ⊎ ((e ≡ SqliteFailure OutOfMemory) ⊎ (e ≡ SqliteFailure DatabaseBusy))
 IsUnopened {D} {g} image (Some left) e =
     (files : Files D) × (image_of g files ≡ image) × (IsCleanLeft left → FailsToOpenFiles files left e × LeavesFiles files left)
+    × ((other : Image) → outcomes g files.log files.db other → other ≡ image)
 
 abbrev pub OpensOrTells : {D : Type 0} {g : Ghosts D} → Image → Result (Held (FileStore D g)) Error → Type 0
 OpensOrTells image (Ok found) = HasCleanDisk (file_state found) → FindsIn image (file_state found)

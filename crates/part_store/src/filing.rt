@@ -1,92 +1,60 @@
 //! How entries are filed.
-ghost use Rattle.std.specs.Prelude.{◌≡◌, ◌⊎◌, map, true, false, string_bytes, IsTrue, IfOk, IfErr, OnOk};
+ghost use Rattle.std.specs.Prelude.{◌≡◌, ◌≢◌, ◌⊎◌, ◌<◌, ℕ, List, length, map, true, false, string_bytes, IsTrue, IfOk, IfErr, OnOk};
+ghost use Rattle.sqlite_value.specs.declared.value.Value.TheVariants.{Blob};
+ghost use Rattle.sqlite_value.specs.Order.{column};
 ghost use Rattle.sqlite.specs.Held.{state};
 ghost use Rattle.sqlite.specs.State.{HasCleanDisk, KeepsCommit, Survives};
 ghost use Rattle.sha2.specs.Sha256.{sha256};
 ghost use Rattle.part_store.specs.Tables.{store_schema, contents_table};
 ghost use Rattle.part_store.specs.Entries.{entry_of};
-ghost use Rattle.part_store.specs.Standing.{Stands, Stays, kind_number, draft_of};
-ghost use Rattle.part_store.specs.Refusals.{content_values, refusal_of, Blames, HasFailed, HasNoRoom, LacksRoom};
+ghost use Rattle.part_store.specs.Standing.{Stands, kind_number, draft_of};
+ghost use Rattle.part_store.specs.Refusals.{content_values, refusal_of, HasFailed, HasNoRoom, LacksRoom};
 ghost use Rattle.part_store.specs.declared.error.StoreError.TheVariants.{Database};
-ghost use Rattle.part_store.specs.Filing.{Collides, Stocks, IsOther, IsNext, Files};
+ghost use Rattle.part_store.specs.Filing.{Stocks, IsOther, IsNext, Files};
 
 use crate::entry::{Kind, NewEntry};
 use crate::{contents, entries};
 use sha2::{Digest, Sha256};
-use sqlite::{Alter, Error, Transaction};
+use sqlite::{Alter, Error, Row, Transaction};
+use sqlite_value::value::ValueRef;
+
+/// Whether what a row begins with is these octets. They are compared where they lie.
+fn are_these(row: &Row, octets: &[u8]) -> Result<bool, Error>
+    ensures same { IfOk result (λ done. done ≡ true → column row.now 0 ≡ Blob octets.now) }
+    ensures other { IfOk result (λ done. done ≡ false → (there : List ℕ) × (column row.now 0 ≡ Blob there) × (there ≢ octets.now)) }
+    ensures cause { IfErr result (λ _. 0 < length row.now → (there : List ℕ) → column row.now 0 ≡ Blob there → ⊥) }
+{
+    match row.get_ref(0)? {
+        ValueRef::Blob(there) => Ok(there == octets),
+        _ => Err(Error::InvalidQuery),
+    }
+}
 
 /// Puts octets under their digest where nothing is under it yet. Answers whether they are what is under it now.
 fn stock<S: Alter>(tx: &mut Transaction<'_, S>, digest: &[u8], octets: &[u8]) -> Result<bool, Error>
     ensures same_reference { tx.new.conn.ghost_name ≡ tx.old.conn.ghost_name }
-    ensures stocked { HasCleanDisk (state S.Store tx.new.conn.now) → IfOk result (λ done. done ≡ true → (before : _) → Stands (state S.Store tx.old.conn.now).now before → Stocks digest.now octets.now (state S.Store tx.old.conn.now) (state S.Store tx.new.conn.now)) }
-    ensures other { HasCleanDisk (state S.Store tx.new.conn.now) → IfOk result (λ done. done ≡ false → (before : _) → Stands (state S.Store tx.old.conn.now).now before → IsOther (state S.Store tx.old.conn.now).now.trees digest.now octets.now) }
-    ensures schema { HasCleanDisk (state S.Store tx.new.conn.now) → OnOk result ((state S.Store tx.old.conn.now).now.schema ≡ store_schema → (state S.Store tx.new.conn.now).now.schema ≡ store_schema) }
-    ensures kept { HasCleanDisk (state S.Store tx.new.conn.now) → (state S.Store tx.old.conn.now).now.schema ≡ store_schema → KeepsCommit (state S.Store tx.old.conn.now) (state S.Store tx.new.conn.now) }
+    ensures stocked { HasCleanDisk (state S.Store tx.new.conn.now) → IfOk result (λ done. done ≡ true → (before : _)
+        → Stands (state S.Store tx.old.conn.now).now before → Stocks digest.now octets.now (state S.Store tx.old.conn.now) (state S.Store tx.new.conn.now)) }
+    ensures other { HasCleanDisk (state S.Store tx.new.conn.now) → IfOk result (λ done. done ≡ false → (before : _)
+        → Stands (state S.Store tx.old.conn.now).now before → IsOther (state S.Store tx.old.conn.now).now.trees digest.now octets.now) }
+    ensures schema { HasCleanDisk (state S.Store tx.new.conn.now) → OnOk result ((state S.Store tx.old.conn.now).now.schema ≡ store_schema
+        → (state S.Store tx.new.conn.now).now.schema ≡ store_schema) }
+    ensures kept { HasCleanDisk (state S.Store tx.new.conn.now) → (state S.Store tx.old.conn.now).now.schema ≡ store_schema
+        → KeepsCommit (state S.Store tx.old.conn.now) (state S.Store tx.new.conn.now) }
     ensures inside { HasCleanDisk (state S.Store tx.new.conn.now) → OnOk result ((state S.Store tx.old.conn.now).now.schema ≡ store_schema
         → IsTrue (state S.Store tx.old.conn.now).in_transaction → IsTrue (state S.Store tx.new.conn.now).in_transaction) }
-    ensures cause { HasCleanDisk (state S.Store tx.new.conn.now) → IfErr result (λ e. refusal_of e ≡ Database → IsTrue (state S.Store tx.old.conn.now).in_transaction
+    ensures cause { HasCleanDisk (state S.Store tx.new.conn.now) → IfErr result (λ e. refusal_of e ≡ Database
+        → IsTrue (state S.Store tx.old.conn.now).in_transaction
         → (before : _) → Stands (state S.Store tx.old.conn.now).now before → HasFailed (state S.Store tx.old.conn.now) (state S.Store tx.new.conn.now)
         ⊎ HasNoRoom contents_table (content_values digest.now octets.now) (state S.Store tx.old.conn.now).now.trees) }
     ensures survives { Survives (state S.Store tx.old.conn.now) (state S.Store tx.new.conn.now) (λ _. ⊥) }
 {
     match contents::find(tx, digest)? {
-        Some(row) => {
-            let there: Vec<u8> = row.get(0)?;
-            Ok(there.as_slice() == octets)
-        }
+        Some(row) => are_these(&row, octets),
         None => {
             contents::add(tx, digest, octets)?;
             Ok(true)
         }
-    }
-}
-
-/// Whether other octets are under the digest of one of the entries.
-pub(crate) fn any_differs<S: Alter>(
-    tx: &mut Transaction<'_, S>,
-    entries: &[NewEntry<'_>],
-) -> Result<bool, Error>
-    ensures same_reference { tx.new.conn.ghost_name ≡ tx.old.conn.ghost_name }
-    ensures other { HasCleanDisk (state S.Store tx.new.conn.now) → IfOk result (λ found. found ≡ true → (before : _) → Stands (state S.Store tx.old.conn.now).now before → Collides (state S.Store tx.old.conn.now).now.trees (map draft_of entries.now)) }
-    ensures same { HasCleanDisk (state S.Store tx.new.conn.now) → OnOk result (Stays (state S.Store tx.old.conn.now) (state S.Store tx.new.conn.now)) }
-    ensures kept { HasCleanDisk (state S.Store tx.new.conn.now) → (state S.Store tx.old.conn.now).now.schema ≡ store_schema → KeepsCommit (state S.Store tx.old.conn.now) (state S.Store tx.new.conn.now) }
-    ensures inside { HasCleanDisk (state S.Store tx.new.conn.now) → OnOk result ((state S.Store tx.old.conn.now).now.schema ≡ store_schema
-        → IsTrue (state S.Store tx.old.conn.now).in_transaction → IsTrue (state S.Store tx.new.conn.now).in_transaction) }
-    ensures cause { HasCleanDisk (state S.Store tx.new.conn.now) → IfErr result (λ e.
-        Blames (state S.Store tx.old.conn.now) (state S.Store tx.new.conn.now) (refusal_of e)) }
-    ensures survives { Survives (state S.Store tx.old.conn.now) (state S.Store tx.new.conn.now) (λ _. ⊥) }
-{
-    for entry in entries {
-        let digest = Sha256::digest(entry.octets);
-        if differs(tx, &digest, entry.octets)? {
-            return Ok(true);
-        }
-    }
-    Ok(false)
-}
-
-/// Whether other octets than these are under the digest.
-fn differs<S: Alter>(
-    tx: &mut Transaction<'_, S>,
-    digest: &[u8],
-    octets: &[u8],
-) -> Result<bool, Error>
-    ensures same_reference { tx.new.conn.ghost_name ≡ tx.old.conn.ghost_name }
-    ensures other { HasCleanDisk (state S.Store tx.new.conn.now) → IfOk result (λ found. found ≡ true → (before : _) → Stands (state S.Store tx.old.conn.now).now before → IsOther (state S.Store tx.old.conn.now).now.trees digest.now octets.now) }
-    ensures same { HasCleanDisk (state S.Store tx.new.conn.now) → OnOk result (Stays (state S.Store tx.old.conn.now) (state S.Store tx.new.conn.now)) }
-    ensures kept { HasCleanDisk (state S.Store tx.new.conn.now) → (state S.Store tx.old.conn.now).now.schema ≡ store_schema → KeepsCommit (state S.Store tx.old.conn.now) (state S.Store tx.new.conn.now) }
-    ensures inside { HasCleanDisk (state S.Store tx.new.conn.now) → OnOk result ((state S.Store tx.old.conn.now).now.schema ≡ store_schema
-        → IsTrue (state S.Store tx.old.conn.now).in_transaction → IsTrue (state S.Store tx.new.conn.now).in_transaction) }
-    ensures cause { HasCleanDisk (state S.Store tx.new.conn.now) → IfErr result (λ e.
-        Blames (state S.Store tx.old.conn.now) (state S.Store tx.new.conn.now) (refusal_of e)) }
-    ensures survives { Survives (state S.Store tx.old.conn.now) (state S.Store tx.new.conn.now) (λ _. ⊥) }
-{
-    match contents::find(tx, digest)? {
-        Some(row) => {
-            let under: Vec<u8> = row.get(0)?;
-            Ok(under.as_slice() != octets)
-        }
-        None => Ok(false),
     }
 }
 
@@ -107,13 +75,20 @@ pub(crate) fn file_entry<S: Alter>(
     entry: &NewEntry<'_>,
 ) -> Result<bool, Error>
     ensures same_reference { tx.new.conn.ghost_name ≡ tx.old.conn.ghost_name }
-    ensures filed { HasCleanDisk (state S.Store tx.new.conn.now) → IfOk result (λ done. done ≡ true → (before : _) → Stands (state S.Store tx.old.conn.now).now before → IsNext before (entry_of user.now number (draft_of entry.now))
-        → Files (entry_of user.now number (draft_of entry.now)) (sha256 entry.now.octets.now) before (state S.Store tx.old.conn.now) (state S.Store tx.new.conn.now)) }
-    ensures other { HasCleanDisk (state S.Store tx.new.conn.now) → IfOk result (λ done. done ≡ false → (before : _) → Stands (state S.Store tx.old.conn.now).now before → IsOther (state S.Store tx.old.conn.now).now.trees (sha256 entry.now.octets.now) entry.now.octets.now) }
+    ensures filed { HasCleanDisk (state S.Store tx.new.conn.now) → IfOk result (λ done. done ≡ true → (before : _)
+        → Stands (state S.Store tx.old.conn.now).now before → IsNext before (entry_of user.now number (draft_of entry.now))
+        → Files (entry_of user.now number (draft_of entry.now)) (sha256 entry.now.octets.now) before
+        (state S.Store tx.old.conn.now) (state S.Store tx.new.conn.now)) }
+    ensures other { HasCleanDisk (state S.Store tx.new.conn.now) → IfOk result (λ done. done ≡ false → (before : _)
+        → Stands (state S.Store tx.old.conn.now).now before
+        → IsOther (state S.Store tx.old.conn.now).now.trees (sha256 entry.now.octets.now) entry.now.octets.now) }
     ensures inside { HasCleanDisk (state S.Store tx.new.conn.now) → IfOk result (λ done. done ≡ true → IsTrue (state S.Store tx.new.conn.now).in_transaction) }
-    ensures schema { HasCleanDisk (state S.Store tx.new.conn.now) → OnOk result ((state S.Store tx.old.conn.now).now.schema ≡ store_schema → (state S.Store tx.new.conn.now).now.schema ≡ store_schema) }
-    ensures kept { HasCleanDisk (state S.Store tx.new.conn.now) → (state S.Store tx.old.conn.now).now.schema ≡ store_schema → KeepsCommit (state S.Store tx.old.conn.now) (state S.Store tx.new.conn.now) }
-    ensures cause { HasCleanDisk (state S.Store tx.new.conn.now) → IfErr result (λ e. refusal_of e ≡ Database → IsTrue (state S.Store tx.old.conn.now).in_transaction
+    ensures schema { HasCleanDisk (state S.Store tx.new.conn.now) → OnOk result ((state S.Store tx.old.conn.now).now.schema ≡ store_schema
+        → (state S.Store tx.new.conn.now).now.schema ≡ store_schema) }
+    ensures kept { HasCleanDisk (state S.Store tx.new.conn.now) → (state S.Store tx.old.conn.now).now.schema ≡ store_schema
+        → KeepsCommit (state S.Store tx.old.conn.now) (state S.Store tx.new.conn.now) }
+    ensures cause { HasCleanDisk (state S.Store tx.new.conn.now) → IfErr result (λ e. refusal_of e ≡ Database
+        → IsTrue (state S.Store tx.old.conn.now).in_transaction
         → (before : _) → Stands (state S.Store tx.old.conn.now).now before → IsNext before (entry_of user.now number (draft_of entry.now))
         → HasFailed (state S.Store tx.old.conn.now) (state S.Store tx.new.conn.now)
         ⊎ LacksRoom (entry_of user.now number (draft_of entry.now)) (sha256 entry.now.octets.now) (state S.Store tx.old.conn.now).now.trees) }

@@ -3,17 +3,19 @@
 //! A crash is a disk that fails from some call on, so what it may leave in the midst of a call is
 //! what it may leave once that call has ended. Each call says by `survives` which stores these are,
 //! and `open_from` opens files by what they hold.
-ghost use Rattle.std.specs.Prelude.{◌≡◌, ◌⊎◌, IsTrue};
-ghost use Rattle.sqlite.specs.Files.{file_state};
+ghost use Rattle.std.specs.Prelude.{◌≡◌, ◌⊎◌, IsTrue, Some};
+ghost use Rattle.sqlite.specs.declared.error.Error.{Error};
+ghost use Rattle.sqlite.specs.declared.file.Leftover.{Leftover};
+ghost use Rattle.sqlite.specs.Files.{file_state, IsCleanLeft};
 ghost use Rattle.sqlite.specs.FileStore.{view};
 ghost use Rattle.sqlite.specs.Held.{Held, state};
 ghost use Rattle.sqlite.specs.Recovery.{Image};
 ghost use Rattle.sqlite.specs.State.{HasCleanDisk, Survives};
 ghost use Rattle.sqlite_trees.specs.Tree.{Trees};
 ghost use Rattle.sqlite_trees.specs.View.{IsClean};
-ghost use Rattle.part_store.specs.Crashes.{HasNumberedTrees, HoldsOneLeft, LeavesStores, MayLeaveFiles};
+ghost use Rattle.part_store.specs.Crashes.{HasNumberedTrees, HoldsOneLeft, LeavesStores, MayLeaveFiles, MayLeaveRefused, TakesSize};
 ghost use Rattle.part_store.specs.Entries.{Entries};
-ghost use Rattle.part_store.specs.Opening.{HasOtherTables, HoldsStore, IsAt, IsFoundIn};
+ghost use Rattle.part_store.specs.Opening.{HasOtherTables, HoldsStore, IsAt, IsFoundIn, IsUnopened};
 ghost use Rattle.part_store.specs.Standing.{MayMake, Stands, StandsFor};
 ghost use Rattle.part_store.specs.Tables.{store_schema};
 
@@ -22,7 +24,7 @@ use sqlite::{Alter, Connection, FileStore};
 use sqlite_disk::Disk;
 
 /// While a store is open a crash leaves what is committed, and nothing else.
-fn open_stores_leave_what_is_committed<S: Alter>()
+pub(crate) fn open_stores_leave_what_is_committed<S: Alter>()
     ensures { (c : Held S) (trees : Trees) → IsTrue (state S.Store c).is_open → (state S.Store c).may_leave trees
         → trees ≡ (state S.Store c).committed.trees }
 {}
@@ -72,3 +74,10 @@ pub fn trees_are_numbered<D: Disk + Drop>(store: PartStore<FileStore<D>>) -> Fil
 {
     store.release().into_store()
 }
+
+/// A database's open that is refused leaves files that held a store with the same store, however far
+/// it got and also after a crash, where it took the page size of what they hold.
+pub fn refused_opens_leave_the_store<D: Disk + Drop>()
+    ensures { (image : Image) (left : Leftover D D.Disk) (e : Error) → IsUnopened image (Some left) e → IsCleanLeft left → TakesSize image left
+        → (held : Entries) → HoldsStore image held → (other : Image) → MayLeaveRefused left other → ∥ HoldsStore other held ∥₁ }
+{}

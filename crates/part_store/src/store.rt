@@ -8,6 +8,7 @@ ghost use Rattle.part_store.specs.Standing.{Brings, IsStored, Makes, MayMake, Sp
 ghost use Rattle.part_store.specs.Refusals.{refusal_of, Blames, BlamesEntries, BlamesNamed, BlamesOr, BlamesPrograms, BlamesRow, IsTableIn, WriteFaults};
 ghost use Rattle.part_store.specs.declared.error.StoreError.TheVariants.{Memory, NoSuchEntry, NumberFull, Collision, Database};
 ghost use Rattle.part_store.specs.Changes.{contents_tree, users_tree};
+ghost use Rattle.part_store.specs.Crashes.{KeepsState};
 ghost use Rattle.part_store.specs.Looking.{are_tables};
 ghost use Rattle.part_store.specs.Totals.{IsTotalOf, octets_of};
 ghost use Rattle.part_store.specs.UserLines.{AreUsersOf, line_of};
@@ -22,6 +23,7 @@ use crate::adding::{Adding, put_entries};
 use crate::all_users::list_users;
 use crate::entry::{EntryRow, NewEntry};
 use crate::error::StoreError;
+use crate::laws::open_stores_leave_what_is_committed;
 use crate::listing::list_all;
 use crate::looking::{Unopened, has_tables};
 use crate::stored_programs::{list_programs, put_program, read_program, replace_all};
@@ -481,14 +483,17 @@ impl PartStore<MemStore> {
 
 impl<D: Disk + Drop> PartStore<FileStore<D>> {
     /// Closes the store: its log is copied into its file, and both are given back. They hold what the store stands for, also after
-    /// a crash, and that is what `open_from` finds in them. Refuses `Memory` and `Database`; a crash leaves what it could leave before.
+    /// a crash, and that is what `open_from` finds in them. Refuses `Memory` and `Database`; then, and where a crash ends it, the files
+    /// are left with a store of the same state.
     pub fn close_files(self) -> Result<Files<D>, (StoreError, FileStore<D>)>
         ensures holds { IfOk result (λ files. AreClean D.Disk files.log files.db
             → (held : _) → Stands (file_state self).now held → KeepsStore D.Disk files held) }
         ensures open { IfOk result (λ files. AreClean D.Disk files.log files.db → IsTrue (file_state self).is_open) }
         ensures closed { IfErr result (λ e. IsClosed self e.1) }
+        ensures survives { IfErr result (λ e. IsTrue (file_state self).is_open → (held : _) → Stands (file_state self).now held → KeepsState e.1 held) }
         ensures refused { IfErr result (λ e. (e.0 ≡ Memory) ⊎ (e.0 ≡ Database)) }
     {
+        open_stores_leave_what_is_committed::<FileStore<D>>();
         let PartStore { conn } = self;
         // What holds of every connection is known where it is asked.
         let _settled = conn.is_autocommit();

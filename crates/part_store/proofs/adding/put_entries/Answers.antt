@@ -2,63 +2,41 @@ use Rattle.std.proofs.Common.{◌≡◌, true, false, map, ◌∙◌, arith, rul
 use Rattle.std.proofs.lemmas.List.{length-map}
 use Rattle.sqlite.specs.State.{HasCleanDisk}
 use Rattle.sqlite.specs.Held.{state}
-use Rattle.sqlite.proofs.StateLemmas.{survives_then}
 use Rattle.part_store.specs.Filing.{Collides}
 use Rattle.part_store.specs.Standing.{draft_of}
 use Rattle.part_store.proofs.Entering.{collides_after, stands_still}
 use Rattle.part_store.proofs.NoRoom.{entries_after, entries_blamed, stood}
 use Rattle.part_store.proofs.Runs.{passed}
-use Rattle.part_store.proofs.Unmoved.{stays_then}
 use Rattle.part_store.proofs.adding.put_entries.Goals as goal
-
-pub returns-then-branch-2-clause-adds : goal.returns-then-branch-2-clause-adds
-returns-then-branch-2-clause-adds g c clean before stands =
-    let old = state g.S.Store c.args.tx.now.conn.now in
-    let one = state g.S.Store c.user_of.new.tx.conn.now in
-    let mid = state g.S.Store c.any_differs.new.tx.conn.now in
-    let late : HasCleanDisk mid = omega (arith, c.claim_and_file.ensures.survives.clean) in
-    let early : HasCleanDisk one = omega (arith, late, c.any_differs.ensures.survives.clean) in
-    let entries = c.args.entries.now in
-    let told = c.in_ok-last.ensures.told early before stands in
-    let first = c.in_ok-last.ensures.same early in
-    let still = stays_then old one mid first (c.in_ok-any_differs.ensures.same late) in
-    let done : c.in_ok-claim_and_file.field-0 ≡ true = search rules in
-    let enters = c.in_ok-claim_and_file.ensures.filed clean done before (stands_still old mid before still stands) told.0 told.1 in
-    let kept = c.user_of.ensures.kept early stands.schema in
-    let kept_too = c.any_differs.ensures.kept late (first stands.schema).0 in (
-      omega (arith, told.0, c.if-entries-last.false, length-map entries draft_of),
-      omega (arith, told.0),
-      λ h. enters.apart (collides_after old mid (map draft_of entries) (still stands.schema).1 h),
-      enters.stands,
-      enters.committed ∙ kept_too.committed enters.was_open ∙ kept.committed (kept_too.was_open enters.was_open),
-    )
-
-pub returns-else-branch-2-clause-adds : goal.returns-else-branch-2-clause-adds
-returns-else-branch-2-clause-adds g c clean before stands =
-    let old = state g.S.Store c.args.tx.now.conn.now in
-    let one = state g.S.Store c.user_of.new.tx.conn.now in
-    let mid = state g.S.Store c.any_differs.new.tx.conn.now in
-    let late : HasCleanDisk mid = omega (arith, c.claim_and_file.ensures.survives.clean) in
-    let early : HasCleanDisk one = omega (arith, late, c.any_differs.ensures.survives.clean) in
-    let entries = c.args.entries.now in
-    let told = c.in_ok-last.ensures.told early before stands in
-    let still = stays_then old one mid (c.in_ok-last.ensures.same early) (c.in_ok-any_differs.ensures.same late) in
-    let failed : c.in_ok-claim_and_file.field-0 ≡ false = search rules in
-    let other = c.in_ok-claim_and_file.ensures.other clean failed before (stands_still old mid before still stands) told.0 told.1 in (
-      omega (arith, told.0, c.if-entries-last.false, length-map entries draft_of),
-      subst (λ t. Collides t (map draft_of entries)) (still stands.schema).1 other,
-    )
 
 pub returns-then-branch-clause-adds : goal.returns-then-branch-clause-adds
 returns-then-branch-clause-adds g c clean before stands =
     let old = state g.S.Store c.args.tx.now.conn.now in
-    let one = state g.S.Store c.user_of.new.tx.conn.now in
-    let early : HasCleanDisk one = omega (arith, c.any_differs.ensures.survives.clean) in
+    let mid = state g.S.Store c.user_of.new.tx.conn.now in
+    let early : HasCleanDisk mid = omega (arith, c.claim_and_file.ensures.survives.clean) in
     let entries = c.args.entries.now in
     let told = c.in_ok-last.ensures.told early before stands in
     let still = c.in_ok-last.ensures.same early in
-    let found : c.in_ok-any_differs.field-0 ≡ true = search rules in
-    let other = c.in_ok-any_differs.ensures.other clean found before (stands_still old one before still stands) in (
+    let done : c.in_ok-claim_and_file.field-0 ≡ true = search rules in
+    let enters = c.in_ok-claim_and_file.ensures.filed clean done before (stands_still old mid before still stands) told.0 told.1 in
+    let kept = c.user_of.ensures.kept early stands.schema in (
+      omega (arith, told.0, c.if-entries-last.false, length-map entries draft_of),
+      omega (arith, told.0),
+      λ h. enters.apart (collides_after old mid (map draft_of entries) (still stands.schema).1 h),
+      enters.stands,
+      enters.committed ∙ kept.committed enters.was_open,
+    )
+
+pub returns-else-branch-clause-adds : goal.returns-else-branch-clause-adds
+returns-else-branch-clause-adds g c clean before stands =
+    let old = state g.S.Store c.args.tx.now.conn.now in
+    let mid = state g.S.Store c.user_of.new.tx.conn.now in
+    let early : HasCleanDisk mid = omega (arith, c.claim_and_file.ensures.survives.clean) in
+    let entries = c.args.entries.now in
+    let told = c.in_ok-last.ensures.told early before stands in
+    let still = c.in_ok-last.ensures.same early in
+    let failed : c.in_ok-claim_and_file.field-0 ≡ false = search rules in
+    let other = c.in_ok-claim_and_file.ensures.other clean failed before (stands_still old mid before still stands) told.0 told.1 in (
       omega (arith, told.0, c.if-entries-last.false, length-map entries draft_of),
       subst (λ t. Collides t (map draft_of entries)) (still stands.schema).1 other,
     )
@@ -69,29 +47,15 @@ returns-in_err-last-clause-cause g c clean =
     let new = state g.S.Store c.user_of.new.tx.conn.now in
     passed c.from_residual.result _ _ c.from_residual.ensures.1 (λ _. entries_blamed old new c.args.user.now (map draft_of c.args.entries.now) _ (c.in_err-last.ensures.cause clean))
 
-pub returns-in_err-any_differs-clause-cause : goal.returns-in_err-any_differs-clause-cause
-returns-in_err-any_differs-clause-cause g c clean =
-    let old = state g.S.Store c.args.tx.now.conn.now in
-    let mid = state g.S.Store c.user_of.new.tx.conn.now in
-    let new = state g.S.Store c.any_differs.new.tx.conn.now in
-    let early : HasCleanDisk mid = omega (arith, clean, c.any_differs.ensures.survives.clean) in
-    passed c.from_residual-in_err-any_differs.result _ _ c.from_residual-in_err-any_differs.ensures.1 (λ _.
-    entries_after old mid new c.args.user.now (map draft_of c.args.entries.now) _ c.user_of.ensures.survives c.any_differs.ensures.survives clean (c.in_ok-last.ensures.same early)
-    (λ before stands. entries_blamed mid new c.args.user.now (map draft_of c.args.entries.now) _ (c.in_err-any_differs.ensures.cause clean)))
-
 pub returns-in_err-claim_and_file-clause-cause : goal.returns-in_err-claim_and_file-clause-cause
 returns-in_err-claim_and_file-clause-cause g c clean =
     let old = state g.S.Store c.args.tx.now.conn.now in
-    let one = state g.S.Store c.user_of.new.tx.conn.now in
-    let mid = state g.S.Store c.any_differs.new.tx.conn.now in
+    let mid = state g.S.Store c.user_of.new.tx.conn.now in
     let new = state g.S.Store c.claim_and_file.new.tx.conn.now in
-    let late : HasCleanDisk mid = omega (arith, clean, c.claim_and_file.ensures.survives.clean) in
-    let early : HasCleanDisk one = omega (arith, late, c.any_differs.ensures.survives.clean) in
+    let early : HasCleanDisk mid = omega (arith, clean, c.claim_and_file.ensures.survives.clean) in
     let user = c.args.user.now in
     let drafts = map draft_of c.args.entries.now in
-    let first = c.in_ok-last.ensures.same early in
-    let still = stays_then old one mid first (c.in_ok-any_differs.ensures.same late) in
-    let both = survives_then old one mid (λ _. ⊥) (λ _. ⊥) (λ _. ⊥) (λ _ _ h. h) (λ _ _ h. h) c.user_of.ensures.survives c.any_differs.ensures.survives in
+    let still = c.in_ok-last.ensures.same early in
     passed c.from_residual-in_err-claim_and_file.result _ _ c.from_residual-in_err-claim_and_file.ensures.1 (λ inside.
-    entries_after old mid new user drafts _ both c.claim_and_file.ensures.survives clean still (λ before stands.
-    c.in_err-claim_and_file.ensures.cause clean (c.in_ok-any_differs.ensures.inside late (first stands.schema).0 (c.in_ok-last.ensures.inside early stands.schema inside)) (λ other there. c.in_ok-last.ensures.told early other (stood old mid before other still stands there))))
+    entries_after old mid new user drafts _ c.user_of.ensures.survives c.claim_and_file.ensures.survives clean still (λ before stands.
+    c.in_err-claim_and_file.ensures.cause clean (c.in_ok-last.ensures.inside early stands.schema inside) (λ other there. c.in_ok-last.ensures.told early other (stood old mid before other still stands there))))

@@ -1,24 +1,23 @@
-use Rattle.std.proofs.Common.{◌≡◌, ◌≢◌, inl, arith, rules}
+use Rattle.std.proofs.Common.{inl, refl, arith, rules}
 use Rattle.sqlite.specs.Held.{state}
 use Rattle.sqlite.specs.State.{HasCleanDisk}
-use Rattle.part_store.proofs.Failing.{unread}
 use Rattle.part_store.proofs.NoRoom.{content_unplaced}
 use Rattle.part_store.proofs.Readable.{octets_readable}
-use Rattle.part_store.proofs.Runs.{passed}
+use Rattle.part_store.proofs.Runs.{err_then, if_ok, passed}
 use Rattle.part_store.proofs.Filed.{stocked_found, other_found, stocked_none}
 use Rattle.part_store.proofs.filing.stock.Goals as goal
 
-pub returns-in_ok-there-in-Some-clause-stocked : goal.returns-in_ok-there-in-Some-clause-stocked
-returns-in_ok-there-in-Some-clause-stocked g c clean is =
-    let same : c.in_ok-there-in-Some.there.items ≡ c.args.octets.now = search rules in
-    stocked_found (state g.S.Store c.args.tx.now.conn.now) (state g.S.Store c.find.new.tx.conn.now) c.args.digest.now c.args.octets.now c.in-Some.row c.in_ok-there-in-Some.there.items
-    (rw c.in-Some.is at (c.in_ok-row.ensures.step clean)) c.in_ok-there-in-Some.ensures.ok.1 same
+pub returns-in-Some-clause-stocked : goal.returns-in-Some-clause-stocked
+returns-in-Some-clause-stocked g c clean =
+    if_ok c.are_these.result _ _ (λ done same is.
+    stocked_found (state g.S.Store c.args.tx.now.conn.now) (state g.S.Store c.find.new.tx.conn.now) c.args.digest.now c.args.octets.now c.in-Some.row c.args.octets.now
+    (rw c.in-Some.is at (c.in_ok-row.ensures.step clean)) (same is) refl) c.are_these.ensures.same
 
-pub returns-in_ok-there-in-Some-clause-other : goal.returns-in_ok-there-in-Some-clause-other
-returns-in_ok-there-in-Some-clause-other g c clean is =
-    let apart : c.in_ok-there-in-Some.there.items ≢ c.args.octets.now = λ same. search rules in
-    other_found (state g.S.Store c.args.tx.now.conn.now) (state g.S.Store c.find.new.tx.conn.now) c.args.digest.now c.args.octets.now c.in-Some.row c.in_ok-there-in-Some.there.items
-    (rw c.in-Some.is at (c.in_ok-row.ensures.step clean)) c.in_ok-there-in-Some.ensures.ok.1 apart
+pub returns-in-Some-clause-other : goal.returns-in-Some-clause-other
+returns-in-Some-clause-other g c clean =
+    if_ok c.are_these.result _ _ (λ done other is.
+    other_found (state g.S.Store c.args.tx.now.conn.now) (state g.S.Store c.find.new.tx.conn.now) c.args.digest.now c.args.octets.now c.in-Some.row (other is).0
+    (rw c.in-Some.is at (c.in_ok-row.ensures.step clean)) (other is).1 (other is).2) c.are_these.ensures.other
 
 pub returns-in_ok-add-in-None-clause-stocked : goal.returns-in_ok-add-in-None-clause-stocked
 returns-in_ok-add-in-None-clause-stocked g c clean is =
@@ -29,11 +28,11 @@ pub returns-in_err-row-clause-cause : goal.returns-in_err-row-clause-cause
 returns-in_err-row-clause-cause g c clean =
     passed c.from_residual.result _ _ c.from_residual.ensures.1 (λ is _ before stands. inl (c.in_err-row.ensures.fault clean is stands.schema))
 
-pub returns-in_err-there-in-Some-clause-cause : goal.returns-in_err-there-in-Some-clause-cause
-returns-in_err-there-in-Some-clause-cause g c clean =
-    passed c.from_residual-in_err-there-in-Some.result _ _ c.from_residual-in_err-there-in-Some.ensures.1 (λ is _ before stands.
+pub returns-in-Some-clause-cause : goal.returns-in-Some-clause-cause
+returns-in-Some-clause-cause g c clean =
+    err_then c.are_these.result _ _ (λ e never is _ before stands.
     let there = octets_readable (state g.S.Store c.args.tx.now.conn.now) (state g.S.Store c.find.new.tx.conn.now) before stands c.in-Some.row c.args.digest.now (rw c.in-Some.is at (c.in_ok-row.ensures.step clean)) in
-    absurd (unread c.in-Some.row 0 _ c.in_err-there-in-Some.ensures.kind there.0 there.1 is))
+    absurd (never there.0 there.1.0 there.1.1)) c.are_these.ensures.cause
 
 pub returns-in_err-add-in-None-clause-cause : goal.returns-in_err-add-in-None-clause-cause
 returns-in_err-add-in-None-clause-cause g c clean =
