@@ -71,7 +71,8 @@ pub record IsAdded (tree : ℕ) (values : Row) (old new : Trees) : Type 0 where
 
 -- the rows that pass the test are gone
 pub record IsTaken (tree : ℕ) (test : Row → Bool) (old new : Trees) : Type 0 where
-  pub rows : IsTable (old tree) → AllByRecursion (λ r. IsTrue (is_int (rowid r))) (old tree) → new tree ≡ filter (λ r. not (test r)) (old tree)
+  pub rows : IsTable (old tree) → AllByRecursion (λ r. IsTrue (is_int (rowid r))) (old tree)
+      → new tree ≡ filter (λ r. not (test r)) (old tree)
   pub others : KeepsOthers tree old new
 
 -- a row that passes the test, as it is shown, or none where no row passes

@@ -36,14 +36,16 @@ module _ {D : Type 0} {g : Ghosts D} where
     pub may : (file_state c).may_leave trees
     pub holds : (e : Entries) → IsStored trees e → HoldsStore image e
 
-  -- Whatever a crash leaves of the files of a store that stood for this state is that state's store again. Of the files themselves that is so
-  -- where their trees are numbered, as they are while their connection holds them.
+  -- Whatever a crash leaves of the files of a store that stood for this state is that state's store
+  -- again. Of the files themselves that is so where their trees are numbered, as they are while
+  -- their connection holds them.
   pub record KeepsState (last : FileStore D g) (e : Entries) : Type 0 where
     pub trees : (trees : Trees) → store.recovers last trees → IsStored trees e
-    pub files : IsClean (store.view last) → IsTrue (store.view last).is_numbered → (image : Image) → (store.state last).may_leave image → ∥ HoldsStore image e ∥₁
+    pub files : IsClean (store.view last) → IsTrue (store.view last).is_numbered → (image : Image)
+        → (store.state last).may_leave image → ∥ HoldsStore image e ∥₁
 
-  -- What a crash may leave of the files in a database's open that was refused, or after it. Of a store that it had made that is said where its
-  -- trees are numbered.
+  -- What a crash may leave of the files in a database's open that was refused, or after it. Of a
+  -- store that it had made that is said where its trees are numbered.
   abbrev pub MayLeaveRefused : Leftover D g → Image → Type 0
   MayLeaveRefused (left.Files files) image = outcomes g files.log files.db image
   MayLeaveRefused (left.Unopened files) image = (state_of files).may_leave image
@@ -51,5 +53,6 @@ module _ {D : Type 0} {g : Ghosts D} where
 
   -- the open took the page size of the database that the files hold
   abbrev pub TakesSize : Image → Leftover D g → Type 0
-  TakesSize image (left.Unopened files) = (db : Trees) (held : HoldsDatabase image db) → held.0 ≡ (state_of files).page_size
+  TakesSize image (left.Unopened files) = (db : Trees) (held : HoldsDatabase image db)
+      → held.0 ≡ (state_of files).page_size
   TakesSize image _ = ⊤

@@ -17,7 +17,8 @@ pub record Entry : Type 0 where
   pub media : List ℕ
   pub octets : List ℕ
 
--- the entries in the order in which they were made, and of each user the program, if he has one, and the last number that was given, 0 at first
+-- the entries in the order in which they were made, and of each user the program, if he has one,
+-- and the last number that was given, 0 at first
 pub record Entries : Type 0 where
   pub entries : List Entry
   pub programs : List ℕ → Option (List ℕ)

@@ -31,10 +31,12 @@ pub record IsStocked (db new : Trees) (digest octets : List ℕ) : Type 0 where
   pub entries : new entries_tree ≡ db entries_tree
   pub rise : IsTable (new contents_tree)
   pub contents : AllByRecursion IsContentRow (new contents_tree)
-  pub single : (d one other : List ℕ) → HasContent (new contents_tree) d one → HasContent (new contents_tree) d other → one ≡ other
+  pub single : (d one other : List ℕ) → HasContent (new contents_tree) d one → HasContent (new contents_tree) d other
+      → one ≡ other
   pub has : HasContent (new contents_tree) digest octets
   pub kept : (d o : List ℕ) → HasContent (db contents_tree) d o → HasContent (new contents_tree) d o
-  pub from : (d o : List ℕ) → HasContent (new contents_tree) d o → HasContent (db contents_tree) d o ⊎ ((d ≡ digest) × (o ≡ octets))
+  pub from : (d o : List ℕ) → HasContent (new contents_tree) d o
+      → HasContent (db contents_tree) d o ⊎ ((d ≡ digest) × (o ≡ octets))
   pub rowids : RisesWithin 1 (db contents_tree) (new contents_tree)
 
 abbrev pub entry_values : Entry → List ℕ → Row
@@ -65,8 +67,10 @@ pub record Files (x : Entry) (digest : List ℕ) (before : Entries) (old new : S
   pub stands : Stands new.now (with_entry x before)
   pub committed : new.committed ≡ old.committed
   pub has : HasContent (new.now.trees contents_tree) digest x.octets
-  pub kept : (d o : List ℕ) → HasContent (old.now.trees contents_tree) d o → HasContent (new.now.trees contents_tree) d o
-  pub from : (d o : List ℕ) → HasContent (new.now.trees contents_tree) d o → HasContent (old.now.trees contents_tree) d o ⊎ ((d ≡ digest) × (o ≡ x.octets))
+  pub kept : (d o : List ℕ) → HasContent (old.now.trees contents_tree) d o
+      → HasContent (new.now.trees contents_tree) d o
+  pub from : (d o : List ℕ) → HasContent (new.now.trees contents_tree) d o
+      → HasContent (old.now.trees contents_tree) d o ⊎ ((d ≡ digest) × (o ≡ x.octets))
   pub content_rowids : RisesWithin 1 (old.now.trees contents_tree) (new.now.trees contents_tree)
   pub entry_rowids : RisesBy 1 (old.now.trees entries_tree) (new.now.trees entries_tree)
 
@@ -108,8 +112,10 @@ pub record FilesAll (user : List ℕ) (last : ℕ) (drafts : List Draft) (before
   pub stands : Stands new.now (record before { entries = before.entries ++ numbered user (last + 1) drafts })
   pub committed : new.committed ≡ old.committed
   pub has : (d : Draft) → Has drafts d → HasDraft new.now.trees d
-  pub kept : (g o : List ℕ) → HasContent (old.now.trees contents_tree) g o → HasContent (new.now.trees contents_tree) g o
-  pub from : (g o : List ℕ) → HasContent (new.now.trees contents_tree) g o → HasContent (old.now.trees contents_tree) g o ⊎ IsOfDraft drafts g o
+  pub kept : (g o : List ℕ) → HasContent (old.now.trees contents_tree) g o
+      → HasContent (new.now.trees contents_tree) g o
+  pub from : (g o : List ℕ) → HasContent (new.now.trees contents_tree) g o
+      → HasContent (old.now.trees contents_tree) g o ⊎ IsOfDraft drafts g o
   pub content_rowids : RisesWithin (length drafts) (old.now.trees contents_tree) (new.now.trees contents_tree)
   pub entry_rowids : RisesBy (length drafts) (old.now.trees entries_tree) (new.now.trees entries_tree)
 
@@ -127,10 +133,13 @@ HasRoom e user count = e.lasts user + count ≤ max_entry_number
 -- in a transaction: what adding the drafts comes to
 abbrev pub Adds : List ℕ → List Draft → State → State → Adding → Type 0
 Adds user drafts old new (From first) =
-    (before : Entries) → Stands old.now before → HasRoom before user (length drafts) × (first ≡ before.lasts user + 1) × (Collides old.now.trees drafts → ⊥)
+    (before : Entries) → Stands old.now before
+    → HasRoom before user (length drafts) × (first ≡ before.lasts user + 1) × (Collides old.now.trees drafts → ⊥)
     × Stands new.now (with_entries user drafts before) × (new.committed ≡ old.committed)
-Adds user drafts old new NumberFull = (before : Entries) → Stands old.now before → max_entry_number < before.lasts user + length drafts
-Adds user drafts old new Collision = (before : Entries) → Stands old.now before → HasRoom before user (length drafts) × Collides old.now.trees drafts
+Adds user drafts old new NumberFull = (before : Entries) → Stands old.now before
+    → max_entry_number < before.lasts user + length drafts
+Adds user drafts old new Collision = (before : Entries) → Stands old.now before
+    → HasRoom before user (length drafts) × Collides old.now.trees drafts
 
 abbrev pub IsFrom : Adding → Type 0
 IsFrom (From first) = Unit {0}

@@ -77,12 +77,14 @@ pub record IsReadyFrom {D : Type 0} {g : Ghosts D} (image : Image) (now : Held (
   pub ready : IsReady now
   pub finds : HasCleanDisk (file_state ready.found) → FindsIn image (file_state ready.found)
 
--- Why the files weren't opened. With none left the system refused them; else they are left as the database's open leaves them, which began with
--- nothing that a crash could take back.
+-- Why the files weren't opened. With none left the system refused them; else they are left as the
+-- database's open leaves them, which began with nothing that a crash could take back.
 abbrev pub IsUnopened : {D : Type 0} {g : Ghosts D} → Image → Option (Leftover D g) → Error → Type 0
-IsUnopened image None e = (e ≡ SqliteFailure CannotOpen) ⊎ ((e ≡ SqliteFailure OutOfMemory) ⊎ (e ≡ SqliteFailure DatabaseBusy))
+IsUnopened image None e = (e ≡ SqliteFailure CannotOpen)
+    ⊎ ((e ≡ SqliteFailure OutOfMemory) ⊎ (e ≡ SqliteFailure DatabaseBusy))
 IsUnopened {D} {g} image (Some left) e =
-    (files : Files D) × (image_of g files ≡ image) × (IsCleanLeft left → FailsToOpenFiles files left e × LeavesFiles files left)
+    (files : Files D) × (image_of g files ≡ image)
+    × (IsCleanLeft left → FailsToOpenFiles files left e × LeavesFiles files left)
     × ((other : Image) → outcomes g files.log files.db other → other ≡ image)
 
 abbrev pub OpensOrTells : {D : Type 0} {g : Ghosts D} → Image → Result (Held (FileStore D g)) Error → Type 0
@@ -105,7 +107,8 @@ abbrev pub HasCause : {D : Type 0} {g : Ghosts D} → Image → Result (Held (Fi
 HasCause image (Ok s) = ⊤
 HasCause {D} {g} image (Err e) = e ≡ refused → IsUnready g image
 
--- Why an open of files as they are is refused: they weren't opened, and the error is told; or they were, and their tables are others.
+-- Why an open of files as they are is refused: they weren't opened, and the error is told; or they
+-- were, and their tables are others.
 abbrev pub IsUnseen : {D : Type 0} → Ghosts D → Image → Unopened → Type 0
 IsUnseen {D} g image why =
     ((left : Option (Leftover D g)) × (error : Error) × IsUnopened image left error × (why ≡ unopened_of error))

@@ -29,7 +29,8 @@ abbrev pub refusal_of : Error → StoreError
 refusal_of (SqliteFailure OutOfMemory) = Memory
 refusal_of _ = Database
 
--- the database can't work: its disk failed in the call, an earlier failure had shut it, or its statements may take only so many steps
+-- the database can't work: its disk failed in the call, an earlier failure had shut it, or its
+-- statements may take only so many steps
 abbrev pub HasFailed : State → State → Type 0
 HasFailed old new = DiskFailed old new ⊎ ((old.is_open ≡ false) ⊎ IsSome old.step_limit)
 
@@ -39,7 +40,8 @@ Blames old new e = e ≡ Database → (before : Entries) → Stands old.now befo
 
 -- the same where there may be another cause, which the state and the tables tell
 abbrev pub BlamesOr : (Entries → Trees → Type 0) → State → State → StoreError → Type 0
-BlamesOr Other old new e = e ≡ Database → (before : Entries) → Stands old.now before → HasFailed old new ⊎ Other before old.now.trees
+BlamesOr Other old new e = e ≡ Database → (before : Entries) → Stands old.now before
+    → HasFailed old new ⊎ Other before old.now.trees
 
 -- where there are the three tables, a statement is refused for no other cause
 abbrev pub Faults : State → State → Error → Type 0
@@ -79,13 +81,16 @@ IsFree user number db = (r : Row) → Has (db entries_tree) r → is_entry user 
 abbrev pub WriteFaults : State → State → Error → Type 0
 WriteFaults old new e = refusal_of e ≡ Database → IsWritable old → HasFailed old new
 
--- a new row of these values has no room: its table has no rowid left, or the row or its key in an index is more than can be stored
+-- a new row of these values has no room: its table has no rowid left, or the row or its key in an
+-- index is more than can be stored
 abbrev pub HasNoRoom : Table → Row → Trees → Type 0
-HasNoRoom table values db = (fits_i64 (next_rowid (db table.tree)) ≡ false) ⊎ IsOversized store_schema table (new_row (db table.tree) values)
+HasNoRoom table values db = (fits_i64 (next_rowid (db table.tree)) ≡ false)
+    ⊎ IsOversized store_schema table (new_row (db table.tree) values)
 
 -- there a new row of these values is refused for no other cause
 abbrev pub AddFaults : Table → Row → State → State → Error → Type 0
-AddFaults table values old new e = refusal_of e ≡ Database → IsWritable old → HasFailed old new ⊎ HasNoRoom table values old.now.trees
+AddFaults table values old new e = refusal_of e ≡ Database → IsWritable old
+    → HasFailed old new ⊎ HasNoRoom table values old.now.trees
 
 -- ---- want of room
 
@@ -109,16 +114,20 @@ content_values digest octets = Blob digest ∷ Blob octets ∷ []
 
 -- the row that a user has in this state has no room
 abbrev pub HasNoUserRoom : List ℕ → Entries → Trees → Type 0
-HasNoUserRoom user after db = RunsOut (db users_tree) 1 ⊎ IsTooBig users_table (user_values user (after.lasts user) (after.programs user))
+HasNoUserRoom user after db = RunsOut (db users_tree) 1
+    ⊎ IsTooBig users_table (user_values user (after.lasts user) (after.programs user))
 
--- where the tables stand for a state, a change of a user's row is refused only by a database that can't work or has no room for the row
+-- where the tables stand for a state, a change of a user's row is refused only by a database that
+-- can't work or has no room for the row
 abbrev pub BlamesRow : List ℕ → (Entries → Entries) → State → State → StoreError → Type 0
 BlamesRow user change = BlamesOr (λ before. HasNoUserRoom user (change before))
 
 -- the rows of users with these programs have no room
 abbrev pub HaveNoUserRoom : List UserProgram → Entries → Trees → Type 0
 HaveNoUserRoom pairs before db =
-    RunsOut (db users_tree) (length pairs) ⊎ ((pair : UserProgram) × Has pairs pair × IsTooBig users_table (user_values pair.0 (before.lasts pair.0) (Some pair.1)))
+    RunsOut (db users_tree) (length pairs)
+    ⊎ ((pair : UserProgram) × Has pairs pair
+    × IsTooBig users_table (user_values pair.0 (before.lasts pair.0) (Some pair.1)))
 
 -- where the tables stand for a state, programs are refused only by a database that can't work or has no room for a row
 abbrev pub BlamesPrograms : List UserProgram → State → State → StoreError → Type 0
@@ -126,24 +135,30 @@ BlamesPrograms pairs = BlamesOr (HaveNoUserRoom pairs)
 
 -- each rowid is at most so many above one that was there
 abbrev pub RisesFrom : ℕ → List Row → List Row → Type 0
-RisesFrom count old new = (id : ℤ) → IsRowidIn new id → (from : ℤ) × IsRowidIn old from × (k : ℕ) × (k ≤ count) × (id ≡ from +ℤ pos k)
+RisesFrom count old new = (id : ℤ) → IsRowidIn new id
+    → (from : ℤ) × IsRowidIn old from × (k : ℕ) × (k ≤ count) × (id ≡ from +ℤ pos k)
 
 -- an entry or its octets have no room
 abbrev pub LacksRoom : Entry → List ℕ → Trees → Type 0
-LacksRoom x digest db = HasNoRoom contents_table (content_values digest x.octets) db ⊎ HasNoRoom entries_table (entry_values x digest) db
+LacksRoom x digest db = HasNoRoom contents_table (content_values digest x.octets) db
+    ⊎ HasNoRoom entries_table (entry_values x digest) db
 
 -- the octets of a draft, or its row as an entry of the user, are too big
 abbrev pub IsDraftTooBig : List ℕ → Draft → Type 0
 IsDraftTooBig user d =
-    IsTooBig contents_table (content_values (sha256 d.octets) d.octets) ⊎ ((number : ℕ) × IsTooBig entries_table (entry_values (entry_of user number d) (sha256 d.octets)))
+    IsTooBig contents_table (content_values (sha256 d.octets) d.octets)
+    ⊎ ((number : ℕ) × IsTooBig entries_table (entry_values (entry_of user number d) (sha256 d.octets)))
 
 -- the drafts have no room as entries of the user
 abbrev pub HaveNoRoom : List ℕ → List Draft → Trees → Type 0
-HaveNoRoom user drafts db = RunsOut (db contents_tree) (length drafts) ⊎ (RunsOut (db entries_tree) (length drafts) ⊎ ((d : Draft) × Has drafts d × IsDraftTooBig user d))
+HaveNoRoom user drafts db = RunsOut (db contents_tree) (length drafts)
+    ⊎ (RunsOut (db entries_tree) (length drafts) ⊎ ((d : Draft) × Has drafts d × IsDraftTooBig user d))
 
--- where the tables stand for a state, entries of a user are refused only by a database that can't work, or has no room for them or for his row
+-- where the tables stand for a state, entries of a user are refused only by a database that can't
+-- work, or has no room for them or for his row
 abbrev pub BlamesEntries : List ℕ → List Draft → State → State → StoreError → Type 0
-BlamesEntries user drafts = BlamesOr (λ before db. HasNoUserRoom user (with_entries user drafts before) db ⊎ HaveNoRoom user drafts db)
+BlamesEntries user drafts = BlamesOr (λ before db. HasNoUserRoom user (with_entries user drafts before) db
+    ⊎ HaveNoRoom user drafts db)
 
 -- each user's name is UTF-8, as is each that a store was given
 abbrev pub AreNamed : Trees → Type 0
@@ -151,7 +166,8 @@ AreNamed db = AllByRecursion (λ r. (user : List ℕ) → column r 1 ≡ Text us
 
 -- the same where the users' names are read, too
 abbrev pub BlamesNamed : State → State → StoreError → Type 0
-BlamesNamed old new e = e ≡ Database → (before : Entries) → Stands old.now before → AreNamed old.now.trees → HasFailed old new
+BlamesNamed old new e = e ≡ Database → (before : Entries) → Stands old.now before → AreNamed old.now.trees
+    → HasFailed old new
 
 -- the row of an answer can be read: a user and his program
 abbrev pub ShowsProgram : Row → Type 0
@@ -175,5 +191,6 @@ ShowsSize r = (digest : List ℕ) × (size : ℕ) × (r ≡ Blob digest ∷ Int 
 -- what a listing shows of an entry
 abbrev pub IsReadable : Row → Type 0
 IsReadable r =
-    (number : ℕ) × (kind : ℕ) × (folder : List ℕ) × (name : List ℕ) × (media : List ℕ) × (digest : List ℕ) × (number < 2 ^ 32) × (kind < 2 ^ 32)
+    (number : ℕ) × (kind : ℕ) × (folder : List ℕ) × (name : List ℕ) × (media : List ℕ) × (digest : List ℕ)
+    × (number < 2 ^ 32) × (kind < 2 ^ 32)
     × (r ≡ Int (pos number) ∷ Int (pos kind) ∷ Blob folder ∷ Blob name ∷ Blob media ∷ Blob digest ∷ [])

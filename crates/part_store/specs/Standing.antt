@@ -26,7 +26,8 @@ kind_number Part = 1
 
 -- a user with his last number and his program
 abbrev pub IsUserRow : Entries → Row → Type 0
-IsUserRow e r = (id : ℤ) × (name : List ℕ) × (r ≡ Int id ∷ Text name ∷ Int (pos (e.lasts name)) ∷ or_null Blob (e.programs name) ∷ [])
+IsUserRow e r = (id : ℤ) × (name : List ℕ)
+    × (r ≡ Int id ∷ Text name ∷ Int (pos (e.lasts name)) ∷ or_null Blob (e.programs name) ∷ [])
 
 abbrev pub content_row : ℤ → List ℕ → List ℕ → Row
 content_row id digest octets = Int id ∷ Blob digest ∷ Blob octets ∷ []
@@ -54,7 +55,8 @@ pub record IsNumbered (e : Entries) : Type 0 where
 -- no user has two rows
 abbrev pub HaveOneRow : List Row → Type 0
 HaveOneRow rows =
-    (name : List ℕ) (one other : Row) → Has rows one → Has rows other → equals 1 (Text name) one ≡ true → equals 1 (Text name) other ≡ true
+    (name : List ℕ) (one other : Row) → Has rows one → Has rows other → equals 1 (Text name) one ≡ true
+    → equals 1 (Text name) other ≡ true
     → one ≡ other
 
 pub record StandsFor (db : Trees) (e : Entries) : Type 0 where
@@ -65,13 +67,16 @@ pub record StandsFor (db : Trees) (e : Entries) : Type 0 where
   pub users : AllByRecursion (IsUserRow e) (db users_tree)
   pub apart : HaveOneRow (db users_tree)
   -- who has no row has no number and no program
-  pub strangers : (name : List ℕ) → ((r : Row) → Has (db users_tree) r → equals 1 (Text name) r ≡ false) → (e.lasts name ≡ 0) × (e.programs name ≡ None)
+  pub strangers : (name : List ℕ) → ((r : Row) → Has (db users_tree) r → equals 1 (Text name) r ≡ false)
+      → (e.lasts name ≡ 0) × (e.programs name ≡ None)
   pub contents : AllByRecursion IsContentRow (db contents_tree)
   -- a digest has one content
-  pub single : (digest one other : List ℕ) → HasContent (db contents_tree) digest one → HasContent (db contents_tree) digest other → one ≡ other
+  pub single : (digest one other : List ℕ) → HasContent (db contents_tree) digest one
+      → HasContent (db contents_tree) digest other → one ≡ other
   pub entries : AllZip (IsEntryRow (db contents_tree)) (db entries_tree) e.entries
   -- each content is named by an entry
-  pub named : (digest octets : List ℕ) → HasContent (db contents_tree) digest octets → (r : Row) × Has (db entries_tree) r × (column r 7 ≡ Blob digest)
+  pub named : (digest octets : List ℕ) → HasContent (db contents_tree) digest octets
+      → (r : Row) × Has (db entries_tree) r × (column r 7 ≡ Blob digest)
   pub numbers : IsNumbered e
 
 -- the database has the three tables, lists them, and they stand for the state
@@ -91,7 +96,8 @@ MayMake change old trees = (before : Entries) → Stands old.now before → IsSt
 
 -- within a transaction: what the tables stand for has changed so, and nothing is committed
 abbrev pub Brings : (Entries → Entries) → State → State → Type 0
-Brings change old new = (before : Entries) → Stands old.now before → Stands new.now (change before) × (new.committed ≡ old.committed)
+Brings change old new = (before : Entries) → Stands old.now before
+    → Stands new.now (change before) × (new.committed ≡ old.committed)
 
 -- the store was open and still is, and what it shows is committed
 abbrev pub IsSaved : State → State → Type 0
@@ -105,7 +111,8 @@ Makes change old new = IsSaved old new × ((before : Entries) → Stands old.now
 abbrev pub DiskFailed : State → State → Type 0
 DiskFailed old new = MoreFaults old.faults new.faults
 
--- The tables are as they were. Only a fault of the disk shuts a store; it shows nothing of the tables then, and what is shut stays shut.
+-- The tables are as they were. Only a fault of the disk shuts a store; it shows nothing of the
+-- tables then, and what is shut stays shut.
 pub record Spares (old new : State) : Type 0 where
   pub same : old.now.schema ≡ store_schema → IsTrue new.is_open → (new.now ≡ old.now) × (new.committed ≡ old.committed)
   pub shut : IsTrue new.is_open → IsTrue old.is_open
@@ -129,7 +136,8 @@ Stays old new = old.now.schema ≡ store_schema → (new.now.schema ≡ store_sc
 
 -- a row of the user's entry of that number names the digest
 abbrev pub NamesDigest : Trees → List ℕ → ℕ → List ℕ → Type 0
-NamesDigest db user number digest = (r : Row) × Has (db entries_tree) r × (is_entry user number r ≡ true) × (column r 7 ≡ Blob digest)
+NamesDigest db user number digest = (r : Row) × Has (db entries_tree) r × (is_entry user number r ≡ true)
+    × (column r 7 ≡ Blob digest)
 
 -- a user and his program, as the definitions see them
 abbrev pub pair_of : String Global × Vec ℕ Global → UserProgram
@@ -150,8 +158,10 @@ pub record IsTidied (digest : List ℕ) (old new : State) : Type 0 where
   pub inside : IsTrue old.in_transaction → IsTrue new.in_transaction
   pub listed : IsDatabase old.now → IsDatabase new.now
   pub change :
-      ((r : Row) × Has (old.now.trees entries_tree) r × (equals 7 (Blob digest) r ≡ true) × (new.now.trees ≡ old.now.trees))
-      ⊎ (((r : Row) → Has (old.now.trees entries_tree) r → equals 7 (Blob digest) r ≡ false) × IsTaken contents_tree (equals 1 (Blob digest)) old.now.trees new.now.trees)
+      ((r : Row) × Has (old.now.trees entries_tree) r × (equals 7 (Blob digest) r ≡ true)
+      × (new.now.trees ≡ old.now.trees))
+      ⊎ (((r : Row) → Has (old.now.trees entries_tree) r → equals 7 (Blob digest) r ≡ false)
+      × IsTaken contents_tree (equals 1 (Blob digest)) old.now.trees new.now.trees)
 
 -- an entry that is there, as the definitions see it
 abbrev pub listed : EntryRow → Listing

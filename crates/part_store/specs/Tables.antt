@@ -98,7 +98,8 @@ contents_text = codes "CREATE TABLE contents (digest BLOB PRIMARY KEY, octets BL
 abbrev pub entries_text : List ℕ
 entries_text = codes "CREATE TABLE entries (user TEXT NOT NULL, number INTEGER NOT NULL, folder BLOB NOT NULL, kind INTEGER NOT NULL, name BLOB NOT NULL, media BLOB NOT NULL, digest BLOB NOT NULL REFERENCES contents, PRIMARY KEY (user, number)) STRICT"
 
--- A table is made in a database that has the schema before: it is listed and empty, and the other tables are as they were.
+-- A table is made in a database that has the schema before: it is listed and empty, and the other
+-- tables are as they were.
 pub record IsMadeTable (was is : Schema) (tree : ℕ) (old new : Database) : Type 0 where
   pub schema : new.schema ≡ is
   pub listed : IsDatabase new

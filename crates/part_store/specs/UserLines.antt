@@ -39,8 +39,8 @@ HasRow table user = (r : Row) × Has table r × (equals 1 (Text user) r ≡ true
 abbrev pub IsBeforeLine : UserLine → UserLine → Type 0
 IsBeforeLine one other = slice_cmp nat_cmp one.user other.user ≡ Less
 
--- The users that have a row in the table, each once and in the order of their names, with what the state has of them. Who has no row has
--- no number and no program.
+-- The users that have a row in the table, each once and in the order of their names, with what the
+-- state has of them. Who has no row has no number and no program.
 pub record AreUsersOf (table : List Row) (e : Entries) (lines : List UserLine) : Type 0 where
   pub each : AllByRecursion (λ x. HasRow table x.user × (x ≡ user_line e x.user)) lines
   pub all : (user : List ℕ) → HasRow table user → Has lines (user_line e user)

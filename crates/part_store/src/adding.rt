@@ -35,17 +35,25 @@ pub(crate) fn put_entries<S: Alter>(
     requires { 0 < length entries.now }
     ensures same_reference { tx.new.conn.ghost_name ≡ tx.old.conn.ghost_name }
     ensures adds { HasCleanDisk (state S.Store tx.new.conn.now)
-        → IfOk result (Adds user.now (map draft_of entries.now) (state S.Store tx.old.conn.now) (state S.Store tx.new.conn.now)) }
-    ensures open { HasCleanDisk (state S.Store tx.new.conn.now) → OnOk result (IsTrue (state S.Store tx.old.conn.now).is_open) }
-    ensures shut { HasCleanDisk (state S.Store tx.new.conn.now) → IsTrue (state S.Store tx.new.conn.now).is_open
+        → IfOk result (Adds user.now (map draft_of entries.now) (state S.Store tx.old.conn.now)
+        (state S.Store tx.new.conn.now)) }
+    ensures open { HasCleanDisk (state S.Store tx.new.conn.now)
+        → OnOk result (IsTrue (state S.Store tx.old.conn.now).is_open) }
+    ensures shut { HasCleanDisk (state S.Store tx.new.conn.now)
+        → IsTrue (state S.Store tx.new.conn.now).is_open
         → IsTrue (state S.Store tx.old.conn.now).is_open }
-    ensures inside { HasCleanDisk (state S.Store tx.new.conn.now) → IfOk result (λ adding. IsFrom adding
+    ensures inside { HasCleanDisk (state S.Store tx.new.conn.now)
+        → IfOk result (λ adding. IsFrom adding
         → IsTrue (state S.Store tx.new.conn.now).in_transaction) }
-    ensures kept { HasCleanDisk (state S.Store tx.new.conn.now) → (state S.Store tx.old.conn.now).now.schema ≡ store_schema
+    ensures kept { HasCleanDisk (state S.Store tx.new.conn.now)
+        → (state S.Store tx.old.conn.now).now.schema ≡ store_schema
         → KeepsCommit (state S.Store tx.old.conn.now) (state S.Store tx.new.conn.now) }
-    ensures cause { HasCleanDisk (state S.Store tx.new.conn.now) → IfErr result (λ e. IsTrue (state S.Store tx.old.conn.now).in_transaction
-        → BlamesEntries user.now (map draft_of entries.now) (state S.Store tx.old.conn.now) (state S.Store tx.new.conn.now) (refusal_of e)) }
-    ensures survives { Survives (state S.Store tx.old.conn.now) (state S.Store tx.new.conn.now) (λ _. ⊥) }
+    ensures cause { HasCleanDisk (state S.Store tx.new.conn.now)
+        → IfErr result (λ e. IsTrue (state S.Store tx.old.conn.now).in_transaction
+        → BlamesEntries user.now (map draft_of entries.now) (state S.Store tx.old.conn.now)
+        (state S.Store tx.new.conn.now) (refusal_of e)) }
+    ensures survives { Survives (state S.Store tx.old.conn.now) (state S.Store tx.new.conn.now)
+        (λ _. ⊥) }
 {
     let (last, program) = user_of(tx, user)?;
     if entries.len() > (u32::MAX - last) as usize {
@@ -70,20 +78,32 @@ fn claim_and_file<S: Alter>(
     requires some { 0 < length entries.now }
     requires room { last + length entries.now ≤ max_entry_number }
     ensures same_reference { tx.new.conn.ghost_name ≡ tx.old.conn.ghost_name }
-    ensures filed { HasCleanDisk (state S.Store tx.new.conn.now) → IfOk result (λ done. done ≡ true → (before : _)
-        → Stands (state S.Store tx.old.conn.now).now before → last ≡ before.lasts user.now → option_map (λ v. v.items) program ≡ before.programs user.now
-        → Enters user.now (map draft_of entries.now) before (state S.Store tx.old.conn.now) (state S.Store tx.new.conn.now)) }
-    ensures other { HasCleanDisk (state S.Store tx.new.conn.now) → IfOk result (λ done. done ≡ false → (before : _)
-        → Stands (state S.Store tx.old.conn.now).now before → last ≡ before.lasts user.now → option_map (λ v. v.items) program ≡ before.programs user.now
+    ensures filed { HasCleanDisk (state S.Store tx.new.conn.now)
+        → IfOk result (λ done. done ≡ true → (before : _)
+        → Stands (state S.Store tx.old.conn.now).now before → last ≡ before.lasts user.now
+        → option_map (λ v. v.items) program ≡ before.programs user.now
+        → Enters user.now (map draft_of entries.now) before (state S.Store tx.old.conn.now)
+        (state S.Store tx.new.conn.now)) }
+    ensures other { HasCleanDisk (state S.Store tx.new.conn.now)
+        → IfOk result (λ done. done ≡ false → (before : _)
+        → Stands (state S.Store tx.old.conn.now).now before → last ≡ before.lasts user.now
+        → option_map (λ v. v.items) program ≡ before.programs user.now
         → Collides (state S.Store tx.old.conn.now).now.trees (map draft_of entries.now)) }
-    ensures inside { HasCleanDisk (state S.Store tx.new.conn.now) → IfOk result (λ done. done ≡ true → IsTrue (state S.Store tx.new.conn.now).in_transaction) }
-    ensures kept { HasCleanDisk (state S.Store tx.new.conn.now) → (state S.Store tx.old.conn.now).now.schema ≡ store_schema
+    ensures inside { HasCleanDisk (state S.Store tx.new.conn.now)
+        → IfOk result (λ done. done ≡ true
+        → IsTrue (state S.Store tx.new.conn.now).in_transaction) }
+    ensures kept { HasCleanDisk (state S.Store tx.new.conn.now)
+        → (state S.Store tx.old.conn.now).now.schema ≡ store_schema
         → KeepsCommit (state S.Store tx.old.conn.now) (state S.Store tx.new.conn.now) }
-    ensures cause { HasCleanDisk (state S.Store tx.new.conn.now) → IfErr result (λ e. IsTrue (state S.Store tx.old.conn.now).in_transaction
+    ensures cause { HasCleanDisk (state S.Store tx.new.conn.now)
+        → IfErr result (λ e. IsTrue (state S.Store tx.old.conn.now).in_transaction
         → ((before : _) → Stands (state S.Store tx.old.conn.now).now before
-        → (last ≡ before.lasts user.now) × (option_map (λ v. v.items) program ≡ before.programs user.now))
-        → BlamesEntries user.now (map draft_of entries.now) (state S.Store tx.old.conn.now) (state S.Store tx.new.conn.now) (refusal_of e)) }
-    ensures survives { Survives (state S.Store tx.old.conn.now) (state S.Store tx.new.conn.now) (λ _. ⊥) }
+        → (last ≡ before.lasts user.now)
+        × (option_map (λ v. v.items) program ≡ before.programs user.now))
+        → BlamesEntries user.now (map draft_of entries.now) (state S.Store tx.old.conn.now)
+        (state S.Store tx.new.conn.now) (refusal_of e)) }
+    ensures survives { Survives (state S.Store tx.old.conn.now) (state S.Store tx.new.conn.now)
+        (λ _. ⊥) }
 {
     claim(tx, user, last + entries.len() as u32, lent(&program))?;
     file_all(tx, user, last, entries)
@@ -107,17 +127,24 @@ fn user_of<S: Alter>(
     ensures told { HasCleanDisk (state S.Store tx.new.conn.now) → IfOk result (λ found. (before : _)
         → Stands (state S.Store tx.old.conn.now).now before → (found.0 ≡ before.lasts user.now)
         × (option_map (λ v. v.items) found.1 ≡ before.programs user.now)) }
-    ensures open { HasCleanDisk (state S.Store tx.new.conn.now) → OnOk result (IsTrue (state S.Store tx.old.conn.now).is_open) }
-    ensures shut { HasCleanDisk (state S.Store tx.new.conn.now) → IsTrue (state S.Store tx.new.conn.now).is_open
+    ensures open { HasCleanDisk (state S.Store tx.new.conn.now)
+        → OnOk result (IsTrue (state S.Store tx.old.conn.now).is_open) }
+    ensures shut { HasCleanDisk (state S.Store tx.new.conn.now)
+        → IsTrue (state S.Store tx.new.conn.now).is_open
         → IsTrue (state S.Store tx.old.conn.now).is_open }
-    ensures same { HasCleanDisk (state S.Store tx.new.conn.now) → OnOk result (Stays (state S.Store tx.old.conn.now) (state S.Store tx.new.conn.now)) }
-    ensures kept { HasCleanDisk (state S.Store tx.new.conn.now) → (state S.Store tx.old.conn.now).now.schema ≡ store_schema
+    ensures same { HasCleanDisk (state S.Store tx.new.conn.now)
+        → OnOk result (Stays (state S.Store tx.old.conn.now) (state S.Store tx.new.conn.now)) }
+    ensures kept { HasCleanDisk (state S.Store tx.new.conn.now)
+        → (state S.Store tx.old.conn.now).now.schema ≡ store_schema
         → KeepsCommit (state S.Store tx.old.conn.now) (state S.Store tx.new.conn.now) }
-    ensures inside { HasCleanDisk (state S.Store tx.new.conn.now) → OnOk result ((state S.Store tx.old.conn.now).now.schema ≡ store_schema
-        → IsTrue (state S.Store tx.old.conn.now).in_transaction → IsTrue (state S.Store tx.new.conn.now).in_transaction) }
+    ensures inside { HasCleanDisk (state S.Store tx.new.conn.now)
+        → OnOk result ((state S.Store tx.old.conn.now).now.schema ≡ store_schema
+        → IsTrue (state S.Store tx.old.conn.now).in_transaction
+        → IsTrue (state S.Store tx.new.conn.now).in_transaction) }
     ensures cause { HasCleanDisk (state S.Store tx.new.conn.now) → IfErr result (λ e.
         Blames (state S.Store tx.old.conn.now) (state S.Store tx.new.conn.now) (refusal_of e)) }
-    ensures survives { Survives (state S.Store tx.old.conn.now) (state S.Store tx.new.conn.now) (λ _. ⊥) }
+    ensures survives { Survives (state S.Store tx.old.conn.now) (state S.Store tx.new.conn.now)
+        (λ _. ⊥) }
 {
     match users::find(tx, user)? {
         Some(row) => Ok((row.get(0)?, row.get(1)?)),
@@ -133,20 +160,30 @@ fn claim<S: Alter>(
     program: Option<&[u8]>,
 ) -> Result<(), Error>
     ensures same_reference { tx.new.conn.ghost_name ≡ tx.old.conn.ghost_name }
-    ensures claimed { HasCleanDisk (state S.Store tx.new.conn.now) → OnOk result ((before : _) → Stands (state S.Store tx.old.conn.now).now before
-        → option_map (λ v. v.now) program.entry ≡ before.programs user.now → before.lasts user.now ≤ last
-        → Claims user.now last before (state S.Store tx.old.conn.now) (state S.Store tx.new.conn.now)) }
-    ensures inside { HasCleanDisk (state S.Store tx.new.conn.now) → OnOk result (IsTrue (state S.Store tx.new.conn.now).in_transaction) }
-    ensures schema { HasCleanDisk (state S.Store tx.new.conn.now) → OnOk result ((state S.Store tx.old.conn.now).now.schema ≡ store_schema
+    ensures claimed { HasCleanDisk (state S.Store tx.new.conn.now)
+        → OnOk result ((before : _) → Stands (state S.Store tx.old.conn.now).now before
+        → option_map (λ v. v.now) program.entry ≡ before.programs user.now
+        → before.lasts user.now ≤ last
+        → Claims user.now last before (state S.Store tx.old.conn.now)
+        (state S.Store tx.new.conn.now)) }
+    ensures inside { HasCleanDisk (state S.Store tx.new.conn.now)
+        → OnOk result (IsTrue (state S.Store tx.new.conn.now).in_transaction) }
+    ensures schema { HasCleanDisk (state S.Store tx.new.conn.now)
+        → OnOk result ((state S.Store tx.old.conn.now).now.schema ≡ store_schema
         → (state S.Store tx.new.conn.now).now.schema ≡ store_schema) }
-    ensures kept { HasCleanDisk (state S.Store tx.new.conn.now) → (state S.Store tx.old.conn.now).now.schema ≡ store_schema
+    ensures kept { HasCleanDisk (state S.Store tx.new.conn.now)
+        → (state S.Store tx.old.conn.now).now.schema ≡ store_schema
         → KeepsCommit (state S.Store tx.old.conn.now) (state S.Store tx.new.conn.now) }
-    ensures cause { HasCleanDisk (state S.Store tx.new.conn.now) → IfErr result (λ e. refusal_of e ≡ Database
-        → IsTrue (state S.Store tx.old.conn.now).in_transaction
-        → (before : _) → Stands (state S.Store tx.old.conn.now).now before → option_map (λ v. v.now) program.entry ≡ before.programs user.now
+    ensures cause { HasCleanDisk (state S.Store tx.new.conn.now)
+        → IfErr result (λ e. refusal_of e ≡ Database
+        → IsTrue (state S.Store tx.old.conn.now).in_transaction → (before : _)
+        → Stands (state S.Store tx.old.conn.now).now before
+        → option_map (λ v. v.now) program.entry ≡ before.programs user.now
         → HasFailed (state S.Store tx.old.conn.now) (state S.Store tx.new.conn.now)
-        ⊎ HasNoUserRoom user.now (with_last user.now last before) (state S.Store tx.old.conn.now).now.trees) }
-    ensures survives { Survives (state S.Store tx.old.conn.now) (state S.Store tx.new.conn.now) (λ _. ⊥) }
+        ⊎ HasNoUserRoom user.now (with_last user.now last before)
+        (state S.Store tx.old.conn.now).now.trees) }
+    ensures survives { Survives (state S.Store tx.old.conn.now) (state S.Store tx.new.conn.now)
+        (λ _. ⊥) }
 {
     users::remove(tx, user)?;
     users::add(tx, user, last, program)?;
@@ -163,23 +200,36 @@ fn file_all<S: Alter>(
     requires some { 0 < length entries.now }
     requires room { last + length entries.now ≤ max_entry_number }
     ensures same_reference { tx.new.conn.ghost_name ≡ tx.old.conn.ghost_name }
-    ensures filed { HasCleanDisk (state S.Store tx.new.conn.now) → IfOk result (λ done. done ≡ true → (before : _)
-        → Stands (state S.Store tx.old.conn.now).now before → CanFile before user.now last (length entries.now)
-        → FilesAll user.now last (map draft_of entries.now) before (state S.Store tx.old.conn.now) (state S.Store tx.new.conn.now)) }
-    ensures other { HasCleanDisk (state S.Store tx.new.conn.now) → IfOk result (λ done. done ≡ false → (before : _)
-        → Stands (state S.Store tx.old.conn.now).now before → CanFile before user.now last (length entries.now)
+    ensures filed { HasCleanDisk (state S.Store tx.new.conn.now)
+        → IfOk result (λ done. done ≡ true → (before : _)
+        → Stands (state S.Store tx.old.conn.now).now before
+        → CanFile before user.now last (length entries.now)
+        → FilesAll user.now last (map draft_of entries.now) before
+        (state S.Store tx.old.conn.now) (state S.Store tx.new.conn.now)) }
+    ensures other { HasCleanDisk (state S.Store tx.new.conn.now)
+        → IfOk result (λ done. done ≡ false → (before : _)
+        → Stands (state S.Store tx.old.conn.now).now before
+        → CanFile before user.now last (length entries.now)
         → Collides (state S.Store tx.old.conn.now).now.trees (map draft_of entries.now)) }
-    ensures inside { HasCleanDisk (state S.Store tx.new.conn.now) → IfOk result (λ done. done ≡ true → IsTrue (state S.Store tx.new.conn.now).in_transaction) }
-    ensures schema { HasCleanDisk (state S.Store tx.new.conn.now) → OnOk result ((state S.Store tx.old.conn.now).now.schema ≡ store_schema
+    ensures inside { HasCleanDisk (state S.Store tx.new.conn.now)
+        → IfOk result (λ done. done ≡ true
+        → IsTrue (state S.Store tx.new.conn.now).in_transaction) }
+    ensures schema { HasCleanDisk (state S.Store tx.new.conn.now)
+        → OnOk result ((state S.Store tx.old.conn.now).now.schema ≡ store_schema
         → (state S.Store tx.new.conn.now).now.schema ≡ store_schema) }
-    ensures kept { HasCleanDisk (state S.Store tx.new.conn.now) → (state S.Store tx.old.conn.now).now.schema ≡ store_schema
+    ensures kept { HasCleanDisk (state S.Store tx.new.conn.now)
+        → (state S.Store tx.old.conn.now).now.schema ≡ store_schema
         → KeepsCommit (state S.Store tx.old.conn.now) (state S.Store tx.new.conn.now) }
-    ensures cause { HasCleanDisk (state S.Store tx.new.conn.now) → IfErr result (λ e. refusal_of e ≡ Database
-        → IsTrue (state S.Store tx.old.conn.now).in_transaction
-        → (before : _) → Stands (state S.Store tx.old.conn.now).now before → CanFile before user.now last (length entries.now)
+    ensures cause { HasCleanDisk (state S.Store tx.new.conn.now)
+        → IfErr result (λ e. refusal_of e ≡ Database
+        → IsTrue (state S.Store tx.old.conn.now).in_transaction → (before : _)
+        → Stands (state S.Store tx.old.conn.now).now before
+        → CanFile before user.now last (length entries.now)
         → HasFailed (state S.Store tx.old.conn.now) (state S.Store tx.new.conn.now)
-        ⊎ HaveNoRoom user.now (map draft_of entries.now) (state S.Store tx.old.conn.now).now.trees) }
-    ensures survives { Survives (state S.Store tx.old.conn.now) (state S.Store tx.new.conn.now) (λ _. ⊥) }
+        ⊎ HaveNoRoom user.now (map draft_of entries.now)
+        (state S.Store tx.old.conn.now).now.trees) }
+    ensures survives { Survives (state S.Store tx.old.conn.now) (state S.Store tx.new.conn.now)
+        (λ _. ⊥) }
 {
     let mut number = last;
     for entry in entries {

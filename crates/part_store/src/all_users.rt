@@ -18,18 +18,23 @@ use sqlite::{Alter, Error, Row, Transaction};
 /// The users that have a row, in the order of their names.
 pub(crate) fn list_users<S: Alter>(tx: &mut Transaction<'_, S>) -> Result<Vec<UserRow>, StoreError>
     ensures same_reference { tx.new.conn.ghost_name ≡ tx.old.conn.ghost_name }
-    ensures told { HasCleanDisk (state S.Store tx.new.conn.now) → IfOk result (λ users.
-        (before : _) → Stands (state S.Store tx.old.conn.now).now before
-        → AreUsersOf ((state S.Store tx.old.conn.now).now.trees users_tree) before (map line_of users.items)) }
-    ensures open { HasCleanDisk (state S.Store tx.new.conn.now) → OnOk result (IsTrue (state S.Store tx.old.conn.now).is_open) }
-    ensures shut { HasCleanDisk (state S.Store tx.new.conn.now) → IsTrue (state S.Store tx.new.conn.now).is_open
+    ensures told { HasCleanDisk (state S.Store tx.new.conn.now)
+        → IfOk result (λ users. (before : _) → Stands (state S.Store tx.old.conn.now).now before
+        → AreUsersOf ((state S.Store tx.old.conn.now).now.trees users_tree) before
+        (map line_of users.items)) }
+    ensures open { HasCleanDisk (state S.Store tx.new.conn.now)
+        → OnOk result (IsTrue (state S.Store tx.old.conn.now).is_open) }
+    ensures shut { HasCleanDisk (state S.Store tx.new.conn.now)
+        → IsTrue (state S.Store tx.new.conn.now).is_open
         → IsTrue (state S.Store tx.old.conn.now).is_open }
-    ensures kept { HasCleanDisk (state S.Store tx.new.conn.now) → (state S.Store tx.old.conn.now).now.schema ≡ store_schema
+    ensures kept { HasCleanDisk (state S.Store tx.new.conn.now)
+        → (state S.Store tx.old.conn.now).now.schema ≡ store_schema
         → KeepsCommit (state S.Store tx.old.conn.now) (state S.Store tx.new.conn.now) }
     ensures refused { IfErr result (λ e. (e ≡ Memory) ⊎ (e ≡ Database)) }
     ensures cause { HasCleanDisk (state S.Store tx.new.conn.now) → IfErr result
         (BlamesNamed (state S.Store tx.old.conn.now) (state S.Store tx.new.conn.now)) }
-    ensures survives { Survives (state S.Store tx.old.conn.now) (state S.Store tx.new.conn.now) (λ _. ⊥) }
+    ensures survives { Survives (state S.Store tx.old.conn.now) (state S.Store tx.new.conn.now)
+        (λ _. ⊥) }
 {
     let rows = users::list(tx)?;
     users_in(&rows)
@@ -37,7 +42,8 @@ pub(crate) fn list_users<S: Alter>(tx: &mut Transaction<'_, S>) -> Result<Vec<Us
 
 /// The users that the rows of an answer show.
 fn users_in(rows: &Vec<Row>) -> Result<Vec<UserRow>, StoreError>
-    ensures shown { IfOk result (λ users. map answer_of users.items ≡ map (columns (0 ∷ 1 ∷ 2 ∷ [])) rows.now.items) }
+    ensures shown { IfOk result (λ users. map answer_of users.items
+        ≡ map (columns (0 ∷ 1 ∷ 2 ∷ [])) rows.now.items) }
     ensures refused { IfErr result (λ e. (e ≡ Memory) ⊎ (e ≡ Database)) }
     ensures cause { IfErr result (λ e. e ≡ Database
         → AllByRecursion ShowsUser rows.now.items → ⊥) }

@@ -16,11 +16,17 @@ pub(crate) fn find<S: Alter>(
     digest: &[u8],
 ) -> Result<Option<Row>, Error>
     ensures same_reference { tx.new.conn.ghost_name ≡ tx.old.conn.ghost_name }
-    ensures step { HasCleanDisk (state S.Store tx.new.conn.now) → IfOk result (λ found. Steps (Reads (λ db. IsFound contents_tree (equals 1 (Blob digest.now)) (columns (2 ∷ [])) db found)) (state S.Store tx.old.conn.now) (state S.Store tx.new.conn.now)) }
-    ensures kept { HasCleanDisk (state S.Store tx.new.conn.now) → OnErr result (KeepsCommit (state S.Store tx.old.conn.now) (state S.Store tx.new.conn.now)) }
+    ensures step { HasCleanDisk (state S.Store tx.new.conn.now)
+        → IfOk result (λ found. Steps
+        (Reads (λ db. IsFound contents_tree (equals 1 (Blob digest.now)) (columns (2 ∷ [])) db
+        found)) (state S.Store tx.old.conn.now) (state S.Store tx.new.conn.now)) }
+    ensures kept { HasCleanDisk (state S.Store tx.new.conn.now)
+        → OnErr result (KeepsCommit (state S.Store tx.old.conn.now)
+        (state S.Store tx.new.conn.now)) }
     ensures fault { HasCleanDisk (state S.Store tx.new.conn.now) → IfErr result
         (Faults (state S.Store tx.old.conn.now) (state S.Store tx.new.conn.now)) }
-    ensures survives { Survives (state S.Store tx.old.conn.now) (state S.Store tx.new.conn.now) (λ _. ⊥) }
+    ensures survives { Survives (state S.Store tx.old.conn.now) (state S.Store tx.new.conn.now)
+        (λ _. ⊥) }
 {
     let rows = tx.query_all(
         "SELECT octets FROM contents WHERE digest = ?1",
@@ -35,11 +41,17 @@ pub(crate) fn size<S: Alter>(
     digest: &[u8],
 ) -> Result<Option<Row>, Error>
     ensures same_reference { tx.new.conn.ghost_name ≡ tx.old.conn.ghost_name }
-    ensures step { HasCleanDisk (state S.Store tx.new.conn.now) → IfOk result (λ found. Steps (Reads (λ db. IsFound contents_tree (equals 1 (Blob digest.now)) (length_at 2) db found)) (state S.Store tx.old.conn.now) (state S.Store tx.new.conn.now)) }
-    ensures kept { HasCleanDisk (state S.Store tx.new.conn.now) → OnErr result (KeepsCommit (state S.Store tx.old.conn.now) (state S.Store tx.new.conn.now)) }
+    ensures step { HasCleanDisk (state S.Store tx.new.conn.now)
+        → IfOk result (λ found. Steps
+        (Reads (λ db. IsFound contents_tree (equals 1 (Blob digest.now)) (length_at 2) db
+        found)) (state S.Store tx.old.conn.now) (state S.Store tx.new.conn.now)) }
+    ensures kept { HasCleanDisk (state S.Store tx.new.conn.now)
+        → OnErr result (KeepsCommit (state S.Store tx.old.conn.now)
+        (state S.Store tx.new.conn.now)) }
     ensures fault { HasCleanDisk (state S.Store tx.new.conn.now) → IfErr result
         (Faults (state S.Store tx.old.conn.now) (state S.Store tx.new.conn.now)) }
-    ensures survives { Survives (state S.Store tx.old.conn.now) (state S.Store tx.new.conn.now) (λ _. ⊥) }
+    ensures survives { Survives (state S.Store tx.old.conn.now) (state S.Store tx.new.conn.now)
+        (λ _. ⊥) }
 {
     let rows = tx.query_all(
         "SELECT length(octets) FROM contents WHERE digest = ?1",
@@ -51,14 +63,17 @@ pub(crate) fn size<S: Alter>(
 /// Each digest and how many octets are under it.
 pub(crate) fn list<S: Alter>(tx: &mut Transaction<'_, S>) -> Result<Vec<Row>, Error>
     ensures same_reference { tx.new.conn.ghost_name ≡ tx.old.conn.ghost_name }
-    ensures step { HasCleanDisk (state S.Store tx.new.conn.now) → IfOk result (λ found.
-        Steps (Reads (IsListed contents_tree every sized found.items)) (state S.Store tx.old.conn.now) (state S.Store tx.new.conn.now)) }
-    ensures open { HasCleanDisk (state S.Store tx.new.conn.now) → OnOk result (IsTrue (state S.Store tx.old.conn.now).is_open) }
+    ensures step { HasCleanDisk (state S.Store tx.new.conn.now)
+        → IfOk result (λ found. Steps (Reads (IsListed contents_tree every sized found.items))
+        (state S.Store tx.old.conn.now) (state S.Store tx.new.conn.now)) }
+    ensures open { HasCleanDisk (state S.Store tx.new.conn.now)
+        → OnOk result (IsTrue (state S.Store tx.old.conn.now).is_open) }
     ensures kept { HasCleanDisk (state S.Store tx.new.conn.now) → OnErr result
         (KeepsCommit (state S.Store tx.old.conn.now) (state S.Store tx.new.conn.now)) }
     ensures fault { HasCleanDisk (state S.Store tx.new.conn.now) → IfErr result
         (Faults (state S.Store tx.old.conn.now) (state S.Store tx.new.conn.now)) }
-    ensures survives { Survives (state S.Store tx.old.conn.now) (state S.Store tx.new.conn.now) (λ _. ⊥) }
+    ensures survives { Survives (state S.Store tx.old.conn.now) (state S.Store tx.new.conn.now)
+        (λ _. ⊥) }
 {
     tx.query_all(
         "SELECT digest, length(octets) FROM contents ORDER BY digest",
@@ -73,13 +88,21 @@ pub(crate) fn add<S: Alter>(
     octets: &[u8],
 ) -> Result<usize, Error>
     ensures same_reference { tx.new.conn.ghost_name ≡ tx.old.conn.ghost_name }
-    ensures step { HasCleanDisk (state S.Store tx.new.conn.now) → OnOk result (Steps (IsAdded contents_tree (Blob digest.now ∷ Blob octets.now ∷ [])) (state S.Store tx.old.conn.now) (state S.Store tx.new.conn.now)) }
-    ensures inside { HasCleanDisk (state S.Store tx.new.conn.now) → OnOk result (IsTrue (state S.Store tx.new.conn.now).in_transaction) }
-    ensures kept { HasCleanDisk (state S.Store tx.new.conn.now) → OnErr result (KeepsCommit (state S.Store tx.old.conn.now) (state S.Store tx.new.conn.now)) }
-    ensures fault { HasCleanDisk (state S.Store tx.new.conn.now) → IsTableIn contents_tree (state S.Store tx.old.conn.now).now.trees
+    ensures step { HasCleanDisk (state S.Store tx.new.conn.now)
+        → OnOk result (Steps (IsAdded contents_tree (Blob digest.now ∷ Blob octets.now ∷ []))
+        (state S.Store tx.old.conn.now) (state S.Store tx.new.conn.now)) }
+    ensures inside { HasCleanDisk (state S.Store tx.new.conn.now)
+        → OnOk result (IsTrue (state S.Store tx.new.conn.now).in_transaction) }
+    ensures kept { HasCleanDisk (state S.Store tx.new.conn.now)
+        → OnErr result (KeepsCommit (state S.Store tx.old.conn.now)
+        (state S.Store tx.new.conn.now)) }
+    ensures fault { HasCleanDisk (state S.Store tx.new.conn.now)
+        → IsTableIn contents_tree (state S.Store tx.old.conn.now).now.trees
         → HasNoContent digest.now (state S.Store tx.old.conn.now).now.trees
-        → IfErr result (AddFaults contents_table (content_values digest.now octets.now) (state S.Store tx.old.conn.now) (state S.Store tx.new.conn.now)) }
-    ensures survives { Survives (state S.Store tx.old.conn.now) (state S.Store tx.new.conn.now) (λ _. ⊥) }
+        → IfErr result (AddFaults contents_table (content_values digest.now octets.now)
+        (state S.Store tx.old.conn.now) (state S.Store tx.new.conn.now)) }
+    ensures survives { Survives (state S.Store tx.old.conn.now) (state S.Store tx.new.conn.now)
+        (λ _. ⊥) }
 {
     tx.execute(
         "INSERT INTO contents (digest, octets) VALUES (?1, ?2)",
@@ -90,13 +113,21 @@ pub(crate) fn add<S: Alter>(
 /// Takes out what is under a digest.
 pub(crate) fn remove<S: Alter>(tx: &mut Transaction<'_, S>, digest: &[u8]) -> Result<usize, Error>
     ensures same_reference { tx.new.conn.ghost_name ≡ tx.old.conn.ghost_name }
-    ensures step { HasCleanDisk (state S.Store tx.new.conn.now) → OnOk result (Steps (IsTaken contents_tree (equals 1 (Blob digest.now))) (state S.Store tx.old.conn.now) (state S.Store tx.new.conn.now)) }
-    ensures inside { HasCleanDisk (state S.Store tx.new.conn.now) → OnOk result (IsTrue (state S.Store tx.new.conn.now).in_transaction) }
-    ensures kept { HasCleanDisk (state S.Store tx.new.conn.now) → OnErr result (KeepsCommit (state S.Store tx.old.conn.now) (state S.Store tx.new.conn.now)) }
-    ensures fault { HasCleanDisk (state S.Store tx.new.conn.now) → IsTableIn contents_tree (state S.Store tx.old.conn.now).now.trees
+    ensures step { HasCleanDisk (state S.Store tx.new.conn.now)
+        → OnOk result (Steps (IsTaken contents_tree (equals 1 (Blob digest.now)))
+        (state S.Store tx.old.conn.now) (state S.Store tx.new.conn.now)) }
+    ensures inside { HasCleanDisk (state S.Store tx.new.conn.now)
+        → OnOk result (IsTrue (state S.Store tx.new.conn.now).in_transaction) }
+    ensures kept { HasCleanDisk (state S.Store tx.new.conn.now)
+        → OnErr result (KeepsCommit (state S.Store tx.old.conn.now)
+        (state S.Store tx.new.conn.now)) }
+    ensures fault { HasCleanDisk (state S.Store tx.new.conn.now)
+        → IsTableIn contents_tree (state S.Store tx.old.conn.now).now.trees
         → IsUnnamed digest.now (state S.Store tx.old.conn.now).now.trees
-        → IfErr result (WriteFaults (state S.Store tx.old.conn.now) (state S.Store tx.new.conn.now)) }
-    ensures survives { Survives (state S.Store tx.old.conn.now) (state S.Store tx.new.conn.now) (λ _. ⊥) }
+        → IfErr result (WriteFaults (state S.Store tx.old.conn.now)
+        (state S.Store tx.new.conn.now)) }
+    ensures survives { Survives (state S.Store tx.old.conn.now) (state S.Store tx.new.conn.now)
+        (λ _. ⊥) }
 {
     tx.execute("DELETE FROM contents WHERE digest = ?1", params![digest])
 }

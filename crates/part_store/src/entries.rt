@@ -14,12 +14,20 @@ use sqlite::{Alter, Error, Row, Transaction, params};
 /// A user's entries by their numbers.
 pub(crate) fn list<S: Alter>(tx: &mut Transaction<'_, S>, user: &str) -> Result<Vec<Row>, Error>
     ensures same_reference { tx.new.conn.ghost_name ≡ tx.old.conn.ghost_name }
-    ensures step { HasCleanDisk (state S.Store tx.new.conn.now) → IfOk result (λ found. Steps (Reads (IsListed entries_tree (equals 1 (Text user.now)) (columns (2 ∷ 4 ∷ 3 ∷ 5 ∷ 6 ∷ 7 ∷ [])) found.items)) (state S.Store tx.old.conn.now) (state S.Store tx.new.conn.now)) }
-    ensures open { HasCleanDisk (state S.Store tx.new.conn.now) → OnOk result (IsTrue (state S.Store tx.old.conn.now).is_open) }
-    ensures kept { HasCleanDisk (state S.Store tx.new.conn.now) → OnErr result (KeepsCommit (state S.Store tx.old.conn.now) (state S.Store tx.new.conn.now)) }
+    ensures step { HasCleanDisk (state S.Store tx.new.conn.now)
+        → IfOk result (λ found. Steps
+        (Reads (IsListed entries_tree (equals 1 (Text user.now))
+        (columns (2 ∷ 4 ∷ 3 ∷ 5 ∷ 6 ∷ 7 ∷ [])) found.items))
+        (state S.Store tx.old.conn.now) (state S.Store tx.new.conn.now)) }
+    ensures open { HasCleanDisk (state S.Store tx.new.conn.now)
+        → OnOk result (IsTrue (state S.Store tx.old.conn.now).is_open) }
+    ensures kept { HasCleanDisk (state S.Store tx.new.conn.now)
+        → OnErr result (KeepsCommit (state S.Store tx.old.conn.now)
+        (state S.Store tx.new.conn.now)) }
     ensures fault { HasCleanDisk (state S.Store tx.new.conn.now) → IfErr result
         (Faults (state S.Store tx.old.conn.now) (state S.Store tx.new.conn.now)) }
-    ensures survives { Survives (state S.Store tx.old.conn.now) (state S.Store tx.new.conn.now) (λ _. ⊥) }
+    ensures survives { Survives (state S.Store tx.old.conn.now) (state S.Store tx.new.conn.now)
+        (λ _. ⊥) }
 {
     tx.query_all(
         "SELECT number, kind, folder, name, media, digest FROM entries WHERE user = ?1 ORDER BY number",
@@ -34,12 +42,19 @@ pub(crate) fn find<S: Alter>(
     number: u32,
 ) -> Result<Option<Row>, Error>
     ensures same_reference { tx.new.conn.ghost_name ≡ tx.old.conn.ghost_name }
-    ensures step { HasCleanDisk (state S.Store tx.new.conn.now) → IfOk result (λ found. Steps (Reads (λ db. IsFound entries_tree (is_entry user.now number) (columns (7 ∷ [])) db found)) (state S.Store tx.old.conn.now) (state S.Store tx.new.conn.now)) }
-    ensures open { HasCleanDisk (state S.Store tx.new.conn.now) → OnOk result (IsTrue (state S.Store tx.old.conn.now).is_open) }
-    ensures kept { HasCleanDisk (state S.Store tx.new.conn.now) → OnErr result (KeepsCommit (state S.Store tx.old.conn.now) (state S.Store tx.new.conn.now)) }
+    ensures step { HasCleanDisk (state S.Store tx.new.conn.now)
+        → IfOk result (λ found. Steps
+        (Reads (λ db. IsFound entries_tree (is_entry user.now number) (columns (7 ∷ [])) db
+        found)) (state S.Store tx.old.conn.now) (state S.Store tx.new.conn.now)) }
+    ensures open { HasCleanDisk (state S.Store tx.new.conn.now)
+        → OnOk result (IsTrue (state S.Store tx.old.conn.now).is_open) }
+    ensures kept { HasCleanDisk (state S.Store tx.new.conn.now)
+        → OnErr result (KeepsCommit (state S.Store tx.old.conn.now)
+        (state S.Store tx.new.conn.now)) }
     ensures fault { HasCleanDisk (state S.Store tx.new.conn.now) → IfErr result
         (Faults (state S.Store tx.old.conn.now) (state S.Store tx.new.conn.now)) }
-    ensures survives { Survives (state S.Store tx.old.conn.now) (state S.Store tx.new.conn.now) (λ _. ⊥) }
+    ensures survives { Survives (state S.Store tx.old.conn.now) (state S.Store tx.new.conn.now)
+        (λ _. ⊥) }
 {
     let rows = tx.query_all(
         "SELECT digest FROM entries WHERE user = ?1 AND number = ?2",
@@ -54,11 +69,17 @@ pub(crate) fn naming<S: Alter>(
     digest: &[u8],
 ) -> Result<Option<Row>, Error>
     ensures same_reference { tx.new.conn.ghost_name ≡ tx.old.conn.ghost_name }
-    ensures step { HasCleanDisk (state S.Store tx.new.conn.now) → IfOk result (λ found. Steps (Reads (λ db. IsFound entries_tree (equals 7 (Blob digest.now)) (columns (2 ∷ [])) db found)) (state S.Store tx.old.conn.now) (state S.Store tx.new.conn.now)) }
-    ensures kept { HasCleanDisk (state S.Store tx.new.conn.now) → OnErr result (KeepsCommit (state S.Store tx.old.conn.now) (state S.Store tx.new.conn.now)) }
+    ensures step { HasCleanDisk (state S.Store tx.new.conn.now)
+        → IfOk result (λ found. Steps
+        (Reads (λ db. IsFound entries_tree (equals 7 (Blob digest.now)) (columns (2 ∷ [])) db
+        found)) (state S.Store tx.old.conn.now) (state S.Store tx.new.conn.now)) }
+    ensures kept { HasCleanDisk (state S.Store tx.new.conn.now)
+        → OnErr result (KeepsCommit (state S.Store tx.old.conn.now)
+        (state S.Store tx.new.conn.now)) }
     ensures fault { HasCleanDisk (state S.Store tx.new.conn.now) → IfErr result
         (Faults (state S.Store tx.old.conn.now) (state S.Store tx.new.conn.now)) }
-    ensures survives { Survives (state S.Store tx.old.conn.now) (state S.Store tx.new.conn.now) (λ _. ⊥) }
+    ensures survives { Survives (state S.Store tx.old.conn.now) (state S.Store tx.new.conn.now)
+        (λ _. ⊥) }
 {
     match tx.query_row(
         "SELECT number FROM entries WHERE digest = ?1",
@@ -92,14 +113,26 @@ pub(crate) fn add<S: Alter>(
     digest: &[u8],
 ) -> Result<usize, Error>
     ensures same_reference { tx.new.conn.ghost_name ≡ tx.old.conn.ghost_name }
-    ensures step { HasCleanDisk (state S.Store tx.new.conn.now) → OnOk result (Steps (IsAdded entries_tree (Text user.now ∷ Int (pos number) ∷ Blob folder.now ∷ Int (pos kind) ∷ Blob name.now ∷ Blob media.now ∷ Blob digest.now ∷ [])) (state S.Store tx.old.conn.now) (state S.Store tx.new.conn.now)) }
-    ensures inside { HasCleanDisk (state S.Store tx.new.conn.now) → OnOk result (IsTrue (state S.Store tx.new.conn.now).in_transaction) }
-    ensures kept { HasCleanDisk (state S.Store tx.new.conn.now) → OnErr result (KeepsCommit (state S.Store tx.old.conn.now) (state S.Store tx.new.conn.now)) }
-    ensures fault { HasCleanDisk (state S.Store tx.new.conn.now) → IsTableIn entries_tree (state S.Store tx.old.conn.now).now.trees
-        → IsFree user.now number (state S.Store tx.old.conn.now).now.trees → HasSome digest.now (state S.Store tx.old.conn.now).now.trees
-        → IfErr result (AddFaults entries_table (Text user.now ∷ Int (pos number) ∷ Blob folder.now ∷ Int (pos kind) ∷ Blob name.now ∷ Blob media.now ∷ Blob digest.now ∷ [])
-        (state S.Store tx.old.conn.now) (state S.Store tx.new.conn.now)) }
-    ensures survives { Survives (state S.Store tx.old.conn.now) (state S.Store tx.new.conn.now) (λ _. ⊥) }
+    ensures step { HasCleanDisk (state S.Store tx.new.conn.now)
+        → OnOk result (Steps (IsAdded entries_tree
+        (Text user.now ∷ Int (pos number) ∷ Blob folder.now ∷ Int (pos kind) ∷ Blob name.now
+        ∷ Blob media.now ∷ Blob digest.now ∷ [])) (state S.Store tx.old.conn.now)
+        (state S.Store tx.new.conn.now)) }
+    ensures inside { HasCleanDisk (state S.Store tx.new.conn.now)
+        → OnOk result (IsTrue (state S.Store tx.new.conn.now).in_transaction) }
+    ensures kept { HasCleanDisk (state S.Store tx.new.conn.now)
+        → OnErr result (KeepsCommit (state S.Store tx.old.conn.now)
+        (state S.Store tx.new.conn.now)) }
+    ensures fault { HasCleanDisk (state S.Store tx.new.conn.now)
+        → IsTableIn entries_tree (state S.Store tx.old.conn.now).now.trees
+        → IsFree user.now number (state S.Store tx.old.conn.now).now.trees
+        → HasSome digest.now (state S.Store tx.old.conn.now).now.trees
+        → IfErr result (AddFaults entries_table
+        (Text user.now ∷ Int (pos number) ∷ Blob folder.now ∷ Int (pos kind) ∷ Blob name.now
+        ∷ Blob media.now ∷ Blob digest.now ∷ []) (state S.Store tx.old.conn.now)
+        (state S.Store tx.new.conn.now)) }
+    ensures survives { Survives (state S.Store tx.old.conn.now) (state S.Store tx.new.conn.now)
+        (λ _. ⊥) }
 {
     tx.execute(
         "INSERT INTO entries (user, number, folder, kind, name, media, digest) VALUES (?1, ?2, ?3, ?4, ?5, ?6, ?7)",
@@ -114,12 +147,18 @@ pub(crate) fn remove<S: Alter>(
     number: u32,
 ) -> Result<usize, Error>
     ensures same_reference { tx.new.conn.ghost_name ≡ tx.old.conn.ghost_name }
-    ensures step { HasCleanDisk (state S.Store tx.new.conn.now) → OnOk result (Steps (IsTaken entries_tree (is_entry user.now number)) (state S.Store tx.old.conn.now) (state S.Store tx.new.conn.now)) }
-    ensures inside { HasCleanDisk (state S.Store tx.new.conn.now) → OnOk result (IsTrue (state S.Store tx.new.conn.now).in_transaction) }
-    ensures kept { HasCleanDisk (state S.Store tx.new.conn.now) → OnErr result (KeepsCommit (state S.Store tx.old.conn.now) (state S.Store tx.new.conn.now)) }
+    ensures step { HasCleanDisk (state S.Store tx.new.conn.now)
+        → OnOk result (Steps (IsTaken entries_tree (is_entry user.now number))
+        (state S.Store tx.old.conn.now) (state S.Store tx.new.conn.now)) }
+    ensures inside { HasCleanDisk (state S.Store tx.new.conn.now)
+        → OnOk result (IsTrue (state S.Store tx.new.conn.now).in_transaction) }
+    ensures kept { HasCleanDisk (state S.Store tx.new.conn.now)
+        → OnErr result (KeepsCommit (state S.Store tx.old.conn.now)
+        (state S.Store tx.new.conn.now)) }
     ensures fault { HasCleanDisk (state S.Store tx.new.conn.now) → IfErr result
         (WriteFaults (state S.Store tx.old.conn.now) (state S.Store tx.new.conn.now)) }
-    ensures survives { Survives (state S.Store tx.old.conn.now) (state S.Store tx.new.conn.now) (λ _. ⊥) }
+    ensures survives { Survives (state S.Store tx.old.conn.now) (state S.Store tx.new.conn.now)
+        (λ _. ⊥) }
 {
     tx.execute(
         "DELETE FROM entries WHERE user = ?1 AND number = ?2",

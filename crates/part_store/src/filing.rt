@@ -21,8 +21,10 @@ use sqlite_value::value::ValueRef;
 /// Whether what a row begins with is these octets. They are compared where they lie.
 fn are_these(row: &Row, octets: &[u8]) -> Result<bool, Error>
     ensures same { IfOk result (λ done. done ≡ true → column row.now 0 ≡ Blob octets.now) }
-    ensures other { IfOk result (λ done. done ≡ false → (there : List ℕ) × (column row.now 0 ≡ Blob there) × (there ≢ octets.now)) }
-    ensures cause { IfErr result (λ _. 0 < length row.now → (there : List ℕ) → column row.now 0 ≡ Blob there → ⊥) }
+    ensures other { IfOk result (λ done. done ≡ false
+        → (there : List ℕ) × (column row.now 0 ≡ Blob there) × (there ≢ octets.now)) }
+    ensures cause { IfErr result
+        (λ _. 0 < length row.now → (there : List ℕ) → column row.now 0 ≡ Blob there → ⊥) }
 {
     match row.get_ref(0)? {
         ValueRef::Blob(there) => Ok(there == octets),
@@ -33,21 +35,34 @@ fn are_these(row: &Row, octets: &[u8]) -> Result<bool, Error>
 /// Puts octets under their digest where nothing is under it yet. Answers whether they are what is under it now.
 fn stock<S: Alter>(tx: &mut Transaction<'_, S>, digest: &[u8], octets: &[u8]) -> Result<bool, Error>
     ensures same_reference { tx.new.conn.ghost_name ≡ tx.old.conn.ghost_name }
-    ensures stocked { HasCleanDisk (state S.Store tx.new.conn.now) → IfOk result (λ done. done ≡ true → (before : _)
-        → Stands (state S.Store tx.old.conn.now).now before → Stocks digest.now octets.now (state S.Store tx.old.conn.now) (state S.Store tx.new.conn.now)) }
-    ensures other { HasCleanDisk (state S.Store tx.new.conn.now) → IfOk result (λ done. done ≡ false → (before : _)
-        → Stands (state S.Store tx.old.conn.now).now before → IsOther (state S.Store tx.old.conn.now).now.trees digest.now octets.now) }
-    ensures schema { HasCleanDisk (state S.Store tx.new.conn.now) → OnOk result ((state S.Store tx.old.conn.now).now.schema ≡ store_schema
+    ensures stocked { HasCleanDisk (state S.Store tx.new.conn.now)
+        → IfOk result (λ done. done ≡ true → (before : _)
+        → Stands (state S.Store tx.old.conn.now).now before
+        → Stocks digest.now octets.now (state S.Store tx.old.conn.now)
+        (state S.Store tx.new.conn.now)) }
+    ensures other { HasCleanDisk (state S.Store tx.new.conn.now)
+        → IfOk result (λ done. done ≡ false → (before : _)
+        → Stands (state S.Store tx.old.conn.now).now before
+        → IsOther (state S.Store tx.old.conn.now).now.trees digest.now octets.now) }
+    ensures schema { HasCleanDisk (state S.Store tx.new.conn.now)
+        → OnOk result ((state S.Store tx.old.conn.now).now.schema ≡ store_schema
         → (state S.Store tx.new.conn.now).now.schema ≡ store_schema) }
-    ensures kept { HasCleanDisk (state S.Store tx.new.conn.now) → (state S.Store tx.old.conn.now).now.schema ≡ store_schema
+    ensures kept { HasCleanDisk (state S.Store tx.new.conn.now)
+        → (state S.Store tx.old.conn.now).now.schema ≡ store_schema
         → KeepsCommit (state S.Store tx.old.conn.now) (state S.Store tx.new.conn.now) }
-    ensures inside { HasCleanDisk (state S.Store tx.new.conn.now) → OnOk result ((state S.Store tx.old.conn.now).now.schema ≡ store_schema
-        → IsTrue (state S.Store tx.old.conn.now).in_transaction → IsTrue (state S.Store tx.new.conn.now).in_transaction) }
-    ensures cause { HasCleanDisk (state S.Store tx.new.conn.now) → IfErr result (λ e. refusal_of e ≡ Database
+    ensures inside { HasCleanDisk (state S.Store tx.new.conn.now)
+        → OnOk result ((state S.Store tx.old.conn.now).now.schema ≡ store_schema
         → IsTrue (state S.Store tx.old.conn.now).in_transaction
-        → (before : _) → Stands (state S.Store tx.old.conn.now).now before → HasFailed (state S.Store tx.old.conn.now) (state S.Store tx.new.conn.now)
-        ⊎ HasNoRoom contents_table (content_values digest.now octets.now) (state S.Store tx.old.conn.now).now.trees) }
-    ensures survives { Survives (state S.Store tx.old.conn.now) (state S.Store tx.new.conn.now) (λ _. ⊥) }
+        → IsTrue (state S.Store tx.new.conn.now).in_transaction) }
+    ensures cause { HasCleanDisk (state S.Store tx.new.conn.now)
+        → IfErr result (λ e. refusal_of e ≡ Database
+        → IsTrue (state S.Store tx.old.conn.now).in_transaction → (before : _)
+        → Stands (state S.Store tx.old.conn.now).now before
+        → HasFailed (state S.Store tx.old.conn.now) (state S.Store tx.new.conn.now)
+        ⊎ HasNoRoom contents_table (content_values digest.now octets.now)
+        (state S.Store tx.old.conn.now).now.trees) }
+    ensures survives { Survives (state S.Store tx.old.conn.now) (state S.Store tx.new.conn.now)
+        (λ _. ⊥) }
 {
     match contents::find(tx, digest)? {
         Some(row) => are_these(&row, octets),
@@ -75,24 +90,36 @@ pub(crate) fn file_entry<S: Alter>(
     entry: &NewEntry<'_>,
 ) -> Result<bool, Error>
     ensures same_reference { tx.new.conn.ghost_name ≡ tx.old.conn.ghost_name }
-    ensures filed { HasCleanDisk (state S.Store tx.new.conn.now) → IfOk result (λ done. done ≡ true → (before : _)
-        → Stands (state S.Store tx.old.conn.now).now before → IsNext before (entry_of user.now number (draft_of entry.now))
-        → Files (entry_of user.now number (draft_of entry.now)) (sha256 entry.now.octets.now) before
-        (state S.Store tx.old.conn.now) (state S.Store tx.new.conn.now)) }
-    ensures other { HasCleanDisk (state S.Store tx.new.conn.now) → IfOk result (λ done. done ≡ false → (before : _)
+    ensures filed { HasCleanDisk (state S.Store tx.new.conn.now)
+        → IfOk result (λ done. done ≡ true → (before : _)
         → Stands (state S.Store tx.old.conn.now).now before
-        → IsOther (state S.Store tx.old.conn.now).now.trees (sha256 entry.now.octets.now) entry.now.octets.now) }
-    ensures inside { HasCleanDisk (state S.Store tx.new.conn.now) → IfOk result (λ done. done ≡ true → IsTrue (state S.Store tx.new.conn.now).in_transaction) }
-    ensures schema { HasCleanDisk (state S.Store tx.new.conn.now) → OnOk result ((state S.Store tx.old.conn.now).now.schema ≡ store_schema
+        → IsNext before (entry_of user.now number (draft_of entry.now))
+        → Files (entry_of user.now number (draft_of entry.now)) (sha256 entry.now.octets.now)
+        before (state S.Store tx.old.conn.now) (state S.Store tx.new.conn.now)) }
+    ensures other { HasCleanDisk (state S.Store tx.new.conn.now)
+        → IfOk result (λ done. done ≡ false → (before : _)
+        → Stands (state S.Store tx.old.conn.now).now before
+        → IsOther (state S.Store tx.old.conn.now).now.trees (sha256 entry.now.octets.now)
+        entry.now.octets.now) }
+    ensures inside { HasCleanDisk (state S.Store tx.new.conn.now)
+        → IfOk result (λ done. done ≡ true
+        → IsTrue (state S.Store tx.new.conn.now).in_transaction) }
+    ensures schema { HasCleanDisk (state S.Store tx.new.conn.now)
+        → OnOk result ((state S.Store tx.old.conn.now).now.schema ≡ store_schema
         → (state S.Store tx.new.conn.now).now.schema ≡ store_schema) }
-    ensures kept { HasCleanDisk (state S.Store tx.new.conn.now) → (state S.Store tx.old.conn.now).now.schema ≡ store_schema
+    ensures kept { HasCleanDisk (state S.Store tx.new.conn.now)
+        → (state S.Store tx.old.conn.now).now.schema ≡ store_schema
         → KeepsCommit (state S.Store tx.old.conn.now) (state S.Store tx.new.conn.now) }
-    ensures cause { HasCleanDisk (state S.Store tx.new.conn.now) → IfErr result (λ e. refusal_of e ≡ Database
-        → IsTrue (state S.Store tx.old.conn.now).in_transaction
-        → (before : _) → Stands (state S.Store tx.old.conn.now).now before → IsNext before (entry_of user.now number (draft_of entry.now))
+    ensures cause { HasCleanDisk (state S.Store tx.new.conn.now)
+        → IfErr result (λ e. refusal_of e ≡ Database
+        → IsTrue (state S.Store tx.old.conn.now).in_transaction → (before : _)
+        → Stands (state S.Store tx.old.conn.now).now before
+        → IsNext before (entry_of user.now number (draft_of entry.now))
         → HasFailed (state S.Store tx.old.conn.now) (state S.Store tx.new.conn.now)
-        ⊎ LacksRoom (entry_of user.now number (draft_of entry.now)) (sha256 entry.now.octets.now) (state S.Store tx.old.conn.now).now.trees) }
-    ensures survives { Survives (state S.Store tx.old.conn.now) (state S.Store tx.new.conn.now) (λ _. ⊥) }
+        ⊎ LacksRoom (entry_of user.now number (draft_of entry.now))
+        (sha256 entry.now.octets.now) (state S.Store tx.old.conn.now).now.trees) }
+    ensures survives { Survives (state S.Store tx.old.conn.now) (state S.Store tx.new.conn.now)
+        (λ _. ⊥) }
 {
     let digest = Sha256::digest(entry.octets);
     if !stock(tx, &digest, entry.octets)? {

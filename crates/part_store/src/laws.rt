@@ -25,15 +25,16 @@ use sqlite_disk::Disk;
 
 /// While a store is open a crash leaves what is committed, and nothing else.
 pub(crate) fn open_stores_leave_what_is_committed<S: Alter>()
-    ensures { (c : Held S) (trees : Trees) → IsTrue (state S.Store c).is_open → (state S.Store c).may_leave trees
-        → trees ≡ (state S.Store c).committed.trees }
+    ensures { (c : Held S) (trees : Trees) → IsTrue (state S.Store c).is_open
+        → (state S.Store c).may_leave trees → trees ≡ (state S.Store c).committed.trees }
 {}
 
 /// An open store lists its tables. So where it has the three tables, it holds each state that they
 /// stand for. Gives its connection.
 pub fn open_stores_list_their_tables<S: Alter>(store: PartStore<S>) -> Connection<S>
     ensures same { result ≡ store }
-    ensures listed { (e : Entries) → IsTrue (state S.Store store).is_open → (state S.Store store).now.schema ≡ store_schema
+    ensures listed { (e : Entries) → IsTrue (state S.Store store).is_open
+        → (state S.Store store).now.schema ≡ store_schema
         → StandsFor (state S.Store store).now.trees e → Stands (state S.Store store).now e }
 {
     let conn = store.release();
@@ -45,17 +46,18 @@ pub fn open_stores_list_their_tables<S: Alter>(store: PartStore<S>) -> Connectio
 /// Where all that a crash may leave are stores, the two files hold one of them after it, however
 /// far a call got.
 pub fn each_image_holds_one_left<D: Disk + Drop>()
-    ensures { (c : Held (FileStore D D.Disk)) → HasNumberedTrees c → LeavesStores (file_state c) → (image : Image) → MayLeaveFiles c image
-        → ∥ HoldsOneLeft c image ∥₁ }
+    ensures { (c : Held (FileStore D D.Disk)) → HasNumberedTrees c → LeavesStores (file_state c)
+        → (image : Image) → MayLeaveFiles c image → ∥ HoldsOneLeft c image ∥₁ }
 {}
 
 /// A crash in a call that may commit one change leaves the two files with the store of what was, or
 /// of what the change makes of it.
 pub fn calls_leave_what_was_or_is<D: Disk + Drop>()
-    ensures { (change : Entries → Entries) (before : Entries) (old new : Held (FileStore D D.Disk)) → IsAt before (file_state old)
-        → HasCleanDisk (file_state new) → HasNumberedTrees new
+    ensures { (change : Entries → Entries) (before : Entries) (old new : Held (FileStore D D.Disk))
+        → IsAt before (file_state old) → HasCleanDisk (file_state new) → HasNumberedTrees new
         → Survives (file_state old) (file_state new) (MayMake change (file_state old))
-        → (image : Image) → MayLeaveFiles new image → ∥ HoldsStore image before ⊎ HoldsStore image (change before) ∥₁ }
+        → (image : Image) → MayLeaveFiles new image
+        → ∥ HoldsStore image before ⊎ HoldsStore image (change before) ∥₁ }
 {
     open_stores_leave_what_is_committed::<FileStore<D>>();
 }
@@ -63,8 +65,9 @@ pub fn calls_leave_what_was_or_is<D: Disk + Drop>()
 /// Files that hold a store aren't told to have other tables (`look_from`), where their disk is
 /// clean.
 pub fn stores_are_not_told_as_others<D: Disk + Drop>()
-    ensures { (image : Image) (held : Entries) (found : Held (FileStore D D.Disk)) → HoldsStore image held → IsFoundIn image found
-        → HasCleanDisk (file_state found) → HasOtherTables (file_state found) → ⊥ }
+    ensures { (image : Image) (held : Entries) (found : Held (FileStore D D.Disk))
+        → HoldsStore image held → IsFoundIn image found → HasCleanDisk (file_state found)
+        → HasOtherTables (file_state found) → ⊥ }
 {}
 
 /// A store over files whose disk is clean has numbered trees. Gives what the store stands on, with
@@ -78,6 +81,8 @@ pub fn trees_are_numbered<D: Disk + Drop>(store: PartStore<FileStore<D>>) -> Fil
 /// A database's open that is refused leaves files that held a store with the same store, however far
 /// it got and also after a crash, where it took the page size of what they hold.
 pub fn refused_opens_leave_the_store<D: Disk + Drop>()
-    ensures { (image : Image) (left : Leftover D D.Disk) (e : Error) → IsUnopened image (Some left) e → IsCleanLeft left → TakesSize image left
-        → (held : Entries) → HoldsStore image held → (other : Image) → MayLeaveRefused left other → ∥ HoldsStore other held ∥₁ }
+    ensures { (image : Image) (left : Leftover D D.Disk) (e : Error)
+        → IsUnopened image (Some left) e → IsCleanLeft left → TakesSize image left
+        → (held : Entries) → HoldsStore image held → (other : Image) → MayLeaveRefused left other
+        → ∥ HoldsStore other held ∥₁ }
 {}

@@ -44,7 +44,8 @@ fn parts_of(row: &Row) -> Result<Parts, Error>
 }
 
 fn kind_of(row: &Row) -> Result<Kind, Error>
-    ensures kind { IfOk result (λ kind. (k : Kind) → column row.now 1 ≡ Int (pos (kind_number k)) → kind ≡ k) }
+    ensures kind { IfOk result (λ kind. (k : Kind) → column row.now 1 ≡ Int (pos (kind_number k))
+        → kind ≡ k) }
     ensures cause { IfErr result (λ e. refusal_of e ≡ Database → IsReadable row.now → ⊥) }
 {
     let number: u32 = row.get(1)?;
@@ -58,13 +59,23 @@ fn kind_of(row: &Row) -> Result<Kind, Error>
 /// How many octets are under a digest that an entry names.
 fn size_of<S: Alter>(tx: &mut Transaction<'_, S>, digest: &[u8]) -> Result<u64, Error>
     ensures same_reference { tx.new.conn.ghost_name ≡ tx.old.conn.ghost_name }
-    ensures told { HasCleanDisk (state S.Store tx.new.conn.now) → IfOk result (λ size. (before : _) → Stands (state S.Store tx.old.conn.now).now before → (octets : List ℕ) → HasContent ((state S.Store tx.old.conn.now).now.trees contents_tree) digest.now octets → size ≡ length octets) }
-    ensures same { HasCleanDisk (state S.Store tx.new.conn.now) → OnOk result (Stays (state S.Store tx.old.conn.now) (state S.Store tx.new.conn.now)) }
-    ensures kept { HasCleanDisk (state S.Store tx.new.conn.now) → (state S.Store tx.old.conn.now).now.schema ≡ store_schema → KeepsCommit (state S.Store tx.old.conn.now) (state S.Store tx.new.conn.now) }
-    ensures cause { HasCleanDisk (state S.Store tx.new.conn.now) → IfErr result (λ e. (octets : List ℕ)
+    ensures told { HasCleanDisk (state S.Store tx.new.conn.now)
+        → IfOk result (λ size. (before : _) → Stands (state S.Store tx.old.conn.now).now before
+        → (octets : List ℕ) → HasContent
+        ((state S.Store tx.old.conn.now).now.trees contents_tree) digest.now octets
+        → size ≡ length octets) }
+    ensures same { HasCleanDisk (state S.Store tx.new.conn.now)
+        → OnOk result (Stays (state S.Store tx.old.conn.now) (state S.Store tx.new.conn.now)) }
+    ensures kept { HasCleanDisk (state S.Store tx.new.conn.now)
+        → (state S.Store tx.old.conn.now).now.schema ≡ store_schema
+        → KeepsCommit (state S.Store tx.old.conn.now) (state S.Store tx.new.conn.now) }
+    ensures cause { HasCleanDisk (state S.Store tx.new.conn.now)
+        → IfErr result (λ e. (octets : List ℕ)
         → HasContent ((state S.Store tx.old.conn.now).now.trees contents_tree) digest.now octets
-        → Blames (state S.Store tx.old.conn.now) (state S.Store tx.new.conn.now) (refusal_of e)) }
-    ensures survives { Survives (state S.Store tx.old.conn.now) (state S.Store tx.new.conn.now) (λ _. ⊥) }
+        → Blames (state S.Store tx.old.conn.now) (state S.Store tx.new.conn.now)
+        (refusal_of e)) }
+    ensures survives { Survives (state S.Store tx.old.conn.now) (state S.Store tx.new.conn.now)
+        (λ _. ⊥) }
 {
     match contents::size(tx, digest)? {
         Some(row) => row.get(0),
@@ -75,13 +86,20 @@ fn size_of<S: Alter>(tx: &mut Transaction<'_, S>, digest: &[u8]) -> Result<u64, 
 /// The entry that a row of the answer to a listing shows.
 fn read_row<S: Alter>(tx: &mut Transaction<'_, S>, row: &Row) -> Result<EntryRow, Error>
     ensures same_reference { tx.new.conn.ghost_name ≡ tx.old.conn.ghost_name }
-    ensures told { HasCleanDisk (state S.Store tx.new.conn.now) → IfOk result (λ entry. (before : _) → Stands (state S.Store tx.old.conn.now).now before → (x : _) → Shows (state S.Store tx.old.conn.now).now.trees row.now x → listed entry ≡ listing_of x) }
-    ensures same { HasCleanDisk (state S.Store tx.new.conn.now) → OnOk result (Stays (state S.Store tx.old.conn.now) (state S.Store tx.new.conn.now)) }
-    ensures kept { HasCleanDisk (state S.Store tx.new.conn.now) → (state S.Store tx.old.conn.now).now.schema ≡ store_schema → KeepsCommit (state S.Store tx.old.conn.now) (state S.Store tx.new.conn.now) }
+    ensures told { HasCleanDisk (state S.Store tx.new.conn.now)
+        → IfOk result (λ entry. (before : _) → Stands (state S.Store tx.old.conn.now).now before
+        → (x : _) → Shows (state S.Store tx.old.conn.now).now.trees row.now x
+        → listed entry ≡ listing_of x) }
+    ensures same { HasCleanDisk (state S.Store tx.new.conn.now)
+        → OnOk result (Stays (state S.Store tx.old.conn.now) (state S.Store tx.new.conn.now)) }
+    ensures kept { HasCleanDisk (state S.Store tx.new.conn.now)
+        → (state S.Store tx.old.conn.now).now.schema ≡ store_schema
+        → KeepsCommit (state S.Store tx.old.conn.now) (state S.Store tx.new.conn.now) }
     ensures cause { HasCleanDisk (state S.Store tx.new.conn.now) → IfErr result (λ e. (x : _)
         → Shows (state S.Store tx.old.conn.now).now.trees row.now x → x.number ≤ max_entry_number
         → Blames (state S.Store tx.old.conn.now) (state S.Store tx.new.conn.now) (refusal_of e)) }
-    ensures survives { Survives (state S.Store tx.old.conn.now) (state S.Store tx.new.conn.now) (λ _. ⊥) }
+    ensures survives { Survives (state S.Store tx.old.conn.now) (state S.Store tx.new.conn.now)
+        (λ _. ⊥) }
 {
     let Parts {
         number,
@@ -108,14 +126,22 @@ pub(crate) fn list_all<S: Alter>(
     user: &str,
 ) -> Result<Vec<EntryRow>, StoreError>
     ensures same_reference { tx.new.conn.ghost_name ≡ tx.old.conn.ghost_name }
-    ensures told { HasCleanDisk (state S.Store tx.new.conn.now) → IfOk result (λ rows. (before : _) → Stands (state S.Store tx.old.conn.now).now before → map listed rows.items ≡ map listing_of (entries_of user.now before)) }
-    ensures open { HasCleanDisk (state S.Store tx.new.conn.now) → OnOk result (IsTrue (state S.Store tx.old.conn.now).is_open) }
-    ensures shut { HasCleanDisk (state S.Store tx.new.conn.now) → IsTrue (state S.Store tx.new.conn.now).is_open → IsTrue (state S.Store tx.old.conn.now).is_open }
-    ensures kept { HasCleanDisk (state S.Store tx.new.conn.now) → (state S.Store tx.old.conn.now).now.schema ≡ store_schema → KeepsCommit (state S.Store tx.old.conn.now) (state S.Store tx.new.conn.now) }
+    ensures told { HasCleanDisk (state S.Store tx.new.conn.now)
+        → IfOk result (λ rows. (before : _) → Stands (state S.Store tx.old.conn.now).now before
+        → map listed rows.items ≡ map listing_of (entries_of user.now before)) }
+    ensures open { HasCleanDisk (state S.Store tx.new.conn.now)
+        → OnOk result (IsTrue (state S.Store tx.old.conn.now).is_open) }
+    ensures shut { HasCleanDisk (state S.Store tx.new.conn.now)
+        → IsTrue (state S.Store tx.new.conn.now).is_open
+        → IsTrue (state S.Store tx.old.conn.now).is_open }
+    ensures kept { HasCleanDisk (state S.Store tx.new.conn.now)
+        → (state S.Store tx.old.conn.now).now.schema ≡ store_schema
+        → KeepsCommit (state S.Store tx.old.conn.now) (state S.Store tx.new.conn.now) }
     ensures refused { IfErr result (λ e. (e ≡ Memory) ⊎ (e ≡ Database)) }
     ensures cause { HasCleanDisk (state S.Store tx.new.conn.now) → IfErr result
         (Blames (state S.Store tx.old.conn.now) (state S.Store tx.new.conn.now)) }
-    ensures survives { Survives (state S.Store tx.old.conn.now) (state S.Store tx.new.conn.now) (λ _. ⊥) }
+    ensures survives { Survives (state S.Store tx.old.conn.now) (state S.Store tx.new.conn.now)
+        (λ _. ⊥) }
 {
     let rows = entries::list(tx, user)?;
     let mut listed = Vec::new(*rows.allocator());

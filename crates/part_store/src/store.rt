@@ -79,7 +79,8 @@ fn begin<S: Alter>(conn: &mut Connection<S>) -> Transaction<'_, S>
     requires { conn.old.in_transaction ≡ false }
     ensures same_reference { result.conn.ghost_name ≡ conn.entry.ghost_name }
     ensures begun { result.conn.now ≡ record conn.old { in_transaction = true } }
-    ensures settled { IsTrue (state S.Store conn.old).is_open → (state S.Store conn.old).now ≡ (state S.Store conn.old).committed }
+    ensures settled { IsTrue (state S.Store conn.old).is_open
+        → (state S.Store conn.old).now ≡ (state S.Store conn.old).committed }
 {
     // What holds of every connection is known where it is asked.
     let _settled = conn.is_autocommit();
@@ -88,10 +89,15 @@ fn begin<S: Alter>(conn: &mut Connection<S>) -> Transaction<'_, S>
 
 fn create_tables<S: Alter>(tx: &mut Transaction<'_, S>) -> Result<(), Error>
     ensures same_reference { tx.new.conn.ghost_name ≡ tx.old.conn.ghost_name }
-    ensures step { HasCleanDisk (state S.Store tx.new.conn.now) → OnOk result ((state S.Store tx.old.conn.now).now.schema ≡ no_schema → Stands (state S.Store tx.new.conn.now).now no_entries) }
-    ensures inside { HasCleanDisk (state S.Store tx.new.conn.now) → OnOk result (IsTrue (state S.Store tx.new.conn.now).in_transaction) }
-    ensures kept { HasCleanDisk (state S.Store tx.new.conn.now) → KeepsCommit (state S.Store tx.old.conn.now) (state S.Store tx.new.conn.now) }
-    ensures survives { Survives (state S.Store tx.old.conn.now) (state S.Store tx.new.conn.now) (λ _. ⊥) }
+    ensures step { HasCleanDisk (state S.Store tx.new.conn.now)
+        → OnOk result ((state S.Store tx.old.conn.now).now.schema ≡ no_schema
+        → Stands (state S.Store tx.new.conn.now).now no_entries) }
+    ensures inside { HasCleanDisk (state S.Store tx.new.conn.now)
+        → OnOk result (IsTrue (state S.Store tx.new.conn.now).in_transaction) }
+    ensures kept { HasCleanDisk (state S.Store tx.new.conn.now)
+        → KeepsCommit (state S.Store tx.old.conn.now) (state S.Store tx.new.conn.now) }
+    ensures survives { Survives (state S.Store tx.old.conn.now) (state S.Store tx.new.conn.now)
+        (λ _. ⊥) }
 {
     tables::create_users(tx)?;
     tables::create_contents(tx)?;
@@ -101,15 +107,21 @@ fn create_tables<S: Alter>(tx: &mut Transaction<'_, S>) -> Result<(), Error>
 
 /// Makes the tables in a database that has none, and leaves another as it is.
 fn ready_tables<S: Alter>(conn: &mut Connection<S>) -> Result<(), StoreError>
-    ensures made { HasCleanDisk (state S.Store conn.new) → OnOk result (IsBare (state S.Store conn.old) → IsEmptied (state S.Store conn.new)) }
+    ensures made { HasCleanDisk (state S.Store conn.new)
+        → OnOk result (IsBare (state S.Store conn.old) → IsEmptied (state S.Store conn.new)) }
     ensures same { OnOk result ((IsBare (state S.Store conn.old) → ⊥) → conn.new ≡ conn.old) }
     ensures settled { OnOk result ((state S.Store conn.new).in_transaction ≡ false) }
-    ensures mode { (state S.Store conn.new).in_transaction ≡ (state S.Store conn.old).in_transaction }
+    ensures mode { (state S.Store conn.new).in_transaction
+        ≡ (state S.Store conn.old).in_transaction }
     ensures inside { IsTrue (state S.Store conn.old).in_transaction → result ≡ Err Database }
-    ensures bare { OnErr result ((state S.Store conn.old).in_transaction ≡ false → IsBare (state S.Store conn.old)) }
-    ensures spared { HasCleanDisk (state S.Store conn.new) → OnErr result (IsTrue (state S.Store conn.new).is_open → IsKept (state S.Store conn.old) (state S.Store conn.new)) }
+    ensures bare { OnErr result ((state S.Store conn.old).in_transaction ≡ false
+        → IsBare (state S.Store conn.old)) }
+    ensures spared { HasCleanDisk (state S.Store conn.new)
+        → OnErr result (IsTrue (state S.Store conn.new).is_open
+        → IsKept (state S.Store conn.old) (state S.Store conn.new)) }
     ensures refused { IfErr result (λ e. (e ≡ Memory) ⊎ (e ≡ Database)) }
-    ensures survives { Survives (state S.Store conn.old) (state S.Store conn.new) (MakesEmpty (state S.Store conn.old)) }
+    ensures survives { Survives (state S.Store conn.old) (state S.Store conn.new)
+        (MakesEmpty (state S.Store conn.old)) }
 {
     if !conn.is_autocommit() {
         return Err(StoreError::Database);
@@ -130,16 +142,29 @@ fn digest_of<S: Alter>(
     number: u32,
 ) -> Result<Option<Vec<u8>>, Error>
     ensures same_reference { tx.new.conn.ghost_name ≡ tx.old.conn.ghost_name }
-    ensures told { HasCleanDisk (state S.Store tx.new.conn.now) → IfOk result (λ found. (before : _) → Stands (state S.Store tx.old.conn.now).now before → MatchOption found (HasNone before user.now number) (λ digest. NamesDigest (state S.Store tx.old.conn.now).now.trees user.now number digest.items)) }
-    ensures open { HasCleanDisk (state S.Store tx.new.conn.now) → OnOk result (IsTrue (state S.Store tx.old.conn.now).is_open) }
-    ensures shut { HasCleanDisk (state S.Store tx.new.conn.now) → IsTrue (state S.Store tx.new.conn.now).is_open → IsTrue (state S.Store tx.old.conn.now).is_open }
-    ensures same { HasCleanDisk (state S.Store tx.new.conn.now) → OnOk result (Stays (state S.Store tx.old.conn.now) (state S.Store tx.new.conn.now)) }
-    ensures inside { HasCleanDisk (state S.Store tx.new.conn.now) → OnOk result ((state S.Store tx.old.conn.now).now.schema ≡ store_schema
-        → IsTrue (state S.Store tx.old.conn.now).in_transaction → IsTrue (state S.Store tx.new.conn.now).in_transaction) }
-    ensures kept { HasCleanDisk (state S.Store tx.new.conn.now) → (state S.Store tx.old.conn.now).now.schema ≡ store_schema → KeepsCommit (state S.Store tx.old.conn.now) (state S.Store tx.new.conn.now) }
+    ensures told { HasCleanDisk (state S.Store tx.new.conn.now)
+        → IfOk result (λ found. (before : _) → Stands (state S.Store tx.old.conn.now).now before
+        → MatchOption found (HasNone before user.now number)
+        (λ digest. NamesDigest (state S.Store tx.old.conn.now).now.trees user.now number
+        digest.items)) }
+    ensures open { HasCleanDisk (state S.Store tx.new.conn.now)
+        → OnOk result (IsTrue (state S.Store tx.old.conn.now).is_open) }
+    ensures shut { HasCleanDisk (state S.Store tx.new.conn.now)
+        → IsTrue (state S.Store tx.new.conn.now).is_open
+        → IsTrue (state S.Store tx.old.conn.now).is_open }
+    ensures same { HasCleanDisk (state S.Store tx.new.conn.now)
+        → OnOk result (Stays (state S.Store tx.old.conn.now) (state S.Store tx.new.conn.now)) }
+    ensures inside { HasCleanDisk (state S.Store tx.new.conn.now)
+        → OnOk result ((state S.Store tx.old.conn.now).now.schema ≡ store_schema
+        → IsTrue (state S.Store tx.old.conn.now).in_transaction
+        → IsTrue (state S.Store tx.new.conn.now).in_transaction) }
+    ensures kept { HasCleanDisk (state S.Store tx.new.conn.now)
+        → (state S.Store tx.old.conn.now).now.schema ≡ store_schema
+        → KeepsCommit (state S.Store tx.old.conn.now) (state S.Store tx.new.conn.now) }
     ensures cause { HasCleanDisk (state S.Store tx.new.conn.now) → IfErr result (λ e.
         Blames (state S.Store tx.old.conn.now) (state S.Store tx.new.conn.now) (refusal_of e)) }
-    ensures survives { Survives (state S.Store tx.old.conn.now) (state S.Store tx.new.conn.now) (λ _. ⊥) }
+    ensures survives { Survives (state S.Store tx.old.conn.now) (state S.Store tx.new.conn.now)
+        (λ _. ⊥) }
 {
     match entries::find(tx, user, number)? {
         Some(row) => Ok(Some(row.get(0)?)),
@@ -150,13 +175,20 @@ fn digest_of<S: Alter>(
 /// The content under a digest that an entry names.
 fn content_of<S: Alter>(tx: &mut Transaction<'_, S>, digest: &[u8]) -> Result<Vec<u8>, Error>
     ensures same_reference { tx.new.conn.ghost_name ≡ tx.old.conn.ghost_name }
-    ensures told { HasCleanDisk (state S.Store tx.new.conn.now) → IfOk result (λ octets. (before : _) → Stands (state S.Store tx.old.conn.now).now before → HasContent ((state S.Store tx.old.conn.now).now.trees contents_tree) digest.now octets.items) }
-    ensures same { HasCleanDisk (state S.Store tx.new.conn.now) → OnOk result (Stays (state S.Store tx.old.conn.now) (state S.Store tx.new.conn.now)) }
-    ensures kept { HasCleanDisk (state S.Store tx.new.conn.now) → (state S.Store tx.old.conn.now).now.schema ≡ store_schema → KeepsCommit (state S.Store tx.old.conn.now) (state S.Store tx.new.conn.now) }
+    ensures told { HasCleanDisk (state S.Store tx.new.conn.now)
+        → IfOk result (λ octets. (before : _) → Stands (state S.Store tx.old.conn.now).now before
+        → HasContent ((state S.Store tx.old.conn.now).now.trees contents_tree) digest.now
+        octets.items) }
+    ensures same { HasCleanDisk (state S.Store tx.new.conn.now)
+        → OnOk result (Stays (state S.Store tx.old.conn.now) (state S.Store tx.new.conn.now)) }
+    ensures kept { HasCleanDisk (state S.Store tx.new.conn.now)
+        → (state S.Store tx.old.conn.now).now.schema ≡ store_schema
+        → KeepsCommit (state S.Store tx.old.conn.now) (state S.Store tx.new.conn.now) }
     ensures cause { HasCleanDisk (state S.Store tx.new.conn.now) → IfErr result (λ e. (octets : _)
         → HasContent ((state S.Store tx.old.conn.now).now.trees contents_tree) digest.now octets
         → Blames (state S.Store tx.old.conn.now) (state S.Store tx.new.conn.now) (refusal_of e)) }
-    ensures survives { Survives (state S.Store tx.old.conn.now) (state S.Store tx.new.conn.now) (λ _. ⊥) }
+    ensures survives { Survives (state S.Store tx.old.conn.now) (state S.Store tx.new.conn.now)
+        (λ _. ⊥) }
 {
     match contents::find(tx, digest)? {
         Some(row) => row.get(0),
@@ -170,13 +202,22 @@ fn read_bytes<S: Alter>(
     number: u32,
 ) -> Result<Option<Vec<u8>>, Error>
     ensures same_reference { tx.new.conn.ghost_name ≡ tx.old.conn.ghost_name }
-    ensures told { HasCleanDisk (state S.Store tx.new.conn.now) → IfOk result (λ found. (before : _) → Stands (state S.Store tx.old.conn.now).now before → MatchOption found (HasNone before user.now number) (λ octets. (x : _) × IsEntryAt before user.now number x × (octets.items ≡ x.octets))) }
-    ensures open { HasCleanDisk (state S.Store tx.new.conn.now) → OnOk result (IsTrue (state S.Store tx.old.conn.now).is_open) }
-    ensures shut { HasCleanDisk (state S.Store tx.new.conn.now) → IsTrue (state S.Store tx.new.conn.now).is_open → IsTrue (state S.Store tx.old.conn.now).is_open }
-    ensures kept { HasCleanDisk (state S.Store tx.new.conn.now) → (state S.Store tx.old.conn.now).now.schema ≡ store_schema → KeepsCommit (state S.Store tx.old.conn.now) (state S.Store tx.new.conn.now) }
+    ensures told { HasCleanDisk (state S.Store tx.new.conn.now)
+        → IfOk result (λ found. (before : _) → Stands (state S.Store tx.old.conn.now).now before
+        → MatchOption found (HasNone before user.now number)
+        (λ octets. (x : _) × IsEntryAt before user.now number x × (octets.items ≡ x.octets))) }
+    ensures open { HasCleanDisk (state S.Store tx.new.conn.now)
+        → OnOk result (IsTrue (state S.Store tx.old.conn.now).is_open) }
+    ensures shut { HasCleanDisk (state S.Store tx.new.conn.now)
+        → IsTrue (state S.Store tx.new.conn.now).is_open
+        → IsTrue (state S.Store tx.old.conn.now).is_open }
+    ensures kept { HasCleanDisk (state S.Store tx.new.conn.now)
+        → (state S.Store tx.old.conn.now).now.schema ≡ store_schema
+        → KeepsCommit (state S.Store tx.old.conn.now) (state S.Store tx.new.conn.now) }
     ensures cause { HasCleanDisk (state S.Store tx.new.conn.now) → IfErr result (λ e.
         Blames (state S.Store tx.old.conn.now) (state S.Store tx.new.conn.now) (refusal_of e)) }
-    ensures survives { Survives (state S.Store tx.old.conn.now) (state S.Store tx.new.conn.now) (λ _. ⊥) }
+    ensures survives { Survives (state S.Store tx.old.conn.now) (state S.Store tx.new.conn.now)
+        (λ _. ⊥) }
 {
     let Some(digest) = digest_of(tx, user, number)? else {
         return Ok(None);
@@ -187,11 +228,17 @@ fn read_bytes<S: Alter>(
 /// Takes out what is under a digest that no entry names.
 fn tidy<S: Alter>(tx: &mut Transaction<'_, S>, digest: &[u8]) -> Result<(), Error>
     ensures same_reference { tx.new.conn.ghost_name ≡ tx.old.conn.ghost_name }
-    ensures tidied { HasCleanDisk (state S.Store tx.new.conn.now) → OnOk result ((state S.Store tx.old.conn.now).now.schema ≡ store_schema → IsTidied digest.now (state S.Store tx.old.conn.now) (state S.Store tx.new.conn.now)) }
-    ensures kept { HasCleanDisk (state S.Store tx.new.conn.now) → (state S.Store tx.old.conn.now).now.schema ≡ store_schema → KeepsCommit (state S.Store tx.old.conn.now) (state S.Store tx.new.conn.now) }
-    ensures fault { HasCleanDisk (state S.Store tx.new.conn.now) → IfErr result (λ e. IsTableIn contents_tree (state S.Store tx.old.conn.now).now.trees
+    ensures tidied { HasCleanDisk (state S.Store tx.new.conn.now)
+        → OnOk result ((state S.Store tx.old.conn.now).now.schema ≡ store_schema
+        → IsTidied digest.now (state S.Store tx.old.conn.now) (state S.Store tx.new.conn.now)) }
+    ensures kept { HasCleanDisk (state S.Store tx.new.conn.now)
+        → (state S.Store tx.old.conn.now).now.schema ≡ store_schema
+        → KeepsCommit (state S.Store tx.old.conn.now) (state S.Store tx.new.conn.now) }
+    ensures fault { HasCleanDisk (state S.Store tx.new.conn.now)
+        → IfErr result (λ e. IsTableIn contents_tree (state S.Store tx.old.conn.now).now.trees
         → WriteFaults (state S.Store tx.old.conn.now) (state S.Store tx.new.conn.now) e) }
-    ensures survives { Survives (state S.Store tx.old.conn.now) (state S.Store tx.new.conn.now) (λ _. ⊥) }
+    ensures survives { Survives (state S.Store tx.old.conn.now) (state S.Store tx.new.conn.now)
+        (λ _. ⊥) }
 {
     match entries::naming(tx, digest)? {
         Some(_) => Ok(()),
@@ -205,15 +252,33 @@ fn tidy<S: Alter>(tx: &mut Transaction<'_, S>, digest: &[u8]) -> Result<(), Erro
 /// Takes a user's entry out. Answers false where he has no such entry.
 fn take_entry<S: Alter>(tx: &mut Transaction<'_, S>, user: &str, number: u32) -> Result<bool, Error>
     ensures same_reference { tx.new.conn.ghost_name ≡ tx.old.conn.ghost_name }
-    ensures taken { HasCleanDisk (state S.Store tx.new.conn.now) → IfOk result (λ done. done ≡ true → Brings (without_entry user.now number) (state S.Store tx.old.conn.now) (state S.Store tx.new.conn.now)) }
-    ensures there { HasCleanDisk (state S.Store tx.new.conn.now) → IfOk result (λ done. done ≡ true → (before : _) → Stands (state S.Store tx.old.conn.now).now before → (x : _) × IsEntryAt before user.now number x) }
-    ensures none { HasCleanDisk (state S.Store tx.new.conn.now) → IfOk result (λ done. done ≡ false → (before : _) → Stands (state S.Store tx.old.conn.now).now before → HasNone before user.now number) }
-    ensures inside { HasCleanDisk (state S.Store tx.new.conn.now) → IfOk result (λ done. done ≡ true → (state S.Store tx.old.conn.now).now.schema ≡ store_schema → IsTrue (state S.Store tx.new.conn.now).in_transaction) }
-    ensures shut { HasCleanDisk (state S.Store tx.new.conn.now) → IsTrue (state S.Store tx.new.conn.now).is_open → IsTrue (state S.Store tx.old.conn.now).is_open }
-    ensures kept { HasCleanDisk (state S.Store tx.new.conn.now) → (state S.Store tx.old.conn.now).now.schema ≡ store_schema → KeepsCommit (state S.Store tx.old.conn.now) (state S.Store tx.new.conn.now) }
-    ensures cause { HasCleanDisk (state S.Store tx.new.conn.now) → IfErr result (λ e. IsTrue (state S.Store tx.old.conn.now).in_transaction
-        → Blames (state S.Store tx.old.conn.now) (state S.Store tx.new.conn.now) (refusal_of e)) }
-    ensures survives { Survives (state S.Store tx.old.conn.now) (state S.Store tx.new.conn.now) (λ _. ⊥) }
+    ensures taken { HasCleanDisk (state S.Store tx.new.conn.now)
+        → IfOk result (λ done. done ≡ true
+        → Brings (without_entry user.now number) (state S.Store tx.old.conn.now)
+        (state S.Store tx.new.conn.now)) }
+    ensures there { HasCleanDisk (state S.Store tx.new.conn.now)
+        → IfOk result (λ done. done ≡ true → (before : _)
+        → Stands (state S.Store tx.old.conn.now).now before
+        → (x : _) × IsEntryAt before user.now number x) }
+    ensures none { HasCleanDisk (state S.Store tx.new.conn.now)
+        → IfOk result (λ done. done ≡ false → (before : _)
+        → Stands (state S.Store tx.old.conn.now).now before → HasNone before user.now number) }
+    ensures inside { HasCleanDisk (state S.Store tx.new.conn.now)
+        → IfOk result (λ done. done ≡ true
+        → (state S.Store tx.old.conn.now).now.schema ≡ store_schema
+        → IsTrue (state S.Store tx.new.conn.now).in_transaction) }
+    ensures shut { HasCleanDisk (state S.Store tx.new.conn.now)
+        → IsTrue (state S.Store tx.new.conn.now).is_open
+        → IsTrue (state S.Store tx.old.conn.now).is_open }
+    ensures kept { HasCleanDisk (state S.Store tx.new.conn.now)
+        → (state S.Store tx.old.conn.now).now.schema ≡ store_schema
+        → KeepsCommit (state S.Store tx.old.conn.now) (state S.Store tx.new.conn.now) }
+    ensures cause { HasCleanDisk (state S.Store tx.new.conn.now)
+        → IfErr result (λ e. IsTrue (state S.Store tx.old.conn.now).in_transaction
+        → Blames (state S.Store tx.old.conn.now) (state S.Store tx.new.conn.now)
+        (refusal_of e)) }
+    ensures survives { Survives (state S.Store tx.old.conn.now) (state S.Store tx.new.conn.now)
+        (λ _. ⊥) }
 {
     let Some(digest) = digest_of(tx, user, number)? else {
         return Ok(false);
@@ -229,16 +294,26 @@ impl<S: Alter> PartStore<S> {
     /// `Database`, hands the connection back, with what it shows and what is committed as they were, unless a failure has shut it, and
     /// in a transaction if it was in one. One in a transaction is refused `Database`; of the others only one without tables is refused.
     pub fn adopt(conn: Connection<S>) -> Result<PartStore<S>, (StoreError, Connection<S>)>
-        ensures made { IfOk result (λ s. HasCleanDisk (state S.Store s) → IsBare (state S.Store conn) → IsEmptied (state S.Store s)) }
+        ensures made { IfOk result (λ s. HasCleanDisk (state S.Store s)
+            → IsBare (state S.Store conn) → IsEmptied (state S.Store s)) }
         ensures same { IfOk result (λ s. (IsBare (state S.Store conn) → ⊥) → s ≡ conn) }
         ensures settled { IfOk result (λ s. (state S.Store s).in_transaction ≡ false) }
-        ensures spared { IfErr result (λ e. HasCleanDisk (state S.Store e.1) → IsTrue (state S.Store e.1).is_open → IsKept (state S.Store conn) (state S.Store e.1)) }
-        ensures mode { IfErr result (λ e. (state S.Store e.1).in_transaction ≡ (state S.Store conn).in_transaction) }
-        ensures inside { IsTrue (state S.Store conn).in_transaction → IsErrAnd result (λ e. e.0 ≡ Database) }
-        ensures bare { IfErr result (λ e. (state S.Store conn).in_transaction ≡ false → IsBare (state S.Store conn)) }
+        ensures spared { IfErr result
+            (λ e. HasCleanDisk (state S.Store e.1) → IsTrue (state S.Store e.1).is_open
+            → IsKept (state S.Store conn) (state S.Store e.1)) }
+        ensures mode { IfErr result
+            (λ e. (state S.Store e.1).in_transaction ≡ (state S.Store conn).in_transaction) }
+        ensures inside { IsTrue (state S.Store conn).in_transaction
+            → IsErrAnd result (λ e. e.0 ≡ Database) }
+        ensures bare { IfErr result
+            (λ e. (state S.Store conn).in_transaction ≡ false → IsBare (state S.Store conn)) }
         ensures refused { IfErr result (λ e. (e.0 ≡ Memory) ⊎ (e.0 ≡ Database)) }
-        ensures survives { IfOk result (λ s. Survives (state S.Store conn) (state S.Store s) (MakesEmpty (state S.Store conn))) }
-        ensures broken { IfErr result (λ e. Survives (state S.Store conn) (state S.Store e.1) (MakesEmpty (state S.Store conn))) }
+        ensures survives { IfOk result
+            (λ s. Survives (state S.Store conn) (state S.Store s)
+            (MakesEmpty (state S.Store conn))) }
+        ensures broken { IfErr result
+            (λ e. Survives (state S.Store conn) (state S.Store e.1)
+            (MakesEmpty (state S.Store conn))) }
     {
         let mut conn = conn;
         match ready_tables(&mut conn) {
@@ -254,8 +329,11 @@ impl<S: Alter> PartStore<S> {
         ensures tables { IfOk result (λ s. are_tables (state S.Store s).now.schema.tables ≡ true) }
         ensures settled { IfOk result (λ s. (state S.Store s).in_transaction ≡ false) }
         ensures returned { IfErr result (λ c. c ≡ conn) }
-        ensures others { IfErr result (λ c. (state S.Store c).in_transaction ≡ false → (state S.Store c).now.schema ≢ store_schema) }
-        ensures apart { IfErr result (λ c. (state S.Store c).in_transaction ≡ false → HasOtherTables (state S.Store c)) }
+        ensures others { IfErr result
+            (λ c. (state S.Store c).in_transaction ≡ false
+            → (state S.Store c).now.schema ≢ store_schema) }
+        ensures apart { IfErr result
+            (λ c. (state S.Store c).in_transaction ≡ false → HasOtherTables (state S.Store c)) }
     {
         if conn.is_autocommit() && has_tables(conn.schema()) {
             Ok(PartStore { conn })
@@ -275,12 +353,17 @@ impl<S: Alter> PartStore<S> {
 
     /// Stores the user's program in place of the one before. Refuses `Memory`, and `Database` also where the user's row has no room.
     pub fn set_program(&mut self, user: &str, program: &[u8]) -> Result<(), StoreError>
-        ensures made { HasCleanDisk (state S.Store self.new) → OnOk result (Makes (with_program user.now program.now) (state S.Store self.old) (state S.Store self.new)) }
-        ensures spared { HasCleanDisk (state S.Store self.new) → OnErr result (Spares (state S.Store self.old) (state S.Store self.new)) }
+        ensures made { HasCleanDisk (state S.Store self.new)
+            → OnOk result (Makes (with_program user.now program.now) (state S.Store self.old)
+            (state S.Store self.new)) }
+        ensures spared { HasCleanDisk (state S.Store self.new)
+            → OnErr result (Spares (state S.Store self.old) (state S.Store self.new)) }
         ensures refused { IfErr result (λ e. (e ≡ Memory) ⊎ (e ≡ Database)) }
-        ensures cause { HasCleanDisk (state S.Store self.new) → IfErr result
-            (BlamesRow user.now (with_program user.now program.now) (state S.Store self.old) (state S.Store self.new)) }
-        ensures survives { Survives (state S.Store self.old) (state S.Store self.new) (λ trees. MayMake (with_program user.now program.now) (state S.Store self.old) trees) }
+        ensures cause { HasCleanDisk (state S.Store self.new)
+            → IfErr result (BlamesRow user.now (with_program user.now program.now)
+            (state S.Store self.old) (state S.Store self.new)) }
+        ensures survives { Survives (state S.Store self.old) (state S.Store self.new)
+            (λ trees. MayMake (with_program user.now program.now) (state S.Store self.old) trees) }
     {
         let mut tx = begin(&mut self.conn);
         put_program(&mut tx, user, program)?;
@@ -290,10 +373,16 @@ impl<S: Alter> PartStore<S> {
 
     /// The user's program, or none where he has none. Refuses `Memory` and `Database`.
     pub fn program_of(&mut self, user: &str) -> Result<Option<Vec<u8>>, StoreError>
-        ensures told { HasCleanDisk (state S.Store self.new) → IfOk result (λ found. (before : _) → Stands (state S.Store self.old).now before → option_map (λ v. v.items) found ≡ before.programs user.now) }
-        ensures open { HasCleanDisk (state S.Store self.new) → OnOk result (IsTrue (state S.Store self.old).is_open) }
-        ensures spared { HasCleanDisk (state S.Store self.new) → Spares (state S.Store self.old) (state S.Store self.new) }
-        ensures settled { HasCleanDisk (state S.Store self.new) → IsTrue (state S.Store self.new).is_open → (state S.Store self.new).committed ≡ (state S.Store self.new).now }
+        ensures told { HasCleanDisk (state S.Store self.new)
+            → IfOk result (λ found. (before : _) → Stands (state S.Store self.old).now before
+            → option_map (λ v. v.items) found ≡ before.programs user.now) }
+        ensures open { HasCleanDisk (state S.Store self.new)
+            → OnOk result (IsTrue (state S.Store self.old).is_open) }
+        ensures spared { HasCleanDisk (state S.Store self.new)
+            → Spares (state S.Store self.old) (state S.Store self.new) }
+        ensures settled { HasCleanDisk (state S.Store self.new)
+            → IsTrue (state S.Store self.new).is_open
+            → (state S.Store self.new).committed ≡ (state S.Store self.new).now }
         ensures refused { IfErr result (λ e. (e ≡ Memory) ⊎ (e ≡ Database)) }
         ensures cause { HasCleanDisk (state S.Store self.new) → IfErr result
             (Blames (state S.Store self.old) (state S.Store self.new)) }
@@ -306,11 +395,15 @@ impl<S: Alter> PartStore<S> {
     /// The users that have a program, in the order of their names, with their programs. Refuses `Memory`, and `Database` also where
     /// a user's name in the table isn't UTF-8.
     pub fn programs(&mut self) -> Result<Vec<(String, Vec<u8>)>, StoreError>
-        ensures told { HasCleanDisk (state S.Store self.new) → IfOk result (λ programs.
-            (before : _) → Stands (state S.Store self.old).now before → AreProgramsOf before (map pair_of programs.items)) }
-        ensures open { HasCleanDisk (state S.Store self.new) → OnOk result (IsTrue (state S.Store self.old).is_open) }
-        ensures spared { HasCleanDisk (state S.Store self.new) → Spares (state S.Store self.old) (state S.Store self.new) }
-        ensures settled { HasCleanDisk (state S.Store self.new) → IsTrue (state S.Store self.new).is_open
+        ensures told { HasCleanDisk (state S.Store self.new)
+            → IfOk result (λ programs. (before : _) → Stands (state S.Store self.old).now before
+            → AreProgramsOf before (map pair_of programs.items)) }
+        ensures open { HasCleanDisk (state S.Store self.new)
+            → OnOk result (IsTrue (state S.Store self.old).is_open) }
+        ensures spared { HasCleanDisk (state S.Store self.new)
+            → Spares (state S.Store self.old) (state S.Store self.new) }
+        ensures settled { HasCleanDisk (state S.Store self.new)
+            → IsTrue (state S.Store self.new).is_open
             → (state S.Store self.new).committed ≡ (state S.Store self.new).now }
         ensures refused { IfErr result (λ e. (e ≡ Memory) ⊎ (e ≡ Database)) }
         ensures cause { HasCleanDisk (state S.Store self.new) → IfErr result
@@ -324,11 +417,16 @@ impl<S: Alter> PartStore<S> {
     /// All users, each with the last number and the program, in the order of their names. Refuses `Memory`, and `Database` also where
     /// a user's name in the table isn't UTF-8.
     pub fn users(&mut self) -> Result<Vec<UserRow>, StoreError>
-        ensures told { HasCleanDisk (state S.Store self.new) → IfOk result (λ users. (before : _) → Stands (state S.Store self.old).now before
-            → AreUsersOf ((state S.Store self.old).now.trees users_tree) before (map line_of users.items)) }
-        ensures open { HasCleanDisk (state S.Store self.new) → OnOk result (IsTrue (state S.Store self.old).is_open) }
-        ensures spared { HasCleanDisk (state S.Store self.new) → Spares (state S.Store self.old) (state S.Store self.new) }
-        ensures settled { HasCleanDisk (state S.Store self.new) → IsTrue (state S.Store self.new).is_open
+        ensures told { HasCleanDisk (state S.Store self.new)
+            → IfOk result (λ users. (before : _) → Stands (state S.Store self.old).now before
+            → AreUsersOf ((state S.Store self.old).now.trees users_tree) before
+            (map line_of users.items)) }
+        ensures open { HasCleanDisk (state S.Store self.new)
+            → OnOk result (IsTrue (state S.Store self.old).is_open) }
+        ensures spared { HasCleanDisk (state S.Store self.new)
+            → Spares (state S.Store self.old) (state S.Store self.new) }
+        ensures settled { HasCleanDisk (state S.Store self.new)
+            → IsTrue (state S.Store self.new).is_open
             → (state S.Store self.new).committed ≡ (state S.Store self.new).now }
         ensures refused { IfErr result (λ e. (e ≡ Memory) ⊎ (e ≡ Database)) }
         ensures cause { HasCleanDisk (state S.Store self.new) → IfErr result
@@ -342,15 +440,20 @@ impl<S: Alter> PartStore<S> {
     /// How many contents there are and how many octets they have; what several entries have is counted once. Refuses `Memory`, and
     /// `Database` also where the octets are more than 64 bits can count.
     pub fn contents(&mut self) -> Result<ContentTotal, StoreError>
-        ensures told { HasCleanDisk (state S.Store self.new) → IfOk result (λ total. (before : _) → Stands (state S.Store self.old).now before
+        ensures told { HasCleanDisk (state S.Store self.new)
+            → IfOk result (λ total. (before : _) → Stands (state S.Store self.old).now before
             → IsTotalOf ((state S.Store self.old).now.trees contents_tree) total) }
-        ensures open { HasCleanDisk (state S.Store self.new) → OnOk result (IsTrue (state S.Store self.old).is_open) }
-        ensures spared { HasCleanDisk (state S.Store self.new) → Spares (state S.Store self.old) (state S.Store self.new) }
-        ensures settled { HasCleanDisk (state S.Store self.new) → IsTrue (state S.Store self.new).is_open
+        ensures open { HasCleanDisk (state S.Store self.new)
+            → OnOk result (IsTrue (state S.Store self.old).is_open) }
+        ensures spared { HasCleanDisk (state S.Store self.new)
+            → Spares (state S.Store self.old) (state S.Store self.new) }
+        ensures settled { HasCleanDisk (state S.Store self.new)
+            → IsTrue (state S.Store self.new).is_open
             → (state S.Store self.new).committed ≡ (state S.Store self.new).now }
         ensures refused { IfErr result (λ e. (e ≡ Memory) ⊎ (e ≡ Database)) }
-        ensures cause { HasCleanDisk (state S.Store self.new) → IfErr result
-            (BlamesOr (λ _ db. 2 ^ 64 ≤ octets_of (db contents_tree)) (state S.Store self.old) (state S.Store self.new)) }
+        ensures cause { HasCleanDisk (state S.Store self.new)
+            → IfErr result (BlamesOr (λ _ db. 2 ^ 64 ≤ octets_of (db contents_tree))
+            (state S.Store self.old) (state S.Store self.new)) }
         ensures survives { Survives (state S.Store self.old) (state S.Store self.new) (λ _. ⊥) }
     {
         let mut tx = begin(&mut self.conn);
@@ -360,12 +463,15 @@ impl<S: Alter> PartStore<S> {
     /// Replaces the programs of the listed users, and passes over those that have none. Where a user is listed twice the later
     /// program counts. No last number changes. Refuses `Memory`, and `Database` also where a user's row has no room.
     pub fn replace_programs(&mut self, programs: &[(String, Vec<u8>)]) -> Result<(), StoreError>
-        ensures made { HasCleanDisk (state S.Store self.new) → OnOk result
-            (Makes (with_programs (map pair_of programs.now)) (state S.Store self.old) (state S.Store self.new)) }
-        ensures spared { HasCleanDisk (state S.Store self.new) → OnErr result (Spares (state S.Store self.old) (state S.Store self.new)) }
+        ensures made { HasCleanDisk (state S.Store self.new)
+            → OnOk result (Makes (with_programs (map pair_of programs.now)) (state S.Store self.old)
+            (state S.Store self.new)) }
+        ensures spared { HasCleanDisk (state S.Store self.new)
+            → OnErr result (Spares (state S.Store self.old) (state S.Store self.new)) }
         ensures refused { IfErr result (λ e. (e ≡ Memory) ⊎ (e ≡ Database)) }
-        ensures cause { HasCleanDisk (state S.Store self.new) → IfErr result
-            (BlamesPrograms (map pair_of programs.now) (state S.Store self.old) (state S.Store self.new)) }
+        ensures cause { HasCleanDisk (state S.Store self.new)
+            → IfErr result (BlamesPrograms (map pair_of programs.now) (state S.Store self.old)
+            (state S.Store self.new)) }
         ensures survives { Survives (state S.Store self.old) (state S.Store self.new) (λ trees.
             (0 < length programs.now → IsTrue (state S.Store self.old).is_open)
             × MayMake (with_programs (map pair_of programs.now)) (state S.Store self.old) trees) }
@@ -384,20 +490,45 @@ impl<S: Alter> PartStore<S> {
     /// A store that a failure has shut stays shut, adds nothing, and refuses `Memory` or `Database`.
     pub fn add_entries(&mut self, user: &str, entries: &[NewEntry<'_>]) -> Result<u32, StoreError>
         requires { 0 < length entries.now }
-        ensures made { HasCleanDisk (state S.Store self.new) → OnOk result (Makes (with_entries user.now (map draft_of entries.now)) (state S.Store self.old) (state S.Store self.new)) }
-        ensures first { HasCleanDisk (state S.Store self.new) → IfOk result (λ first. (before : _) → Stands (state S.Store self.old).now before → first ≡ before.lasts user.now + 1) }
-        ensures room { HasCleanDisk (state S.Store self.new) → OnOk result ((before : _) → Stands (state S.Store self.old).now before → HasRoom before user.now (length entries.now)) }
-        ensures apart { HasCleanDisk (state S.Store self.new) → OnOk result ((before : _) → Stands (state S.Store self.old).now before → Collides (state S.Store self.old).now.trees (map draft_of entries.now) → ⊥) }
-        ensures full { HasCleanDisk (state S.Store self.new) → IfErr result (λ e. e ≡ NumberFull → (before : _) → Stands (state S.Store self.old).now before → HasRoom before user.now (length entries.now) → ⊥) }
-        ensures collision { HasCleanDisk (state S.Store self.new) → IfErr result (λ e. e ≡ Collision → (before : _) → Stands (state S.Store self.old).now before → HasRoom before user.now (length entries.now) × Collides (state S.Store self.old).now.trees (map draft_of entries.now)) }
-        ensures open { HasCleanDisk (state S.Store self.new) → OnOk result (IsTrue (state S.Store self.old).is_open) }
-        ensures begun { HasCleanDisk (state S.Store self.new) → IfErr result (λ e. (e ≡ NumberFull) ⊎ (e ≡ Collision) → IsTrue (state S.Store self.old).is_open) }
-        ensures shut { HasCleanDisk (state S.Store self.new) → IsTrue (state S.Store self.new).is_open → IsTrue (state S.Store self.old).is_open }
-        ensures spared { HasCleanDisk (state S.Store self.new) → OnErr result (Spares (state S.Store self.old) (state S.Store self.new)) }
-        ensures refused { IfErr result (λ e. (e ≡ Memory) ⊎ ((e ≡ NumberFull) ⊎ ((e ≡ Collision) ⊎ (e ≡ Database)))) }
-        ensures cause { HasCleanDisk (state S.Store self.new) → IfErr result
-            (BlamesEntries user.now (map draft_of entries.now) (state S.Store self.old) (state S.Store self.new)) }
-        ensures survives { Survives (state S.Store self.old) (state S.Store self.new) (λ trees. IsTrue (state S.Store self.old).is_open × MayMake (with_entries user.now (map draft_of entries.now)) (state S.Store self.old) trees) }
+        ensures made { HasCleanDisk (state S.Store self.new)
+            → OnOk result (Makes (with_entries user.now (map draft_of entries.now))
+            (state S.Store self.old) (state S.Store self.new)) }
+        ensures first { HasCleanDisk (state S.Store self.new)
+            → IfOk result (λ first. (before : _) → Stands (state S.Store self.old).now before
+            → first ≡ before.lasts user.now + 1) }
+        ensures room { HasCleanDisk (state S.Store self.new)
+            → OnOk result ((before : _) → Stands (state S.Store self.old).now before
+            → HasRoom before user.now (length entries.now)) }
+        ensures apart { HasCleanDisk (state S.Store self.new)
+            → OnOk result ((before : _) → Stands (state S.Store self.old).now before
+            → Collides (state S.Store self.old).now.trees (map draft_of entries.now) → ⊥) }
+        ensures full { HasCleanDisk (state S.Store self.new)
+            → IfErr result (λ e. e ≡ NumberFull → (before : _)
+            → Stands (state S.Store self.old).now before
+            → HasRoom before user.now (length entries.now) → ⊥) }
+        ensures collision { HasCleanDisk (state S.Store self.new)
+            → IfErr result (λ e. e ≡ Collision → (before : _)
+            → Stands (state S.Store self.old).now before
+            → HasRoom before user.now (length entries.now)
+            × Collides (state S.Store self.old).now.trees (map draft_of entries.now)) }
+        ensures open { HasCleanDisk (state S.Store self.new)
+            → OnOk result (IsTrue (state S.Store self.old).is_open) }
+        ensures begun { HasCleanDisk (state S.Store self.new)
+            → IfErr result (λ e. (e ≡ NumberFull) ⊎ (e ≡ Collision)
+            → IsTrue (state S.Store self.old).is_open) }
+        ensures shut { HasCleanDisk (state S.Store self.new)
+            → IsTrue (state S.Store self.new).is_open → IsTrue (state S.Store self.old).is_open }
+        ensures spared { HasCleanDisk (state S.Store self.new)
+            → OnErr result (Spares (state S.Store self.old) (state S.Store self.new)) }
+        ensures refused { IfErr result
+            (λ e. (e ≡ Memory) ⊎ ((e ≡ NumberFull) ⊎ ((e ≡ Collision) ⊎ (e ≡ Database)))) }
+        ensures cause { HasCleanDisk (state S.Store self.new)
+            → IfErr result (BlamesEntries user.now (map draft_of entries.now)
+            (state S.Store self.old) (state S.Store self.new)) }
+        ensures survives { Survives (state S.Store self.old) (state S.Store self.new)
+            (λ trees. IsTrue (state S.Store self.old).is_open
+            × MayMake (with_entries user.now (map draft_of entries.now))
+            (state S.Store self.old) trees) }
     {
         let mut tx = begin(&mut self.conn);
         match put_entries(&mut tx, user, entries)? {
@@ -412,10 +543,16 @@ impl<S: Alter> PartStore<S> {
 
     /// The user's entries, by their numbers. Refuses `Memory` and `Database`.
     pub fn entries_of(&mut self, user: &str) -> Result<Vec<EntryRow>, StoreError>
-        ensures told { HasCleanDisk (state S.Store self.new) → IfOk result (λ rows. (before : _) → Stands (state S.Store self.old).now before → map listed rows.items ≡ map listing_of (entries_of user.now before)) }
-        ensures open { HasCleanDisk (state S.Store self.new) → OnOk result (IsTrue (state S.Store self.old).is_open) }
-        ensures spared { HasCleanDisk (state S.Store self.new) → Spares (state S.Store self.old) (state S.Store self.new) }
-        ensures settled { HasCleanDisk (state S.Store self.new) → IsTrue (state S.Store self.new).is_open → (state S.Store self.new).committed ≡ (state S.Store self.new).now }
+        ensures told { HasCleanDisk (state S.Store self.new)
+            → IfOk result (λ rows. (before : _) → Stands (state S.Store self.old).now before
+            → map listed rows.items ≡ map listing_of (entries_of user.now before)) }
+        ensures open { HasCleanDisk (state S.Store self.new)
+            → OnOk result (IsTrue (state S.Store self.old).is_open) }
+        ensures spared { HasCleanDisk (state S.Store self.new)
+            → Spares (state S.Store self.old) (state S.Store self.new) }
+        ensures settled { HasCleanDisk (state S.Store self.new)
+            → IsTrue (state S.Store self.new).is_open
+            → (state S.Store self.new).committed ≡ (state S.Store self.new).now }
         ensures refused { IfErr result (λ e. (e ≡ Memory) ⊎ (e ≡ Database)) }
         ensures cause { HasCleanDisk (state S.Store self.new) → IfErr result
             (Blames (state S.Store self.old) (state S.Store self.new)) }
@@ -428,11 +565,19 @@ impl<S: Alter> PartStore<S> {
     /// The octets of the user's entry of that number. Refuses `Memory`, `NoSuchEntry` exactly where he has none, and
     /// `Database`.
     pub fn bytes_of(&mut self, user: &str, number: u32) -> Result<Vec<u8>, StoreError>
-        ensures told { HasCleanDisk (state S.Store self.new) → IfOk result (λ octets. (before : _) → Stands (state S.Store self.old).now before → (x : _) × IsEntryAt before user.now number x × (octets.items ≡ x.octets)) }
-        ensures open { HasCleanDisk (state S.Store self.new) → OnOk result (IsTrue (state S.Store self.old).is_open) }
-        ensures absent { HasCleanDisk (state S.Store self.new) → IfErr result (λ e. e ≡ NoSuchEntry → (before : _) → Stands (state S.Store self.old).now before → HasNone before user.now number) }
-        ensures spared { HasCleanDisk (state S.Store self.new) → Spares (state S.Store self.old) (state S.Store self.new) }
-        ensures settled { HasCleanDisk (state S.Store self.new) → IsTrue (state S.Store self.new).is_open → (state S.Store self.new).committed ≡ (state S.Store self.new).now }
+        ensures told { HasCleanDisk (state S.Store self.new)
+            → IfOk result (λ octets. (before : _) → Stands (state S.Store self.old).now before
+            → (x : _) × IsEntryAt before user.now number x × (octets.items ≡ x.octets)) }
+        ensures open { HasCleanDisk (state S.Store self.new)
+            → OnOk result (IsTrue (state S.Store self.old).is_open) }
+        ensures absent { HasCleanDisk (state S.Store self.new)
+            → IfErr result (λ e. e ≡ NoSuchEntry → (before : _)
+            → Stands (state S.Store self.old).now before → HasNone before user.now number) }
+        ensures spared { HasCleanDisk (state S.Store self.new)
+            → Spares (state S.Store self.old) (state S.Store self.new) }
+        ensures settled { HasCleanDisk (state S.Store self.new)
+            → IsTrue (state S.Store self.new).is_open
+            → (state S.Store self.new).committed ≡ (state S.Store self.new).now }
         ensures refused { IfErr result (λ e. (e ≡ Memory) ⊎ ((e ≡ NoSuchEntry) ⊎ (e ≡ Database))) }
         ensures cause { HasCleanDisk (state S.Store self.new) → IfErr result
             (Blames (state S.Store self.old) (state S.Store self.new)) }
@@ -448,14 +593,24 @@ impl<S: Alter> PartStore<S> {
     /// Removes the user's entry of that number, and its octets where no other entry has them. The number isn't given
     /// again. Refuses `Memory`, `NoSuchEntry` exactly where he has none, and `Database`.
     pub fn remove_entry(&mut self, user: &str, number: u32) -> Result<(), StoreError>
-        ensures made { HasCleanDisk (state S.Store self.new) → OnOk result (Makes (without_entry user.now number) (state S.Store self.old) (state S.Store self.new)) }
-        ensures there { HasCleanDisk (state S.Store self.new) → OnOk result ((before : _) → Stands (state S.Store self.old).now before → (x : _) × IsEntryAt before user.now number x) }
-        ensures absent { HasCleanDisk (state S.Store self.new) → IfErr result (λ e. e ≡ NoSuchEntry → (before : _) → Stands (state S.Store self.old).now before → HasNone before user.now number) }
-        ensures spared { HasCleanDisk (state S.Store self.new) → OnErr result (Spares (state S.Store self.old) (state S.Store self.new)) }
+        ensures made { HasCleanDisk (state S.Store self.new)
+            → OnOk result (Makes (without_entry user.now number) (state S.Store self.old)
+            (state S.Store self.new)) }
+        ensures there { HasCleanDisk (state S.Store self.new)
+            → OnOk result ((before : _) → Stands (state S.Store self.old).now before
+            → (x : _) × IsEntryAt before user.now number x) }
+        ensures absent { HasCleanDisk (state S.Store self.new)
+            → IfErr result (λ e. e ≡ NoSuchEntry → (before : _)
+            → Stands (state S.Store self.old).now before → HasNone before user.now number) }
+        ensures spared { HasCleanDisk (state S.Store self.new)
+            → OnErr result (Spares (state S.Store self.old) (state S.Store self.new)) }
         ensures refused { IfErr result (λ e. (e ≡ Memory) ⊎ ((e ≡ NoSuchEntry) ⊎ (e ≡ Database))) }
         ensures cause { HasCleanDisk (state S.Store self.new) → IfErr result
             (Blames (state S.Store self.old) (state S.Store self.new)) }
-        ensures survives { Survives (state S.Store self.old) (state S.Store self.new) (λ trees. (before : _) → Stands (state S.Store self.old).now before → ((x : _) × IsEntryAt before user.now number x) × IsStored trees (without_entry user.now number before)) }
+        ensures survives { Survives (state S.Store self.old) (state S.Store self.new)
+            (λ trees. (before : _) → Stands (state S.Store self.old).now before
+            → ((x : _) × IsEntryAt before user.now number x)
+            × IsStored trees (without_entry user.now number before)) }
     {
         let mut tx = begin(&mut self.conn);
         if !take_entry(&mut tx, user, number)? {
@@ -470,7 +625,8 @@ impl PartStore<MemStore> {
     /// An empty store in memory. Refuses `Memory` and `Database`.
     pub fn in_memory(alloc: Global) -> Result<PartStore<MemStore>, StoreError>
         ensures empty { IfOk result (λ s. Stands (state over_memory s).now no_entries) }
-        ensures committed { IfOk result (λ s. (state over_memory s).committed ≡ (state over_memory s).now) }
+        ensures committed { IfOk result
+            (λ s. (state over_memory s).committed ≡ (state over_memory s).now) }
         ensures open { IfOk result (λ s. IsTrue (state over_memory s).is_open) }
         ensures settled { IfOk result (λ s. (state over_memory s).in_transaction ≡ false) }
         ensures refused { IfErr result (λ e. (e ≡ Memory) ⊎ (e ≡ Database)) }
@@ -488,9 +644,12 @@ impl<D: Disk + Drop> PartStore<FileStore<D>> {
     pub fn close_files(self) -> Result<Files<D>, (StoreError, FileStore<D>)>
         ensures holds { IfOk result (λ files. AreClean D.Disk files.log files.db
             → (held : _) → Stands (file_state self).now held → KeepsStore D.Disk files held) }
-        ensures open { IfOk result (λ files. AreClean D.Disk files.log files.db → IsTrue (file_state self).is_open) }
+        ensures open { IfOk result (λ files. AreClean D.Disk files.log files.db
+            → IsTrue (file_state self).is_open) }
         ensures closed { IfErr result (λ e. IsClosed self e.1) }
-        ensures survives { IfErr result (λ e. IsTrue (file_state self).is_open → (held : _) → Stands (file_state self).now held → KeepsState e.1 held) }
+        ensures survives { IfErr result
+            (λ e. IsTrue (file_state self).is_open → (held : _) → Stands (file_state self).now held
+            → KeepsState e.1 held) }
         ensures refused { IfErr result (λ e. (e.0 ≡ Memory) ⊎ (e.0 ≡ Database)) }
     {
         open_stores_leave_what_is_committed::<FileStore<D>>();

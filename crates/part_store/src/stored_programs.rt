@@ -32,17 +32,30 @@ pub(crate) fn put_program<S: Alter>(
     program: &[u8],
 ) -> Result<(), Error>
     ensures same_reference { tx.new.conn.ghost_name ≡ tx.old.conn.ghost_name }
-    ensures step { HasCleanDisk (state S.Store tx.new.conn.now) → OnOk result (Brings (with_program user.now program.now) (state S.Store tx.old.conn.now) (state S.Store tx.new.conn.now)) }
-    ensures inside { HasCleanDisk (state S.Store tx.new.conn.now) → OnOk result (IsTrue (state S.Store tx.new.conn.now).in_transaction) }
-    ensures schema { HasCleanDisk (state S.Store tx.new.conn.now) → OnOk result
-        ((state S.Store tx.old.conn.now).now.schema ≡ store_schema → (state S.Store tx.new.conn.now).now.schema ≡ store_schema) }
-    ensures shut { HasCleanDisk (state S.Store tx.new.conn.now) → IsTrue (state S.Store tx.new.conn.now).is_open → IsTrue (state S.Store tx.old.conn.now).is_open }
-    ensures kept { HasCleanDisk (state S.Store tx.new.conn.now) → (state S.Store tx.old.conn.now).now.schema ≡ store_schema → KeepsCommit (state S.Store tx.old.conn.now) (state S.Store tx.new.conn.now) }
-    ensures cause { HasCleanDisk (state S.Store tx.new.conn.now) → IfErr result (λ e. IsTrue (state S.Store tx.old.conn.now).in_transaction
-        → BlamesRow user.now (with_program user.now program.now) (state S.Store tx.old.conn.now) (state S.Store tx.new.conn.now) (refusal_of e)) }
-    ensures rowids { HasCleanDisk (state S.Store tx.new.conn.now) → OnOk result ((before : _) → Stands (state S.Store tx.old.conn.now).now before
-        → RisesFrom 1 ((state S.Store tx.old.conn.now).now.trees users_tree) ((state S.Store tx.new.conn.now).now.trees users_tree)) }
-    ensures survives { Survives (state S.Store tx.old.conn.now) (state S.Store tx.new.conn.now) (λ _. ⊥) }
+    ensures step { HasCleanDisk (state S.Store tx.new.conn.now)
+        → OnOk result (Brings (with_program user.now program.now) (state S.Store tx.old.conn.now)
+        (state S.Store tx.new.conn.now)) }
+    ensures inside { HasCleanDisk (state S.Store tx.new.conn.now)
+        → OnOk result (IsTrue (state S.Store tx.new.conn.now).in_transaction) }
+    ensures schema { HasCleanDisk (state S.Store tx.new.conn.now)
+        → OnOk result ((state S.Store tx.old.conn.now).now.schema ≡ store_schema
+        → (state S.Store tx.new.conn.now).now.schema ≡ store_schema) }
+    ensures shut { HasCleanDisk (state S.Store tx.new.conn.now)
+        → IsTrue (state S.Store tx.new.conn.now).is_open
+        → IsTrue (state S.Store tx.old.conn.now).is_open }
+    ensures kept { HasCleanDisk (state S.Store tx.new.conn.now)
+        → (state S.Store tx.old.conn.now).now.schema ≡ store_schema
+        → KeepsCommit (state S.Store tx.old.conn.now) (state S.Store tx.new.conn.now) }
+    ensures cause { HasCleanDisk (state S.Store tx.new.conn.now)
+        → IfErr result (λ e. IsTrue (state S.Store tx.old.conn.now).in_transaction
+        → BlamesRow user.now (with_program user.now program.now) (state S.Store tx.old.conn.now)
+        (state S.Store tx.new.conn.now) (refusal_of e)) }
+    ensures rowids { HasCleanDisk (state S.Store tx.new.conn.now)
+        → OnOk result ((before : _) → Stands (state S.Store tx.old.conn.now).now before
+        → RisesFrom 1 ((state S.Store tx.old.conn.now).now.trees users_tree)
+        ((state S.Store tx.new.conn.now).now.trees users_tree)) }
+    ensures survives { Survives (state S.Store tx.old.conn.now) (state S.Store tx.new.conn.now)
+        (λ _. ⊥) }
 {
     let found = users::find(tx, user)?;
     let last = last_in(&found)?;
@@ -57,18 +70,30 @@ pub(crate) fn read_program<S: Alter>(
     user: &str,
 ) -> Result<Option<Vec<u8>>, Error>
     ensures same_reference { tx.new.conn.ghost_name ≡ tx.old.conn.ghost_name }
-    ensures told { HasCleanDisk (state S.Store tx.new.conn.now) → IfOk result (λ found. (before : _) → Stands (state S.Store tx.old.conn.now).now before → option_map (λ v. v.items) found ≡ before.programs user.now) }
-    ensures open { HasCleanDisk (state S.Store tx.new.conn.now) → OnOk result (IsTrue (state S.Store tx.old.conn.now).is_open) }
-    ensures same { HasCleanDisk (state S.Store tx.new.conn.now) → OnOk result (Stays (state S.Store tx.old.conn.now) (state S.Store tx.new.conn.now)) }
-    ensures still { HasCleanDisk (state S.Store tx.new.conn.now) → OnOk result
-        ((state S.Store tx.old.conn.now).now.schema ≡ store_schema → IsTrue (state S.Store tx.new.conn.now).is_open) }
-    ensures inside { HasCleanDisk (state S.Store tx.new.conn.now) → OnOk result ((state S.Store tx.old.conn.now).now.schema ≡ store_schema
-        → IsTrue (state S.Store tx.old.conn.now).in_transaction → IsTrue (state S.Store tx.new.conn.now).in_transaction) }
-    ensures shut { HasCleanDisk (state S.Store tx.new.conn.now) → IsTrue (state S.Store tx.new.conn.now).is_open → IsTrue (state S.Store tx.old.conn.now).is_open }
-    ensures kept { HasCleanDisk (state S.Store tx.new.conn.now) → (state S.Store tx.old.conn.now).now.schema ≡ store_schema → KeepsCommit (state S.Store tx.old.conn.now) (state S.Store tx.new.conn.now) }
+    ensures told { HasCleanDisk (state S.Store tx.new.conn.now)
+        → IfOk result (λ found. (before : _) → Stands (state S.Store tx.old.conn.now).now before
+        → option_map (λ v. v.items) found ≡ before.programs user.now) }
+    ensures open { HasCleanDisk (state S.Store tx.new.conn.now)
+        → OnOk result (IsTrue (state S.Store tx.old.conn.now).is_open) }
+    ensures same { HasCleanDisk (state S.Store tx.new.conn.now)
+        → OnOk result (Stays (state S.Store tx.old.conn.now) (state S.Store tx.new.conn.now)) }
+    ensures still { HasCleanDisk (state S.Store tx.new.conn.now)
+        → OnOk result ((state S.Store tx.old.conn.now).now.schema ≡ store_schema
+        → IsTrue (state S.Store tx.new.conn.now).is_open) }
+    ensures inside { HasCleanDisk (state S.Store tx.new.conn.now)
+        → OnOk result ((state S.Store tx.old.conn.now).now.schema ≡ store_schema
+        → IsTrue (state S.Store tx.old.conn.now).in_transaction
+        → IsTrue (state S.Store tx.new.conn.now).in_transaction) }
+    ensures shut { HasCleanDisk (state S.Store tx.new.conn.now)
+        → IsTrue (state S.Store tx.new.conn.now).is_open
+        → IsTrue (state S.Store tx.old.conn.now).is_open }
+    ensures kept { HasCleanDisk (state S.Store tx.new.conn.now)
+        → (state S.Store tx.old.conn.now).now.schema ≡ store_schema
+        → KeepsCommit (state S.Store tx.old.conn.now) (state S.Store tx.new.conn.now) }
     ensures cause { HasCleanDisk (state S.Store tx.new.conn.now) → IfErr result (λ e.
         Blames (state S.Store tx.old.conn.now) (state S.Store tx.new.conn.now) (refusal_of e)) }
-    ensures survives { Survives (state S.Store tx.old.conn.now) (state S.Store tx.new.conn.now) (λ _. ⊥) }
+    ensures survives { Survives (state S.Store tx.old.conn.now) (state S.Store tx.new.conn.now)
+        (λ _. ⊥) }
 {
     match users::find(tx, user)? {
         Some(row) => row.get(1),
@@ -81,15 +106,22 @@ pub(crate) fn list_programs<S: Alter>(
     tx: &mut Transaction<'_, S>,
 ) -> Result<Vec<(String, Vec<u8>)>, StoreError>
     ensures same_reference { tx.new.conn.ghost_name ≡ tx.old.conn.ghost_name }
-    ensures told { HasCleanDisk (state S.Store tx.new.conn.now) → IfOk result (λ programs.
-        (before : _) → Stands (state S.Store tx.old.conn.now).now before → AreProgramsOf before (map pair_of programs.items)) }
-    ensures open { HasCleanDisk (state S.Store tx.new.conn.now) → OnOk result (IsTrue (state S.Store tx.old.conn.now).is_open) }
-    ensures shut { HasCleanDisk (state S.Store tx.new.conn.now) → IsTrue (state S.Store tx.new.conn.now).is_open → IsTrue (state S.Store tx.old.conn.now).is_open }
-    ensures kept { HasCleanDisk (state S.Store tx.new.conn.now) → (state S.Store tx.old.conn.now).now.schema ≡ store_schema → KeepsCommit (state S.Store tx.old.conn.now) (state S.Store tx.new.conn.now) }
+    ensures told { HasCleanDisk (state S.Store tx.new.conn.now)
+        → IfOk result (λ programs. (before : _) → Stands (state S.Store tx.old.conn.now).now before
+        → AreProgramsOf before (map pair_of programs.items)) }
+    ensures open { HasCleanDisk (state S.Store tx.new.conn.now)
+        → OnOk result (IsTrue (state S.Store tx.old.conn.now).is_open) }
+    ensures shut { HasCleanDisk (state S.Store tx.new.conn.now)
+        → IsTrue (state S.Store tx.new.conn.now).is_open
+        → IsTrue (state S.Store tx.old.conn.now).is_open }
+    ensures kept { HasCleanDisk (state S.Store tx.new.conn.now)
+        → (state S.Store tx.old.conn.now).now.schema ≡ store_schema
+        → KeepsCommit (state S.Store tx.old.conn.now) (state S.Store tx.new.conn.now) }
     ensures refused { IfErr result (λ e. (e ≡ Memory) ⊎ (e ≡ Database)) }
     ensures cause { HasCleanDisk (state S.Store tx.new.conn.now) → IfErr result
         (BlamesNamed (state S.Store tx.old.conn.now) (state S.Store tx.new.conn.now)) }
-    ensures survives { Survives (state S.Store tx.old.conn.now) (state S.Store tx.new.conn.now) (λ _. ⊥) }
+    ensures survives { Survives (state S.Store tx.old.conn.now) (state S.Store tx.new.conn.now)
+        (λ _. ⊥) }
 {
     let rows = users::list_programs(tx)?;
     programs_in(&rows)
@@ -97,7 +129,8 @@ pub(crate) fn list_programs<S: Alter>(
 
 /// The users and programs that the rows of an answer show.
 fn programs_in(rows: &Vec<Row>) -> Result<Vec<(String, Vec<u8>)>, StoreError>
-    ensures shown { IfOk result (λ programs. map row_of programs.items ≡ map (columns (0 ∷ 1 ∷ [])) rows.now.items) }
+    ensures shown { IfOk result (λ programs. map row_of programs.items
+        ≡ map (columns (0 ∷ 1 ∷ [])) rows.now.items) }
     ensures refused { IfErr result (λ e. (e ≡ Memory) ⊎ (e ≡ Database)) }
     ensures cause { IfErr result (λ e. e ≡ Database
         → AllByRecursion ShowsProgram rows.now.items → ⊥) }
@@ -116,20 +149,34 @@ fn replace_program<S: Alter>(
     program: &[u8],
 ) -> Result<(), Error>
     ensures same_reference { tx.new.conn.ghost_name ≡ tx.old.conn.ghost_name }
-    ensures step { HasCleanDisk (state S.Store tx.new.conn.now) → OnOk result
-        (Brings (with_programs ((user.now, program.now) ∷ [])) (state S.Store tx.old.conn.now) (state S.Store tx.new.conn.now)) }
-    ensures open { HasCleanDisk (state S.Store tx.new.conn.now) → OnOk result (IsTrue (state S.Store tx.old.conn.now).is_open) }
-    ensures inside { HasCleanDisk (state S.Store tx.new.conn.now) → OnOk result ((state S.Store tx.old.conn.now).now.schema ≡ store_schema
-        → IsTrue (state S.Store tx.old.conn.now).in_transaction → IsTrue (state S.Store tx.new.conn.now).in_transaction) }
-    ensures schema { HasCleanDisk (state S.Store tx.new.conn.now) → OnOk result
-        ((state S.Store tx.old.conn.now).now.schema ≡ store_schema → (state S.Store tx.new.conn.now).now.schema ≡ store_schema) }
-    ensures shut { HasCleanDisk (state S.Store tx.new.conn.now) → IsTrue (state S.Store tx.new.conn.now).is_open → IsTrue (state S.Store tx.old.conn.now).is_open }
-    ensures kept { HasCleanDisk (state S.Store tx.new.conn.now) → (state S.Store tx.old.conn.now).now.schema ≡ store_schema → KeepsCommit (state S.Store tx.old.conn.now) (state S.Store tx.new.conn.now) }
-    ensures rowids { HasCleanDisk (state S.Store tx.new.conn.now) → OnOk result ((before : _) → Stands (state S.Store tx.old.conn.now).now before
-        → RisesFrom 1 ((state S.Store tx.old.conn.now).now.trees users_tree) ((state S.Store tx.new.conn.now).now.trees users_tree)) }
-    ensures cause { HasCleanDisk (state S.Store tx.new.conn.now) → IfErr result (λ e. IsTrue (state S.Store tx.old.conn.now).in_transaction
-        → BlamesPrograms ((user.now, program.now) ∷ []) (state S.Store tx.old.conn.now) (state S.Store tx.new.conn.now) (refusal_of e)) }
-    ensures survives { Survives (state S.Store tx.old.conn.now) (state S.Store tx.new.conn.now) (λ _. ⊥) }
+    ensures step { HasCleanDisk (state S.Store tx.new.conn.now)
+        → OnOk result (Brings (with_programs ((user.now, program.now) ∷ []))
+        (state S.Store tx.old.conn.now) (state S.Store tx.new.conn.now)) }
+    ensures open { HasCleanDisk (state S.Store tx.new.conn.now)
+        → OnOk result (IsTrue (state S.Store tx.old.conn.now).is_open) }
+    ensures inside { HasCleanDisk (state S.Store tx.new.conn.now)
+        → OnOk result ((state S.Store tx.old.conn.now).now.schema ≡ store_schema
+        → IsTrue (state S.Store tx.old.conn.now).in_transaction
+        → IsTrue (state S.Store tx.new.conn.now).in_transaction) }
+    ensures schema { HasCleanDisk (state S.Store tx.new.conn.now)
+        → OnOk result ((state S.Store tx.old.conn.now).now.schema ≡ store_schema
+        → (state S.Store tx.new.conn.now).now.schema ≡ store_schema) }
+    ensures shut { HasCleanDisk (state S.Store tx.new.conn.now)
+        → IsTrue (state S.Store tx.new.conn.now).is_open
+        → IsTrue (state S.Store tx.old.conn.now).is_open }
+    ensures kept { HasCleanDisk (state S.Store tx.new.conn.now)
+        → (state S.Store tx.old.conn.now).now.schema ≡ store_schema
+        → KeepsCommit (state S.Store tx.old.conn.now) (state S.Store tx.new.conn.now) }
+    ensures rowids { HasCleanDisk (state S.Store tx.new.conn.now)
+        → OnOk result ((before : _) → Stands (state S.Store tx.old.conn.now).now before
+        → RisesFrom 1 ((state S.Store tx.old.conn.now).now.trees users_tree)
+        ((state S.Store tx.new.conn.now).now.trees users_tree)) }
+    ensures cause { HasCleanDisk (state S.Store tx.new.conn.now)
+        → IfErr result (λ e. IsTrue (state S.Store tx.old.conn.now).in_transaction
+        → BlamesPrograms ((user.now, program.now) ∷ []) (state S.Store tx.old.conn.now)
+        (state S.Store tx.new.conn.now) (refusal_of e)) }
+    ensures survives { Survives (state S.Store tx.old.conn.now) (state S.Store tx.new.conn.now)
+        (λ _. ⊥) }
 {
     let Some(_before) = read_program(tx, user)? else {
         return Ok(());
@@ -143,17 +190,27 @@ pub(crate) fn replace_all<S: Alter>(
     programs: &[(String, Vec<u8>)],
 ) -> Result<(), Error>
     ensures same_reference { tx.new.conn.ghost_name ≡ tx.old.conn.ghost_name }
-    ensures step { HasCleanDisk (state S.Store tx.new.conn.now) → OnOk result
-        (Brings (with_programs (map pair_of programs.now)) (state S.Store tx.old.conn.now) (state S.Store tx.new.conn.now)) }
+    ensures step { HasCleanDisk (state S.Store tx.new.conn.now)
+        → OnOk result (Brings (with_programs (map pair_of programs.now))
+        (state S.Store tx.old.conn.now) (state S.Store tx.new.conn.now)) }
     ensures open { HasCleanDisk (state S.Store tx.new.conn.now) → OnOk result
         (0 < length programs.now → IsTrue (state S.Store tx.old.conn.now).is_open) }
-    ensures inside { HasCleanDisk (state S.Store tx.new.conn.now) → OnOk result ((state S.Store tx.old.conn.now).now.schema ≡ store_schema
-        → IsTrue (state S.Store tx.old.conn.now).in_transaction → IsTrue (state S.Store tx.new.conn.now).in_transaction) }
-    ensures shut { HasCleanDisk (state S.Store tx.new.conn.now) → IsTrue (state S.Store tx.new.conn.now).is_open → IsTrue (state S.Store tx.old.conn.now).is_open }
-    ensures kept { HasCleanDisk (state S.Store tx.new.conn.now) → (state S.Store tx.old.conn.now).now.schema ≡ store_schema → KeepsCommit (state S.Store tx.old.conn.now) (state S.Store tx.new.conn.now) }
-    ensures cause { HasCleanDisk (state S.Store tx.new.conn.now) → IfErr result (λ e. IsTrue (state S.Store tx.old.conn.now).in_transaction
-        → BlamesPrograms (map pair_of programs.now) (state S.Store tx.old.conn.now) (state S.Store tx.new.conn.now) (refusal_of e)) }
-    ensures survives { Survives (state S.Store tx.old.conn.now) (state S.Store tx.new.conn.now) (λ _. ⊥) }
+    ensures inside { HasCleanDisk (state S.Store tx.new.conn.now)
+        → OnOk result ((state S.Store tx.old.conn.now).now.schema ≡ store_schema
+        → IsTrue (state S.Store tx.old.conn.now).in_transaction
+        → IsTrue (state S.Store tx.new.conn.now).in_transaction) }
+    ensures shut { HasCleanDisk (state S.Store tx.new.conn.now)
+        → IsTrue (state S.Store tx.new.conn.now).is_open
+        → IsTrue (state S.Store tx.old.conn.now).is_open }
+    ensures kept { HasCleanDisk (state S.Store tx.new.conn.now)
+        → (state S.Store tx.old.conn.now).now.schema ≡ store_schema
+        → KeepsCommit (state S.Store tx.old.conn.now) (state S.Store tx.new.conn.now) }
+    ensures cause { HasCleanDisk (state S.Store tx.new.conn.now)
+        → IfErr result (λ e. IsTrue (state S.Store tx.old.conn.now).in_transaction
+        → BlamesPrograms (map pair_of programs.now) (state S.Store tx.old.conn.now)
+        (state S.Store tx.new.conn.now) (refusal_of e)) }
+    ensures survives { Survives (state S.Store tx.old.conn.now) (state S.Store tx.new.conn.now)
+        (λ _. ⊥) }
 {
     for (user, program) in programs {
         replace_program(tx, user, program)?;

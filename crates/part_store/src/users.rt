@@ -20,12 +20,19 @@ pub(crate) fn first_of(rows: Vec<Row>) -> Option<Row>
 /// A user's last number and program.
 pub(crate) fn find<S: Alter>(tx: &mut Transaction<'_, S>, user: &str) -> Result<Option<Row>, Error>
     ensures same_reference { tx.new.conn.ghost_name ≡ tx.old.conn.ghost_name }
-    ensures step { HasCleanDisk (state S.Store tx.new.conn.now) → IfOk result (λ found. Steps (Reads (λ db. IsFound users_tree (equals 1 (Text user.now)) (columns (2 ∷ 3 ∷ [])) db found)) (state S.Store tx.old.conn.now) (state S.Store tx.new.conn.now)) }
-    ensures open { HasCleanDisk (state S.Store tx.new.conn.now) → OnOk result (IsTrue (state S.Store tx.old.conn.now).is_open) }
-    ensures kept { HasCleanDisk (state S.Store tx.new.conn.now) → OnErr result (KeepsCommit (state S.Store tx.old.conn.now) (state S.Store tx.new.conn.now)) }
+    ensures step { HasCleanDisk (state S.Store tx.new.conn.now)
+        → IfOk result (λ found. Steps
+        (Reads (λ db. IsFound users_tree (equals 1 (Text user.now)) (columns (2 ∷ 3 ∷ [])) db
+        found)) (state S.Store tx.old.conn.now) (state S.Store tx.new.conn.now)) }
+    ensures open { HasCleanDisk (state S.Store tx.new.conn.now)
+        → OnOk result (IsTrue (state S.Store tx.old.conn.now).is_open) }
+    ensures kept { HasCleanDisk (state S.Store tx.new.conn.now)
+        → OnErr result (KeepsCommit (state S.Store tx.old.conn.now)
+        (state S.Store tx.new.conn.now)) }
     ensures fault { HasCleanDisk (state S.Store tx.new.conn.now) → IfErr result
         (Faults (state S.Store tx.old.conn.now) (state S.Store tx.new.conn.now)) }
-    ensures survives { Survives (state S.Store tx.old.conn.now) (state S.Store tx.new.conn.now) (λ _. ⊥) }
+    ensures survives { Survives (state S.Store tx.old.conn.now) (state S.Store tx.new.conn.now)
+        (λ _. ⊥) }
 {
     let rows = tx.query_all(
         "SELECT last, program FROM users WHERE user = ?1",
@@ -40,12 +47,14 @@ pub(crate) fn list_programs<S: Alter>(tx: &mut Transaction<'_, S>) -> Result<Vec
     ensures step { HasCleanDisk (state S.Store tx.new.conn.now) → IfOk result (λ found.
         Steps (Reads (IsListed users_tree has_program (columns (1 ∷ 3 ∷ [])) found.items))
         (state S.Store tx.old.conn.now) (state S.Store tx.new.conn.now)) }
-    ensures open { HasCleanDisk (state S.Store tx.new.conn.now) → OnOk result (IsTrue (state S.Store tx.old.conn.now).is_open) }
+    ensures open { HasCleanDisk (state S.Store tx.new.conn.now)
+        → OnOk result (IsTrue (state S.Store tx.old.conn.now).is_open) }
     ensures kept { HasCleanDisk (state S.Store tx.new.conn.now) → OnErr result
         (KeepsCommit (state S.Store tx.old.conn.now) (state S.Store tx.new.conn.now)) }
     ensures fault { HasCleanDisk (state S.Store tx.new.conn.now) → IfErr result
         (Faults (state S.Store tx.old.conn.now) (state S.Store tx.new.conn.now)) }
-    ensures survives { Survives (state S.Store tx.old.conn.now) (state S.Store tx.new.conn.now) (λ _. ⊥) }
+    ensures survives { Survives (state S.Store tx.old.conn.now) (state S.Store tx.new.conn.now)
+        (λ _. ⊥) }
 {
     tx.query_all(
         "SELECT user, program FROM users WHERE program IS NOT NULL ORDER BY user",
@@ -59,12 +68,14 @@ pub(crate) fn list<S: Alter>(tx: &mut Transaction<'_, S>) -> Result<Vec<Row>, Er
     ensures step { HasCleanDisk (state S.Store tx.new.conn.now) → IfOk result (λ found.
         Steps (Reads (IsListed users_tree every (columns (1 ∷ 2 ∷ 3 ∷ [])) found.items))
         (state S.Store tx.old.conn.now) (state S.Store tx.new.conn.now)) }
-    ensures open { HasCleanDisk (state S.Store tx.new.conn.now) → OnOk result (IsTrue (state S.Store tx.old.conn.now).is_open) }
+    ensures open { HasCleanDisk (state S.Store tx.new.conn.now)
+        → OnOk result (IsTrue (state S.Store tx.old.conn.now).is_open) }
     ensures kept { HasCleanDisk (state S.Store tx.new.conn.now) → OnErr result
         (KeepsCommit (state S.Store tx.old.conn.now) (state S.Store tx.new.conn.now)) }
     ensures fault { HasCleanDisk (state S.Store tx.new.conn.now) → IfErr result
         (Faults (state S.Store tx.old.conn.now) (state S.Store tx.new.conn.now)) }
-    ensures survives { Survives (state S.Store tx.old.conn.now) (state S.Store tx.new.conn.now) (λ _. ⊥) }
+    ensures survives { Survives (state S.Store tx.old.conn.now) (state S.Store tx.new.conn.now)
+        (λ _. ⊥) }
 {
     tx.query_all("SELECT user, last, program FROM users ORDER BY user", &[])
 }
@@ -72,12 +83,17 @@ pub(crate) fn list<S: Alter>(tx: &mut Transaction<'_, S>) -> Result<Vec<Row>, Er
 /// Takes a user's row out.
 pub(crate) fn remove<S: Alter>(tx: &mut Transaction<'_, S>, user: &str) -> Result<usize, Error>
     ensures same_reference { tx.new.conn.ghost_name ≡ tx.old.conn.ghost_name }
-    ensures step { HasCleanDisk (state S.Store tx.new.conn.now) → OnOk result (Steps (IsTaken users_tree (equals 1 (Text user.now))) (state S.Store tx.old.conn.now) (state S.Store tx.new.conn.now)) }
-    ensures inside { HasCleanDisk (state S.Store tx.new.conn.now) → OnOk result (IsTrue (state S.Store tx.new.conn.now).in_transaction) }
-    ensures kept { HasCleanDisk (state S.Store tx.new.conn.now) → KeepsCommit (state S.Store tx.old.conn.now) (state S.Store tx.new.conn.now) }
+    ensures step { HasCleanDisk (state S.Store tx.new.conn.now)
+        → OnOk result (Steps (IsTaken users_tree (equals 1 (Text user.now)))
+        (state S.Store tx.old.conn.now) (state S.Store tx.new.conn.now)) }
+    ensures inside { HasCleanDisk (state S.Store tx.new.conn.now)
+        → OnOk result (IsTrue (state S.Store tx.new.conn.now).in_transaction) }
+    ensures kept { HasCleanDisk (state S.Store tx.new.conn.now)
+        → KeepsCommit (state S.Store tx.old.conn.now) (state S.Store tx.new.conn.now) }
     ensures fault { HasCleanDisk (state S.Store tx.new.conn.now) → IfErr result
         (WriteFaults (state S.Store tx.old.conn.now) (state S.Store tx.new.conn.now)) }
-    ensures survives { Survives (state S.Store tx.old.conn.now) (state S.Store tx.new.conn.now) (λ _. ⊥) }
+    ensures survives { Survives (state S.Store tx.old.conn.now) (state S.Store tx.new.conn.now)
+        (λ _. ⊥) }
 {
     tx.execute("DELETE FROM users WHERE user = ?1", params![user])
 }
@@ -90,14 +106,22 @@ pub(crate) fn add<S: Alter>(
     program: Option<&[u8]>,
 ) -> Result<usize, Error>
     ensures same_reference { tx.new.conn.ghost_name ≡ tx.old.conn.ghost_name }
-    ensures step { HasCleanDisk (state S.Store tx.new.conn.now) → OnOk result (Steps (IsAdded users_tree (Text user.now ∷ Int (pos last) ∷ or_null (λ octets. Blob octets.now) program.entry ∷ [])) (state S.Store tx.old.conn.now) (state S.Store tx.new.conn.now)) }
-    ensures inside { HasCleanDisk (state S.Store tx.new.conn.now) → OnOk result (IsTrue (state S.Store tx.new.conn.now).in_transaction) }
-    ensures kept { HasCleanDisk (state S.Store tx.new.conn.now) → KeepsCommit (state S.Store tx.old.conn.now) (state S.Store tx.new.conn.now) }
-    ensures fault { HasCleanDisk (state S.Store tx.new.conn.now) → IsTableIn users_tree (state S.Store tx.old.conn.now).now.trees
+    ensures step { HasCleanDisk (state S.Store tx.new.conn.now)
+        → OnOk result (Steps (IsAdded users_tree
+        (Text user.now ∷ Int (pos last) ∷ or_null (λ octets. Blob octets.now) program.entry
+        ∷ [])) (state S.Store tx.old.conn.now) (state S.Store tx.new.conn.now)) }
+    ensures inside { HasCleanDisk (state S.Store tx.new.conn.now)
+        → OnOk result (IsTrue (state S.Store tx.new.conn.now).in_transaction) }
+    ensures kept { HasCleanDisk (state S.Store tx.new.conn.now)
+        → KeepsCommit (state S.Store tx.old.conn.now) (state S.Store tx.new.conn.now) }
+    ensures fault { HasCleanDisk (state S.Store tx.new.conn.now)
+        → IsTableIn users_tree (state S.Store tx.old.conn.now).now.trees
         → HasNoRow user.now (state S.Store tx.old.conn.now).now.trees
-        → IfErr result (AddFaults users_table (Text user.now ∷ Int (pos last) ∷ or_null (λ octets. Blob octets.now) program.entry ∷ [])
-        (state S.Store tx.old.conn.now) (state S.Store tx.new.conn.now)) }
-    ensures survives { Survives (state S.Store tx.old.conn.now) (state S.Store tx.new.conn.now) (λ _. ⊥) }
+        → IfErr result (AddFaults users_table
+        (Text user.now ∷ Int (pos last) ∷ or_null (λ octets. Blob octets.now) program.entry
+        ∷ []) (state S.Store tx.old.conn.now) (state S.Store tx.new.conn.now)) }
+    ensures survives { Survives (state S.Store tx.old.conn.now) (state S.Store tx.new.conn.now)
+        (λ _. ⊥) }
 {
     tx.execute(
         "INSERT INTO users (user, last, program) VALUES (?1, ?2, ?3)",
