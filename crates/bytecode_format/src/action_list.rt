@@ -34,7 +34,7 @@ impl Model for ActionList {
 }
 
 impl ActionList {
-    ghost use Rattle.std.specs.Prelude.{◌||◌};
+    ghost use Rattle.std.specs.Prelude.{◌||◌, false};
     ghost use Rattle.bytecode_format.specs.declared.action.Action.TheVariants.{Keep};
     ghost use Rattle.bytecode_format.specs.Action.{is_same};
     ghost use Rattle.bytecode_format.specs.Actions.{is_listed, with_action, with_implicit_keep};
@@ -51,6 +51,7 @@ impl ActionList {
     }
 
     // Whether the action is listed. A Keep, and the action that was listed last, take no search.
+    #[inline(always)]
     fn has(&self, action: &Action) -> bool
         ensures { result ≡ is_listed action.now self.now }
     {
@@ -80,6 +81,7 @@ impl ActionList {
     /// Lists the action, unless an equal one is listed.
     ///
     /// An error comes only where memory was refused; the list is then as it was.
+    #[inline(always)]
     pub fn push(&mut self, action: Action) -> Result<(), AllocError>
         ensures ok { OnOk result (self.new ≡ with_action self.old action) }
         ensures err { OnErr result (self.new ≡ self.old) }
@@ -87,6 +89,16 @@ impl ActionList {
         if self.has(&action) {
             return Ok(());
         }
+        self.add(action)
+    }
+
+    // Lists an action that isn't listed.
+    #[inline(never)]
+    fn add(&mut self, action: Action) -> Result<(), AllocError>
+        requires { is_listed action self.old ≡ false }
+        ensures ok { OnOk result (self.new ≡ with_action self.old action) }
+        ensures err { OnErr result (self.new ≡ self.old) }
+    {
         let keeps = self.will_keep(&action);
         self.listed.reserve(1)?;
         self.seen.insert(action.clone()?)?;

@@ -8,8 +8,7 @@ ghost use Rattle.bytecode_format.specs.Spelling.{string, Fits, IsProgram};
 use crate::error::FormatError;
 use crate::instruction::Instruction;
 use crate::program::{
-    MAX_INSTRUCTIONS, MAX_PROGRAM, MAX_TABLE, MAX_VARIABLES, OPENING, Program,
-    is_version,
+    MAX_INSTRUCTIONS, MAX_PROGRAM, MAX_TABLE, MAX_VARIABLES, OPENING, Program, is_version,
 };
 use octets::{MAX_STRING, Octets};
 

@@ -8,9 +8,7 @@ ghost use Rattle.bytecode_format.specs.Readers.{Gives, after, octet_at, number_a
 
 use crate::error::FormatError;
 use crate::instruction::Instruction;
-use crate::program::{
-    MAX_INSTRUCTIONS, MAX_PROGRAM, MAX_VARIABLES, OPENING, Program, is_version,
-};
+use crate::program::{MAX_INSTRUCTIONS, MAX_PROGRAM, MAX_VARIABLES, OPENING, Program, is_version};
 use octets::{MAX_STRING, Octets};
 use std::alloc::Global;
 

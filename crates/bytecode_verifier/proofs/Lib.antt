@@ -4,6 +4,7 @@ pub mod Steps
 pub mod Taking
 pub mod Short
 pub mod Ends
+pub mod Jumping
 pub mod Marks
 pub mod Accepted
 pub mod Consequences

@@ -8,3 +8,4 @@ pub mod Budget
 -- how the verifier goes; nothing public rests on it
 pub mod Nests
 pub mod Pass
+pub mod Noting

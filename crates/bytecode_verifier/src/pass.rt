@@ -6,6 +6,7 @@ ghost use Rattle.octets.specs.Limits.{max_instructions, max_loops};
 ghost use Rattle.bytecode_verifier.specs.Shape.{shape_after, is_target};
 ghost use Rattle.bytecode_verifier.specs.Budget.{cap_of};
 ghost use Rattle.bytecode_verifier.specs.Nests.{AreNests};
+ghost use Rattle.bytecode_verifier.specs.Noting.{Notes};
 ghost use Rattle.bytecode_verifier.specs.Pass.{HasPassed, IsSmall, Passes, unless_failed, with_charge};
 
 use crate::cap::{Cap, ONE_CHARGE};
@@ -30,6 +31,30 @@ pub struct Pass {
     pub stack: Option<usize>,
     pub shape: Shape,
     pub budget: Budget,
+}
+
+/// Which rules are broken at a place.
+#[derive(Clone, Copy)]
+pub struct Broken {
+    pub index: bool,
+    pub form: bool,
+    pub brackets: bool,
+    pub jump: bool,
+    pub part: bool,
+    pub stack: bool,
+}
+
+impl Broken {
+    ghost use Rattle.std.specs.Prelude.{◌≡◌};
+    ghost use Rattle.bytecode_verifier.specs.Noting.{are_some};
+
+    /// Whether one is broken.
+    #[inline(always)]
+    pub fn are_some(self) -> bool
+        ensures { result ≡ are_some self }
+    {
+        self.index || self.form || self.brackets || self.jump || self.part || self.stack
+    }
 }
 
 impl Pass {
@@ -75,18 +100,42 @@ impl Pass {
             operation,
             instruction,
         )?;
-        self.stack = first(self.stack, passed.is_none(), place);
-        self.index = first(self.index, misses_index(program, row, instruction), place);
-        self.form = first(self.form, !is_well_formed(row, instruction), place);
-        let astray = misses_loop(nests, place, operation, instruction);
-        self.brackets = first(self.brackets, astray, place);
-        let leaves = misses_target(nests, place, row, instruction);
-        self.jump = first(self.jump, leaves, place);
-        self.part = first(self.part, misses_part(nests, place, row), place);
+        let broken = Broken {
+            index: misses_index(program, row, instruction),
+            form: !is_well_formed(row, instruction),
+            brackets: misses_loop(nests, place, operation, instruction),
+            jump: misses_target(nests, place, row, instruction),
+            part: misses_part(nests, place, row),
+            stack: passed.is_none(),
+        };
+        self.note(broken, place);
         // Of a program whose shape fails the budget is of no account.
         let cap = passed.unwrap_or(ONE_CHARGE);
         charge(&mut self.budget, depth_at(nests, place), cap);
         Ok(())
+    }
+
+    // Names the place for each rule that is broken at it and was broken at none before.
+    #[inline(always)]
+    fn note(&mut self, broken: Broken, place: usize)
+        ensures { Notes broken place self.old self.new }
+    {
+        if broken.are_some() {
+            self.name(broken, place);
+        }
+    }
+
+    // The same, whether or not a rule is broken.
+    #[inline(never)]
+    fn name(&mut self, broken: Broken, place: usize)
+        ensures { Notes broken place self.old self.new }
+    {
+        self.index = first(self.index, broken.index, place);
+        self.form = first(self.form, broken.form, place);
+        self.brackets = first(self.brackets, broken.brackets, place);
+        self.jump = first(self.jump, broken.jump, place);
+        self.part = first(self.part, broken.part, place);
+        self.stack = first(self.stack, broken.stack, place);
     }
 }
 
@@ -105,7 +154,11 @@ fn charge(budget: &mut Budget, depth: u32, cap: Cap)
 fn first(before: Option<usize>, broken: bool, place: usize) -> Option<usize>
     ensures { result ≡ option_or before (then_some broken place) }
 {
-    before.or(broken.then_some(place))
+    if broken {
+        before.or(Some(place))
+    } else {
+        before
+    }
 }
 
 // Takes the shape over an instruction: what that may charge, or None where the shape fails there or

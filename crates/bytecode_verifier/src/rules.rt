@@ -52,6 +52,16 @@ pub fn is_jump(row: Option<Row>) -> bool
     row.jumps
 }
 
+/// Whether the operation jumps to c, in every version.
+pub fn jumps(operation: Option<Operation>) -> bool
+    ensures { result ≡ Rules.jumps operation }
+{
+    matches!(
+        operation,
+        Some(Operation::Jump | Operation::JumpIfTrue | Operation::JumpIfFalse)
+    )
+}
+
 /// Whether the operation ends the run.
 pub fn is_halt(operation: Option<Operation>) -> bool
     ensures { result ≡ Rules.is_halt operation }

@@ -116,9 +116,7 @@ impl Shape {
                 | Operation::Break,
             ) => self.is_empty(),
             Some(Operation::Literal) => self.push_string(program, c)?,
-            Some(Operation::Variable | Operation::Capture) => self.push(Entry::Text(
-                MAX_VALUE,
-            ))?,
+            Some(Operation::Variable | Operation::Capture) => self.push(Entry::Text(MAX_VALUE))?,
             Some(Operation::Bool | Operation::Size | Operation::PartSize) => self.push(
                 Entry::Truth,
             )?,

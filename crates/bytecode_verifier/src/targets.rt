@@ -2,8 +2,8 @@
 ghost use Rattle.std.specs.Prelude.{◌≡◌, ℕ, ◌<◌, length, Some, IfOk, slice_get, slice_set, true};
 ghost use Rattle.bytecode_verifier.specs.Shape.{is_target};
 
-use crate::rules::{is_jump, row_named};
-use bytecode_format::Instruction;
+use crate::rules::jumps;
+use bytecode_format::{Instruction, Operation};
 use std::alloc::{AllocError, Global};
 
 /// For each place of an instruction, whether a jump leads there.
@@ -17,7 +17,7 @@ pub fn targets_of(
 {
     let mut targets = vec![in alloc; false; instructions.len()]?;
     for instruction in instructions {
-        if is_jump(row_named(version, instruction.op)) {
+        if jumps(Operation::of(instruction.op)) {
             mark(&mut targets, instruction.c as usize);
         }
     }

@@ -1,4 +1,5 @@
 pub mod FromIndex
+pub mod Words
 pub mod Forms
 pub mod TestLists
 pub mod SequenceSteps

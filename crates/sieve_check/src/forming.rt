@@ -277,7 +277,7 @@ fn commands<'t>(
     ensures { IfOk result (λ cs. option_map (λ cs. commands_form cs.items) cs ≡ commands_formed (context_of surroundings.entry) (commands_tree trees.now)) }
 {
     let mut around = surroundings;
-    let mut sequence = Sequence::new(alloc);
+    let mut sequence = Sequence::new(alloc, trees.len())?;
     'trees: for tree in trees {
         let Some(part) = part(alloc, around, tree)? else {
             return Ok(None);

@@ -126,11 +126,12 @@ pub enum Capability {
     CasemapComparator,
 }
 
-// Whether the name is the word but for the case of ASCII letters.
+// Whether the name is the word but for the case of ASCII letters. Nearly all names are told apart by their lengths.
+#[inline(always)]
 fn is_word(name: &[u8], word: &[u8]) -> bool
     ensures { result ≡ is_word name.now word.now }
 {
-    equal_ignoring_case(name, word)
+    name.len() == word.len() && equal_ignoring_case(name, word)
 }
 
 /// The command of that name, if it is known.

@@ -36,15 +36,15 @@ impl Sequence {
     ghost use Rattle.sieve_check.specs.Typed.{CommandForms, no_branch, no_command};
     ghost use Rattle.sieve_check.specs.TypedView.{commands_form, else_form};
 
-    /// Before the first command.
-    pub fn new(alloc: Global) -> Sequence
-        ensures commands { result.commands.items ≡ [] }
-        ensures branches { result.branches.items ≡ [] }
+    /// Before the first of so many commands. An error comes only where memory was refused.
+    pub fn new(alloc: Global, number: usize) -> Result<Sequence, AllocError>
+        ensures commands { IfOk result (λ sequence. sequence.commands.items ≡ []) }
+        ensures branches { IfOk result (λ sequence. sequence.branches.items ≡ []) }
     {
-        Sequence {
-            commands: Vec::new(alloc),
+        Ok(Sequence {
+            commands: Vec::with_capacity(alloc, number)?,
             branches: Vec::new(alloc),
-        }
+        })
     }
 
     // Ends the choice, if there is one, with the block of its `else`, if there is one.
@@ -72,6 +72,8 @@ impl Sequence {
             }
             Part::First(branch) => {
                 self.close(alloc, None)?;
+                // Most choices have one branch.
+                self.branches.reserve_exact(1)?;
                 self.branches.push(branch)?;
             }
             Part::Next(branch) => {

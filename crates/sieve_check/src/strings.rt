@@ -36,7 +36,7 @@ fn meant(alloc: Global, piece: Piece<'_>) -> Result<Option<Segment>, AllocError>
 fn expanded(alloc: Global, string: &[u8]) -> Result<Vec<Segment>, AllocError>
     ensures { IfOk result (λ all. all.items ≡ flat_map meant (segments string.now)) }
 {
-    let mut all = Vec::new(alloc);
+    let mut all = Vec::with_capacity(alloc, 1)?;
     let mut rest = string;
     'pieces: while let Some((piece, after)) = first_segment(rest) {
         if let Some(segment) = meant(alloc, piece)? {
@@ -59,7 +59,7 @@ pub fn template(
     if surroundings.required.has(Capability::Variables) {
         return expanded(alloc, string.as_slice());
     }
-    let mut all = Vec::new(alloc);
+    let mut all = Vec::with_capacity(alloc, 1)?;
     all.push(Segment::Text(string.clone()?))?;
     Ok(all)
 }
@@ -73,7 +73,7 @@ fn templates(
 ) -> Result<Vec<Vec<Segment>>, AllocError>
     ensures { IfOk result (λ all. templates_of all.items ≡ map (template_of (context_of surroundings.entry)) (first.now ∷ others.now)) }
 {
-    let mut all = Vec::new(alloc);
+    let mut all = Vec::with_capacity(alloc, others.len() + 1)?;
     all.push(template(alloc, surroundings, first)?)?;
     for string in others {
         all.push(template(alloc, surroundings, string)?)?;

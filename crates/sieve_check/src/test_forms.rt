@@ -338,7 +338,7 @@ fn tests(
 ) -> Result<Option<Vec<Test>>, AllocError>
     ensures { IfOk result (λ ts. option_map (λ ts. tests_of (map test_form ts.items)) ts ≡ more_forms_of (context_of surroundings.entry) (more_tests_of (map invocation_tree list.now))) }
 {
-    let mut tests = Vec::new(alloc);
+    let mut tests = Vec::with_capacity(alloc, list.len())?;
     'list: for invocation in list {
         let Some(test) = test(alloc, surroundings, invocation)? else {
             return Ok(None);

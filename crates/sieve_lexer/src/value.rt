@@ -125,7 +125,7 @@ fn between_quotes(text: &[u8]) -> &[u8]
 pub fn string_of(alloc: Global, kind: TokenKind, text: &[u8]) -> Result<Octets, AllocError>
     ensures { IfOk result (λ octets. octets ≡ string_value kind text.now) }
 {
-    let mut value = Vec::new(alloc);
+    let mut value = Vec::with_capacity(alloc, text.len())?;
     match kind {
         TokenKind::MultiLineString => push_unstuffed(&mut value, text)?,
         _ => push_unescaped(&mut value, between_quotes(text))?,

@@ -229,6 +229,7 @@ impl<'p, 's, 'm> Machine<'p, 's, 'm> {
     }
 
     // Lists Keep, and takes the implicit keep away.
+    #[inline(always)]
     fn keep(&mut self) -> Result<Done, AllocError>
         ensures { IfOk result (λ done. (done ≡ once Flow.On) × ((mail : Mail) (s : State) → StandsFor mail s self.old → StandsFor mail (record s { actions = s.actions ++ Action.Keep ∷ []; implicit_keep = false }) self.new)) }
     {
@@ -250,6 +251,7 @@ impl<'p, 's, 'm> Machine<'p, 's, 'm> {
     }
 
     // Lists an action.
+    #[inline(always)]
     fn list(&mut self, action: Action) -> Result<(), AllocError>
         ensures { OnOk result ((mail : Mail) (s : State) → StandsFor mail s self.old → StandsFor mail (record s { actions = s.actions ++ action ∷ [] }) self.new) }
     {
@@ -257,6 +259,7 @@ impl<'p, 's, 'm> Machine<'p, 's, 'm> {
     }
 
     // Takes the implicit keep away.
+    #[inline(always)]
     fn discard(&mut self) -> Done
         ensures flow { result ≡ once Flow.On }
         ensures stands { (mail : Mail) (s : State) → StandsFor mail s self.old → StandsFor mail (record s { implicit_keep = false }) self.new }

@@ -1,26 +1,30 @@
-use Rattle.std.proofs.Common.{length, set, slice_get, true, ap, ◌∙◌, sym, length-set}
+use Rattle.std.proofs.Common.{length, set, slice_get, true, refl, ap, ◌∙◌, sym, length-set}
 use Rattle.std.proofs.lemmas.List.{with_items_is}
+use Rattle.bytecode_verifier.specs.Rules.{jumps}
+use Rattle.bytecode_verifier.proofs.Jumping.{jumps_in}
 use Rattle.bytecode_verifier.proofs.Marks.{marks_stay, marks_more}
 use Rattle.bytecode_verifier.proofs.targets.targets_of.Goals as goal
-use Rattle.bytecode_verifier.proofs.targets.targets_of.Goals.{then-is_jump, else-is_jump}
+use Rattle.bytecode_verifier.proofs.targets.targets_of.Goals.{then-jumps, else-jumps}
 
 pub loop-instruction-preserved : goal.loop-instruction-preserved
 loop-instruction-preserved c =
-    elim c.if-is_jump.branch [
-      | then-is_jump w ↦
+    elim c.if-jumps.branch [
+      | then-jumps w ↦
           let new = w.mark.ensures ∙ ap (λ marks. set marks _ true) w.deref_mut.ensures.value in
           let items = ap (λ v. v.items) w.targets-is ∙ with_items_is c.loop-instruction.targets w.mark.new.targets (rw (w.mark.ensures, length-set) w.deref_mut.ensures.len) ∙ new in
           record {
             number = rw (items, length-set) c.loop-instruction.invariant.number;
             each = λ place within. rw items
-                (marks_more c.args.version c.args.instructions.now c.loop-instruction.instruction-index _ c.row_named.result c.loop-instruction.targets.items place c.loop-instruction-test.true c.row_named.ensures (sym c.is_jump.ensures ∙ w.if-is_jump.true)
+                (marks_more c.args.version c.args.instructions.now c.loop-instruction.instruction-index _ _ c.loop-instruction.targets.items place c.loop-instruction-test.true refl
+                (jumps_in c.args.version _ ∙ ap jumps (sym c.of.ensures) ∙ sym c.jumps.ensures ∙ w.if-jumps.true)
                 (rw c.loop-instruction.invariant.number within) (c.loop-instruction.invariant.each place within));
           }
-      | else-is_jump w ↦
+      | else-jumps w ↦
           record {
             number = ap (λ v. length v.items) w.targets-is ∙ c.loop-instruction.invariant.number;
             each = λ place within. ap (λ v. slice_get v.items place) w.targets-is
-                ∙ marks_stay c.args.version c.args.instructions.now c.loop-instruction.instruction-index _ c.row_named.result c.loop-instruction.targets.items place c.loop-instruction-test.true c.row_named.ensures (sym c.is_jump.ensures ∙ w.if-is_jump.false)
+                ∙ marks_stay c.args.version c.args.instructions.now c.loop-instruction.instruction-index _ _ c.loop-instruction.targets.items place c.loop-instruction-test.true refl
+                (jumps_in c.args.version _ ∙ ap jumps (sym c.of.ensures) ∙ sym c.jumps.ensures ∙ w.if-jumps.false)
                 (c.loop-instruction.invariant.each place within);
           }
     ]

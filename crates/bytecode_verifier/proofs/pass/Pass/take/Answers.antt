@@ -1,6 +1,8 @@
-use Rattle.std.proofs.Common.{ap, ◌∙◌, arith}
+use Rattle.std.proofs.Common.{slice_index, ap, ◌∙◌, arith}
 use Rattle.std.specs.Bool.{then_some}
 use Rattle.std.specs.Option.{option_or}
+use Rattle.bytecode_cost.specs.Sums.{Sums}
+use Rattle.bytecode_verifier.specs.Pass.{with_charge}
 use Rattle.bytecode_verifier.specs.Rows.{row_named}
 use Rattle.bytecode_verifier.proofs.Steps.{none_from, small_here, cap_fits_here, passed_more}
 use Rattle.bytecode_verifier.proofs.pass.Pass.take.Goals as goal
@@ -12,24 +14,24 @@ pub charge-requires-clause-fixed : goal.charge-requires-clause-fixed
 charge-requires-clause-fixed c = λ few.
     let fits = cap_fits_here c.args.program.now c.args.place c.args.instruction.now c.args.self.now c.version.ensures.program c.requires.here c.requires.before c.args.targeted c.of-operation.result c.in_ok-passed.passed
     c.unwrap_or-cap.result c.advance.new.shape c.of-operation.ensures c.in_ok-passed.ensures c.unwrap_or-cap.ensures in
-    omega (arith, fits.0, c.requires.before.fixed c.depth_at.result, c.requires.small)
+    omega (arith, fits.0, c.requires.before.fixed c.depth_at.result, c.requires.small, ap (λ (sums : Sums). slice_index sums.fixed c.depth_at.result) c.note.ensures.budget)
 
 pub charge-requires-clause-scaled : goal.charge-requires-clause-scaled
 charge-requires-clause-scaled c = λ few.
     let fits = cap_fits_here c.args.program.now c.args.place c.args.instruction.now c.args.self.now c.version.ensures.program c.requires.here c.requires.before c.args.targeted c.of-operation.result c.in_ok-passed.passed
     c.unwrap_or-cap.result c.advance.new.shape c.of-operation.ensures c.in_ok-passed.ensures c.unwrap_or-cap.ensures in
-    omega (arith, fits.1, c.requires.before.scaled c.depth_at.result, c.requires.small)
+    omega (arith, fits.1, c.requires.before.scaled c.depth_at.result, c.requires.small, ap (λ (sums : Sums). slice_index sums.scaled c.depth_at.result) c.note.ensures.budget)
 
 pub returns : goal.returns
 returns c =
     passed_more c.args.program.now c.args.place c.args.instruction.now c.of-operation.result c.row_named-row.result c.args.self.now _ c.in_ok-passed.passed c.unwrap_or-cap.result c.args.targeted
-    c.misses_index.result c.is_well_formed.result c.misses_loop-astray.result c.misses_target-leaves.result c.misses_part.result c.depth_at.result
+    c.misses_index.result c.is_well_formed.result c.misses_loop.result c.misses_target.result c.misses_part.result c.depth_at.result
     c.requires.here c.requires.before c.requires.target c.of-operation.ensures (c.row_named-row.ensures ∙ ap (λ v. row_named v c.args.instruction.now.op) c.version.ensures.value)
-    c.misses_index.ensures c.first-self-2.ensures c.is_well_formed.ensures c.first-self-3.ensures
-    (c.misses_loop-astray.ensures c.args.program.now c.requires.nests) c.first-self-4.ensures
-    (c.misses_target-leaves.ensures c.args.program.now c.requires.nests) c.first-self-5.ensures
-    (c.misses_part.ensures c.args.program.now c.requires.nests) c.first-self-6.ensures
-    (c.first-self.ensures ∙ ap (λ fails. option_or c.args.self.now.stack (then_some fails c.args.place)) (none_from c.in_ok-passed.passed c.is_none.result c.is_none.ensures)) c.in_ok-passed.ensures c.unwrap_or-cap.ensures
+    c.misses_index.ensures c.note.ensures.index c.is_well_formed.ensures c.note.ensures.form
+    (c.misses_loop.ensures c.args.program.now c.requires.nests) c.note.ensures.brackets
+    (c.misses_target.ensures c.args.program.now c.requires.nests) c.note.ensures.jump
+    (c.misses_part.ensures c.args.program.now c.requires.nests) c.note.ensures.part
+    (c.note.ensures.stack ∙ ap (λ fails. option_or c.args.self.now.stack (then_some fails c.args.place)) (none_from c.in_ok-passed.passed c.is_none.result c.is_none.ensures)) (rw c.note.ensures.shape c.in_ok-passed.ensures) c.unwrap_or-cap.ensures
     (cap_fits_here c.args.program.now c.args.place c.args.instruction.now c.args.self.now c.version.ensures.program c.requires.here c.requires.before c.args.targeted c.of-operation.result c.in_ok-passed.passed
     c.unwrap_or-cap.result c.advance.new.shape c.of-operation.ensures c.in_ok-passed.ensures c.unwrap_or-cap.ensures)
-    (c.depth_at.ensures c.args.program.now c.requires.nests) c.charge.ensures
+    (c.depth_at.ensures c.args.program.now c.requires.nests) (c.charge.ensures ∙ ap (with_charge c.depth_at.result c.unwrap_or-cap.result) c.note.ensures.budget)

@@ -4,7 +4,7 @@ use Rattle.bytecode_format.specs.Action.{action_cmp}
 use Rattle.bytecode_format.proofs.ActionLemmas.{is_listed-push, keeps-push}
 use Rattle.bytecode_format.specs.Actions.{is_listed}
 use Rattle.bytecode_format.specs.declared.action.Action.TheVariants.{Keep}
-use Rattle.bytecode_format.proofs.action_list.ActionList.push.Goals as goal
+use Rattle.bytecode_format.proofs.action_list.ActionList.add.Goals as goal
 
 pub invariant_of-self-2 : goal.invariant_of-self-2
 invariant_of-self-2 c =
