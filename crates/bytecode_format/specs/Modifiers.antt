@@ -61,7 +61,8 @@ abbrev pub flag : Bool → ℕ
 flag false = 0
 flag true = 1
 
--- the modifiers as one number: bits 0 and 1 the case of all letters, bits 2 and 3 that of the first octet, bit 4 backslashes, bit 5 the count
+-- the modifiers as one number: bits 0 and 1 the case of all letters, bits 2 and 3 that of the first
+-- octet, bit 4 backslashes, bit 5 the count
 abbrev pub modifiers_number : Modifiers → ℕ
 modifiers_number m = case_number m.letters + 4 * case_number m.first + 16 * flag m.quote_wildcard + 32 * flag m.length
 

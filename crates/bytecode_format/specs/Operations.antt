@@ -5,7 +5,8 @@ use Rattle.bytecode_format.specs.declared.operation.Operation.TheVariants.{Halt,
 -- every operation, in the order of their octets: the first one's octet is 1
 abbrev pub operations : List Operation
 operations =
-    Halt ∷ Literal ∷ Variable ∷ Capture ∷ Join ∷ Set ∷ Bool ∷ Not ∷ Jump ∷ JumpIfTrue ∷ JumpIfFalse ∷ Header ∷ Exists ∷ String ∷ Size ∷ PartSize ∷ PartBody ∷ PartDigest ∷ Keep ∷ Discard ∷ File ∷ Store ∷ Each ∷ Next ∷ Break ∷ Take ∷ []
+    Halt ∷ Literal ∷ Variable ∷ Capture ∷ Join ∷ Set ∷ Bool ∷ Not ∷ Jump ∷ JumpIfTrue ∷ JumpIfFalse ∷ Header ∷ Exists
+    ∷ String ∷ Size ∷ PartSize ∷ PartBody ∷ PartDigest ∷ Keep ∷ Discard ∷ File ∷ Store ∷ Each ∷ Next ∷ Break ∷ Take ∷ []
 
 -- the operation of an octet, if it names one
 abbrev pub operation_of : ℕ → Option Operation

@@ -39,7 +39,8 @@ heading code =
 
 -- the one text of a program
 abbrev pub spelling : Code → List ℕ
-spelling code = heading code ++ flat_map eight_octets code.numbers ++ flat_map string code.strings ++ flat_map instruction code.instructions
+spelling code = heading code ++ flat_map eight_octets code.numbers ++ flat_map string code.strings
+    ++ flat_map instruction code.instructions
 
 -- the fields of an instruction fit their octets
 pub record Fits (i : Instruction) : Type 0 where

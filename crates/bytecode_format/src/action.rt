@@ -90,7 +90,8 @@ impl PartialOrd for Action {
 
     ghost partial_cmp = { as_partial_cmp action_cmp };
 
-    ghost laws = { partial_order_from_own_ties (Prim.search (comparing, rules)) (Prim.search (comparing, rules)) };
+    ghost laws = { partial_order_from_own_ties (Prim.search (comparing, rules))
+        (Prim.search (comparing, rules)) };
 
     fn partial_cmp(&self, other: &Action) -> Option<Ordering> {
         Some(self.cmp(other))

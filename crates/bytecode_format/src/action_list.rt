@@ -30,7 +30,9 @@ impl Model for ActionList {
 
     ghost view = { λ l. l.listed.items };
 
-    ghost invariant = { λ l. ((action : Action) → contains action_cmp l.seen action ≡ is_listed action l.listed.items) × (l.keeps ≡ is_listed Keep l.listed.items) };
+    ghost invariant = { λ l. ((action : Action)
+        → contains action_cmp l.seen action ≡ is_listed action l.listed.items)
+        × (l.keeps ≡ is_listed Keep l.listed.items) };
 }
 
 impl ActionList {

@@ -73,8 +73,22 @@ impl Program {
         strings: Vec<Octets>,
         instructions: Vec<Instruction>,
     ) -> Result<Program, FormatError>
-        ensures built { let code : Code = record { version = version; variables = variables; numbers = numbers.items; strings = strings.items; instructions = instructions.items } in IfOk result (λ p. (p ≡ code) × IsProgram code) }
-        ensures refused { let code : Code = record { version = version; variables = variables; numbers = numbers.items; strings = strings.items; instructions = instructions.items } in IfErr result (λ e. (e ≡ FormatError.Spelling) × ¬ IsProgram code) }
+        ensures built { let code : Code = record {
+          version = version;
+          variables = variables;
+          numbers = numbers.items;
+          strings = strings.items;
+          instructions = instructions.items;
+        } in IfOk result
+            (λ p. (p ≡ code) × IsProgram code) }
+        ensures refused { let code : Code = record {
+          version = version;
+          variables = variables;
+          numbers = numbers.items;
+          strings = strings.items;
+          instructions = instructions.items;
+        } in IfErr result
+            (λ e. (e ≡ FormatError.Spelling) × ¬ IsProgram code) }
     {
         if !is_version(version) || variables > MAX_VARIABLES {
             return Err(FormatError::Spelling);

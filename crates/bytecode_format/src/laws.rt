@@ -19,12 +19,15 @@ pub fn programs_go_on_in_version_two()
 
 /// What one more action at the end of a run changes.
 pub fn one_more_action()
-    ensures { (actions : List Action) (action : Action) → first_occurrences (actions ++ action ∷ []) ≡ with_action (first_occurrences actions) action }
+    ensures { (actions : List Action) (action : Action)
+        → first_occurrences (actions ++ action ∷ [])
+        ≡ with_action (first_occurrences actions) action }
 {}
 
 /// Modifiers are known by their number, which takes six bits, and no other number stands for them.
 pub fn one_number_for_modifiers()
     ensures number { (m : Modifiers) → modifiers_numbered (modifiers_number m) ≡ Some m }
     ensures small { (m : Modifiers) → modifiers_number m < 64 }
-    ensures only { (n : ℕ) (m : Modifiers) → modifiers_numbered n ≡ Some m → modifiers_number m ≡ n }
+    ensures only { (n : ℕ) (m : Modifiers) → modifiers_numbered n ≡ Some m
+        → modifiers_number m ≡ n }
 {}

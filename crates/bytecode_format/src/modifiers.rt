@@ -90,7 +90,8 @@ fn continues_character(octet: u8) -> bool
 
 // Puts an octet at the end, where there is room below the limit.
 fn put(out: &mut Vec<u8>, octet: u8, limit: usize) -> Result<(), AllocError>
-    ensures { OnOk result ((text : List ℕ) → out.old.items ≡ take limit text → out.new.items ≡ take limit (text ++ octet ∷ [])) }
+    ensures { OnOk result ((text : List ℕ) → out.old.items ≡ take limit text
+        → out.new.items ≡ take limit (text ++ octet ∷ [])) }
 {
     if out.len() < limit {
         out.push(octet)?;
@@ -100,7 +101,8 @@ fn put(out: &mut Vec<u8>, octet: u8, limit: usize) -> Result<(), AllocError>
 
 // The same with a backslash before it, where a pattern reads the octet as more than itself.
 fn put_quoted(out: &mut Vec<u8>, octet: u8, limit: usize) -> Result<(), AllocError>
-    ensures { OnOk result ((text : List ℕ) → out.old.items ≡ take limit text → out.new.items ≡ take limit (text ++ quoted true (octet ∷ []))) }
+    ensures { OnOk result ((text : List ℕ) → out.old.items ≡ take limit text
+        → out.new.items ≡ take limit (text ++ quoted true (octet ∷ []))) }
 {
     if is_quotable(octet) {
         put(out, b'\\', limit)?;
@@ -178,7 +180,9 @@ impl Modifiers {
 
     // The text modified but for its count.
     fn written(self, alloc: Global, text: &[u8], limit: usize) -> Result<Octets, AllocError>
-        ensures { IfOk result (λ value. value ≡ take limit (quoted self.quote_wildcard (first_cased self.first (cased self.letters text.now)))) }
+        ensures { IfOk result (λ value. value
+            ≡ take limit (quoted self.quote_wildcard
+            (first_cased self.first (cased self.letters text.now)))) }
     {
         if self.quote_wildcard {
             return self.quoted(alloc, text, limit);
@@ -189,7 +193,8 @@ impl Modifiers {
 
     // The text with the case of its letters and of its first octet.
     fn cased(self, alloc: Global, text: &[u8]) -> Result<Vec<u8>, AllocError>
-        ensures { IfOk result (λ out. out.items ≡ first_cased self.first (cased self.letters text.now)) }
+        ensures { IfOk result (λ out. out.items
+            ≡ first_cased self.first (cased self.letters text.now)) }
     {
         let mut out = Case::written(alloc, self.letters, text)?;
         if let Some(octet) = out.first_mut() {
@@ -200,7 +205,8 @@ impl Modifiers {
 
     // The same with backslashes, of which the first `limit` octets stay.
     fn quoted(self, alloc: Global, text: &[u8], limit: usize) -> Result<Octets, AllocError>
-        ensures { IfOk result (λ value. value ≡ take limit (quoted true (first_cased self.first (cased self.letters text.now)))) }
+        ensures { IfOk result (λ value. value
+            ≡ take limit (quoted true (first_cased self.first (cased self.letters text.now)))) }
     {
         let mut out = Vec::with_capacity(alloc, (text.len() * 2).min(limit))?;
         let mut first = self.first;
@@ -214,7 +220,8 @@ impl Modifiers {
 
     // How many characters the text has when it is modified but for that.
     fn characters(self, text: &[u8]) -> usize
-        ensures { result ≡ characters (quoted self.quote_wildcard (first_cased self.first (cased self.letters text.now))) }
+        ensures { result ≡ characters
+            (quoted self.quote_wildcard (first_cased self.first (cased self.letters text.now))) }
     {
         let mut count = 0;
         'text: for octet in text {

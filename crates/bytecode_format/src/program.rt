@@ -50,9 +50,22 @@ impl Model for Program {
 
     ghost Value = { Code };
 
-    ghost view = { λ p. record { version = p.version; variables = p.variables; numbers = p.numbers.items; strings = p.strings.items; instructions = p.instructions.items } };
+    ghost view = { λ p. record {
+      version = p.version;
+      variables = p.variables;
+      numbers = p.numbers.items;
+      strings = p.strings.items;
+      instructions = p.instructions.items;
+    } };
 
-    ghost invariant = { λ p. IsProgram (record { version = p.version; variables = p.variables; numbers = p.numbers.items; strings = p.strings.items; instructions = p.instructions.items }) };
+    ghost invariant = { λ p. IsProgram
+        (record {
+          version = p.version;
+          variables = p.variables;
+          numbers = p.numbers.items;
+          strings = p.strings.items;
+          instructions = p.instructions.items;
+        }) };
 }
 
 impl Program {
@@ -66,8 +79,20 @@ impl Program {
         strings: Vec<Octets>,
         instructions: Vec<Instruction>,
     ) -> Program
-        requires { IsProgram (record { version = version; variables = variables; numbers = numbers.items; strings = strings.items; instructions = instructions.items }) }
-        ensures { result ≡ record { version = version; variables = variables; numbers = numbers.items; strings = strings.items; instructions = instructions.items } }
+        requires { IsProgram (record {
+          version = version;
+          variables = variables;
+          numbers = numbers.items;
+          strings = strings.items;
+          instructions = instructions.items;
+        }) }
+        ensures { result ≡ record {
+          version = version;
+          variables = variables;
+          numbers = numbers.items;
+          strings = strings.items;
+          instructions = instructions.items;
+        } }
     {
         Program {
             version,

@@ -101,7 +101,16 @@ fn instruction_of(octets: &[u8]) -> Result<(Instruction, &[u8]), FormatError>
 
 #[tactic(auto, unfolding(crate::specs::Readers::counts_at))]
 fn counts_of(octets: &[u8]) -> Result<(Counts, &[u8]), FormatError>
-    ensures { Gives (λ x. (record { variables = x.0.variables; numbers = x.0.numbers; strings = x.0.strings; instructions = x.0.instructions }, x.1.now)) result (counts_at octets.now) }
+    ensures { Gives (λ x. (
+      record {
+        variables = x.0.variables;
+        numbers = x.0.numbers;
+        strings = x.0.strings;
+        instructions = x.0.instructions;
+      },
+      x.1.now,
+    )) result
+        (counts_at octets.now) }
 {
     let (variables, rest) = u16_of(octets)?;
     let (numbers, rest) = u16_of(rest)?;
@@ -174,8 +183,15 @@ struct Parts {
 
 #[tactic(auto, unfolding(crate::specs::Readers::program_at, crate::specs::Readers::tables_at, crate::specs::Readers::after))]
 fn parts_of(alloc: Global, octets: &[u8]) -> Result<Parts, FormatError>
-    ensures parts { Gives (λ p. record { version = p.version; variables = p.variables; numbers = p.numbers.items; strings = p.strings.items; instructions = p.instructions.items }) result (program_at octets.now) }
-    ensures large { max_program < length octets.now → IsErrAnd result (λ e. e ≡ FormatError.Spelling) }
+    ensures parts { Gives (λ p. record {
+      version = p.version;
+      variables = p.variables;
+      numbers = p.numbers.items;
+      strings = p.strings.items;
+      instructions = p.instructions.items;
+    }) result (program_at octets.now) }
+    ensures large { max_program < length octets.now
+        → IsErrAnd result (λ e. e ≡ FormatError.Spelling) }
 {
     if octets.len() > MAX_PROGRAM {
         return Err(FormatError::Spelling);
@@ -208,8 +224,11 @@ impl Program {
     /// count claims.
     pub fn read(alloc: Global, octets: &[u8]) -> Result<Program, FormatError>
         ensures found { IfOk result (λ p. IsProgram p × (octets.now ≡ spelling p)) }
-        ensures refused { IfErr result (λ e. e ≡ FormatError.Spelling → (code : Code) → IsProgram code → octets.now ≢ spelling code) }
-        ensures large { max_program < length octets.now → IsErrAnd result (λ e. e ≡ FormatError.Spelling) }
+        ensures refused { IfErr result
+            (λ e. e ≡ FormatError.Spelling → (code : Code) → IsProgram code
+            → octets.now ≢ spelling code) }
+        ensures large { max_program < length octets.now
+            → IsErrAnd result (λ e. e ≡ FormatError.Spelling) }
     {
         let parts = parts_of(alloc, octets)?;
         Ok(Program::assemble(

@@ -33,8 +33,8 @@ cap_of_octets taken = record { fixed = 1 + sum taken.bounds; scaled = 0 }
 abbrev pub cap_of_names : Texts → Cap
 cap_of_names names = record { fixed = 1; scaled = one_more_each names.bounds }
 
--- the same, and for each name, or each parameter of each name, the keys, each with one more: what a name, or a parameter of that name,
--- selects of all fields has no more octets than the message
+-- the same, and for each name, or each parameter of each name, the keys, each with one more: what a
+-- name, or a parameter of that name, selects of all fields has no more octets than the message
 abbrev pub cap_of_matching : Lists → Cap
 cap_of_matching lists =
     record { fixed = 1; scaled = one_more_each lists.names + length lists.names * max (length lists.params) 1 * one_more_each lists.keys }
@@ -43,7 +43,8 @@ cap_of_matching lists =
 abbrev pub cap_of_comparing : Lists → Cap
 cap_of_comparing lists = record { fixed = 1 + one_more_each lists.names * one_more_each lists.keys; scaled = 0 }
 
--- for each octet of the message and one more, the keys, each with one more: a part's content has no more octets than the message
+-- for each octet of the message and one more, the keys, each with one more: a part's content has no
+-- more octets than the message
 abbrev pub cap_of_body : Texts → Cap
 cap_of_body keys = record { fixed = 1; scaled = one_more_each keys.bounds }
 
@@ -73,7 +74,8 @@ cap_of (Some Not) i entries = one_charge
 cap_of (Some Jump) i entries = one_charge
 cap_of (Some JumpIfTrue) i entries = one_charge
 cap_of (Some JumpIfFalse) i entries = one_charge
-cap_of (Some Header) i entries = option_map_or cap_of_matching (take_lists i.b (params_in i.c) (keys_in i.c) entries) one_charge
+cap_of (Some Header) i entries = option_map_or cap_of_matching
+    (take_lists i.b (params_in i.c) (keys_in i.c) entries) one_charge
 cap_of (Some Exists) i entries = option_map_or cap_of_names (take_texts i.b entries) one_charge
 cap_of (Some String) i entries = option_map_or cap_of_comparing (take_lists i.b 0 i.c entries) one_charge
 cap_of (Some Size) i entries = one_charge
@@ -109,7 +111,8 @@ sum_inside part code k = sum_below (λ place. if length (open_loops code place) 
 
 -- the four sums
 abbrev pub sums_inside : (Cap → ℕ) → Code → List ℕ
-sums_inside part code = sum_inside part code 0 ∷ sum_inside part code 1 ∷ sum_inside part code 2 ∷ sum_inside part code 3 ∷ []
+sums_inside part code = sum_inside part code 0 ∷ sum_inside part code 1 ∷ sum_inside part code 2
+    ∷ sum_inside part code 3 ∷ []
 
 -- the budget of the program
 abbrev pub budget_of : Code → Sums

@@ -30,7 +30,8 @@ is_balanced instructions first last =
 
 -- the Next of the Each at a place: the first place after it up to which all that it and others open is closed
 abbrev pub next_of : List Instruction → ℕ → Option ℕ
-next_of instructions each = least_below (λ place. nat_lt each place && is_balanced instructions each place) (length instructions)
+next_of instructions each = least_below (λ place. nat_lt each place && is_balanced instructions each place)
+    (length instructions)
 
 -- the loop that an instruction opens, if it is an Each that has a Next
 abbrev pub loop_from : List Instruction → ℕ → Instruction → Option Loop

@@ -16,7 +16,8 @@ abbrev pub without_first : List ℕ → List ℕ
 without_first [] = []
 without_first (n ∷ rest) = rest
 
--- the places of the Next after an instruction whose Each doesn't stand after it, with that instruction's own; the nearest first
+-- the places of the Next after an instruction whose Each doesn't stand after it, with that
+-- instruction's own; the nearest first
 abbrev pub waiting_over : Option Operation → ℕ → List ℕ → List ℕ
 waiting_over (Some Each) place later = without_first later
 waiting_over (Some Next) place later = place ∷ later
@@ -35,11 +36,14 @@ next_over _ later = 0
 -- the same of each instruction that stands from a place on
 abbrev pub nexts_from : ℕ → List Instruction → List ℕ
 nexts_from place [] = []
-nexts_from place (i ∷ rest) = next_over (operation_of i.op) (waiting_from (suc place) rest) ∷ nexts_from (suc place) rest
+nexts_from place (i ∷ rest) = next_over (operation_of i.op) (waiting_from (suc place) rest)
+    ∷ nexts_from (suc place) rest
 
 -- the same of the instruction at a place
 abbrev pub next_at : List Instruction → ℕ → ℕ
-next_at instructions place = option_map_or (λ i. next_over (operation_of i.op) (waiting_from (suc place) (drop (suc place) instructions))) (slice_get instructions place) 0
+next_at instructions place = option_map_or
+    (λ i. next_over (operation_of i.op) (waiting_from (suc place) (drop (suc place) instructions)))
+    (slice_get instructions place) 0
 
 -- the places of the Next of the loops that are open, the innermost first, after an instruction with this Next
 abbrev pub open_over : ℕ → ℕ → List ℕ → List ℕ

@@ -27,17 +27,20 @@ pub record IsSmall (entries : Entries) : Type 0 where
   pub few : length entries ≤ max_stack
   pub short : AreShort entries
 
--- the sum of the bounds of so many texts that were taken, each with one more, and the entries below them; neither, where they weren't there
+-- the sum of the bounds of so many texts that were taken, each with one more, and the entries below
+-- them; neither, where they weren't there
 abbrev pub Takes : ℕ → Option ℕ → Entries → Option Texts → Type 0
 Takes number None now None = Unit {0}
-Takes number (Some total) now (Some texts) = (total ≡ one_more_each texts.bounds) × (length texts.bounds ≡ number) × (now ≡ texts.rest)
+Takes number (Some total) now (Some texts) = (total ≡ one_more_each texts.bounds) × (length texts.bounds ≡ number)
+    × (now ≡ texts.rest)
 Takes number _ now _ = ⊥
 
 -- the same of names and of keys, with as many names and parameters as are wanted
 abbrev pub TakesLists : ℕ → ℕ → Option (ℕ × ℕ) → Entries → Option Lists → Type 0
 TakesLists names params None now None = Unit {0}
 TakesLists names params (Some totals) now (Some lists) =
-    (totals.0 ≡ one_more_each lists.names) × (totals.1 ≡ one_more_each lists.keys) × (length lists.names ≡ names) × (length lists.params ≡ params) × (now ≡ lists.rest)
+    (totals.0 ≡ one_more_each lists.names) × (totals.1 ≡ one_more_each lists.keys) × (length lists.names ≡ names)
+    × (length lists.params ≡ params) × (now ≡ lists.rest)
 TakesLists names params _ now _ = ⊥
 
 -- the shape goes on to these entries with this cap, or it fails
@@ -54,7 +57,8 @@ abbrev pub sum_below_place : (Cap → ℕ) → Code → ℕ → ℕ → ℕ
 sum_below_place part code bound k = sum_below (λ place. if length (open_loops code place) == k then part (cap_at code place) else 0) bound
 
 abbrev pub sums_below : (Cap → ℕ) → Code → ℕ → List ℕ
-sums_below part code bound = sum_below_place part code bound 0 ∷ sum_below_place part code bound 1 ∷ sum_below_place part code bound 2 ∷ sum_below_place part code bound 3 ∷ []
+sums_below part code bound = sum_below_place part code bound 0 ∷ sum_below_place part code bound 1
+    ∷ sum_below_place part code bound 2 ∷ sum_below_place part code bound 3 ∷ []
 
 -- the budget of the instructions below a place
 abbrev pub budget_below : Code → ℕ → Sums

@@ -118,7 +118,8 @@ takes a Any n = true
 
 -- the version has the operation, its fields are in their ranges, and the fields that it doesn't name are 0
 abbrev pub is_well_formed : Option Row → Instruction → Bool
-is_well_formed row i = option_map_or (λ (r : Row). takes i.a r.a i.a && takes i.a r.b i.b && takes i.a r.c i.c) row false
+is_well_formed row i = option_map_or
+    (λ (r : Row). takes i.a r.a i.a && takes i.a r.b i.b && takes i.a r.c i.c) row false
 
 -- the operation jumps to c
 abbrev pub is_jump : Option Row → Bool

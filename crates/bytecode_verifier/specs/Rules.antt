@@ -28,7 +28,8 @@ count_of code Strings = length code.strings
 
 -- the instruction's index isn't below the count of what it is an index of
 abbrev pub misses_index : Code → Option Row → Instruction → Bool
-misses_index code row i = option_map_or (λ table. nat_le (count_of code table) i.c) (option_and_then (λ (r : Row). r.index) row) false
+misses_index code row i = option_map_or (λ table. nat_le (count_of code table) i.c)
+    (option_and_then (λ (r : Row). r.index) row) false
 
 -- Index: an index of what isn't there
 abbrev pub breaks_index : Code → ℕ → Bool
@@ -51,15 +52,18 @@ is_halt _ = false
 
 -- End: at the last place, 0 where there is none, there is no Halt
 abbrev pub breaks_end : Code → ℕ → Bool
-breaks_end code place = (place == length code.instructions - 1) && not (holds_at code place (λ i. is_halt (operation_of i.op)))
+breaks_end code place = (place == length code.instructions - 1)
+    && not (holds_at code place (λ i. is_halt (operation_of i.op)))
 
 -- the program has this loop
 abbrev pub has_loop : Code → ℕ → ℕ → Bool
 has_loop code each next = list_any (λ loop. (loop.each == each) && (loop.next == next)) (loops code)
 
--- an Each or Next without its partner, or that names another place; an Each inside three loops; a Break of more loops than are open
+-- an Each or Next without its partner, or that names another place; an Each inside three loops; a
+-- Break of more loops than are open
 abbrev pub misses_loop : Code → ℕ → Option Operation → Instruction → Bool
-misses_loop code place (Some Each) i = not (has_loop code place i.c) || nat_le max_loops (length (open_loops code place))
+misses_loop code place (Some Each) i = not (has_loop code place i.c)
+    || nat_le max_loops (length (open_loops code place))
 misses_loop code place (Some Next) i = not (has_loop code i.c place)
 misses_loop code place (Some Break) i = nat_lt (length (open_loops code place)) i.a
 misses_loop code place _ i = false
@@ -71,11 +75,13 @@ breaks_loop code place = holds_at code place (λ i. misses_loop code place (oper
 -- Jump: a jump that isn't forward, that leads after the last instruction, or to a place with other open loops
 abbrev pub breaks_jump : Code → ℕ → Bool
 breaks_jump code place =
-    holds_at code place (λ i. is_jump (row_in code i) && (nat_le i.c place || nat_le (length code.instructions) i.c || not (same_loops code place i.c)))
+    holds_at code place (λ i. is_jump (row_in code i)
+    && (nat_le i.c place || nat_le (length code.instructions) i.c || not (same_loops code place i.c)))
 
 -- NoPart: an operation on the current part outside all loops
 abbrev pub breaks_no_part : Code → ℕ → Bool
-breaks_no_part code place = holds_at code place (λ i. needs_part (row_in code i) && (length (open_loops code place) == 0))
+breaks_no_part code place = holds_at code place
+    (λ i. needs_part (row_in code i) && (length (open_loops code place) == 0))
 
 -- Stack: the shape goes up to the place and not beyond it
 abbrev pub breaks_stack : Code → ℕ → Bool

@@ -50,8 +50,8 @@ take_texts (suc n) [] = None
 take_texts (suc n) (Truth ∷ entries) = None
 take_texts (suc n) (Text bound ∷ entries) = option_map (with_text bound) (take_texts n entries)
 
--- lists that are taken: the bounds of names or sources, of the parameters above them, and of the keys above these, and the entries
--- below
+-- lists that are taken: the bounds of names or sources, of the parameters above them, and of the
+-- keys above these, and the entries below
 pub record Lists : Type 0 where
   pub names : List ℕ
   pub params : List ℕ
@@ -64,7 +64,8 @@ with_params_and_keys params keys names = record { names = names.bounds; params =
 -- so many names or sources, and so many parameters above them, below keys that were taken
 abbrev pub take_below : ℕ → ℕ → Texts → Option Lists
 take_below names params keys =
-    option_and_then (λ (between : Texts). option_map (with_params_and_keys between.bounds keys.bounds) (take_texts names between.rest)) (take_texts params keys.rest)
+    option_and_then (λ (between : Texts). option_map (with_params_and_keys between.bounds keys.bounds)
+    (take_texts names between.rest)) (take_texts params keys.rest)
 
 -- so many names or sources, so many parameters above them, and so many keys above these
 abbrev pub take_lists : ℕ → ℕ → ℕ → Entries → Option Lists
@@ -78,8 +79,8 @@ with_string string entries = option_and_then (λ octets. with_entry (Text (lengt
 abbrev pub with_joined : Texts → Option Entries
 with_joined parts = with_entry (Text (min (sum parts.bounds) max_string)) parts.rest
 
--- the entries that an operation leaves of these, or None where an entry is missing or of the wrong kind, where there is no room,
--- or where entries are left that must not be
+-- the entries that an operation leaves of these, or None where an entry is missing or of the wrong
+-- kind, where there is no room, or where entries are left that must not be
 abbrev pub entries_after : Code → Operation → Instruction → Entries → Option Entries
 entries_after code Halt i entries = if is_empty entries then Some [] else None
 entries_after code Literal i entries = with_string (slice_get code.strings i.c) entries
@@ -92,13 +93,18 @@ entries_after code Not i entries = if has_truth entries then Some entries else N
 entries_after code Jump i entries = if is_empty entries then Some [] else None
 entries_after code JumpIfTrue i entries = without_truth entries
 entries_after code JumpIfFalse i entries = without_truth entries
-entries_after code Header i entries = option_and_then (λ (lists : Lists). with_entry Truth lists.rest) (take_lists i.b (params_in i.c) (keys_in i.c) entries)
-entries_after code Exists i entries = option_and_then (λ (names : Texts). with_entry Truth names.rest) (take_texts i.b entries)
-entries_after code String i entries = option_and_then (λ (lists : Lists). with_entry Truth lists.rest) (take_lists i.b 0 i.c entries)
+entries_after code Header i entries = option_and_then (λ (lists : Lists). with_entry Truth lists.rest)
+    (take_lists i.b (params_in i.c) (keys_in i.c) entries)
+entries_after code Exists i entries = option_and_then (λ (names : Texts). with_entry Truth names.rest)
+    (take_texts i.b entries)
+entries_after code String i entries = option_and_then (λ (lists : Lists). with_entry Truth lists.rest)
+    (take_lists i.b 0 i.c entries)
 entries_after code Size i entries = with_entry Truth entries
 entries_after code PartSize i entries = with_entry Truth entries
-entries_after code PartBody i entries = option_and_then (λ (keys : Texts). with_entry Truth keys.rest) (take_texts i.c entries)
-entries_after code PartDigest i entries = option_and_then (λ (keys : Texts). with_entry Truth keys.rest) (take_texts i.c entries)
+entries_after code PartBody i entries = option_and_then (λ (keys : Texts). with_entry Truth keys.rest)
+    (take_texts i.c entries)
+entries_after code PartDigest i entries = option_and_then (λ (keys : Texts). with_entry Truth keys.rest)
+    (take_texts i.c entries)
 entries_after code Keep i entries = Some entries
 entries_after code Discard i entries = Some entries
 entries_after code File i entries = option_map (λ (folder : Texts). folder.rest) (take_texts 1 entries)
@@ -117,8 +123,11 @@ abbrev pub shape_after : Code → Bool → Option Operation → Instruction → 
 shape_after code targeted operation i entries =
     if targeted && not (is_empty entries) then None else option_and_then (λ o. entries_after code o i entries) operation
 
--- the entries before the instruction at a place, or None where the shape has failed before it; after the last one nothing fails
+-- the entries before the instruction at a place, or None where the shape has failed before it;
+-- after the last one nothing fails
 abbrev pub shape_at : Code → ℕ → Option Entries
 shape_at code zero = Some []
 shape_at code (suc place) =
-    option_and_then (λ entries. option_map_or (λ i. shape_after code (is_target code.version code.instructions place) (operation_of i.op) i entries) (slice_get code.instructions place) (Some entries)) (shape_at code place)
+    option_and_then (λ entries. option_map_or
+    (λ i. shape_after code (is_target code.version code.instructions place) (operation_of i.op) i entries)
+    (slice_get code.instructions place) (Some entries)) (shape_at code place)

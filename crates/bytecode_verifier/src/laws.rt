@@ -14,7 +14,8 @@ pub fn accepted_or_refused()
 
 /// The budget of an accepted program is below 2^128 at every message.
 pub fn budgets_fit_every_message()
-    ensures { (code : Code) → IsProgram code → IsAccepted code → (n p : ℕ) → n ≤ max_message → p ≤ max_parts → budget_at (budget_of code) n p < 2 ^ 128 }
+    ensures { (code : Code) → IsProgram code → IsAccepted code → (n p : ℕ) → n ≤ max_message
+        → p ≤ max_parts → budget_at (budget_of code) n p < 2 ^ 128 }
 {}
 
 /// What is accepted in one version is accepted in version 2.
@@ -24,6 +25,8 @@ pub fn accepted_programs_go_on_in_version_two()
 
 /// In version 2 a program has the same sums, and its budget is nowhere larger.
 pub fn budgets_do_not_grow_in_version_two()
-    ensures sums { (code : Code) → budget_of (record code { version = 2 }) ≡ record (budget_of code) { version = 2 } }
-    ensures values { (code : Code) → (n p : ℕ) → budget_at (budget_of (record code { version = 2 })) n p ≤ budget_at (budget_of code) n p }
+    ensures sums { (code : Code)
+        → budget_of (record code { version = 2 }) ≡ record (budget_of code) { version = 2 } }
+    ensures values { (code : Code) → (n p : ℕ)
+        → budget_at (budget_of (record code { version = 2 })) n p ≤ budget_at (budget_of code) n p }
 {}

@@ -20,7 +20,8 @@ pub fn misses_loop(
     instruction: &Instruction,
 ) -> bool
     requires { place < length nests.now }
-    ensures { (code : Code) → AreNests code.instructions nests.now → result ≡ Rules.misses_loop code place operation instruction.now }
+    ensures { (code : Code) → AreNests code.instructions nests.now
+        → result ≡ Rules.misses_loop code place operation instruction.now }
 {
     let Instruction { a, c, .. } = *instruction;
     let depth = depth_at(nests, place);
@@ -41,7 +42,11 @@ pub fn misses_target(
     instruction: &Instruction,
 ) -> bool
     requires { place < length nests.now }
-    ensures { (code : Code) → AreNests code.instructions nests.now → result ≡ (Rows.is_jump row && (nat_le instruction.now.c place || nat_le (length code.instructions) instruction.now.c || not (same_loops code place instruction.now.c))) }
+    ensures { (code : Code) → AreNests code.instructions nests.now
+        → result ≡ (Rows.is_jump row
+        && (nat_le instruction.now.c place
+        || nat_le (length code.instructions) instruction.now.c
+        || not (same_loops code place instruction.now.c))) }
 {
     let target = instruction.c as usize;
     is_jump(row) && (target <= place || leaves_loops(nests, place, target))
@@ -50,7 +55,8 @@ pub fn misses_target(
 /// Whether the operation is on the current part, and there is none.
 pub fn misses_part(nests: &[Nest], place: usize, row: Option<Row>) -> bool
     requires { place < length nests.now }
-    ensures { (code : Code) → AreNests code.instructions nests.now → result ≡ (Rows.needs_part row && (length (open_loops code place) == 0)) }
+    ensures { (code : Code) → AreNests code.instructions nests.now
+        → result ≡ (Rows.needs_part row && (length (open_loops code place) == 0)) }
 {
     needs_part(row) && depth_at(nests, place) == 0
 }
@@ -58,14 +64,16 @@ pub fn misses_part(nests: &[Nest], place: usize, row: Option<Row>) -> bool
 /// How many loops are open at a place.
 pub fn depth_at(nests: &[Nest], place: usize) -> u32
     requires { place < length nests.now }
-    ensures { (code : Code) → AreNests code.instructions nests.now → result ≡ length (open_loops code place) }
+    ensures { (code : Code) → AreNests code.instructions nests.now
+        → result ≡ length (open_loops code place) }
 {
     nests[place].depth
 }
 
 // Whether the program has the loop.
 fn has_loop(nests: &[Nest], each: usize, next: usize) -> bool
-    ensures { (code : Code) → AreNests code.instructions nests.now → result ≡ Rules.has_loop code each next }
+    ensures { (code : Code) → AreNests code.instructions nests.now
+        → result ≡ Rules.has_loop code each next }
 {
     match nests.get(each) {
         Some(nest) => nest.leads(next),
@@ -76,7 +84,9 @@ fn has_loop(nests: &[Nest], each: usize, next: usize) -> bool
 // Whether there is no instruction at the target, or other loops are open there than at the place.
 fn leaves_loops(nests: &[Nest], place: usize, target: usize) -> bool
     requires { place < length nests.now }
-    ensures { (code : Code) → AreNests code.instructions nests.now → result ≡ (nat_le (length code.instructions) target || not (same_loops code place target)) }
+    ensures { (code : Code) → AreNests code.instructions nests.now
+        → result ≡ (nat_le (length code.instructions) target
+        || not (same_loops code place target)) }
 {
     match nests.get(target) {
         Some(nest) => nest.inner != nests[place].inner,

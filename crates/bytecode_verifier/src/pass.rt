@@ -142,7 +142,8 @@ impl Pass {
 // Adds the cap of an instruction inside so many loops; with more than there may be it counts nowhere.
 fn charge(budget: &mut Budget, depth: u32, cap: Cap)
     requires fixed { depth ≤ max_loops → slice_index budget.old.fixed depth + cap.fixed < 2 ^ 63 }
-    requires scaled { depth ≤ max_loops → slice_index budget.old.scaled depth + cap.scaled < 2 ^ 63 }
+    requires scaled { depth ≤ max_loops
+        → slice_index budget.old.scaled depth + cap.scaled < 2 ^ 63 }
     ensures { budget.new ≡ with_charge depth cap budget.old }
 {
     if depth <= MAX_LOOPS {
@@ -172,7 +173,9 @@ fn advance(
     instruction: &Instruction,
 ) -> Result<Option<Cap>, AllocError>
     requires { failed ≡ None → IsSmall shape.old }
-    ensures { IfOk result (λ cap. Passes cap shape.new (cap_of operation instruction.now shape.old) (option_and_then (shape_after program.now targeted operation instruction.now) (unless_failed failed shape.old))) }
+    ensures { IfOk result (λ cap. Passes cap shape.new (cap_of operation instruction.now shape.old)
+        (option_and_then (shape_after program.now targeted operation instruction.now)
+        (unless_failed failed shape.old))) }
 {
     if failed.is_some() || targeted && !shape.is_empty() {
         return Ok(None);

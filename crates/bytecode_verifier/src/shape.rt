@@ -69,7 +69,8 @@ impl Shape {
 
     /// Puts an entry on top, or answers that there is no room.
     pub fn push(&mut self, entry: Entry) -> Result<bool, AllocError>
-        ensures { IfOk result (λ fine. (if fine then Some self.new else None) ≡ with_entry entry self.old) }
+        ensures { IfOk result (λ fine. (if fine then Some self.new else None)
+            ≡ with_entry entry self.old) }
     {
         let fine = self.entries.len() < MAX_STACK;
         if fine {
@@ -80,7 +81,8 @@ impl Shape {
 
     /// Takes the top entry, if there is one.
     pub fn pop(&mut self) -> Option<Entry>
-        ensures { MatchOption result ((self.old ≡ []) × (self.new ≡ [])) (λ entry. self.old ≡ entry ∷ self.new) }
+        ensures { MatchOption result ((self.old ≡ []) × (self.new ≡ []))
+            (λ entry. self.old ≡ entry ∷ self.new) }
     {
         self.entries.pop()
     }
@@ -94,7 +96,10 @@ impl Shape {
         instruction: &Instruction,
     ) -> Result<Option<Cap>, AllocError>
         requires { IsSmall self.old }
-        ensures { IfOk result (λ cap. Passes cap self.new (cap_of operation instruction.now self.old) (option_and_then (λ o. entries_after program.now o instruction.now self.old) operation)) }
+        ensures { IfOk result (λ cap. Passes cap self.new
+            (cap_of operation instruction.now self.old)
+            (option_and_then (λ o. entries_after program.now o instruction.now self.old)
+            operation)) }
     {
         let Instruction { b, c, .. } = *instruction;
         let fine = match operation {
@@ -130,7 +135,8 @@ impl Shape {
 
     // Pushes a text of at most as many octets as a string of the program, if there is one.
     fn push_string(&mut self, program: &Program, string: u32) -> Result<bool, AllocError>
-        ensures { IfOk result (λ fine. (if fine then Some self.new else None) ≡ with_string (slice_get program.now.strings string) self.old) }
+        ensures { IfOk result (λ fine. (if fine then Some self.new else None)
+            ≡ with_string (slice_get program.now.strings string) self.old) }
     {
         match program.strings().get(string as usize) {
             Some(octets) => self.push(Entry::Text(octets.len())),
@@ -148,7 +154,9 @@ impl Shape {
     // Takes the text on top, of which each octet is charged.
     fn take_text(&mut self) -> Option<Cap>
         requires { IsSmall self.old }
-        ensures { Passes result self.new (option_map_or cap_of_octets (take_texts 1 self.old) one_charge) (option_map (λ (taken : Texts). taken.rest) (take_texts 1 self.old)) }
+        ensures { Passes result self.new
+            (option_map_or cap_of_octets (take_texts 1 self.old) one_charge)
+            (option_map (λ (taken : Texts). taken.rest) (take_texts 1 self.old)) }
     {
         let Some(Entry::Text(bound)) = self.pop() else {
             return None;
@@ -162,7 +170,9 @@ impl Shape {
     // Takes texts, of which each octet is charged, and pushes the text that they are joined to.
     fn join(&mut self, parts: u16) -> Result<Option<Cap>, AllocError>
         requires { IsSmall self.old }
-        ensures { IfOk result (λ cap. Passes cap self.new (option_map_or cap_of_octets (take_texts parts self.old) one_charge) (option_and_then with_joined (take_texts parts self.old))) }
+        ensures { IfOk result (λ cap. Passes cap self.new
+            (option_map_or cap_of_octets (take_texts parts self.old) one_charge)
+            (option_and_then with_joined (take_texts parts self.old))) }
     {
         let Some(total) = self.take_texts(u32::from(parts)) else {
             return Ok(None);
@@ -178,7 +188,10 @@ impl Shape {
     // Takes the names of fields, and pushes whether they are there.
     fn take_names(&mut self, names: u16) -> Result<Option<Cap>, AllocError>
         requires { IsSmall self.old }
-        ensures { IfOk result (λ cap. Passes cap self.new (option_map_or cap_of_names (take_texts names self.old) one_charge) (option_and_then (λ (taken : Texts). with_entry Entry.Truth taken.rest) (take_texts names self.old))) }
+        ensures { IfOk result (λ cap. Passes cap self.new
+            (option_map_or cap_of_names (take_texts names self.old) one_charge)
+            (option_and_then (λ (taken : Texts). with_entry Entry.Truth taken.rest)
+            (take_texts names self.old))) }
     {
         let Some(scaled) = self.take_texts(u32::from(names)) else {
             return Ok(None);
@@ -190,7 +203,10 @@ impl Shape {
     // Takes the keys that the current part's content is matched with, and pushes whether one does.
     fn take_body_keys(&mut self, keys: u32) -> Result<Option<Cap>, AllocError>
         requires { IsSmall self.old }
-        ensures { IfOk result (λ cap. Passes cap self.new (option_map_or cap_of_body (take_texts keys self.old) one_charge) (option_and_then (λ (taken : Texts). with_entry Entry.Truth taken.rest) (take_texts keys self.old))) }
+        ensures { IfOk result (λ cap. Passes cap self.new
+            (option_map_or cap_of_body (take_texts keys self.old) one_charge)
+            (option_and_then (λ (taken : Texts). with_entry Entry.Truth taken.rest)
+            (take_texts keys self.old))) }
     {
         let Some(scaled) = self.take_texts(keys) else {
             return Ok(None);
@@ -202,7 +218,10 @@ impl Shape {
     // Takes the keys that the current part's digest is compared with, and pushes whether one is equal.
     fn take_digest_keys(&mut self, keys: u32) -> Result<Option<Cap>, AllocError>
         requires { IsSmall self.old }
-        ensures { IfOk result (λ cap. Passes cap self.new (option_map_or cap_of_digest (take_texts keys self.old) one_charge) (option_and_then (λ (taken : Texts). with_entry Entry.Truth taken.rest) (take_texts keys self.old))) }
+        ensures { IfOk result (λ cap. Passes cap self.new
+            (option_map_or cap_of_digest (take_texts keys self.old) one_charge)
+            (option_and_then (λ (taken : Texts). with_entry Entry.Truth taken.rest)
+            (take_texts keys self.old))) }
     {
         let Some(total) = self.take_texts(keys) else {
             return Ok(None);
@@ -216,7 +235,10 @@ impl Shape {
     // whether one matches.
     fn take_fields(&mut self, names: u16, params: u32, keys: u32) -> Result<Option<Cap>, AllocError>
         requires { IsSmall self.old }
-        ensures { IfOk result (λ cap. Passes cap self.new (option_map_or cap_of_matching (take_lists names params keys self.old) one_charge) (option_and_then (λ (lists : Lists). with_entry Entry.Truth lists.rest) (take_lists names params keys self.old))) }
+        ensures { IfOk result (λ cap. Passes cap self.new
+            (option_map_or cap_of_matching (take_lists names params keys self.old) one_charge)
+            (option_and_then (λ (lists : Lists). with_entry Entry.Truth lists.rest)
+            (take_lists names params keys self.old))) }
     {
         let Some((names_total, keys_total)) = self.take_lists(names, params, keys) else {
             return Ok(None);
@@ -230,7 +252,10 @@ impl Shape {
     // Takes sources and the keys above them, and pushes whether one matches.
     fn take_sources(&mut self, sources: u16, keys: u32) -> Result<Option<Cap>, AllocError>
         requires { IsSmall self.old }
-        ensures { IfOk result (λ cap. Passes cap self.new (option_map_or cap_of_comparing (take_lists sources 0 keys self.old) one_charge) (option_and_then (λ (lists : Lists). with_entry Entry.Truth lists.rest) (take_lists sources 0 keys self.old))) }
+        ensures { IfOk result (λ cap. Passes cap self.new
+            (option_map_or cap_of_comparing (take_lists sources 0 keys self.old) one_charge)
+            (option_and_then (λ (lists : Lists). with_entry Entry.Truth lists.rest)
+            (take_lists sources 0 keys self.old))) }
     {
         let Some((sources_total, keys_total)) = self.take_lists(sources, 0, keys) else {
             return Ok(None);
@@ -244,7 +269,8 @@ impl Shape {
     // sums of the bounds of the first and the last, each bound with one more.
     fn take_lists(&mut self, names: u16, params: u32, keys: u32) -> Option<(u64, u64)>
         requires { IsSmall self.old }
-        ensures texts { TakesLists names params result self.new (take_lists names params keys self.old) }
+        ensures texts { TakesLists names params result self.new
+            (take_lists names params keys self.old) }
         ensures names { IfSome result (λ totals. totals.0 ≤ max_stack * (max_string + 1)) }
         ensures params { IfSome result (λ totals. params ≤ max_stack) }
         ensures keys { IfSome result (λ totals. totals.1 ≤ max_stack * (max_string + 1)) }

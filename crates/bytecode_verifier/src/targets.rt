@@ -13,7 +13,8 @@ pub fn targets_of(
     instructions: &[Instruction],
 ) -> Result<Vec<bool>, AllocError>
     ensures number { IfOk result (λ targets. length targets.items ≡ length instructions.now) }
-    ensures each { IfOk result (λ targets. (place : ℕ) → place < length instructions.now → slice_get targets.items place ≡ Some (is_target version instructions.now place)) }
+    ensures each { IfOk result (λ targets. (place : ℕ) → place < length instructions.now
+        → slice_get targets.items place ≡ Some (is_target version instructions.now place)) }
 {
     let mut targets = vec![in alloc; false; instructions.len()]?;
     for instruction in instructions {

@@ -115,7 +115,8 @@ module _ {S : Type 0} (g : Ghosts S) where
   HasNotExported name export refusal old new host host2 =
       (HasNotMade refusal export.file.now name host host2
       ⊎ ((host2 ≡ with_call (makes export.file.now name) host)
-      × (HasCleanDisk (state g new) → HasCause refusal (Exports export.user.now export.number export.encoding) (state g old))))
+      × (HasCleanDisk (state g new) → HasCause refusal (Exports export.user.now export.number export.encoding)
+      (state g old))))
       × (HasCleanDisk (state g new) → Spares (state g old) (state g new))
 
   -- a request was done, with this text as the answer

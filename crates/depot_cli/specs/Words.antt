@@ -25,11 +25,13 @@ explain_app = with_rule (new_app (codes "explain")) (required_rule (codes "SCRIP
 
 -- compile SCRIPT OUT
 abbrev pub compile_app : App
-compile_app = with_rule (with_rule (new_app (codes "compile")) (required_rule (codes "SCRIPT"))) (required_rule (codes "OUT"))
+compile_app = with_rule (with_rule (new_app (codes "compile")) (required_rule (codes "SCRIPT")))
+    (required_rule (codes "OUT"))
 
 -- eval SCRIPT MESSAGE
 abbrev pub eval_app : App
-eval_app = with_rule (with_rule (new_app (codes "eval")) (required_rule (codes "SCRIPT"))) (required_rule (codes "MESSAGE"))
+eval_app = with_rule (with_rule (new_app (codes "eval")) (required_rule (codes "SCRIPT")))
+    (required_rule (codes "MESSAGE"))
 
 -- verify PROGRAM
 abbrev pub verify_app : App
@@ -37,7 +39,8 @@ verify_app = with_rule (new_app (codes "verify")) (required_rule (codes "PROGRAM
 
 -- run PROGRAM MESSAGE
 abbrev pub run_app : App
-run_app = with_rule (with_rule (new_app (codes "run")) (required_rule (codes "PROGRAM"))) (required_rule (codes "MESSAGE"))
+run_app = with_rule (with_rule (new_app (codes "run")) (required_rule (codes "PROGRAM")))
+    (required_rule (codes "MESSAGE"))
 
 -- disassemble PROGRAM
 abbrev pub disassemble_app : App
@@ -45,7 +48,8 @@ disassemble_app = with_rule (new_app (codes "disassemble")) (required_rule (code
 
 -- assemble LISTING OUT
 abbrev pub assemble_app : App
-assemble_app = with_rule (with_rule (new_app (codes "assemble")) (required_rule (codes "LISTING"))) (required_rule (codes "OUT"))
+assemble_app = with_rule (with_rule (new_app (codes "assemble")) (required_rule (codes "LISTING")))
+    (required_rule (codes "OUT"))
 
 -- parts MESSAGE
 abbrev pub parts_app : App
@@ -53,7 +57,8 @@ parts_app = with_rule (new_app (codes "parts")) (required_rule (codes "MESSAGE")
 
 -- the names of the encodings
 abbrev pub encoding_names : List Text
-encoding_names = codes "raw" ∷ codes "base64" ∷ codes "base64-mime" ∷ codes "base32" ∷ codes "base32hex" ∷ codes "base16" ∷ codes "qp" ∷ []
+encoding_names = codes "raw" ∷ codes "base64" ∷ codes "base64-mime" ∷ codes "base32" ∷ codes "base32hex"
+    ∷ codes "base16" ∷ codes "qp" ∷ []
 
 -- texts, wherever they are kept
 abbrev pub Texts : Type 0

@@ -40,7 +40,8 @@ pub record IsStocked (db new : Trees) (digest octets : List ℕ) : Type 0 where
   pub rowids : RisesWithin 1 (db contents_tree) (new contents_tree)
 
 abbrev pub entry_values : Entry → List ℕ → Row
-entry_values x digest = Text x.user ∷ Int (pos x.number) ∷ Blob x.folder ∷ Int (pos (kind_number x.kind)) ∷ Blob x.name ∷ Blob x.media ∷ Blob digest ∷ []
+entry_values x digest = Text x.user ∷ Int (pos x.number) ∷ Blob x.folder ∷ Int (pos (kind_number x.kind)) ∷ Blob x.name
+    ∷ Blob x.media ∷ Blob digest ∷ []
 
 abbrev pub with_entry : Entry → Entries → Entries
 with_entry x e = record e { entries = e.entries ++ x ∷ [] }

@@ -157,8 +157,8 @@ HaveNoRoom user drafts db = RunsOut (db contents_tree) (length drafts)
 -- where the tables stand for a state, entries of a user are refused only by a database that can't
 -- work, or has no room for them or for his row
 abbrev pub BlamesEntries : List ℕ → List Draft → State → State → StoreError → Type 0
-BlamesEntries user drafts = BlamesOr (λ before db. HasNoUserRoom user (with_entries user drafts before) db
-    ⊎ HaveNoRoom user drafts db)
+BlamesEntries user drafts = BlamesOr
+    (λ before db. HasNoUserRoom user (with_entries user drafts before) db ⊎ HaveNoRoom user drafts db)
 
 -- each user's name is UTF-8, as is each that a store was given
 abbrev pub AreNamed : Trees → Type 0

@@ -43,7 +43,8 @@ HasContent rows digest octets = (id : ℤ) × Has rows (content_row id digest oc
 abbrev pub IsEntryRow : List Row → Row → Entry → Type 0
 IsEntryRow contents r x =
     (id : ℤ) × (digest : List ℕ)
-    × (r ≡ Int id ∷ Text x.user ∷ Int (pos x.number) ∷ Blob x.folder ∷ Int (pos (kind_number x.kind)) ∷ Blob x.name ∷ Blob x.media ∷ Blob digest ∷ [])
+    × (r ≡ Int id ∷ Text x.user ∷ Int (pos x.number) ∷ Blob x.folder ∷ Int (pos (kind_number x.kind)) ∷ Blob x.name
+    ∷ Blob x.media ∷ Blob digest ∷ [])
     × HasContent contents digest x.octets
 
 -- no number is above the last one or the limit, and a user's numbers rise
@@ -170,7 +171,8 @@ listed row = record { number = row.number; kind = row.kind; folder = row.folder.
 -- a row of the answer to a listing shows the entry
 abbrev pub Shows : Trees → Row → Entry → Type 0
 Shows db row x =
-    (digest : List ℕ) × (row ≡ Int (pos x.number) ∷ Int (pos (kind_number x.kind)) ∷ Blob x.folder ∷ Blob x.name ∷ Blob x.media ∷ Blob digest ∷ []) × HasContent (db contents_tree) digest x.octets
+    (digest : List ℕ) × (row ≡ Int (pos x.number) ∷ Int (pos (kind_number x.kind)) ∷ Blob x.folder ∷ Blob x.name
+    ∷ Blob x.media ∷ Blob digest ∷ []) × HasContent (db contents_tree) digest x.octets
 
 -- what was read of a row that shows an entry is of that entry
 pub record ArePartsOf (parts : Parts) (x : Entry) (named : List ℕ) : Type 0 where
@@ -183,5 +185,6 @@ pub record ArePartsOf (parts : Parts) (x : Entry) (named : List ℕ) : Type 0 wh
 
 abbrev pub IsParts : Row → Parts → Type 0
 IsParts row parts =
-    (x : Entry) (digest : List ℕ) → row ≡ Int (pos x.number) ∷ Int (pos (kind_number x.kind)) ∷ Blob x.folder ∷ Blob x.name ∷ Blob x.media ∷ Blob digest ∷ []
+    (x : Entry) (digest : List ℕ) → row ≡ Int (pos x.number) ∷ Int (pos (kind_number x.kind)) ∷ Blob x.folder
+    ∷ Blob x.name ∷ Blob x.media ∷ Blob digest ∷ []
     → ArePartsOf parts x digest

@@ -54,7 +54,8 @@ contents = keyed (codes "contents") content_columns (1 ∷ []) []
 -- an entry, whose octets are those of its digest
 abbrev pub entry_columns : List Column
 entry_columns =
-    required (codes "user") Text ∷ required (codes "number") Integer ∷ required (codes "folder") Blob ∷ required (codes "kind") Integer ∷ required (codes "name") Blob
+    required (codes "user") Text ∷ required (codes "number") Integer ∷ required (codes "folder") Blob
+    ∷ required (codes "kind") Integer ∷ required (codes "name") Blob
     ∷ required (codes "media") Blob ∷ required (codes "digest") Blob ∷ []
 
 -- its digest is that of a content

@@ -112,7 +112,8 @@ abbrev mutual
   AreTestsIn loops (test t ts) = IsTestIn loops t × AreTestsIn loops ts
 
 abbrev mutual
-  -- of a part is taken and a part is stored in a loop, no more loops are left than there are, and no more are open than may be
+  -- of a part is taken and a part is stored in a loop, no more loops are left than there are, and
+  -- no more are open than may be
   pub IsCommandIn : ℕ → CommandForm → Type 0
   IsCommandIn loops keep = Unit {0}
   IsCommandIn loops discard = Unit {0}

@@ -1,4 +1,5 @@
--- How many octets a typed form is written with, at least. A name, a number, a tag and a sign count for one, however long they are.
+-- How many octets a typed form is written with, at least. A name, a number, a tag and a sign count
+-- for one, however long they are.
 use Rattle.std.specs.Prelude.{ℕ, ◌+◌, List, length, sum_by}
 use Rattle.sieve_check.specs.declared.typed.Segment.{Segment}
 use Rattle.sieve_check.specs.declared.typed.Segment.TheVariants.{Text, Variable, Capture}
@@ -25,7 +26,8 @@ abbrev mutual
   test_extent (negation t) = 1 + test_extent t
   test_extent (all_of t ts) = 3 + test_extent t + tests_extent ts
   test_extent (any_of t ts) = 3 + test_extent t + tests_extent ts
-  test_extent (header matching scope selected names keys) = 1 + strings_extent names + strings_extent (params_of selected) + strings_extent keys
+  test_extent (header matching scope selected names keys) = 1 + strings_extent names + strings_extent
+      (params_of selected) + strings_extent keys
   test_extent (exists scope names) = 1 + strings_extent names
   test_extent (size order number) = 3
   test_extent (string matching sources keys) = 1 + strings_extent sources + strings_extent keys

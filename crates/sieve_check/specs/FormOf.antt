@@ -106,7 +106,8 @@ params_in s (a ∷ args) = list_in s a
 -- a test of fields, by what was read
 abbrev pub header_of : Context → Read → Option TestForm
 header_of s read =
-    params_in s read.params >>= λ names. of_lists s (header (match_of read.tags) (scope_of read.tags) (selected_by read.tags.piece names)) read.positional
+    params_in s read.params >>= λ names. of_lists s
+    (header (match_of read.tags) (scope_of read.tags) (selected_by read.tags.piece names)) read.positional
 
 -- the comparison of a size, that of the message or that of a part
 abbrev pub size_of : (Order → ℕ → TestForm) → Tags → List ArgumentTree → Option TestForm
@@ -130,7 +131,8 @@ test_of s _ _ _ = None
 abbrev mutual
   pub test_form_of : Context → InvocationTree → Option TestForm
   test_form_of s (invocation token word args tests) =
-      inner_forms_of s tests >>= λ inner. test_named word >>= λ name. reading (test_signature name) args >>= λ read. test_of s name read inner
+      inner_forms_of s tests >>= λ inner. test_named word >>= λ name. reading
+      (test_signature name) args >>= λ read. test_of s name read inner
 
   pub inner_forms_of : Context → TestsTree → Option InnerForms
   inner_forms_of s no_test = Some none
@@ -201,23 +203,27 @@ put (last body) rest = option_map (λ cs. record { branches = otherwise body; co
 -- a command that ends in a semicolon
 abbrev pub simple_part : Context → InvocationTree → Option PartForm
 simple_part s (invocation token word args tests) =
-    inner_forms_of s tests >>= λ inner. command_named word >>= λ name. reading (command_signature name) args >>= λ read. simple_of s name read inner
+    inner_forms_of s tests >>= λ inner. command_named word >>= λ name. reading
+    (command_signature name) args >>= λ read. simple_of s name read inner
 
 -- a command that ends in a block, which has that form
 abbrev pub block_part : Context → InvocationTree → CommandForms → Option PartForm
 block_part s (invocation token word args tests) body =
-    inner_forms_of s tests >>= λ inner. command_named word >>= λ name. reading (command_signature name) args >>= λ read. block_of name inner body
+    inner_forms_of s tests >>= λ inner. command_named word >>= λ name. reading
+    (command_signature name) args >>= λ read. block_of name inner body
 
 abbrev mutual
   -- there is none where more loops would be open than may be
   pub part_of : Context → CommandTree → Option PartForm
   part_of s (simple i) = simple_part s i
-  part_of s (block i cs) = inside (loops_opened i) s >>= λ around. forms_of around cs >>= λ forms. closed forms >>= λ body. block_part s i body
+  part_of s (block i cs) = inside
+      (loops_opened i) s >>= λ around. forms_of around cs >>= λ forms. closed forms >>= λ body. block_part s i body
 
   -- commands, one before the others
   pub forms_of : Context → CommandsTree → Option Forms
   forms_of s no_tree = Some (after_none no_command)
-  forms_of s (tree c cs) = forms_of (after_invocation s (invocation_of c)) cs >>= λ rest. part_of s c >>= λ part. put part rest
+  forms_of s (tree c cs) = forms_of
+      (after_invocation s (invocation_of c)) cs >>= λ rest. part_of s c >>= λ part. put part rest
 
 -- the typed form of a script, if it is written as it has to be
 abbrev pub form_of : CommandsTree → Option CommandForms

@@ -15,21 +15,25 @@ use Rattle.sieve_check.specs.Typed.{TestForm, all_of, any_of, TestForms, Command
 
 -- the test of a head, with the tests behind it
 abbrev pub head_test : Context → Head → InnerForms → Option TestForm
-head_test s head inner = test_named head.name >>= λ name. reading (test_signature name) (arguments_of head) >>= λ read. test_of s name read inner
+head_test s head inner = test_named head.name >>= λ name. reading (test_signature name)
+    (arguments_of head) >>= λ read. test_of s name read inner
 
 -- the same, with one test behind it, and with tests in round brackets, if these have forms
 abbrev pub test_with_one : Context → Head → Option TestForm → Option TestForm
 test_with_one s head inner = option_map one inner >>= λ inner. head_test s head inner
 
 abbrev pub test_with_list : Context → Head → Option TestForm → Option TestForms → Option TestForm
-test_with_list s head leading others = (leading >>= λ f. option_map (bracketed f) others) >>= λ inner. head_test s head inner
+test_with_list s head leading others = (leading >>= λ f. option_map
+    (bracketed f) others) >>= λ inner. head_test s head inner
 
 -- the command of a head, which ends in a semicolon, and which ends in a block
 abbrev pub head_simple : Context → Head → InnerForms → Option PartForm
-head_simple s head inner = command_named head.name >>= λ name. reading (command_signature name) (arguments_of head) >>= λ read. simple_of s name read inner
+head_simple s head inner = command_named head.name >>= λ name. reading (command_signature name)
+    (arguments_of head) >>= λ read. simple_of s name read inner
 
 abbrev pub head_block : Head → InnerForms → CommandForms → Option PartForm
-head_block head inner body = command_named head.name >>= λ name. reading (command_signature name) (arguments_of head) >>= λ read. block_of name inner body
+head_block head inner body = command_named head.name >>= λ name. reading (command_signature name)
+    (arguments_of head) >>= λ read. block_of name inner body
 
 -- the commands of a script or block
 abbrev pub commands_formed : Context → CommandsTree → Option CommandForms

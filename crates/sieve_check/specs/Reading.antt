@@ -12,21 +12,25 @@ use Rattle.sieve_check.specs.Signatures.{Read, Given, is_list, tags_read}
 
 -- the name of the first argument and the arguments after it, if that is a tag
 abbrev pub FirstTag : List ArgumentTree → Option (Bor (List ℕ) × Bor (List Argument)) → Type 0
-FirstTag args answer = MatchOption answer ((name : List ℕ) (rest : List ArgumentTree) → args ≡ label name ∷ rest → ⊥) (λ found. args ≡ label found.0.now ∷ map argument_tree found.1.now)
+FirstTag args answer = MatchOption answer ((name : List ℕ) (rest : List ArgumentTree) → args ≡ label name ∷ rest → ⊥)
+    (λ found. args ≡ label found.0.now ∷ map argument_tree found.1.now)
 
 -- the first argument and the arguments after it, if that is one string
 abbrev pub FirstText : List ArgumentTree → Option (Bor (List ℕ) × Bor (List Argument)) → Type 0
-FirstText args answer = MatchOption answer ((s : List ℕ) (rest : List ArgumentTree) → args ≡ text s ∷ rest → ⊥) (λ found. args ≡ text found.0.now ∷ map argument_tree found.1.now)
+FirstText args answer = MatchOption answer ((s : List ℕ) (rest : List ArgumentTree) → args ≡ text s ∷ rest → ⊥)
+    (λ found. args ≡ text found.0.now ∷ map argument_tree found.1.now)
 
 -- the first argument and the arguments after it, if that is a number
 abbrev pub FirstNumber : List ArgumentTree → Option (ℕ × Bor (List Argument)) → Type 0
-FirstNumber args answer = MatchOption answer ((n : ℕ) (rest : List ArgumentTree) → args ≡ amount n ∷ rest → ⊥) (λ found. args ≡ amount found.0 ∷ map argument_tree found.1.now)
+FirstNumber args answer = MatchOption answer ((n : ℕ) (rest : List ArgumentTree) → args ≡ amount n ∷ rest → ⊥)
+    (λ found. args ≡ amount found.0 ∷ map argument_tree found.1.now)
 
 -- the first argument alone and the arguments after it, if that is a list
 abbrev pub FirstList : List ArgumentTree → Option (Bor (List Argument) × Bor (List Argument)) → Type 0
 FirstList args answer =
     MatchOption answer ((a : ArgumentTree) (rest : List ArgumentTree) → args ≡ a ∷ rest → is_list a ≡ true → ⊥)
-    (λ found. (a : ArgumentTree) × (map argument_tree found.0.now ≡ a ∷ []) × (is_list a ≡ true) × (args ≡ a ∷ map argument_tree found.1.now))
+    (λ found. (a : ArgumentTree) × (map argument_tree found.0.now ≡ a ∷ []) × (is_list a ≡ true)
+    × (args ≡ a ∷ map argument_tree found.1.now))
 
 -- a name that was lent, if one was
 abbrev pub name_in : Option (Bor (List ℕ)) → Option (List ℕ)
@@ -41,8 +45,11 @@ left_of reading = map argument_tree reading.positional.now
 
 -- what was read, with what the last tag awaited, if it is there
 abbrev pub Settles : Reading → Option Tag → Option Reading → Type 0
-Settles before last answer = MatchOption answer ((signature : Signature) → tags_read signature (given_of before) last (left_of before) ≡ None)
-    (λ after. (length after.positional.now ≤ length before.positional.now) × ((signature : Signature) → tags_read signature (given_of before) last (left_of before) ≡ tags_read signature (given_of after) None (left_of after)))
+Settles before last answer = MatchOption answer
+    ((signature : Signature) → tags_read signature (given_of before) last (left_of before) ≡ None)
+    (λ after. (length after.positional.now ≤ length before.positional.now)
+    × ((signature : Signature) → tags_read signature (given_of before) last (left_of before)
+    ≡ tags_read signature (given_of after) None (left_of after)))
 
 -- the arguments as they were read, as a definition sees them
 abbrev pub read_of : Reading → Read
@@ -50,7 +57,8 @@ read_of reading = record { tags = reading.tags; params = map argument_tree readi
 
 -- the lists, one after the other
 abbrev pub all_lists : Lists → List ArgumentTree
-all_lists lists = map argument_tree lists.first.now ++ map argument_tree lists.params.now ++ map argument_tree lists.others.now
+all_lists lists = map argument_tree lists.first.now ++ map argument_tree lists.params.now
+    ++ map argument_tree lists.others.now
 
 abbrev pub Reads : Option Read → Option Reading → Type 0
 Reads read answer = MatchOption answer (read ≡ None) (λ found. read ≡ Some (read_of found))

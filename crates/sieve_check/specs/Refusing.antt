@@ -31,7 +31,8 @@ context_of s = record { required = s.required; loops = open_loops s.loops; takes
 
 -- the loops around a block, around which these are opened, where there may be so many
 abbrev pub LoopsWithin : Context → List (Option (List ℕ)) → Option Loops → Type 0
-LoopsWithin s opened result = MatchOption result (opens_many opened s ≡ true) (λ all. (opens_many opened s ≡ false) × (open_loops all ≡ opened ++ s.loops))
+LoopsWithin s opened result = MatchOption result (opens_many opened s ≡ true)
+    (λ all. (opens_many opened s ≡ false) × (open_loops all ≡ opened ++ s.loops))
 
 -- the names so far, in lower case
 abbrev pub shown : List (Bor (List ℕ)) → List (List ℕ)
@@ -63,7 +64,8 @@ Adds names more result after =
 -- the names after a visit, where it has no fault; else its fault
 abbrev pub Judges : {A : Type 0} → List (List ℕ) → Visit → Result A Fault → List (List ℕ) → Type 0
 Judges names visit result after =
-    MatchResult result (λ _. (visit_fault names visit ≡ None) × (after ≡ names_with names visit)) (λ fault. visit_fault names visit ≡ Some fault)
+    MatchResult result (λ _. (visit_fault names visit ≡ None) × (after ≡ names_with names visit))
+    (λ fault. visit_fault names visit ≡ Some fault)
 
 -- the names after visits
 abbrev pub names_after : List (List ℕ) → List Visit → List (List ℕ)
@@ -73,7 +75,8 @@ names_after names (v ∷ vs) = names_after (names_with names v) vs
 -- the names after visits, where none has a fault; else the refusal of the first that has one
 abbrev pub Passes : {A : Type 0} → List (List ℕ) → List Visit → Result A CheckError → List (List ℕ) → Type 0
 Passes names visits result after =
-    MatchResult result (λ _. (first_fault names visits ≡ None) × (after ≡ names_after names visits)) (λ e. first_fault names visits ≡ Some e)
+    MatchResult result (λ _. (first_fault names visits ≡ None) × (after ≡ names_after names visits))
+    (λ e. first_fault names visits ≡ Some e)
 
 -- the visit of a command or test that is known by that name
 abbrev pub known_command_visit : Context → ℕ → CommandName → List ArgumentTree → Tests → Ending → Visit

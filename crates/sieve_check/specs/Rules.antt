@@ -92,8 +92,8 @@ abbrev pub leaves_loop : Context → Option Read → Bool
 leaves_loop s None = false
 leaves_loop s (Some read) = is_some (loops_left read.name s.loops)
 
--- where each command may stand: a require at the top level after nothing else, an elsif and an else directly after an if or elsif,
--- a break where it has a loop to leave, a store and a take in a loop
+-- where each command may stand: a require at the top level after nothing else, an elsif and an else
+-- directly after an if or elsif, a break where it has a loop to leave, a store and a take in a loop
 abbrev pub may_stand : Context → CommandName → List ArgumentTree → Bool
 may_stand s Require args = s.takes_require
 may_stand s If args = true
@@ -158,8 +158,8 @@ abbrev pub is_long : Segment → Bool
 is_long (variable name) = is_long_name name
 is_long _ = false
 
--- what may be wrong with a string: it is no capability, or longer than the limit; as one that is expanded it has a wrong
--- reference, or too many segments or too long a name
+-- what may be wrong with a string: it is no capability, or longer than the limit; as one that is
+-- expanded it has a wrong reference, or too many segments or too long a name
 abbrev pub string_has : StringFault → List ℕ → Bool
 string_has Unknown s = not (is_some (capability_named s))
 string_has Long s = nat_lt max_string (length s)
@@ -175,7 +175,8 @@ has_unknown_capability _ args = false
 abbrev pub has_long_string : List ArgumentTree → Bool
 has_long_string args = list_any (string_has Long) (strings_of args)
 
--- what was read behind the tags, with the list of `:param`, if it stands there, after the first: in the order of the typed form
+-- what was read behind the tags, with the list of `:param`, if it stands there, after the first: in
+-- the order of the typed form
 abbrev pub lists_read : Read → List ArgumentTree
 lists_read read = take 1 read.positional ++ read.params ++ drop 1 read.positional
 
@@ -214,7 +215,8 @@ no_mention = record { expanded = []; set = [] }
 abbrev pub expanding : List (List ℕ) → Mentions
 expanding strings = record { expanded = strings; set = [] }
 
--- those of a command, of the strings of its lists: a `set` and a `take` set their first string, which is taken as it is written
+-- those of a command, of the strings of its lists: a `set` and a `take` set their first string,
+-- which is taken as it is written
 abbrev pub mentions_of : CommandName → List (List ℕ) → Mentions
 mentions_of Require strings = no_mention
 mentions_of Set strings = record { expanded = drop 1 strings; set = take 1 strings }
@@ -235,14 +237,16 @@ abbrev pub where_required : Context → Mentions → Mentions
 where_required s mentions = if has_capability capability.Variables s.required then mentions else no_mention
 
 abbrev pub command_mentions : Context → CommandName → List ArgumentTree → Mentions
-command_mentions s name args = where_required s (mentions_of name (strings_read (reading (command_signature name) args)))
+command_mentions s name args = where_required s
+    (mentions_of name (strings_read (reading (command_signature name) args)))
 
 abbrev pub test_mentions : Context → TestName → List ArgumentTree → Mentions
 test_mentions s name args = where_required s (expanding (strings_read (reading (test_signature name) args)))
 
 -- a string with a wrong reference is expanded, or what is set is no name
 abbrev pub has_wrong_mention : Mentions → Bool
-has_wrong_mention mentions = list_any (string_has Wrong) mentions.expanded || list_any (λ name. not (is_identifier name)) mentions.set
+has_wrong_mention mentions = list_any (string_has Wrong) mentions.expanded
+    || list_any (λ name. not (is_identifier name)) mentions.set
 
 -- a string of too many segments or with too long a name is expanded, or a variable of too long a name is set
 abbrev pub has_large_mention : Mentions → Bool
@@ -281,8 +285,8 @@ abbrev pub names_by : {Name : Type 0} → (Name → Mentions) → Option Name �
 names_by mentions None = []
 names_by mentions (Some name) = names_mentioned (mentions name)
 
--- a visited command or test: the number of its identifier's token, the names of variables that it brings, in lower case, and its
--- fault, if it has one by itself
+-- a visited command or test: the number of its identifier's token, the names of variables that it
+-- brings, in lower case, and its fault, if it has one by itself
 pub record Visit : Type 0 where
   pub token : ℕ
   pub names : List (List ℕ)
@@ -324,7 +328,8 @@ abbrev mutual
 
 -- a command itself, and then its tests
 abbrev pub head_visits : Context → InvocationTree → Ending → List Visit
-head_visits s (invocation token name args tests) ending = command_visit s token name args (kind_of tests) ending ∷ tests_visits s tests
+head_visits s (invocation token name args tests) ending = command_visit s token name args (kind_of tests) ending
+    ∷ tests_visits s tests
 
 abbrev pub invocation_of : CommandTree → InvocationTree
 invocation_of (simple i) = i
@@ -372,7 +377,8 @@ visit_fault names visit = option_or visit.fault (if nat_lt max_variables (length
 -- the refusal of the first visit that has a fault, after names
 abbrev pub first_fault : List (List ℕ) → List Visit → Option CheckError
 first_fault names [] = None
-first_fault names (v ∷ vs) = option_or (option_map (refusal v.token) (visit_fault names v)) (first_fault (names_with names v) vs)
+first_fault names (v ∷ vs) = option_or (option_map (refusal v.token) (visit_fault names v))
+    (first_fault (names_with names v) vs)
 
 -- the fault of a script that is named, if it has one
 abbrev pub fault_of : CommandsTree → Option CheckError

@@ -1,5 +1,5 @@
--- What commands and tests take, and how their arguments are read (RFC 5228, section 2.6; RFC 5229, section 4; RFC 5703, sections 3
--- and 4).
+-- What commands and tests take, and how their arguments are read (RFC 5228, section 2.6; RFC 5229,
+-- section 4; RFC 5703, sections 3 and 4).
 use Rattle.std.specs.Prelude.{ℕ, Bool, true, false, not, ◌&&◌, ◌||◌, ◌==◌, if◌then◌else◌, List, [], ◌∷◌, Option, Some, None, is_some, option_map}
 use Rattle.sieve_parser.specs.Tree.{ArgumentTree, text, text_list, amount, label}
 use Rattle.bytecode_format.specs.Modifiers.{no_modifiers}
@@ -74,8 +74,8 @@ test_signature PartSize = record (bare tests.Nothing) { order = true; positional
 test_signature PartBody = record (bare tests.Nothing) { matching = true; positional = positional.OneList }
 test_signature PartDigest = record (bare tests.Nothing) { positional = positional.OneList }
 
--- arguments that were read: the tags, one of each group at most, the argument of `:param` and that of `:name`, if they stand
--- there, and those behind the tags
+-- arguments that were read: the tags, one of each group at most, the argument of `:param` and that
+-- of `:name`, if they stand there, and those behind the tags
 pub record Read : Type 0 where
   pub tags : Tags
   pub params : List ArgumentTree
@@ -155,8 +155,8 @@ is_list (text_list s ss) = true
 is_list (amount n) = false
 is_list (label name) = false
 
--- a tag's argument: of a comparator one string, its name; of `:param` a list; of `:name` one string, which is taken as it is written;
--- of `:first` a number, which isn't zero
+-- a tag's argument: of a comparator one string, its name; of `:param` a list; of `:name` one
+-- string, which is taken as it is written; of `:first` a number, which isn't zero
 abbrev pub with_argument : Tag → ArgumentTree → Given → Option Given
 with_argument Comparator (text s) given = option_map (λ comparator. record given { tags = record given.tags { comparator = Some comparator } }) (comparator_named s)
 with_argument (Select Params) a given = if is_list a then Some (record given { params = a ∷ [] }) else None
@@ -164,11 +164,15 @@ with_argument Name (text s) given = Some (record given { name = Some s })
 with_argument First (amount n) given = if n == 0 then None else Some (record given { tags = record given.tags { first = Some n } })
 with_argument _ _ given = None
 
--- after these tags, of which the last may await its argument: those that are still to come, and the arguments behind them
+-- after these tags, of which the last may await its argument: those that are still to come, and the
+-- arguments behind them
 abbrev pub tags_read : Signature → Given → Option Tag → List ArgumentTree → Option Read
-tags_read signature given None (label name ∷ args) = tag_named name >>= λ tag. add_tag signature tag given >>= λ more. tags_read signature more (awaited tag) args
+tags_read signature given None
+    (label name ∷ args) = tag_named name >>= λ tag. add_tag signature tag given >>= λ more. tags_read signature more
+    (awaited tag) args
 tags_read signature given None args = Some (record { tags = given.tags; params = given.params; name = given.name; positional = args })
-tags_read signature given (Some tag) (a ∷ args) = with_argument tag a given >>= λ more. tags_read signature more None args
+tags_read signature given (Some tag)
+    (a ∷ args) = with_argument tag a given >>= λ more. tags_read signature more None args
 tags_read signature given (Some tag) [] = None
 
 -- the arguments are those that have to stand behind the tags
@@ -185,10 +189,12 @@ is_positional _ _ = false
 abbrev pub asks_for_mime : Tags → Bool
 asks_for_mime tags = tags.any_child || is_some tags.piece
 
--- of each group that needs one a tag was given, none stands without what it needs, and the arguments behind them are right
+-- of each group that needs one a tag was given, none stands without what it needs, and the
+-- arguments behind them are right
 abbrev pub is_complete : Signature → Read → Bool
 is_complete signature read =
-    (not signature.order || is_some read.tags.order) && (not (asks_for_mime read.tags) || read.tags.mime) && is_positional signature.positional read.positional
+    (not signature.order || is_some read.tags.order) && (not (asks_for_mime read.tags) || read.tags.mime)
+    && is_positional signature.positional read.positional
 
 -- the arguments, read by a signature: tags in any order, then the others
 abbrev pub reading : Signature → List ArgumentTree → Option Read

@@ -8,7 +8,8 @@ use Rattle.sieve_check.specs.declared.names.CommandName.TheVariants.{Require, If
 use Rattle.sieve_check.specs.declared.surroundings.Capabilities.{Capabilities}
 use Rattle.sieve_check.specs.Names.{capability_named}
 
--- what surrounds a command or test: what was required before it, the loops that are open around it, and where the command stands
+-- what surrounds a command or test: what was required before it, the loops that are open around it,
+-- and where the command stands
 pub record Context : Type 0 where
   pub required : Capabilities
   -- each with its name, if it has one; the innermost first

@@ -55,7 +55,8 @@ mutual
     file_into : Template → CommandForm
     -- a variable, by its name in lower case, and its value before it is modified
     set : Modifiers → List ℕ → Template → CommandForm
-    -- a variable, by its name in lower case, which gets at most so many octets of the current part's content, the first ones
+    -- a variable, by its name in lower case, which gets at most so many octets of the current
+    -- part's content, the first ones
     take_first : ℕ → List ℕ → CommandForm
     -- the current part, filed into a folder
     store : Template → CommandForm

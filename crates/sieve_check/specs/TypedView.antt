@@ -35,7 +35,8 @@ test_step (Constant b) = constant b
 test_step (Not t) = negation t.value
 test_step (AllOf t ts) = all_of t.value (tests_of ts.items)
 test_step (AnyOf t ts) = any_of t.value (tests_of ts.items)
-test_step (Header matching scope selection names keys) = header matching scope (selected_form selection) (templates_of names.items) (templates_of keys.items)
+test_step (Header matching scope selection names keys) = header matching scope (selected_form selection)
+    (templates_of names.items) (templates_of keys.items)
 test_step (Exists scope names) = exists scope (templates_of names.items)
 test_step (Size order number) = size order number
 test_step (String matching sources keys) = string matching (templates_of sources.items) (templates_of keys.items)

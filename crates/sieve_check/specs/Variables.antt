@@ -22,7 +22,8 @@ abbrev mutual
   test_variables (negation t) = test_variables t
   test_variables (all_of t ts) = test_variables t ++ tests_variables ts
   test_variables (any_of t ts) = test_variables t ++ tests_variables ts
-  test_variables (header matching scope selected names keys) = strings_variables names ++ strings_variables (params_of selected) ++ strings_variables keys
+  test_variables (header matching scope selected names keys) = strings_variables names
+      ++ strings_variables (params_of selected) ++ strings_variables keys
   test_variables (exists scope names) = strings_variables names
   test_variables (size order number) = []
   test_variables (string matching sources keys) = strings_variables sources ++ strings_variables keys

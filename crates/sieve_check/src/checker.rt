@@ -29,7 +29,8 @@ use std::alloc::Global;
 /// variables and loops. [`CheckError::Memory`] comes only where memory was refused.
 pub fn check(alloc: Global, script: Script) -> Result<Checked, CheckError>
     ensures script { IfOk result (λ checked. checked.script ≡ script) }
-    ensures form { IfOk result (λ checked. IsFormOf (commands_tree script) (commands_form checked.commands)) }
+    ensures form { IfOk result (λ checked. IsFormOf (commands_tree script)
+        (commands_form checked.commands)) }
     ensures faultless { OnOk result (fault_of (commands_tree script) ≡ None) }
     ensures refused { IfErr result (λ e. IsCheckRefusal (commands_tree script) e) }
 {

@@ -28,7 +28,9 @@ fn file_into(
     surroundings: Surroundings<'_>,
     arguments: &[Argument],
 ) -> Result<Option<Part>, AllocError>
-    ensures { IfOk result (λ part. option_map part_form part ≡ filing_in (context_of surroundings.entry) file_into (map argument_tree arguments.now)) }
+    ensures { IfOk result (λ part. option_map part_form part
+        ≡ filing_in (context_of surroundings.entry) file_into
+        (map argument_tree arguments.now)) }
 {
     match arguments {
         [Argument::Text(folder)] => {
@@ -45,7 +47,8 @@ fn store(
     surroundings: Surroundings<'_>,
     arguments: &[Argument],
 ) -> Result<Option<Part>, AllocError>
-    ensures { IfOk result (λ part. option_map part_form part ≡ filing_in (context_of surroundings.entry) store (map argument_tree arguments.now)) }
+    ensures { IfOk result (λ part. option_map part_form part
+        ≡ filing_in (context_of surroundings.entry) store (map argument_tree arguments.now)) }
 {
     match arguments {
         [Argument::Text(folder)] => {
@@ -58,7 +61,9 @@ fn store(
 
 // The command that leaves the loop of the name, or the innermost one, with those within it.
 fn leaving(surroundings: Surroundings<'_>, name: Option<&[u8]>) -> Option<Part>
-    ensures { option_map part_form result ≡ option_map (λ loops. action (leave loops)) (loops_left (name_in name.entry) (context_of surroundings.entry).loops) }
+    ensures { option_map part_form result
+        ≡ option_map (λ loops. action (leave loops))
+        (loops_left (name_in name.entry) (context_of surroundings.entry).loops) }
 {
     let loops = surroundings.loops.left_by(name)?;
     Some(Part::Action(Command::Break(loops)))
@@ -71,7 +76,9 @@ fn setting(
     modifiers: Modifiers,
     arguments: &[Argument],
 ) -> Result<Option<Part>, AllocError>
-    ensures { IfOk result (λ part. option_map part_form part ≡ option_map action (setting_in (context_of surroundings.entry) modifiers (map argument_tree arguments.now))) }
+    ensures { IfOk result (λ part. option_map part_form part
+        ≡ option_map action (setting_in (context_of surroundings.entry) modifiers
+        (map argument_tree arguments.now))) }
 {
     match arguments {
         [Argument::Text(name), Argument::Text(value)] => {
@@ -98,7 +105,8 @@ fn most_of(tags: Tags) -> u16
 // The command that gives the first octets of the current part's content to the variable of the name, which the arguments are. The
 // name isn't expanded.
 fn taking(alloc: Global, tags: Tags, arguments: &[Argument]) -> Result<Option<Part>, AllocError>
-    ensures { IfOk result (λ part. option_map part_form part ≡ option_map action (taking_in tags (map argument_tree arguments.now))) }
+    ensures { IfOk result (λ part. option_map part_form part
+        ≡ option_map action (taking_in tags (map argument_tree arguments.now))) }
 {
     match arguments {
         [Argument::Text(name)] => {
@@ -116,7 +124,8 @@ fn plain_part(
     surroundings: Surroundings<'_>,
     head: &Head,
 ) -> Result<Option<Part>, AllocError>
-    ensures { IfOk result (λ part. option_map part_form part ≡ head_simple (context_of surroundings.entry) head.now none) }
+    ensures { IfOk result (λ part. option_map part_form part
+        ≡ head_simple (context_of surroundings.entry) head.now none) }
 {
     let Some(name) = command_named(head.name.as_slice()) else {
         return Ok(None);
@@ -156,7 +165,8 @@ pub enum Opening {
 
 // Which branch this opens, with one test and a block behind it.
 fn opened(head: &Head) -> Option<Opening>
-    ensures { (f : TestForm) (body : CommandForms) → head_block head.now (one f) body ≡ option_map (λ o. opened_by o f body) result }
+    ensures { (f : TestForm) (body : CommandForms)
+        → head_block head.now (one f) body ≡ option_map (λ o. opened_by o f body) result }
 {
     let name = command_named(head.name.as_slice())?;
     command_signature(name).read(&head.arguments)?;
@@ -179,7 +189,8 @@ fn opened(head: &Head) -> Option<Opening>
 
 // What this adds, with a test and a block of these commands behind it.
 fn branch_part(head: &Head, test: Test, block: Vec<Command>) -> Option<Part>
-    ensures { option_map part_form result ≡ head_block head.now (one (test_form test)) (commands_form block.items) }
+    ensures { option_map part_form result
+        ≡ head_block head.now (one (test_form test)) (commands_form block.items) }
 {
     let branch = Branch { test, block };
     match opened(head)? {
@@ -218,7 +229,9 @@ fn block_part(
     invocation: &Invocation,
     body: Vec<Command>,
 ) -> Result<Option<Part>, AllocError>
-    ensures { IfOk result (λ part. option_map part_form part ≡ block_part (context_of surroundings.entry) (invocation_tree invocation.now) (commands_form body.items)) }
+    ensures { IfOk result (λ part. option_map part_form part
+        ≡ block_part (context_of surroundings.entry) (invocation_tree invocation.now)
+        (commands_form body.items)) }
 {
     match invocation {
         Invocation::Plain(head) => Ok(untested_part(head, body)),
@@ -236,7 +249,8 @@ fn simple_part(
     surroundings: Surroundings<'_>,
     invocation: &Invocation,
 ) -> Result<Option<Part>, AllocError>
-    ensures { IfOk result (λ part. option_map part_form part ≡ simple_part (context_of surroundings.entry) (invocation_tree invocation.now)) }
+    ensures { IfOk result (λ part. option_map part_form part
+        ≡ simple_part (context_of surroundings.entry) (invocation_tree invocation.now)) }
 {
     match invocation {
         Invocation::Plain(head) => plain_part(alloc, surroundings, head),
@@ -251,7 +265,8 @@ fn part<'t>(
     surroundings: Surroundings<'t>,
     tree: &'t Tree,
 ) -> Result<Option<Part>, AllocError>
-    ensures { IfOk result (λ part. option_map part_form part ≡ part_of (context_of surroundings.entry) (command_tree tree.now)) }
+    ensures { IfOk result (λ part. option_map part_form part
+        ≡ part_of (context_of surroundings.entry) (command_tree tree.now)) }
 {
     match tree {
         Tree::Simple(invocation) => simple_part(alloc, surroundings, invocation),
@@ -274,7 +289,8 @@ fn commands<'t>(
     surroundings: Surroundings<'t>,
     trees: &'t [Tree],
 ) -> Result<Option<Vec<Command>>, AllocError>
-    ensures { IfOk result (λ cs. option_map (λ cs. commands_form cs.items) cs ≡ commands_formed (context_of surroundings.entry) (commands_tree trees.now)) }
+    ensures { IfOk result (λ cs. option_map (λ cs. commands_form cs.items) cs
+        ≡ commands_formed (context_of surroundings.entry) (commands_tree trees.now)) }
 {
     let mut around = surroundings;
     let mut sequence = Sequence::new(alloc, trees.len())?;
@@ -292,7 +308,8 @@ fn commands<'t>(
 
 /// The typed form of a script. An error comes only where memory was refused.
 pub fn form_of(alloc: Global, trees: &[Tree]) -> Result<Option<Vec<Command>>, AllocError>
-    ensures { IfOk result (λ cs. option_map (λ cs. commands_form cs.items) cs ≡ form_of (commands_tree trees.now)) }
+    ensures { IfOk result (λ cs. option_map (λ cs. commands_form cs.items) cs
+        ≡ form_of (commands_tree trees.now)) }
 {
     commands(alloc, Surroundings::at_start(), trees)
 }

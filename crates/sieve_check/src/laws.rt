@@ -7,5 +7,6 @@ ghost use Rattle.sieve_check.specs.Typed.{CommandForms};
 
 /// A script of which nothing is wrong has a typed form.
 pub fn faultless_scripts_have_a_form()
-    ensures { (script : CommandsTree) → fault_of script ≡ None → (form : CommandForms) × IsFormOf script form }
+    ensures { (script : CommandsTree) → fault_of script ≡ None
+        → (form : CommandForms) × IsFormOf script form }
 {}

@@ -63,7 +63,9 @@ impl<'t> Loops<'t> {
 
     /// These and one within them. Nothing where there would be too many.
     pub fn with(self, name: Option<&'t [u8]>) -> Option<Loops<'t>>
-        ensures { MatchOption result (nat_lt (length (open_loops self.entry)) max_loops ≡ false) (λ all. (nat_lt (length (open_loops self.entry)) max_loops ≡ true) × (open_loops all ≡ name_in name.entry ∷ open_loops self.entry)) }
+        ensures { MatchOption result (nat_lt (length (open_loops self.entry)) max_loops ≡ false)
+            (λ all. (nat_lt (length (open_loops self.entry)) max_loops ≡ true)
+            × (open_loops all ≡ name_in name.entry ∷ open_loops self.entry)) }
     {
         if self.are_full() {
             return None;

@@ -41,7 +41,8 @@ impl<'t> Mentions<'t> {
     // Those of a `set`, by its arguments: the first is the name, which is taken as it is written.
     fn of_set(reading: Reading<'t>) -> Mentions<'t>
         requires { is_positional TwoTexts (map argument_tree reading.positional.now) ≡ true }
-        ensures { mentions_in result ≡ mentions_of CommandName.Set (strings_of (lists_read (read_of reading.entry))) }
+        ensures { mentions_in result
+            ≡ mentions_of CommandName.Set (strings_of (lists_read (read_of reading.entry))) }
     {
         match first_text(reading.positional) {
             Some((name, value)) => Mentions {
@@ -59,7 +60,8 @@ impl<'t> Mentions<'t> {
     // Those of a `take`, by its arguments: the name, which is taken as it is written.
     fn of_take(reading: Reading<'t>) -> Mentions<'t>
         requires { is_positional Text (map argument_tree reading.positional.now) ≡ true }
-        ensures { mentions_in result ≡ mentions_of CommandName.Take (strings_of (lists_read (read_of reading.entry))) }
+        ensures { mentions_in result
+            ≡ mentions_of CommandName.Take (strings_of (lists_read (read_of reading.entry))) }
     {
         match first_text(reading.positional) {
             Some((name, _)) => Mentions {
@@ -77,7 +79,8 @@ impl<'t> Mentions<'t> {
         name: CommandName,
         head: &'t Head,
     ) -> Mentions<'t>
-        ensures { mentions_in result ≡ command_mentions (context_of surroundings.entry) name (arguments_of head.now) }
+        ensures { mentions_in result
+            ≡ command_mentions (context_of surroundings.entry) name (arguments_of head.now) }
     {
         if !surroundings.required.has(Capability::Variables) {
             return Mentions::none();
@@ -107,7 +110,8 @@ impl<'t> Mentions<'t> {
 
     /// Those of a test that is known by that name.
     pub fn of_test(surroundings: Surroundings<'_>, name: TestName, head: &'t Head) -> Mentions<'t>
-        ensures { mentions_in result ≡ test_mentions (context_of surroundings.entry) name (arguments_of head.now) }
+        ensures { mentions_in result
+            ≡ test_mentions (context_of surroundings.entry) name (arguments_of head.now) }
     {
         if !surroundings.required.has(Capability::Variables) {
             return Mentions::none();
@@ -149,7 +153,8 @@ impl<'t> Mentions<'t> {
 
     /// Adds the names that they bring to those so far: those in the strings, then the one that is set.
     pub fn add_to(self, names: &mut VariableNames<'t>) -> Result<(), Fault>
-        ensures { Adds (listed names.old) (names_mentioned (mentions_in self.entry)) result (listed names.new) }
+        ensures { Adds (listed names.old) (names_mentioned (mentions_in self.entry)) result
+            (listed names.new) }
     {
         names.add_lists(self.expanded)?;
         match self.set {

@@ -54,7 +54,8 @@ pub fn has_wrong_reference(string: &[u8]) -> bool
 
 /// Whether the string has too many segments, or a reference by a name that has too many octets.
 pub fn has_large_references(string: &[u8]) -> bool
-    ensures { result ≡ (nat_lt max_segments (length (segments string.now)) || list_any is_long (segments string.now)) }
+    ensures { result ≡ (nat_lt max_segments (length (segments string.now))
+        || list_any is_long (segments string.now)) }
 {
     let mut left = MAX_SEGMENTS;
     let mut rest = string;

@@ -82,7 +82,8 @@ fn is_well_formed(signature: Signature, head: &Head, tests: Tests) -> bool
 
 // Whether a `break` of these arguments has a loop to leave.
 fn leaves_loop(surroundings: Surroundings<'_>, head: &Head) -> bool
-    ensures { result ≡ leaves_loop (context_of surroundings.entry) (reading (command_signature CommandName.Break) (arguments_of head.now)) }
+    ensures { result ≡ leaves_loop (context_of surroundings.entry)
+        (reading (command_signature CommandName.Break) (arguments_of head.now)) }
 {
     match command_signature(CommandName::Break).read(&head.arguments) {
         Some(reading) => surroundings.loops.left_by(reading.name).is_some(),
@@ -136,7 +137,9 @@ fn is_taken(
     tests: Tests,
     ending: Ending,
 ) -> bool
-    ensures { result ≡ (may_stand (context_of surroundings.entry) name (arguments_of head.now) && (same_ending (ending_of name) ending && is_well_formed (command_signature name) (arguments_of head.now) tests)) }
+    ensures { result ≡ (may_stand (context_of surroundings.entry) name (arguments_of head.now)
+        && (same_ending (ending_of name) ending
+        && is_well_formed (command_signature name) (arguments_of head.now) tests)) }
 {
     may_stand(surroundings, name, head)
         && ending_of(name) == ending
@@ -150,7 +153,10 @@ fn is_large_command(
     head: &Head,
     mentions: Mentions<'_>,
 ) -> bool
-    ensures { result ≡ (has_long_string (arguments_of head.now) || has_large_mention (mentions_in mentions.entry) || opens_many (opened_by name (arguments_of head.now)) (context_of surroundings.entry)) }
+    ensures { result ≡ (has_long_string (arguments_of head.now)
+        || has_large_mention (mentions_in mentions.entry)
+        || opens_many (opened_by name (arguments_of head.now))
+        (context_of surroundings.entry)) }
 {
     StringFault::Long.is_in_some(&head.arguments)
         || mentions.are_large()
@@ -165,7 +171,8 @@ fn known_command_fault(
     tests: Tests,
     ending: Ending,
 ) -> Option<Fault>
-    ensures { result ≡ known_command_fault (context_of surroundings.entry) name (arguments_of head.now) tests ending }
+    ensures { result ≡ known_command_fault (context_of surroundings.entry) name
+        (arguments_of head.now) tests ending }
 {
     let mentions = Mentions::of_command(surroundings, name, head);
     if surroundings.lacks(command_needs(name)) {
@@ -183,14 +190,17 @@ fn known_command_fault(
 
 // Whether the test may stand there, with these arguments and tests.
 fn is_taken_test(surroundings: Surroundings<'_>, name: TestName, head: &Head, tests: Tests) -> bool
-    ensures { result ≡ (test_may_stand (context_of surroundings.entry) name && is_well_formed (test_signature name) (arguments_of head.now) tests) }
+    ensures { result ≡ (test_may_stand (context_of surroundings.entry) name
+        && is_well_formed (test_signature name) (arguments_of head.now) tests) }
 {
     test_may_stand(surroundings, name) && is_well_formed(test_signature(name), head, tests)
 }
 
 // Whether a test goes beyond a limit.
 fn is_large_test(signature: Signature, head: &Head, mentions: Mentions<'_>) -> bool
-    ensures { result ≡ (has_long_string (arguments_of head.now) || has_many_strings (reading signature (arguments_of head.now)) || has_large_mention (mentions_in mentions.entry)) }
+    ensures { result ≡ (has_long_string (arguments_of head.now)
+        || has_many_strings (reading signature (arguments_of head.now))
+        || has_large_mention (mentions_in mentions.entry)) }
 {
     StringFault::Long.is_in_some(&head.arguments)
         || has_many_strings(signature, head)
@@ -204,7 +214,8 @@ fn known_test_fault(
     head: &Head,
     tests: Tests,
 ) -> Option<Fault>
-    ensures { result ≡ known_test_fault (context_of surroundings.entry) name (arguments_of head.now) tests }
+    ensures { result ≡ known_test_fault (context_of surroundings.entry) name (arguments_of head.now)
+        tests }
 {
     let mentions = Mentions::of_test(surroundings, name, head);
     if surroundings.lacks(test_needs(name, head)) {
@@ -227,7 +238,9 @@ fn known_command<'t>(
     tests: Tests,
     ending: Ending,
 ) -> Result<(), Fault>
-    ensures { Judges (listed names.old) (known_command_visit (context_of surroundings.entry) head.now.token name (arguments_of head.now) tests ending) result (listed names.new) }
+    ensures { Judges (listed names.old)
+        (known_command_visit (context_of surroundings.entry) head.now.token name
+        (arguments_of head.now) tests ending) result (listed names.new) }
 {
     match known_command_fault(surroundings, name, head, tests, ending) {
         Some(fault) => Err(fault),
@@ -243,7 +256,9 @@ fn known_test<'t>(
     head: &'t Head,
     tests: Tests,
 ) -> Result<(), Fault>
-    ensures { Judges (listed names.old) (known_test_visit (context_of surroundings.entry) head.now.token name (arguments_of head.now) tests) result (listed names.new) }
+    ensures { Judges (listed names.old)
+        (known_test_visit (context_of surroundings.entry) head.now.token name
+        (arguments_of head.now) tests) result (listed names.new) }
 {
     match known_test_fault(surroundings, name, head, tests) {
         Some(fault) => Err(fault),
@@ -253,7 +268,8 @@ fn known_test<'t>(
 
 // What was found of a command or test, with its place: the number of its identifier's token.
 fn at(head: &Head, judged: Result<(), Fault>) -> Result<(), CheckError>
-    ensures { MatchResult judged (λ _. IsOk result) (λ fault. result ≡ Err (refusal head.now.token fault)) }
+    ensures { MatchResult judged (λ _. IsOk result)
+        (λ fault. result ≡ Err (refusal head.now.token fault)) }
 {
     judged.map_err(|fault| CheckError::of(fault, head.token))
 }
@@ -266,7 +282,9 @@ fn command_alone<'t>(
     tests: Tests,
     ending: Ending,
 ) -> Result<(), CheckError>
-    ensures { Passes (listed names.old) (command_visit (context_of surroundings.entry) head.now.token head.now.name (arguments_of head.now) tests ending ∷ []) result (listed names.new) }
+    ensures { Passes (listed names.old)
+        (command_visit (context_of surroundings.entry) head.now.token head.now.name
+        (arguments_of head.now) tests ending ∷ []) result (listed names.new) }
 {
     let judged = match command_named(head.name.as_slice()) {
         Some(name) => known_command(names, surroundings, name, head, tests, ending),
@@ -282,7 +300,9 @@ fn test_alone<'t>(
     head: &'t Head,
     tests: Tests,
 ) -> Result<(), CheckError>
-    ensures { Passes (listed names.old) (test_visit (context_of surroundings.entry) head.now.token head.now.name (arguments_of head.now) tests ∷ []) result (listed names.new) }
+    ensures { Passes (listed names.old)
+        (test_visit (context_of surroundings.entry) head.now.token head.now.name
+        (arguments_of head.now) tests ∷ []) result (listed names.new) }
 {
     let judged = match test_named(head.name.as_slice()) {
         Some(name) => known_test(names, surroundings, name, head, tests),
@@ -298,7 +318,9 @@ fn test<'t>(
     surroundings: Surroundings<'_>,
     invocation: &'t Invocation,
 ) -> Result<(), CheckError>
-    ensures { Passes (listed names.old) (test_visits (context_of surroundings.entry) (invocation_tree invocation.now)) result (listed names.new) }
+    ensures { Passes (listed names.old)
+        (test_visits (context_of surroundings.entry) (invocation_tree invocation.now)) result
+        (listed names.new) }
 {
     match invocation {
         Invocation::Plain(head) => test_alone(names, surroundings, head, Tests::Nothing),
@@ -321,7 +343,9 @@ fn tests<'t>(
     surroundings: Surroundings<'_>,
     list: &'t [Invocation],
 ) -> Result<(), CheckError>
-    ensures { Passes (listed names.old) (more_visits (context_of surroundings.entry) (more_tests_of (map invocation_tree list.now))) result (listed names.new) }
+    ensures { Passes (listed names.old)
+        (more_visits (context_of surroundings.entry) (more_tests_of (map invocation_tree list.now)))
+        result (listed names.new) }
 {
     'list: for invocation in list {
         test(names, surroundings, invocation)?;
@@ -336,7 +360,9 @@ fn head<'t>(
     invocation: &'t Invocation,
     ending: Ending,
 ) -> Result<(), CheckError>
-    ensures { Passes (listed names.old) (head_visits (context_of surroundings.entry) (invocation_tree invocation.now) ending) result (listed names.new) }
+    ensures { Passes (listed names.old)
+        (head_visits (context_of surroundings.entry) (invocation_tree invocation.now) ending) result
+        (listed names.new) }
 {
     match invocation {
         Invocation::Plain(head) => {
@@ -361,7 +387,9 @@ fn command<'t>(
     surroundings: Surroundings<'t>,
     tree: &'t Command,
 ) -> Result<(), CheckError>
-    ensures { Passes (listed names.old) (command_visits (context_of surroundings.entry) (command_tree tree.now)) result (listed names.new) }
+    ensures { Passes (listed names.old)
+        (command_visits (context_of surroundings.entry) (command_tree tree.now)) result
+        (listed names.new) }
 {
     match tree {
         Command::Simple(invocation) => head(names, surroundings, invocation, Ending::Semicolon),
@@ -382,7 +410,9 @@ fn commands<'t>(
     surroundings: Surroundings<'t>,
     trees: &'t [Command],
 ) -> Result<(), CheckError>
-    ensures { Passes (listed names.old) (commands_visits (context_of surroundings.entry) (commands_tree trees.now)) result (listed names.new) }
+    ensures { Passes (listed names.old)
+        (commands_visits (context_of surroundings.entry) (commands_tree trees.now)) result
+        (listed names.new) }
 {
     let mut around = surroundings;
     'trees: for tree in trees {

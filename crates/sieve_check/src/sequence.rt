@@ -94,7 +94,8 @@ impl Sequence {
 
     /// The commands.
     pub fn finish(self, alloc: Global) -> Result<Vec<Command>, AllocError>
-        ensures { IfOk result (λ commands. commands_form commands.items ≡ joined self no_branch no_command) }
+        ensures { IfOk result (λ commands. commands_form commands.items
+            ≡ joined self no_branch no_command) }
     {
         let mut sequence = self;
         sequence.close(alloc, None)?;

@@ -71,7 +71,8 @@ impl StringFault {
 
     /// Whether this is wrong with a string of the arguments.
     pub fn is_in_some(self, arguments: &[Argument]) -> bool
-        ensures { result ≡ list_any (string_has self) (strings_of (map argument_tree arguments.now)) }
+        ensures { result ≡ list_any (string_has self)
+            (strings_of (map argument_tree arguments.now)) }
     {
         for argument in arguments {
             if self.is_in_argument(argument) {
@@ -104,7 +105,8 @@ fn string_count(argument: &Argument) -> usize
 
 // How many strings may still come after those of the arguments, where so many may come with them.
 fn left_after(most: usize, arguments: &[Argument]) -> Option<usize>
-    ensures { MatchOption result (most < length (strings_of (map argument_tree arguments.now))) (λ left. left + length (strings_of (map argument_tree arguments.now)) ≡ most) }
+    ensures { MatchOption result (most < length (strings_of (map argument_tree arguments.now)))
+        (λ left. left + length (strings_of (map argument_tree arguments.now)) ≡ most) }
 {
     let mut left = most;
     for argument in arguments {

@@ -54,7 +54,8 @@ pub fn template(
     surroundings: Surroundings<'_>,
     string: &Octets,
 ) -> Result<Vec<Segment>, AllocError>
-    ensures { IfOk result (λ all. all.items ≡ template_of (context_of surroundings.entry) string.now) }
+    ensures { IfOk result (λ all. all.items
+        ≡ template_of (context_of surroundings.entry) string.now) }
 {
     if surroundings.required.has(Capability::Variables) {
         return expanded(alloc, string.as_slice());
@@ -71,7 +72,8 @@ fn templates(
     first: &Octets,
     others: &[Octets],
 ) -> Result<Vec<Vec<Segment>>, AllocError>
-    ensures { IfOk result (λ all. templates_of all.items ≡ map (template_of (context_of surroundings.entry)) (first.now ∷ others.now)) }
+    ensures { IfOk result (λ all. templates_of all.items
+        ≡ map (template_of (context_of surroundings.entry)) (first.now ∷ others.now)) }
 {
     let mut all = Vec::with_capacity(alloc, others.len() + 1)?;
     all.push(template(alloc, surroundings, first)?)?;
@@ -88,7 +90,8 @@ pub fn list_in(
     surroundings: Surroundings<'_>,
     argument: &Argument,
 ) -> Result<Option<Vec<Vec<Segment>>>, AllocError>
-    ensures { IfOk result (λ list. option_map (λ all. templates_of all.items) list ≡ list_in (context_of surroundings.entry) (argument_tree argument.now)) }
+    ensures { IfOk result (λ list. option_map (λ all. templates_of all.items) list
+        ≡ list_in (context_of surroundings.entry) (argument_tree argument.now)) }
 {
     match argument {
         Argument::Text(string) => Ok(Some(templates(alloc, surroundings, string, &[])?)),
@@ -106,8 +109,9 @@ pub fn only_list_in(
     surroundings: Surroundings<'_>,
     arguments: &[Argument],
 ) -> Result<Option<Vec<Vec<Segment>>>, AllocError>
-    ensures { IfOk result (λ list. (make : List Template → TestForm) →
-        option_map (λ all. make (templates_of all.items)) list ≡ of_list (context_of surroundings.entry) make (map argument_tree arguments.now)) }
+    ensures { IfOk result (λ list. (make : List Template → TestForm)
+        → option_map (λ all. make (templates_of all.items)) list
+        ≡ of_list (context_of surroundings.entry) make (map argument_tree arguments.now)) }
 {
     match arguments {
         [list] => list_in(alloc, surroundings, list),
@@ -122,8 +126,10 @@ pub fn lists_in(
     surroundings: Surroundings<'_>,
     arguments: &[Argument],
 ) -> Result<Option<(Vec<Vec<Segment>>, Vec<Vec<Segment>>)>, AllocError>
-    ensures { IfOk result (λ lists. (make : List Template → List Template → TestForm) →
-        option_map (λ both. make (templates_of both.0.items) (templates_of both.1.items)) lists ≡ of_lists (context_of surroundings.entry) make (map argument_tree arguments.now)) }
+    ensures { IfOk result (λ lists. (make : List Template → List Template → TestForm)
+        → option_map (λ both. make (templates_of both.0.items) (templates_of both.1.items))
+        lists ≡ of_lists (context_of surroundings.entry) make
+        (map argument_tree arguments.now)) }
 {
     let [first, second] = arguments else {
         return Ok(None);

@@ -127,7 +127,8 @@ pub fn head_in(invocation: &Invocation) -> &Head
 
 // The name of the loop that a `foreverypart` of these arguments opens, if it could be read with one.
 fn loop_name(arguments: &[Argument]) -> Option<&[u8]>
-    ensures { name_in result ≡ name_read (reading (command_signature CommandName.ForEveryPart) (map argument_tree arguments.now)) }
+    ensures { name_in result ≡ name_read
+        (reading (command_signature CommandName.ForEveryPart) (map argument_tree arguments.now)) }
 {
     command_signature(CommandName::ForEveryPart)
         .read(arguments)?
@@ -176,7 +177,8 @@ impl<'t> Surroundings<'t> {
 
     // The loops around the block of a command that begins so. Nothing where there would be too many.
     fn loops_within(self, head: &'t Head) -> Option<Loops<'t>>
-        ensures { LoopsWithin (context_of self.entry) (loops_by (command_named head.now.name) (arguments_of head.now)) result }
+        ensures { LoopsWithin (context_of self.entry)
+            (loops_by (command_named head.now.name) (arguments_of head.now)) result }
     {
         let Some(name) = command_named(head.name.as_slice()) else {
             return Some(self.loops);
@@ -200,7 +202,12 @@ impl<'t> Surroundings<'t> {
 
     // With these loops, those of the first command of a block.
     fn within(self, loops: Loops<'t>) -> Surroundings<'t>
-        ensures { context_of result ≡ record (context_of self.entry) { loops = open_loops loops.entry; takes_require = false; after_if = false } }
+        ensures { context_of result
+            ≡ record (context_of self.entry) {
+              loops = open_loops loops.entry;
+              takes_require = false;
+              after_if = false;
+            } }
     {
         Surroundings {
             loops,
@@ -212,7 +219,8 @@ impl<'t> Surroundings<'t> {
 
     /// Those of the first command of the block of a command. Nothing where more loops would be open than may be.
     pub fn in_block(self, invocation: &'t Invocation) -> Option<Surroundings<'t>>
-        ensures { option_map context_of result ≡ inside (loops_opened (invocation_tree invocation.now)) (context_of self.entry) }
+        ensures { option_map context_of result
+            ≡ inside (loops_opened (invocation_tree invocation.now)) (context_of self.entry) }
     {
         let loops = self.loops_within(head_in(invocation))?;
         Some(self.within(loops))
@@ -220,7 +228,8 @@ impl<'t> Surroundings<'t> {
 
     /// Whether the block of a command that is known by that name would have more loops around it than there may be.
     pub fn opens_many(self, name: CommandName) -> bool
-        ensures { (args : List ArgumentTree) → result ≡ opens_many (opened_by name args) (context_of self.entry) }
+        ensures { (args : List ArgumentTree)
+            → result ≡ opens_many (opened_by name args) (context_of self.entry) }
     {
         match name {
             CommandName::ForEveryPart => self.loops.are_full(),
@@ -241,7 +250,9 @@ impl<'t> Surroundings<'t> {
 
     // Those of the command after one that begins so.
     fn following(self, head: &Head) -> Surroundings<'t>
-        ensures { context_of result ≡ following (context_of self.entry) (command_named head.now.name) (strings_of (arguments_of head.now)) }
+        ensures { context_of result
+            ≡ following (context_of self.entry) (command_named head.now.name)
+            (strings_of (arguments_of head.now)) }
     {
         let after = self.within(self.loops);
         let Some(name) = command_named(head.name.as_slice()) else {
@@ -272,7 +283,8 @@ impl<'t> Surroundings<'t> {
 
     /// Those of the command after this one.
     pub fn after(self, command: &Command) -> Surroundings<'t>
-        ensures { context_of result ≡ after_invocation (context_of self.entry) (invocation_of (command_tree command.now)) }
+        ensures { context_of result
+            ≡ after_invocation (context_of self.entry) (invocation_of (command_tree command.now)) }
     {
         match command {
             Command::Simple(invocation) => self.following(head_in(invocation)),

@@ -70,7 +70,8 @@ fn params_in(
     surroundings: Surroundings<'_>,
     arguments: &[Argument],
 ) -> Result<Option<Vec<Vec<Segment>>>, AllocError>
-    ensures { IfOk result (λ names. option_map (λ all. templates_of all.items) names ≡ params_in (context_of surroundings.entry) (map argument_tree arguments.now)) }
+    ensures { IfOk result (λ names. option_map (λ all. templates_of all.items) names
+        ≡ params_in (context_of surroundings.entry) (map argument_tree arguments.now)) }
 {
     match arguments {
         [] => Ok(Some(Vec::new(alloc))),
@@ -84,7 +85,8 @@ fn header(
     surroundings: Surroundings<'_>,
     reading: Reading<'_>,
 ) -> Result<Option<Test>, AllocError>
-    ensures { IfOk result (λ t. option_map test_form t ≡ header_of (context_of surroundings.entry) (read_of reading.entry)) }
+    ensures { IfOk result (λ t. option_map test_form t
+        ≡ header_of (context_of surroundings.entry) (read_of reading.entry)) }
 {
     let Some(params) = params_in(alloc, surroundings, reading.params)? else {
         return Ok(None);
@@ -111,7 +113,9 @@ fn string(
     tags: Tags,
     arguments: &[Argument],
 ) -> Result<Option<Test>, AllocError>
-    ensures { IfOk result (λ t. option_map test_form t ≡ of_lists (context_of surroundings.entry) (string (match_of tags)) (map argument_tree arguments.now)) }
+    ensures { IfOk result (λ t. option_map test_form t
+        ≡ of_lists (context_of surroundings.entry) (string (match_of tags))
+        (map argument_tree arguments.now)) }
 {
     let Some((sources, keys)) = lists_in(alloc, surroundings, arguments)? else {
         return Ok(None);
@@ -131,7 +135,9 @@ fn exists(
     scope: Scope,
     arguments: &[Argument],
 ) -> Result<Option<Test>, AllocError>
-    ensures { IfOk result (λ t. option_map test_form t ≡ of_list (context_of surroundings.entry) (exists scope) (map argument_tree arguments.now)) }
+    ensures { IfOk result (λ t. option_map test_form t
+        ≡ of_list (context_of surroundings.entry) (exists scope)
+        (map argument_tree arguments.now)) }
 {
     match only_list_in(alloc, surroundings, arguments)? {
         Some(names) => Ok(Some(Test::Exists(scope, names))),
@@ -146,7 +152,9 @@ fn part_body(
     tags: Tags,
     arguments: &[Argument],
 ) -> Result<Option<Test>, AllocError>
-    ensures { IfOk result (λ t. option_map test_form t ≡ of_list (context_of surroundings.entry) (part_body (match_of tags)) (map argument_tree arguments.now)) }
+    ensures { IfOk result (λ t. option_map test_form t
+        ≡ of_list (context_of surroundings.entry) (part_body (match_of tags))
+        (map argument_tree arguments.now)) }
 {
     let Some(keys) = only_list_in(alloc, surroundings, arguments)? else {
         return Ok(None);
@@ -161,7 +169,9 @@ fn part_digest(
     surroundings: Surroundings<'_>,
     arguments: &[Argument],
 ) -> Result<Option<Test>, AllocError>
-    ensures { IfOk result (λ t. option_map test_form t ≡ of_list (context_of surroundings.entry) part_digest (map argument_tree arguments.now)) }
+    ensures { IfOk result (λ t. option_map test_form t
+        ≡ of_list (context_of surroundings.entry) part_digest
+        (map argument_tree arguments.now)) }
 {
     match only_list_in(alloc, surroundings, arguments)? {
         Some(keys) => Ok(Some(Test::PartDigest(keys))),
@@ -179,7 +189,8 @@ fn size(tags: Tags, arguments: &[Argument]) -> Option<Test>
 
 // The comparison of the size of the current part's content.
 fn part_size(tags: Tags, arguments: &[Argument]) -> Option<Test>
-    ensures { option_map test_form result ≡ size_of part_size tags (map argument_tree arguments.now) }
+    ensures { option_map test_form result
+        ≡ size_of part_size tags (map argument_tree arguments.now) }
 {
     let order = tags.order?;
     Some(Test::PartSize(order, number_in(arguments)?))
@@ -191,7 +202,8 @@ fn plain_test(
     surroundings: Surroundings<'_>,
     head: &Head,
 ) -> Result<Option<Test>, AllocError>
-    ensures { IfOk result (λ t. option_map test_form t ≡ head_test (context_of surroundings.entry) head.now none) }
+    ensures { IfOk result (λ t. option_map test_form t
+        ≡ head_test (context_of surroundings.entry) head.now none) }
 {
     let Some(name) = test_named(head.name.as_slice()) else {
         return Ok(None);
@@ -217,7 +229,8 @@ fn plain_test(
 
 // Whether this is a test that turns the one behind it around.
 fn negates(head: &Head) -> bool
-    ensures { (s : Context) (f : TestForm) → head_test s head.now (one f) ≡ (if result then Some (negation f) else None) }
+    ensures { (s : Context) (f : TestForm)
+        → head_test s head.now (one f) ≡ (if result then Some (negation f) else None) }
 {
     let Some(name) = test_named(head.name.as_slice()) else {
         return false;
@@ -249,7 +262,8 @@ pub enum Junction {
 
 // How the tests in round brackets behind this are combined.
 fn combining(head: &Head) -> Option<Junction>
-    ensures { (s : Context) (f : TestForm) (fs : TestForms) → head_test s head.now (bracketed f fs) ≡ option_map (λ j. joined_by j f fs) result }
+    ensures { (s : Context) (f : TestForm) (fs : TestForms)
+        → head_test s head.now (bracketed f fs) ≡ option_map (λ j. joined_by j f fs) result }
 {
     let name = test_named(head.name.as_slice())?;
     test_signature(name).read(&head.arguments)?;
@@ -270,7 +284,8 @@ fn combining(head: &Head) -> Option<Junction>
 
 // The test that turns around the one behind it, if that has a form.
 fn negated(alloc: Global, head: &Head, inner: Option<Test>) -> Result<Option<Test>, AllocError>
-    ensures { IfOk result (λ t. (s : Context) → option_map test_form t ≡ test_with_one s head.now (option_map test_form inner)) }
+    ensures { IfOk result (λ t. (s : Context)
+        → option_map test_form t ≡ test_with_one s head.now (option_map test_form inner)) }
 {
     let Some(inner) = inner else {
         return Ok(None);
@@ -289,8 +304,9 @@ fn combined(
     first: Option<Test>,
     others: Option<Vec<Test>>,
 ) -> Result<Option<Test>, AllocError>
-    ensures { IfOk result (λ t. (s : Context) → option_map test_form t ≡
-        test_with_list s head.now (option_map test_form first) (option_map (λ ts. tests_of (map test_form ts.items)) others)) }
+    ensures { IfOk result (λ t. (s : Context)
+        → option_map test_form t ≡ test_with_list s head.now (option_map test_form first)
+        (option_map (λ ts. tests_of (map test_form ts.items)) others)) }
 {
     let Some(first) = first else {
         return Ok(None);
@@ -313,7 +329,8 @@ pub fn test(
     surroundings: Surroundings<'_>,
     invocation: &Invocation,
 ) -> Result<Option<Test>, AllocError>
-    ensures { IfOk result (λ t. option_map test_form t ≡ test_form_of (context_of surroundings.entry) (invocation_tree invocation.now)) }
+    ensures { IfOk result (λ t. option_map test_form t
+        ≡ test_form_of (context_of surroundings.entry) (invocation_tree invocation.now)) }
 {
     match invocation {
         Invocation::Plain(head) => plain_test(alloc, surroundings, head),
@@ -336,7 +353,9 @@ fn tests(
     surroundings: Surroundings<'_>,
     list: &[Invocation],
 ) -> Result<Option<Vec<Test>>, AllocError>
-    ensures { IfOk result (λ ts. option_map (λ ts. tests_of (map test_form ts.items)) ts ≡ more_forms_of (context_of surroundings.entry) (more_tests_of (map invocation_tree list.now))) }
+    ensures { IfOk result (λ ts. option_map (λ ts. tests_of (map test_form ts.items)) ts
+        ≡ more_forms_of (context_of surroundings.entry)
+        (more_tests_of (map invocation_tree list.now))) }
 {
     let mut tests = Vec::with_capacity(alloc, list.len())?;
     'list: for invocation in list {

@@ -100,7 +100,8 @@ impl<'t> VariableNames<'t> {
 
     // Adds the names in the strings of an argument.
     fn add_argument(&mut self, argument: &'t Argument) -> Result<(), Fault>
-        ensures { Adds (listed self.old) (flat_map names_in (strings_in (argument_tree argument.now))) result (listed self.new) }
+        ensures { Adds (listed self.old)
+            (flat_map names_in (strings_in (argument_tree argument.now))) result (listed self.new) }
     {
         match argument {
             Argument::Text(string) => self.add_string(string.as_slice()),
@@ -114,7 +115,9 @@ impl<'t> VariableNames<'t> {
 
     // Adds the names in the strings of arguments.
     fn add_arguments(&mut self, arguments: &'t [Argument]) -> Result<(), Fault>
-        ensures { Adds (listed self.old) (flat_map names_in (strings_of (map argument_tree arguments.now))) result (listed self.new) }
+        ensures { Adds (listed self.old)
+            (flat_map names_in (strings_of (map argument_tree arguments.now))) result
+            (listed self.new) }
     {
         for argument in arguments {
             self.add_argument(argument)?;
@@ -123,7 +126,8 @@ impl<'t> VariableNames<'t> {
     }
     /// Adds the names in the strings of lists. Where there would be too many, that is [`Fault::Limit`].
     pub fn add_lists(&mut self, lists: Lists<'t>) -> Result<(), Fault>
-        ensures { Adds (listed self.old) (flat_map names_in (strings_of (all_lists lists.entry))) result (listed self.new) }
+        ensures { Adds (listed self.old) (flat_map names_in (strings_of (all_lists lists.entry)))
+            result (listed self.new) }
     {
         self.add_arguments(lists.first)?;
         self.add_arguments(lists.params)?;

@@ -68,7 +68,8 @@ join_texts texts = record { op = octet_of Join; a = 0; b = texts; c = 0 }
 abbrev pub string_code : Tables → Template → List Instruction
 string_code tables [] = push_text tables [] ∷ []
 string_code tables (segment ∷ []) = push_segment tables segment ∷ []
-string_code tables (one ∷ other ∷ more) = map (push_segment tables) (one ∷ other ∷ more) ++ join_texts (length (one ∷ other ∷ more)) ∷ []
+string_code tables (one ∷ other ∷ more) = map (push_segment tables) (one ∷ other ∷ more)
+    ++ join_texts (length (one ∷ other ∷ more)) ∷ []
 
 -- strings, one after the other
 abbrev pub strings_code : Tables → List Template → List Instruction
@@ -155,26 +156,35 @@ abbrev mutual
   test_code tables place (negation t) asked target = test_code tables place t (not asked) target
   test_code tables place (all_of t ts) asked target =
       let following = place + (test_length t + tests_length ts) in
-      test_code tables place t (asked_of false asked ts) (aim_of false asked ts following target) ++ tests_code tables (place + test_length t) ts false asked following target
+      test_code tables place t (asked_of false asked ts) (aim_of false asked ts following target)
+      ++ tests_code tables (place + test_length t) ts false asked following target
   test_code tables place (any_of t ts) asked target =
       let following = place + (test_length t + tests_length ts) in
-      test_code tables place t (asked_of true asked ts) (aim_of true asked ts following target) ++ tests_code tables (place + test_length t) ts true asked following target
-  test_code tables place (size order number) asked target = push_size order (place_of_number tables number) ∷ jump_if asked target ∷ []
+      test_code tables place t (asked_of true asked ts) (aim_of true asked ts following target)
+      ++ tests_code tables (place + test_length t) ts true asked following target
+  test_code tables place (size order number) asked target = push_size order (place_of_number tables number)
+      ∷ jump_if asked target ∷ []
   test_code tables place (header how scope selected names keys) asked target =
       strings_code tables names ++ strings_code tables (params_of selected) ++ strings_code tables keys
       ++ match_fields how scope selected (length names) (length keys) ∷ jump_if asked target ∷ []
-  test_code tables place (exists scope names) asked target = strings_code tables names ++ find_fields scope (length names) ∷ jump_if asked target ∷ []
+  test_code tables place (exists scope names) asked target = strings_code tables names
+      ++ find_fields scope (length names) ∷ jump_if asked target ∷ []
   test_code tables place (string how sources keys) asked target =
-      strings_code tables sources ++ strings_code tables keys ++ match_texts how (length sources) (length keys) ∷ jump_if asked target ∷ []
-  test_code tables place (part_size order number) asked target = push_part_size order (place_of_number tables number) ∷ jump_if asked target ∷ []
-  test_code tables place (part_body how keys) asked target = strings_code tables keys ++ match_body how (length keys) ∷ jump_if asked target ∷ []
-  test_code tables place (part_digest keys) asked target = strings_code tables keys ++ match_digest (length keys) ∷ jump_if asked target ∷ []
+      strings_code tables sources ++ strings_code tables keys ++ match_texts how (length sources) (length keys)
+      ∷ jump_if asked target ∷ []
+  test_code tables place (part_size order number) asked target = push_part_size order (place_of_number tables number)
+      ∷ jump_if asked target ∷ []
+  test_code tables place (part_body how keys) asked target = strings_code tables keys ++ match_body how (length keys)
+      ∷ jump_if asked target ∷ []
+  test_code tables place (part_digest keys) asked target = strings_code tables keys ++ match_digest (length keys)
+      ∷ jump_if asked target ∷ []
 
   -- the tests of a list after its first
   pub tests_code : Tables → ℕ → TestForms → Bool → Bool → ℕ → ℕ → List Instruction
   tests_code tables place no_test deciding asked following target = []
   tests_code tables place (test t ts) deciding asked following target =
-      test_code tables place t (asked_of deciding asked ts) (aim_of deciding asked ts following target) ++ tests_code tables (place + test_length t) ts deciding asked following target
+      test_code tables place t (asked_of deciding asked ts) (aim_of deciding asked ts following target)
+      ++ tests_code tables (place + test_length t) ts deciding asked following target
 
 -- after a block, to the end of the if, where another branch follows
 abbrev pub leave_code : BranchForms → ℕ → List Instruction
@@ -187,7 +197,8 @@ abbrev mutual
   command_code tables place keep = plain Keep ∷ []
   command_code tables place discard = plain Discard ∷ []
   command_code tables place (file_into folder) = string_code tables folder ++ plain File ∷ []
-  command_code tables place (set modifiers name value) = string_code tables value ++ set_variable tables modifiers name ∷ []
+  command_code tables place (set modifiers name value) = string_code tables value ++ set_variable tables modifiers name
+      ∷ []
   command_code tables place (take_first most name) = take_octets most (place_of_variable tables name) ∷ []
   command_code tables place (store folder) = string_code tables folder ++ plain Store ∷ []
   -- the loop's brackets name each other's places
@@ -201,7 +212,8 @@ abbrev mutual
 
   pub commands_code : Tables → ℕ → CommandForms → List Instruction
   commands_code tables place no_command = []
-  commands_code tables place (command c cs) = command_code tables place c ++ commands_code tables (place + command_length c) cs
+  commands_code tables place (command c cs) = command_code tables place c
+      ++ commands_code tables (place + command_length c) cs
 
   -- the branches of an if that ends at a place
   pub branches_code : Tables → ℕ → BranchForms → ℕ → List Instruction
@@ -210,7 +222,8 @@ abbrev mutual
   branches_code tables place (branch t cs bs) end =
       let block = place + test_length t in
       let next = block + commands_length cs + leave_length bs in
-      test_code tables place t false next ++ commands_code tables block cs ++ leave_code bs end ++ branches_code tables next bs end
+      test_code tables place t false next ++ commands_code tables block cs ++ leave_code bs end
+      ++ branches_code tables next bs end
 
 -- the version of the format that programs are written in
 abbrev pub written_version : ℕ

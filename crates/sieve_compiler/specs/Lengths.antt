@@ -19,7 +19,8 @@ abbrev mutual
   test_length (all_of t ts) = test_length t + tests_length ts
   test_length (any_of t ts) = test_length t + tests_length ts
   test_length (size order number) = 2
-  test_length (header how scope selected names keys) = strings_length names + strings_length (params_of selected) + strings_length keys + 2
+  test_length (header how scope selected names keys) = strings_length names + strings_length
+      (params_of selected) + strings_length keys + 2
   test_length (exists scope names) = strings_length names + 2
   test_length (string how sources keys) = strings_length sources + strings_length keys + 2
   test_length (part_size order number) = 2

@@ -25,7 +25,8 @@ abbrev mutual
   test_strings (all_of t ts) = test_strings t ++ tests_strings ts
   test_strings (any_of t ts) = test_strings t ++ tests_strings ts
   test_strings (size order number) = []
-  test_strings (header how scope selected names keys) = strings_of names ++ strings_of (params_of selected) ++ strings_of keys
+  test_strings (header how scope selected names keys) = strings_of names ++ strings_of (params_of selected)
+      ++ strings_of keys
   test_strings (exists scope names) = strings_of names
   test_strings (string how sources keys) = strings_of sources ++ strings_of keys
   test_strings (part_size order number) = []

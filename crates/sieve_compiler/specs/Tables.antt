@@ -18,7 +18,8 @@ tables_with numbers strings variables = record { numbers = numbers; strings = st
 -- the tables of a script: each of its numbers, texts and variables once, in the order of their first use in its code
 abbrev pub tables_of : CommandForms → Tables
 tables_of script =
-    tables_with (each_once nat_eq (commands_numbers script)) (each_once bytes_eq (commands_strings script)) (each_once bytes_eq (commands_variables script))
+    tables_with (each_once nat_eq (commands_numbers script)) (each_once bytes_eq (commands_strings script))
+    (each_once bytes_eq (commands_variables script))
 
 -- the place of a number in the tables
 abbrev pub place_of_number : Tables → ℕ → ℕ

@@ -58,7 +58,8 @@ impl<'t, 's> Coder<'t, 's> {
     /// Puts an instruction.
     pub fn put(&mut self, instruction: Instruction) -> Result<(), AllocError>
         ensures code { OnOk result (Puts self.old self.new (instruction ∷ [])) }
-        ensures room { OnOk result (length self.new.instructions.items ≡ length self.old.instructions.items + 1) }
+        ensures room { OnOk result (length self.new.instructions.items
+            ≡ length self.old.instructions.items + 1) }
     {
         self.instructions.push(instruction)?;
         Ok(())
@@ -66,8 +67,10 @@ impl<'t, 's> Coder<'t, 's> {
 
     // Pushes a text.
     fn put_text(&mut self, text: &[u8]) -> Result<(), AllocError>
-        ensures code { OnOk result (Puts self.old self.new (push_text self.old.tables.now text.now ∷ [])) }
-        ensures room { OnOk result (length self.new.instructions.items ≡ length self.old.instructions.items + 1) }
+        ensures code { OnOk result (Puts self.old self.new
+            (push_text self.old.tables.now text.now ∷ [])) }
+        ensures room { OnOk result (length self.new.instructions.items
+            ≡ length self.old.instructions.items + 1) }
     {
         let place = self.tables.place_of_string(text) as u32;
         self.put(instruction(Operation::Literal, 0, place))
@@ -75,8 +78,10 @@ impl<'t, 's> Coder<'t, 's> {
 
     // Pushes what a segment stands for.
     fn put_segment(&mut self, segment: &Segment) -> Result<(), AllocError>
-        ensures code { OnOk result (Puts self.old self.new (push_segment self.old.tables.now segment.now ∷ [])) }
-        ensures room { OnOk result (length self.new.instructions.items ≡ length self.old.instructions.items + 1) }
+        ensures code { OnOk result (Puts self.old self.new
+            (push_segment self.old.tables.now segment.now ∷ [])) }
+        ensures room { OnOk result (length self.new.instructions.items
+            ≡ length self.old.instructions.items + 1) }
     {
         match segment {
             Segment::Text(octets) => self.put_text(octets.as_slice()),
@@ -90,8 +95,10 @@ impl<'t, 's> Coder<'t, 's> {
 
     // Pushes what segments stand for, one after the other.
     fn put_segments(&mut self, segments: &[Segment]) -> Result<(), AllocError>
-        ensures code { OnOk result (Puts self.old self.new (map (push_segment self.old.tables.now) segments.now)) }
-        ensures room { OnOk result (length self.new.instructions.items ≡ length self.old.instructions.items + length segments.now) }
+        ensures code { OnOk result (Puts self.old self.new
+            (map (push_segment self.old.tables.now) segments.now)) }
+        ensures room { OnOk result (length self.new.instructions.items
+            ≡ length self.old.instructions.items + length segments.now) }
     {
         for segment in segments {
             self.put_segment(segment)?;
@@ -102,8 +109,10 @@ impl<'t, 's> Coder<'t, 's> {
     // Pushes a string.
     fn put_string(&mut self, string: &[Segment]) -> Result<(), AllocError>
         requires { IsBoundedString string.now }
-        ensures code { OnOk result (Puts self.old self.new (string_code self.old.tables.now string.now)) }
-        ensures room { OnOk result (length self.new.instructions.items ≡ length self.old.instructions.items + string_length string.now) }
+        ensures code { OnOk result (Puts self.old self.new
+            (string_code self.old.tables.now string.now)) }
+        ensures room { OnOk result (length self.new.instructions.items
+            ≡ length self.old.instructions.items + string_length string.now) }
     {
         match string {
             [] => self.put_text(b""),
@@ -118,8 +127,10 @@ impl<'t, 's> Coder<'t, 's> {
     // Pushes strings, one after the other.
     fn put_strings(&mut self, strings: &[Vec<Segment>]) -> Result<(), AllocError>
         requires { All IsBoundedString (templates_of strings.now) }
-        ensures code { OnOk result (Puts self.old self.new (strings_code self.old.tables.now (templates_of strings.now))) }
-        ensures room { OnOk result (length self.new.instructions.items ≡ length self.old.instructions.items + strings_length (templates_of strings.now)) }
+        ensures code { OnOk result (Puts self.old self.new
+            (strings_code self.old.tables.now (templates_of strings.now))) }
+        ensures room { OnOk result (length self.new.instructions.items
+            ≡ length self.old.instructions.items + strings_length (templates_of strings.now)) }
     {
         for string in strings {
             self.put_string(string)?;
@@ -129,8 +140,10 @@ impl<'t, 's> Coder<'t, 's> {
 
     // Puts a simple test and its jump.
     fn put_simple(&mut self, test: Instruction, exit: Exit) -> Result<(), AllocError>
-        ensures code { OnOk result (Puts self.old self.new (test ∷ jump_if exit.asked exit.target ∷ [])) }
-        ensures room { OnOk result (length self.new.instructions.items ≡ length self.old.instructions.items + 2) }
+        ensures code { OnOk result (Puts self.old self.new
+            (test ∷ jump_if exit.asked exit.target ∷ [])) }
+        ensures room { OnOk result (length self.new.instructions.items
+            ≡ length self.old.instructions.items + 2) }
     {
         self.put(test)?;
         self.put(jump_if(exit))?;
@@ -145,8 +158,12 @@ impl<'t, 's> Coder<'t, 's> {
         exit: Exit,
     ) -> Result<(), AllocError>
         requires { All IsBoundedString (templates_of strings.now) }
-        ensures code { OnOk result (Puts self.old self.new (strings_code self.old.tables.now (templates_of strings.now) ++ test ∷ jump_if exit.asked exit.target ∷ [])) }
-        ensures room { OnOk result (length self.new.instructions.items ≡ length self.old.instructions.items + (strings_length (templates_of strings.now) + 2)) }
+        ensures code { OnOk result (Puts self.old self.new
+            (strings_code self.old.tables.now (templates_of strings.now) ++ test
+            ∷ jump_if exit.asked exit.target ∷ [])) }
+        ensures room { OnOk result (length self.new.instructions.items
+            ≡ length self.old.instructions.items + (strings_length
+            (templates_of strings.now) + 2)) }
     {
         self.put_strings(strings)?;
         self.put_simple(test, exit)
@@ -162,9 +179,16 @@ impl<'t, 's> Coder<'t, 's> {
         keys: &[Vec<Segment>],
         exit: Exit,
     ) -> Result<(), AllocError>
-        requires { IsBoundedHeader (selected_form selection.now) (templates_of names.now) (templates_of keys.now) }
-        ensures code { OnOk result (Puts self.old self.new (test_code self.old.tables.now (length self.old.instructions.items) (header how scope (selected_form selection.now) (templates_of names.now) (templates_of keys.now)) exit.asked exit.target)) }
-        ensures room { OnOk result (length self.new.instructions.items ≡ length self.old.instructions.items + test_length (header how scope (selected_form selection.now) (templates_of names.now) (templates_of keys.now))) }
+        requires { IsBoundedHeader (selected_form selection.now) (templates_of names.now)
+            (templates_of keys.now) }
+        ensures code { OnOk result (Puts self.old self.new
+            (test_code self.old.tables.now (length self.old.instructions.items)
+            (header how scope (selected_form selection.now) (templates_of names.now)
+            (templates_of keys.now)) exit.asked exit.target)) }
+        ensures room { OnOk result (length self.new.instructions.items
+            ≡ length self.old.instructions.items + test_length
+            (header how scope (selected_form selection.now) (templates_of names.now)
+            (templates_of keys.now))) }
     {
         self.put_strings(names)?;
         self.put_strings(selection.params())?;
@@ -181,8 +205,13 @@ impl<'t, 's> Coder<'t, 's> {
         exit: Exit,
     ) -> Result<(), AllocError>
         requires { AreBoundedLists (templates_of sources.now) (templates_of keys.now) }
-        ensures code { OnOk result (Puts self.old self.new (test_code self.old.tables.now (length self.old.instructions.items) (string how (templates_of sources.now) (templates_of keys.now)) exit.asked exit.target)) }
-        ensures room { OnOk result (length self.new.instructions.items ≡ length self.old.instructions.items + test_length (string how (templates_of sources.now) (templates_of keys.now))) }
+        ensures code { OnOk result (Puts self.old self.new
+            (test_code self.old.tables.now (length self.old.instructions.items)
+            (string how (templates_of sources.now) (templates_of keys.now)) exit.asked
+            exit.target)) }
+        ensures room { OnOk result (length self.new.instructions.items
+            ≡ length self.old.instructions.items + test_length
+            (string how (templates_of sources.now) (templates_of keys.now))) }
     {
         self.put_strings(sources)?;
         let test = match_texts(how, sources.len() as u16, keys.len() as u32);
@@ -192,10 +221,14 @@ impl<'t, 's> Coder<'t, 's> {
     /// Puts the code of a test, which jumps as the exit says.
     #[cycle(tests)]
     pub fn put_test(&mut self, test: &Test, exit: Exit) -> Result<(), AllocError>
-        requires room { length self.old.instructions.items + test_length (test_form test.now) < 2 ^ 32 }
+        requires room { length self.old.instructions.items + test_length (test_form test.now)
+            < 2 ^ 32 }
         requires bounded { IsBoundedTest (test_form test.now) }
-        ensures code { OnOk result (Puts self.old self.new (test_code self.old.tables.now (length self.old.instructions.items) (test_form test.now) exit.asked exit.target)) }
-        ensures room { OnOk result (length self.new.instructions.items ≡ length self.old.instructions.items + test_length (test_form test.now)) }
+        ensures code { OnOk result (Puts self.old self.new
+            (test_code self.old.tables.now (length self.old.instructions.items)
+            (test_form test.now) exit.asked exit.target)) }
+        ensures room { OnOk result (length self.new.instructions.items
+            ≡ length self.old.instructions.items + test_length (test_form test.now)) }
     {
         match test {
             Test::Constant(value) => self.put_simple(push_bool(*value), exit),
@@ -247,10 +280,16 @@ impl<'t, 's> Coder<'t, 's> {
     // Puts the code of the tests of a list after its first.
     #[cycle(tests)]
     fn put_tests(&mut self, others: &[Test], list: ListExit) -> Result<(), AllocError>
-        requires room { length self.old.instructions.items + tests_length (tests_of (map test_form others.now)) < 2 ^ 32 }
+        requires room { length self.old.instructions.items + tests_length
+            (tests_of (map test_form others.now)) < 2 ^ 32 }
         requires bounded { AreBoundedTests (tests_of (map test_form others.now)) }
-        ensures code { OnOk result (Puts self.old self.new (tests_code self.old.tables.now (length self.old.instructions.items) (tests_of (map test_form others.now)) list.deciding list.exit.asked list.following list.exit.target)) }
-        ensures room { OnOk result (length self.new.instructions.items ≡ length self.old.instructions.items + tests_length (tests_of (map test_form others.now))) }
+        ensures code { OnOk result (Puts self.old self.new
+            (tests_code self.old.tables.now (length self.old.instructions.items)
+            (tests_of (map test_form others.now)) list.deciding list.exit.asked
+            list.following list.exit.target)) }
+        ensures room { OnOk result (length self.new.instructions.items
+            ≡ length self.old.instructions.items + tests_length
+            (tests_of (map test_form others.now))) }
     {
         'tests: for (i, test) in others.iter().enumerate() {
             self.put_test(test, list.before(&others[i + 1..]))?;
@@ -260,10 +299,14 @@ impl<'t, 's> Coder<'t, 's> {
 
     // How a list of tests jumps whose code begins here.
     fn list_exit(&self, first: &Test, others: &[Test], deciding: bool, exit: Exit) -> ListExit
-        requires { length self.now.instructions.items + (test_length (test_form first.now) + tests_length (tests_of (map test_form others.now))) < 2 ^ 32 }
+        requires { length self.now.instructions.items + (test_length
+            (test_form first.now) + tests_length (tests_of (map test_form others.now)))
+            < 2 ^ 32 }
         ensures deciding { result.deciding ≡ deciding }
         ensures exit { result.exit ≡ exit }
-        ensures following { result.following ≡ length self.now.instructions.items + (test_length (test_form first.now) + tests_length (tests_of (map test_form others.now))) }
+        ensures following { result.following
+            ≡ length self.now.instructions.items + (test_length (test_form first.now) + tests_length
+            (tests_of (map test_form others.now))) }
     {
         ListExit {
             deciding,
@@ -275,11 +318,15 @@ impl<'t, 's> Coder<'t, 's> {
     // Puts the code of a command.
     #[cycle(commands)]
     fn put_command(&mut self, command: &Command) -> Result<(), AllocError>
-        requires room { length self.old.instructions.items + command_length (command_form command.now) < 2 ^ 32 }
+        requires room { length self.old.instructions.items + command_length
+            (command_form command.now) < 2 ^ 32 }
         requires bounded { IsBoundedCommand (command_form command.now) }
         requires few { LeavesFew (command_form command.now) }
-        ensures code { OnOk result (Puts self.old self.new (command_code self.old.tables.now (length self.old.instructions.items) (command_form command.now))) }
-        ensures room { OnOk result (length self.new.instructions.items ≡ length self.old.instructions.items + command_length (command_form command.now)) }
+        ensures code { OnOk result (Puts self.old self.new
+            (command_code self.old.tables.now (length self.old.instructions.items)
+            (command_form command.now))) }
+        ensures room { OnOk result (length self.new.instructions.items
+            ≡ length self.old.instructions.items + command_length (command_form command.now)) }
     {
         match command {
             Command::Keep => self.put(instruction(Operation::Keep, 0, 0))?,
@@ -328,11 +375,16 @@ impl<'t, 's> Coder<'t, 's> {
     // Puts the code of a loop over parts.
     #[cycle(commands)]
     fn put_loop(&mut self, body: &[Command]) -> Result<(), AllocError>
-        requires room { length self.old.instructions.items + command_length (for_every_part (commands_form body.now)) < 2 ^ 32 }
+        requires room { length self.old.instructions.items + command_length
+            (for_every_part (commands_form body.now)) < 2 ^ 32 }
         requires bounded { AreBoundedCommands (commands_form body.now) }
         requires few { LeaveFew (commands_form body.now) }
-        ensures code { OnOk result (Puts self.old self.new (command_code self.old.tables.now (length self.old.instructions.items) (for_every_part (commands_form body.now)))) }
-        ensures room { OnOk result (length self.new.instructions.items ≡ length self.old.instructions.items + command_length (for_every_part (commands_form body.now))) }
+        ensures code { OnOk result (Puts self.old self.new
+            (command_code self.old.tables.now (length self.old.instructions.items)
+            (for_every_part (commands_form body.now)))) }
+        ensures room { OnOk result (length self.new.instructions.items
+            ≡ length self.old.instructions.items + command_length
+            (for_every_part (commands_form body.now))) }
     {
         let each = self.place();
         let next = each + 1 + commands_length(body);
@@ -344,11 +396,16 @@ impl<'t, 's> Coder<'t, 's> {
     /// Puts the code of commands, one after the other.
     #[cycle(commands)]
     pub fn put_commands(&mut self, commands: &[Command]) -> Result<(), AllocError>
-        requires room { length self.old.instructions.items + commands_length (commands_form commands.now) < 2 ^ 32 }
+        requires room { length self.old.instructions.items + commands_length
+            (commands_form commands.now) < 2 ^ 32 }
         requires bounded { AreBoundedCommands (commands_form commands.now) }
         requires few { LeaveFew (commands_form commands.now) }
-        ensures code { OnOk result (Puts self.old self.new (commands_code self.old.tables.now (length self.old.instructions.items) (commands_form commands.now))) }
-        ensures room { OnOk result (length self.new.instructions.items ≡ length self.old.instructions.items + commands_length (commands_form commands.now)) }
+        ensures code { OnOk result (Puts self.old self.new
+            (commands_code self.old.tables.now (length self.old.instructions.items)
+            (commands_form commands.now))) }
+        ensures room { OnOk result (length self.new.instructions.items
+            ≡ length self.old.instructions.items + commands_length
+            (commands_form commands.now)) }
     {
         'commands: for command in commands {
             self.put_command(command)?;
@@ -363,9 +420,16 @@ impl<'t, 's> Coder<'t, 's> {
         after: &[Branch],
         otherwise: &Option<Vec<Command>>,
     ) -> Exit
-        requires { length self.now.instructions.items + test_length (test_form branch.now.test) + commands_length (commands_form branch.now.block.items) + leave_length (branch_forms after.now (else_form otherwise.now)) < 2 ^ 32 }
+        requires { length self.now.instructions.items + test_length
+            (test_form branch.now.test) + commands_length
+            (commands_form branch.now.block.items) + leave_length
+            (branch_forms after.now (else_form otherwise.now)) < 2 ^ 32 }
         ensures asked { result.asked ≡ false }
-        ensures target { result.target ≡ length self.now.instructions.items + test_length (test_form branch.now.test) + commands_length (commands_form branch.now.block.items) + leave_length (branch_forms after.now (else_form otherwise.now)) }
+        ensures target { result.target
+            ≡ length self.now.instructions.items + test_length
+            (test_form branch.now.test) + commands_length
+            (commands_form branch.now.block.items) + leave_length
+            (branch_forms after.now (else_form otherwise.now)) }
     {
         let block = self.place() + test_length(&branch.test);
         let following = block + commands_length(&branch.block);
@@ -382,8 +446,11 @@ impl<'t, 's> Coder<'t, 's> {
         otherwise: &Option<Vec<Command>>,
         end: u32,
     ) -> Result<(), AllocError>
-        ensures code { OnOk result (Puts self.old self.new (leave_code (branch_forms after.now (else_form otherwise.now)) end)) }
-        ensures room { OnOk result (length self.new.instructions.items ≡ length self.old.instructions.items + leave_length (branch_forms after.now (else_form otherwise.now))) }
+        ensures code { OnOk result (Puts self.old self.new
+            (leave_code (branch_forms after.now (else_form otherwise.now)) end)) }
+        ensures room { OnOk result (length self.new.instructions.items
+            ≡ length self.old.instructions.items + leave_length
+            (branch_forms after.now (else_form otherwise.now))) }
     {
         if is_left(after, otherwise) {
             self.put(instruction(Operation::Jump, 0, end))?;

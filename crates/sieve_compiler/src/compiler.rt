@@ -27,7 +27,9 @@ const WRITTEN_VERSION: u8 = 2;
 pub fn compile(alloc: Global, checked: &Checked) -> Result<Program, AllocError>
     ensures code { IfOk result (λ program. program ≡ code_of (commands_form checked.now.commands)) }
     ensures accepted { IfOk result (λ program. IsAccepted program) }
-    ensures means { IfOk result (λ program. (mail : Mail) → IsMail mail → (charged : ℕ) × IsOutcome program mail (meaning mail (commands_form checked.now.commands)) charged) }
+    ensures means { IfOk result (λ program. (mail : Mail) → IsMail mail
+        → (charged : ℕ) × IsOutcome program mail
+        (meaning mail (commands_form checked.now.commands)) charged) }
 {
     compile_commands(alloc, checked.commands())
 }
@@ -53,7 +55,8 @@ fn code_with<'t, 's>(
 ) -> Result<Vec<Instruction>, AllocError>
     requires bounded { IsBounded (commands_form commands.now) }
     requires tables { tables.now ≡ tables_of (commands_form commands.now) }
-    ensures code { IfOk result (λ code. code.items ≡ (code_of (commands_form commands.now)).instructions) }
+    ensures code { IfOk result (λ code. code.items
+        ≡ (code_of (commands_form commands.now)).instructions) }
 {
     let mut coder = Coder::new(alloc, tables);
     coder.put_commands(commands)?;

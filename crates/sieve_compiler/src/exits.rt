@@ -43,8 +43,11 @@ impl ListExit {
 
     /// Where a test jumps to that stands before these others.
     pub fn before(self, others: &[Test]) -> Exit
-        ensures asked { result.asked ≡ asked_of self.deciding self.exit.asked (tests_of (map test_form others.now)) }
-        ensures target { result.target ≡ aim_of self.deciding self.exit.asked (tests_of (map test_form others.now)) self.following self.exit.target }
+        ensures asked { result.asked
+            ≡ asked_of self.deciding self.exit.asked (tests_of (map test_form others.now)) }
+        ensures target { result.target
+            ≡ aim_of self.deciding self.exit.asked (tests_of (map test_form others.now))
+            self.following self.exit.target }
     {
         match others {
             [] => self.exit,

@@ -15,5 +15,6 @@ pub fn code_is_accepted()
 
 /// On every message the run of a script's code ends with the final actions of the script's meaning.
 pub fn code_means_its_script()
-    ensures { (script : CommandForms) (mail : Mail) → IsBounded script → IsMail mail → (charged : ℕ) × IsOutcome (code_of script) mail (meaning mail script) charged }
+    ensures { (script : CommandForms) (mail : Mail) → IsBounded script → IsMail mail
+        → (charged : ℕ) × IsOutcome (code_of script) mail (meaning mail script) charged }
 {}

@@ -71,7 +71,8 @@ pub fn tests_length(tests: &[Test]) -> u32
 
 /// Whether branches, or the block of an `else`, are left: then a jump leads after the block before them.
 pub fn is_left(branches: &[Branch], otherwise: &Option<Vec<Command>>) -> bool
-    ensures { leave_length (branch_forms branches.now (else_form otherwise.now)) ≡ (if result then 1 else 0) }
+    ensures { leave_length (branch_forms branches.now (else_form otherwise.now))
+        ≡ (if result then 1 else 0) }
 {
     !branches.is_empty() || otherwise.is_some()
 }

@@ -62,7 +62,8 @@ impl<'a> Tables<'a> {
 
     // Adds what strings use, one after the other.
     fn add_strings(&mut self, strings: &'a [Vec<Segment>]) -> Result<(), AllocError>
-        ensures { OnOk result (self.new ≡ with_uses self.old (strings_uses (templates_of strings.now))) }
+        ensures { OnOk result (self.new
+            ≡ with_uses self.old (strings_uses (templates_of strings.now))) }
     {
         for string in strings {
             self.add_string(string)?;
@@ -105,7 +106,8 @@ impl<'a> Tables<'a> {
     #[cycle(test_uses)]
     #[tactic(auto, using(crate::proofs::NumberingLemmas::uses_after))]
     fn add_tests(&mut self, tests: &'a [Test]) -> Result<(), AllocError>
-        ensures { OnOk result (self.new ≡ with_uses self.old (tests_uses (tests_of (map test_form tests.now)))) }
+        ensures { OnOk result (self.new
+            ≡ with_uses self.old (tests_uses (tests_of (map test_form tests.now)))) }
     {
         'tests: for test in tests {
             self.add_test(test)?;
@@ -116,7 +118,8 @@ impl<'a> Tables<'a> {
     #[cycle(command_uses)]
     #[tactic(auto, using(crate::proofs::NumberingLemmas::uses_after))]
     fn add_command(&mut self, command: &'a Command) -> Result<(), AllocError>
-        ensures { OnOk result (self.new ≡ with_uses self.old (command_uses (command_form command.now))) }
+        ensures { OnOk result (self.new
+            ≡ with_uses self.old (command_uses (command_form command.now))) }
     {
         match command {
             Command::Keep | Command::Discard | Command::Break(_) | Command::Stop => {}
@@ -143,7 +146,8 @@ impl<'a> Tables<'a> {
     #[cycle(command_uses)]
     #[tactic(auto, using(crate::proofs::NumberingLemmas::uses_after))]
     fn add_commands(&mut self, commands: &'a [Command]) -> Result<(), AllocError>
-        ensures { OnOk result (self.new ≡ with_uses self.old (commands_uses (commands_form commands.now))) }
+        ensures { OnOk result (self.new
+            ≡ with_uses self.old (commands_uses (commands_form commands.now))) }
     {
         'commands: for command in commands {
             self.add_command(command)?;

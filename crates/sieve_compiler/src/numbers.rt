@@ -25,7 +25,8 @@ impl Model for Numbers {
 
     ghost view = { λ n. n.listed.items };
 
-    ghost invariant = { λ n. (number : ℕ) → get nat_cmp n.places number ≡ found_in n.listed.items number };
+    ghost invariant = { λ n. (number : ℕ)
+        → get nat_cmp n.places number ≡ found_in n.listed.items number };
 }
 
 impl Numbers {

@@ -28,7 +28,9 @@ impl<'a> Model for Strings<'a> {
 
     ghost view = { λ s. map (λ (text : Bor (List ℕ)). text.now) s.listed.items };
 
-    ghost invariant = { λ s. (text : List ℕ) → get_by (λ (key : Bor (List ℕ)). slice_cmp nat_cmp text key.now) s.places ≡ string_in (map (λ (text : Bor (List ℕ)). text.now) s.listed.items) text };
+    ghost invariant = { λ s. (text : List ℕ)
+        → get_by (λ (key : Bor (List ℕ)). slice_cmp nat_cmp text key.now) s.places
+        ≡ string_in (map (λ (text : Bor (List ℕ)). text.now) s.listed.items) text };
 }
 
 impl<'a> Strings<'a> {

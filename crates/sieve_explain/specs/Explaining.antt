@@ -78,7 +78,8 @@ TellsDepth name script number text = (tokens : List Token) × (HasTokens script 
 -- the string that is no capability, or else the command
 abbrev pub string_marked : List ℕ → Option Reason → List Token → ℕ → Option Token
 string_marked script None tokens number = slice_get tokens number
-string_marked script (Some reason) tokens number = option_or (string_among script reason.subject (drop number tokens)) (slice_get tokens number)
+string_marked script (Some reason) tokens number = option_or (string_among script reason.subject (drop number tokens))
+    (slice_get tokens number)
 
 -- the token under which the mark stands
 abbrev pub marked_token : List ℕ → Fault → Option Reason → List Token → ℕ → Option Token
@@ -101,7 +102,8 @@ fault_blanks script Limit reason tokens number = reason_blanks reason
 
 abbrev pub reason_told : List ℕ → List ℕ → Fault → Option Reason → List Token → ℕ → List ℕ
 reason_told name script fault reason tokens number =
-    told name script (start_of script (marked_token script fault reason tokens number)) (fault_blanks script fault reason tokens number)
+    told name script (start_of script (marked_token script fault reason tokens number))
+    (fault_blanks script fault reason tokens number)
 
 -- 15 to 19
 abbrev pub TellsReason : List ℕ → List ℕ → Fault → ℕ → List ℕ → Type 0

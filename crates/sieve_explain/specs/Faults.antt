@@ -23,10 +23,14 @@ beginning octets text = record { octets = octets; text = text }
 abbrev pub mistaken : List Beginning
 mistaken =
     beginning (239 ∷ 187 ∷ 191 ∷ []) (codes "a byte order mark stands here: save the script as UTF-8 without one")
-    ∷ beginning (226 ∷ 128 ∷ 152 ∷ []) (codes "a typographic quote stands here: strings stand between straight double quotes, \"like this\"")
-    ∷ beginning (226 ∷ 128 ∷ 153 ∷ []) (codes "a typographic quote stands here: strings stand between straight double quotes, \"like this\"")
-    ∷ beginning (226 ∷ 128 ∷ 156 ∷ []) (codes "a typographic quote stands here: strings stand between straight double quotes, \"like this\"")
-    ∷ beginning (226 ∷ 128 ∷ 157 ∷ []) (codes "a typographic quote stands here: strings stand between straight double quotes, \"like this\"")
+    ∷ beginning (226 ∷ 128 ∷ 152 ∷ [])
+    (codes "a typographic quote stands here: strings stand between straight double quotes, \"like this\"")
+    ∷ beginning (226 ∷ 128 ∷ 153 ∷ [])
+    (codes "a typographic quote stands here: strings stand between straight double quotes, \"like this\"")
+    ∷ beginning (226 ∷ 128 ∷ 156 ∷ [])
+    (codes "a typographic quote stands here: strings stand between straight double quotes, \"like this\"")
+    ∷ beginning (226 ∷ 128 ∷ 157 ∷ [])
+    (codes "a typographic quote stands here: strings stand between straight double quotes, \"like this\"")
     ∷ beginning (codes "'") (codes "a single quote stands here: strings stand between double quotes, \"like this\"")
     ∷ beginning (codes "//") (codes "no comment begins so: one begins with `&`, or stands between `/*` and `*/`")
     ∷ []

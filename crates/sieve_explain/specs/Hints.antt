@@ -8,9 +8,11 @@ use Rattle.sieve_explain.specs.Words.{Hint, hint, nearest, with_words, words_for
 -- why depot lacks a command, a test, a tag or a capability that Sieve has elsewhere, or what there is in its place
 abbrev pub lacking_rows : List Hint
 lacking_rows =
-    hint (codes "vacation" ∷ codes "vacation-seconds" ∷ codes "redirect" ∷ codes "reject" ∷ codes "ereject" ∷ codes "notify" ∷ codes "enotify" ∷ [])
+    hint (codes "vacation" ∷ codes "vacation-seconds" ∷ codes "redirect" ∷ codes "reject" ∷ codes "ereject"
+    ∷ codes "notify" ∷ codes "enotify" ∷ [])
     (codes "it sends no mail")
-    ∷ hint (codes "addflag" ∷ codes "setflag" ∷ codes "removeflag" ∷ codes "hasflag" ∷ codes "flags" ∷ codes "imap4flags" ∷ codes "imapflags" ∷ [])
+    ∷ hint (codes "addflag" ∷ codes "setflag" ∷ codes "removeflag" ∷ codes "hasflag" ∷ codes "flags"
+    ∷ codes "imap4flags" ∷ codes "imapflags" ∷ [])
     (codes "what it files has no flags")
     ∷ hint (codes "addheader" ∷ codes "deleteheader" ∷ codes "editheader" ∷ codes "replace" ∷ codes "enclose" ∷ [])
     (codes "it changes no message")
@@ -60,24 +62,29 @@ abbrev pub test_rows : List Hint
 test_rows =
     hint (codes "all" ∷ codes "and" ∷ []) (codes "allof")
     ∷ hint (codes "any" ∷ codes "or" ∷ []) (codes "anyof")
-    ∷ hint (codes "subject" ∷ codes "from" ∷ codes "to" ∷ codes "is" ∷ codes "contains" ∷ codes "matches" ∷ []) (codes "header")
+    ∷ hint (codes "subject" ∷ codes "from" ∷ codes "to" ∷ codes "is" ∷ codes "contains" ∷ codes "matches" ∷ [])
+    (codes "header")
     ∷ hint (codes "filesize" ∷ []) (codes "size")
     ∷ []
 
 abbrev pub test_names : List (List ℕ)
 test_names =
-    codes "true" ∷ codes "false" ∷ codes "not" ∷ codes "allof" ∷ codes "anyof" ∷ codes "header" ∷ codes "exists" ∷ codes "size"
+    codes "true" ∷ codes "false" ∷ codes "not" ∷ codes "allof" ∷ codes "anyof" ∷ codes "header" ∷ codes "exists"
+    ∷ codes "size"
     ∷ codes "string" ∷ codes "partsize" ∷ codes "partbody" ∷ codes "partdigest" ∷ []
 
 abbrev pub tag_names : List (List ℕ)
 tag_names =
-    codes "over" ∷ codes "under" ∷ codes "is" ∷ codes "contains" ∷ codes "matches" ∷ codes "comparator" ∷ codes "lower" ∷ codes "upper"
-    ∷ codes "lowerfirst" ∷ codes "upperfirst" ∷ codes "quotewildcard" ∷ codes "length" ∷ codes "mime" ∷ codes "anychild" ∷ codes "type"
+    codes "over" ∷ codes "under" ∷ codes "is" ∷ codes "contains" ∷ codes "matches" ∷ codes "comparator" ∷ codes "lower"
+    ∷ codes "upper"
+    ∷ codes "lowerfirst" ∷ codes "upperfirst" ∷ codes "quotewildcard" ∷ codes "length" ∷ codes "mime" ∷ codes "anychild"
+    ∷ codes "type"
     ∷ codes "subtype" ∷ codes "contenttype" ∷ codes "param" ∷ codes "name" ∷ codes "first" ∷ []
 
 abbrev pub capability_names : List (List ℕ)
 capability_names =
-    codes "fileinto" ∷ codes "variables" ∷ codes "mime" ∷ codes "foreverypart" ∷ codes "vnd.depot" ∷ codes "comparator-i;octet"
+    codes "fileinto" ∷ codes "variables" ∷ codes "mime" ∷ codes "foreverypart" ∷ codes "vnd.depot"
+    ∷ codes "comparator-i;octet"
     ∷ codes "comparator-i;ascii-casemap" ∷ []
 
 -- the command that is meant, or nothing where none comes near
@@ -125,7 +132,8 @@ unknown_test_words name = with_words (lacking name) (lacking name) (test_meant n
 abbrev pub unknown_tag_text : List ℕ → List ℕ
 unknown_tag_text name =
     with_words (lacking name) (codes "depot has no #: &")
-    (with_words (nearest name tag_names) (codes "depot knows no tag #, did you mean `:&`?") (codes "depot knows no tag #"))
+    (with_words (nearest name tag_names) (codes "depot knows no tag #, did you mean `:&`?")
+    (codes "depot knows no tag #"))
 
 abbrev pub unknown_tag_words : List ℕ → List ℕ
 unknown_tag_words name = with_words (lacking name) (lacking name) (nearest name tag_names)
@@ -133,7 +141,8 @@ unknown_tag_words name = with_words (lacking name) (lacking name) (nearest name 
 -- a string of a `require`; all capabilities are listed where none comes near
 abbrev pub unknown_capability_text : List ℕ → List ℕ
 unknown_capability_text name =
-    unknown_text (lacking name) (nearest name capability_names) (codes "depot has no $: &") (codes "depot knows no capability $, did you mean \"&\"?")
+    unknown_text (lacking name) (nearest name capability_names) (codes "depot has no $: &")
+    (codes "depot knows no capability $, did you mean \"&\"?")
     (codes "depot knows no capability $: there are \"fileinto\", \"variables\", \"mime\", \"foreverypart\", \"vnd.depot\", \"comparator-i;octet\" and \"comparator-i;ascii-casemap\"")
 
 abbrev pub unknown_capability_words : List ℕ → List ℕ

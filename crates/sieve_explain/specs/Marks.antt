@@ -37,7 +37,8 @@ if_spelled script string (Some token) = if spells script string token then Some 
 
 -- the first token up to the end of the command that spells the string, if there is one
 abbrev pub string_among : List ℕ → List ℕ → List Token → Option Token
-string_among script string tokens = if_spelled script string (slice_get tokens (length (take_while (passes script string) tokens)))
+string_among script string tokens = if_spelled script string
+    (slice_get tokens (length (take_while (passes script string) tokens)))
 
 -- ---- a unit with more letters
 
@@ -56,7 +57,8 @@ is_number_at (Some token) = is_amount token.kind
 -- what people write behind a number, or behind its K, M or G
 abbrev pub is_unit : List ℕ → Bool
 is_unit text =
-    list_any (is_word text) (codes "b" ∷ codes "kb" ∷ codes "mb" ∷ codes "gb" ∷ codes "ib" ∷ codes "kib" ∷ codes "mib" ∷ codes "gib"
+    list_any (is_word text) (codes "b" ∷ codes "kb" ∷ codes "mb" ∷ codes "gb" ∷ codes "ib" ∷ codes "kib" ∷ codes "mib"
+    ∷ codes "gib"
     ∷ codes "k" ∷ codes "m" ∷ codes "g" ∷ codes "byte" ∷ codes "bytes" ∷ codes "octets" ∷ [])
 
 abbrev pub is_unit_at : List ℕ → Option Token → Bool

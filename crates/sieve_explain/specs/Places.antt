@@ -30,4 +30,5 @@ without_return text = if slice_index text (length text - 1) == 13 then take (len
 
 -- the line of the place, without its break
 abbrev pub line_at : List ℕ → ℕ → List ℕ
-line_at script place = without_return (slice_range script (place - octets_before script place) (place + octets_after script place))
+line_at script place = without_return
+    (slice_range script (place - octets_before script place) (place + octets_after script place))

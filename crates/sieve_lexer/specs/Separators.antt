@@ -16,7 +16,8 @@ IsCommentEnd script i = (slice_index script i ≡ 42) × (slice_index script (i 
 
 -- from place a to place b stands `/*` with what follows, through the first `*/`
 abbrev pub IsBracketComment : List ℕ → ℕ → ℕ → Type 0
-IsBracketComment script a b = (c : ℕ) × ((b ≡ c + 2) × (a + 2 ≤ c) × (slice_index script a ≡ 47) × (slice_index script (a + 1) ≡ 42)
+IsBracketComment script a b = (c : ℕ)
+    × ((b ≡ c + 2) × (a + 2 ≤ c) × (slice_index script a ≡ 47) × (slice_index script (a + 1) ≡ 42)
     × IsCommentEnd script c × ((i : ℕ) → a + 2 ≤ i → i < c → IsCommentEnd script i → ⊥))
 
 -- what may stand between tokens, piece by piece

@@ -4,7 +4,8 @@ use Rattle.octets.specs.Blank.{is_blank}
 use Rattle.sieve_lexer.specs.Chain.{Leads}
 use Rattle.sieve_lexer.specs.Separators.{IsHashComment}
 
--- from place a to place b stands a character of a quoted string: an octet that is no quote and no backslash, or a backslash with the octet after it
+-- from place a to place b stands a character of a quoted string: an octet that is no quote and no
+-- backslash, or a backslash with the octet after it
 abbrev pub IsCharacter : List ℕ → ℕ → ℕ → Type 0
 IsCharacter script a b = ((b ≡ a + 1) × (a < length script) × (slice_index script a ≢ 34) × (slice_index script a ≢ 92))
     ⊎ ((b ≡ a + 2) × (a + 1 < length script) × (slice_index script a ≡ 92))
@@ -13,7 +14,8 @@ IsCharacter script a b = ((b ≡ a + 1) × (a < length script) × (slice_index s
 abbrev pub IsQuotedRest : List ℕ → ℕ → ℕ → Type 0
 IsQuotedRest script a b = (c : ℕ) × ((b ≡ c + 1) × Leads (IsCharacter script) a c × (slice_index script c ≡ 34))
 
--- from place a to place b stands a line's end after the blanks of `text:`: a line break, or a `#` comment and its line break
+-- from place a to place b stands a line's end after the blanks of `text:`: a line break, or a `#`
+-- comment and its line break
 abbrev pub IsOpeningEnd : List ℕ → ℕ → ℕ → Type 0
 IsOpeningEnd script a b = ((b ≡ a + 1) × (slice_index script a ≡ 10))
     ⊎ (((b ≡ a + 2) × (slice_index script a ≡ 13) × (slice_index script (a + 1) ≡ 10))
@@ -21,7 +23,8 @@ IsOpeningEnd script a b = ((b ≡ a + 1) × (slice_index script a ≡ 10))
 
 -- from place a to place b stands the line that opens a multi-line string: `text:`, then blanks, then its end
 abbrev pub IsOpeningLine : List ℕ → ℕ → ℕ → Type 0
-IsOpeningLine script a b = (c : ℕ) × ((map to_ascii_lowercase (slice_range script a (a + 5)) ≡ codes "text:") × (a + 5 ≤ c)
+IsOpeningLine script a b = (c : ℕ)
+    × ((map to_ascii_lowercase (slice_range script a (a + 5)) ≡ codes "text:") × (a + 5 ≤ c)
     × ((i : ℕ) → a + 5 ≤ i → i < c → IsTrue (is_blank (slice_index script i))) × IsOpeningEnd script c b)
 
 -- from place a to place b stands a line with its break

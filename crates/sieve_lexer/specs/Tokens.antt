@@ -26,12 +26,14 @@ NoToken script place = (token : Token) → token.start ≡ place → IsToken scr
 
 -- the token that begins at the place, or nothing where none does
 abbrev pub IsTokenAt : List ℕ → ℕ → Option Token → Type 0
-IsTokenAt script place answer = MatchOption answer (NoToken script place) (λ token. (token.start ≡ place) × IsToken script token)
+IsTokenAt script place answer = MatchOption answer (NoToken script place)
+    (λ token. (token.start ≡ place) × IsToken script token)
 
 -- from place a to place b stand the tokens, with nothing but white space and comments before each
 abbrev pub TokensUpTo : List ℕ → ℕ → List Token → ℕ → Type 0
 TokensUpTo script a [] b = a ≡ b
-TokensUpTo script a (token ∷ tokens) b = IsGap script a token.start × IsToken script token × TokensUpTo script token.end tokens b
+TokensUpTo script a (token ∷ tokens) b = IsGap script a token.start × IsToken script token
+    × TokensUpTo script token.end tokens b
 
 -- the script is these tokens, with nothing else but white space and comments
 abbrev pub AreTokens : List ℕ → List Token → Type 0

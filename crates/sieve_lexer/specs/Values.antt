@@ -6,7 +6,8 @@ use Rattle.sieve_lexer.specs.declared.token.TokenKind.TheVariants.{MultiLineStri
 
 -- K, M or G, in either case
 abbrev pub is_unit : ℕ → Bool
-is_unit octet = (to_ascii_lowercase octet == 107) || ((to_ascii_lowercase octet == 109) || (to_ascii_lowercase octet == 103))
+is_unit octet = (to_ascii_lowercase octet == 107)
+    || ((to_ascii_lowercase octet == 109) || (to_ascii_lowercase octet == 103))
 
 -- what K, M and G multiply by
 abbrev pub unit_value : ℕ → ℕ

@@ -33,7 +33,8 @@ fn is_lone_dot(script: &[u8], start: usize, stop: usize) -> bool
 // Where the line ends that closes the multi-line string whose lines begin at this place, if one does.
 pub fn closing_line_end(script: &[u8], place: usize) -> Option<usize>
     requires { place ≤ length script.now }
-    ensures rest { MatchOption result (Stops (IsMultiLineRest script.now) place) (IsMultiLineRest script.now place) }
+    ensures rest { MatchOption result (Stops (IsMultiLineRest script.now) place)
+        (IsMultiLineRest script.now place) }
     ensures bound { IfSome result (λ end. (place < end) × (end ≤ length script.now)) }
 {
     let mut start = place;
@@ -49,7 +50,8 @@ pub fn closing_line_end(script: &[u8], place: usize) -> Option<usize>
 // Where the end of an opening line that begins at this place ends: a line break, or a comment and its line break.
 fn opening_end(script: &[u8], place: usize) -> Option<usize>
     requires { place ≤ length script.now }
-    ensures end { MatchOption result (Stops (IsOpeningEnd script.now) place) (IsOpeningEnd script.now place) }
+    ensures end { MatchOption result (Stops (IsOpeningEnd script.now) place)
+        (IsOpeningEnd script.now place) }
     ensures bound { IfSome result (λ end. (place < end) × (end ≤ length script.now)) }
 {
     if place == script.len() {
@@ -67,7 +69,8 @@ fn opening_end(script: &[u8], place: usize) -> Option<usize>
 #[inline(always)]
 fn begins_text(script: &[u8], place: usize) -> bool
     requires { place + 5 ≤ length script.now }
-    ensures { IsTrue result ↔ (map to_ascii_lowercase (slice_range script.now place (place + 5)) ≡ codes "text:") }
+    ensures { IsTrue result ↔ (map to_ascii_lowercase (slice_range script.now place (place + 5))
+        ≡ codes "text:") }
 {
     script[place + 4] == b':' && equal_ignoring_case(&script[place..place + 5], b"text:")
 }
@@ -75,7 +78,8 @@ fn begins_text(script: &[u8], place: usize) -> bool
 // Where the line ends that opens a multi-line string at this place, if one does.
 pub fn opening_line_end(script: &[u8], place: usize) -> Option<usize>
     requires { place ≤ length script.now }
-    ensures line { MatchOption result (Stops (IsOpeningLine script.now) place) (IsOpeningLine script.now place) }
+    ensures line { MatchOption result (Stops (IsOpeningLine script.now) place)
+        (IsOpeningLine script.now place) }
     ensures bound { IfSome result (λ end. (place < end) × (end ≤ length script.now)) }
 {
     if script.len() < place + 5 || !begins_text(script, place) {

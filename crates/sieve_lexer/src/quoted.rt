@@ -6,7 +6,8 @@ ghost use Rattle.sieve_lexer.specs.Strings.{IsQuotedRest};
 // Where the quoted string ends whose characters begin at this place, or nothing where no quote closes it.
 pub fn quoted_end(script: &[u8], place: usize) -> Option<usize>
     requires { place ≤ length script.now }
-    ensures rest { MatchOption result (Stops (IsQuotedRest script.now) place) (IsQuotedRest script.now place) }
+    ensures rest { MatchOption result (Stops (IsQuotedRest script.now) place)
+        (IsQuotedRest script.now place) }
     ensures bound { IfSome result (λ end. (place < end) × (end ≤ length script.now)) }
 {
     let mut at = place;

@@ -103,7 +103,8 @@ fn quoted_at(script: &[u8], place: usize) -> Option<Token>
 
 // The kind of token that is this octet alone.
 fn sign_kind(octet: u8) -> Option<TokenKind>
-    ensures { MatchOption result ((kind : TokenKind) → sign_octet kind ≡ Some octet → ⊥) (λ kind. sign_octet kind ≡ Some octet) }
+    ensures { MatchOption result ((kind : TokenKind) → sign_octet kind ≡ Some octet → ⊥)
+        (λ kind. sign_octet kind ≡ Some octet) }
 {
     match octet {
         b';' => Some(TokenKind::Semicolon),
@@ -149,9 +150,11 @@ fn token_at(script: &[u8], place: usize) -> Option<Token>
 /// comment begins: an octet of no token, a number above 2^64 - 1, a string or comment that isn't closed.
 /// [`LexicalError::Memory`] comes only where memory was refused, after the number of octets was judged.
 pub fn tokens(alloc: Global, script: &[u8]) -> Result<Vec<Token>, LexicalError>
-    ensures tokens { IfOk result (λ v. (length script.now ≤ max_script) × AreTokens script.now v.items) }
+    ensures tokens { IfOk result
+        (λ v. (length script.now ≤ max_script) × AreTokens script.now v.items) }
     ensures refused { IfErr result (λ e. IsLexicalRefusal script.now e) }
-    ensures large { max_script < length script.now → IsErrAnd result (λ e. e ≡ LexicalError.ScriptTooLong) }
+    ensures large { max_script < length script.now
+        → IsErrAnd result (λ e. e ≡ LexicalError.ScriptTooLong) }
 {
     if script.len() > MAX_SCRIPT {
         return Err(LexicalError::ScriptTooLong);

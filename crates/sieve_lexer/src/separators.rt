@@ -20,7 +20,8 @@ pub fn line_end(script: &[u8], place: usize) -> usize
 fn bracket_comment_end(script: &[u8], place: usize) -> Option<usize>
     requires within { place < length script.now }
     requires slash { slice_index script.now place ≡ 47 }
-    ensures comment { MatchOption result (Stops (IsBracketComment script.now) place) (IsBracketComment script.now place) }
+    ensures comment { MatchOption result (Stops (IsBracketComment script.now) place)
+        (IsBracketComment script.now place) }
     ensures bound { IfSome result (λ end. (place < end) × (end ≤ length script.now)) }
 {
     if script.len() < place + 2 || script[place + 1] != b'*' {
@@ -39,7 +40,8 @@ fn bracket_comment_end(script: &[u8], place: usize) -> Option<usize>
 // Where the white space or comment ends that begins at this place, if one does.
 fn separator_end(script: &[u8], place: usize) -> Option<usize>
     requires { place ≤ length script.now }
-    ensures separator { MatchOption result (Stops (IsSeparator script.now) place) (IsSeparator script.now place) }
+    ensures separator { MatchOption result (Stops (IsSeparator script.now) place)
+        (IsSeparator script.now place) }
     ensures bound { IfSome result (λ end. (place < end) × (end ≤ length script.now)) }
 {
     if place == script.len() {

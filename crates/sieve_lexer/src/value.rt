@@ -94,7 +94,8 @@ fn first_line(text: &[u8]) -> (&[u8], &[u8])
 
 // Appends the lines but the first and the last one, each without its stuffing.
 fn push_unstuffed(value: &mut Vec<u8>, text: &[u8]) -> Result<(), AllocError>
-    ensures { OnOk result (value.new.items ≡ value.old.items ++ flat_map unstuffed (inner (lines_of text.now))) }
+    ensures { OnOk result (value.new.items ≡ value.old.items
+        ++ flat_map unstuffed (inner (lines_of text.now))) }
 {
     let (_, mut rest) = first_line(text);
     'lines: loop {

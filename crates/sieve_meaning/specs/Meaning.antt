@@ -19,8 +19,8 @@ use Rattle.sieve_check.specs.declared.typed.Segment.{Segment}
 use Rattle.sieve_check.specs.declared.typed.Segment.TheVariants.{Text, Variable, Capture}
 use Rattle.sieve_check.specs.Typed.{Template, Selected, whole, main, sub, content_type, params, TestForm, constant, negation, all_of, any_of, header, exists, size, string, part_size, part_body, part_digest, TestForms, no_test, test, CommandForm, keep, discard, file_into, set, take_first, store, for_every_part, leave, stop, choice, CommandForms, no_command, command, BranchForms, no_branch, otherwise, branch}
 
--- what a script has done so far: the values of variables by their names in lower case, the captures of the last match that set
--- them, the actions, and whether the implicit keep stands
+-- what a script has done so far: the values of variables by their names in lower case, the captures
+-- of the last match that set them, the actions, and whether the implicit keep stands
 pub record Effects : Type 0 where
   pub variables : List ℕ → List ℕ
   pub captures : List (List ℕ)
@@ -74,14 +74,16 @@ verdict value effects = record { value = value; effects = effects }
 abbrev pub turned : Verdict → Verdict
 turned v = verdict (not v.value) v.effects
 
--- the tests after one, which are made only where it doesn't decide: a false one decides that not all are true, a true one that any is
+-- the tests after one, which are made only where it doesn't decide: a false one decides that not
+-- all are true, a true one that any is
 abbrev pub and_then : Verdict → (Effects → Verdict) → Verdict
 and_then v next = if v.value then next v.effects else verdict false v.effects
 
 abbrev pub or_else : Verdict → (Effects → Verdict) → Verdict
 or_else v next = if v.value then verdict true v.effects else next v.effects
 
--- how commands end, and what was done by then: on to the next, or the script is stopped, or so many loops are left at once
+-- how commands end, and what was done by then: on to the next, or the script is stopped, or so many
+-- loops are left at once
 pub data Ending : Type 0 where
   normal : Effects → Ending
   stopped : Effects → Ending
@@ -119,7 +121,8 @@ abbrev pub is_size : Order → ℕ → ℕ → Bool
 is_size Over number octets = nat_lt number octets
 is_size Under number octets = nat_lt octets number
 
--- what a test of values comes to, from the captures after their first match, if there is one; where there is none, nothing changes
+-- what a test of values comes to, from the captures after their first match, if there is one; where
+-- there is none, nothing changes
 abbrev pub matched : Option (List (List ℕ)) → Effects → Verdict
 matched None effects = verdict false effects
 matched (Some captures) effects = verdict true (record effects { captures = captures })
@@ -136,8 +139,8 @@ abbrev pub of_part : (MailPart → Verdict) → Effects → Option MailPart → 
 of_part does effects None = verdict false effects
 of_part does effects (Some part) = does part
 
--- the values of variables after the first octets of the current part's content were taken into one, at most so many; as they were,
--- where there is no part, as in no checked script
+-- the values of variables after the first octets of the current part's content were taken into one,
+-- at most so many; as they were, where there is no part, as in no checked script
 abbrev pub with_taken : ℕ → List ℕ → Option MailPart → (List ℕ → List ℕ) → List ℕ → List ℕ
 with_taken most name None variables = variables
 with_taken most name (Some part) variables = with_value name (take most part.content) variables
@@ -155,15 +158,21 @@ abbrev mutual
   test_does mail part (all_of t ts) effects = and_then (test_does mail part t effects) (λ e. all_do mail part ts e)
   test_does mail part (any_of t ts) effects = or_else (test_does mail part t effects) (λ e. any_do mail part ts e)
   test_does mail part (header how scope selected names keys) effects =
-      matched (header_match how (scope_of scope) part (selector_of effects selected) (all_expanded effects names) (all_expanded effects keys) mail effects.captures) effects
-  test_does mail part (exists scope names) effects = verdict (exists_in (scope_of scope) part (all_expanded effects names) mail) effects
+      matched (header_match how (scope_of scope) part (selector_of effects selected) (all_expanded effects names)
+      (all_expanded effects keys) mail effects.captures) effects
+  test_does mail part (exists scope names) effects = verdict
+      (exists_in (scope_of scope) part (all_expanded effects names) mail) effects
   test_does mail part (size order number) effects = verdict (is_size order number (size_of mail)) effects
   -- the values are those of its sources (RFC 5229, section 5)
-  test_does mail part (string how sources keys) effects = matched (first_match how (all_expanded effects sources) (all_expanded effects keys) effects.captures) effects
+  test_does mail part (string how sources keys) effects = matched
+      (first_match how (all_expanded effects sources) (all_expanded effects keys) effects.captures) effects
   -- the size of its content, its content and the digest of its content; ours
-  test_does mail part (part_size order number) effects = of_part (λ p. verdict (is_size order number (length p.content)) effects) effects (current mail part)
-  test_does mail part (part_body how keys) effects = of_part (λ p. matched (body_match how p (all_expanded effects keys) effects.captures) effects) effects (current mail part)
-  test_does mail part (part_digest keys) effects = of_part (λ p. matched (digest_match p (all_expanded effects keys) effects.captures) effects) effects (current mail part)
+  test_does mail part (part_size order number) effects = of_part
+      (λ p. verdict (is_size order number (length p.content)) effects) effects (current mail part)
+  test_does mail part (part_body how keys) effects = of_part
+      (λ p. matched (body_match how p (all_expanded effects keys) effects.captures) effects) effects (current mail part)
+  test_does mail part (part_digest keys) effects = of_part
+      (λ p. matched (digest_match p (all_expanded effects keys) effects.captures) effects) effects (current mail part)
 
   -- whether all tests are true, from left to right up to the first that isn't
   pub all_do : Mail → Option ℕ → TestForms → Effects → Verdict
@@ -188,8 +197,10 @@ abbrev mutual
   command_does mail part (take_first most name) effects = normal (record effects { variables = with_taken most name (current mail part) effects.variables })
   -- the implicit keep stands as it stood; ours
   command_does mail part (store folder) effects = normal (record effects { actions = effects.actions ++ stored part (expanded effects folder) })
-  -- outside of loops each part of the message, in a loop each one below its current part, in preorder (RFC 5703, section 3)
-  command_does mail part (for_every_part cs) effects = turns (λ number e. commands_do mail (Some number) cs e) (visited part mail) effects
+  -- outside of loops each part of the message, in a loop each one below its current part, in
+  -- preorder (RFC 5703, section 3)
+  command_does mail part (for_every_part cs) effects = turns (λ number e. commands_do mail (Some number) cs e)
+      (visited part mail) effects
   command_does mail part (leave loops) effects = broken loops effects
   command_does mail part stop effects = stopped effects
   command_does mail part (choice branches) effects = choice_does mail part branches effects
@@ -197,7 +208,8 @@ abbrev mutual
   -- what commands do, one after the other
   pub commands_do : Mail → Option ℕ → CommandForms → Effects → Ending
   commands_do mail part no_command effects = normal effects
-  commands_do mail part (command c cs) effects = followed_by (command_does mail part c effects) (λ e. commands_do mail part cs e)
+  commands_do mail part (command c cs) effects = followed_by (command_does mail part c effects)
+      (λ e. commands_do mail part cs e)
 
   -- the block of the first branch whose test is true, else that of the else, if there is one
   pub choice_does : Mail → Option ℕ → BranchForms → Effects → Ending

@@ -65,7 +65,9 @@ impl<'s, 'm> Evaluator<'s, 'm> {
 
     // Lists an action, and takes the implicit keep away.
     fn list(&mut self, action: Action) -> Result<(), AllocError>
-        ensures { (e : Effects) → StandsFor e self.old → OnOk result (StandsFor (record e { actions = e.actions ++ action ∷ []; implicit_keep = false }) self.new) }
+        ensures { (e : Effects) → StandsFor e self.old
+            → OnOk result (StandsFor (record
+            e { actions = e.actions ++ action ∷ []; implicit_keep = false }) self.new) }
     {
         self.actions.push(action)?;
         self.implicit_keep = false;
@@ -80,7 +82,13 @@ impl<'s, 'm> Evaluator<'s, 'm> {
         name: &'s [u8],
         value: &[Segment],
     ) -> Result<(), AllocError>
-        ensures { (e : Effects) → StandsFor e self.old → OnOk result (StandsFor (record e { variables = with_value name.now (take max_value (modified modifiers (expanded e value.now))) e.variables }) self.new) }
+        ensures { (e : Effects) → StandsFor e self.old
+            → OnOk result (StandsFor (record
+            e {
+              variables = with_value name.now
+                  (take max_value (modified modifiers (expanded e value.now))) e.variables;
+            })
+            self.new) }
     {
         let text = self.expanded(alloc, value)?;
         let value = modifiers.apply(alloc, text.as_slice(), MAX_VALUE)?;
@@ -96,7 +104,13 @@ impl<'s, 'm> Evaluator<'s, 'm> {
         most: u16,
         name: &'s [u8],
     ) -> Result<(), AllocError>
-        ensures { (e : Effects) → StandsFor e self.old → OnOk result (StandsFor (record e { variables = with_taken most name.now (current subject.entry.message.now subject.entry.part) e.variables }) self.new) }
+        ensures { (e : Effects) → StandsFor e self.old
+            → OnOk result (StandsFor (record
+            e {
+              variables = with_taken most name.now
+                  (current subject.entry.message.now subject.entry.part) e.variables;
+            })
+            self.new) }
     {
         let Some(content) = subject.content(alloc)? else {
             return Ok(());
@@ -110,7 +124,9 @@ impl<'s, 'm> Evaluator<'s, 'm> {
 
     // Lists that the part is stored in the folder; nothing, where there is no part.
     fn store(&mut self, part: Option<usize>, folder: Octets) -> Result<(), AllocError>
-        ensures { (e : Effects) → StandsFor e self.old → OnOk result (StandsFor (record e { actions = e.actions ++ stored part folder }) self.new) }
+        ensures { (e : Effects) → StandsFor e self.old
+            → OnOk result (StandsFor (record e { actions = e.actions ++ stored part folder })
+            self.new) }
     {
         if let Some(part) = part {
             self.actions.push(Action::Store(folder, part))?;
@@ -127,7 +143,11 @@ impl<'s, 'm> Evaluator<'s, 'm> {
         subject: Subject<'_, 'm>,
     ) -> Result<Flow, AllocError>
         requires { AreBoundedCommands (commands_form block.now) }
-        ensures { (e : Effects) → StandsFor e self.old → IfOk result (λ flow. StandsAt (turns (λ number f. commands_do subject.entry.message.now (Some number) (commands_form block.now) f) (visited subject.entry.part subject.entry.message.now) e) flow self.new) }
+        ensures { (e : Effects) → StandsFor e self.old
+            → IfOk result (λ flow. StandsAt
+            (turns (λ number f. commands_do subject.entry.message.now (Some number)
+            (commands_form block.now) f)
+            (visited subject.entry.part subject.entry.message.now) e) flow self.new) }
     {
         let parts = subject.visited();
         'parts: for part in parts.start..parts.end {
@@ -149,7 +169,10 @@ impl<'s, 'm> Evaluator<'s, 'm> {
         subject: Subject<'_, 'm>,
     ) -> Result<Flow, AllocError>
         requires { IsBoundedCommand (command_form command.now) }
-        ensures { (e : Effects) → StandsFor e self.old → IfOk result (λ flow. StandsAt (command_does subject.entry.message.now subject.entry.part (command_form command.now) e) flow self.new) }
+        ensures { (e : Effects) → StandsFor e self.old
+            → IfOk result (λ flow. StandsAt
+            (command_does subject.entry.message.now subject.entry.part
+            (command_form command.now) e) flow self.new) }
     {
         match command {
             Command::Keep => self.list(Action::Keep)?,
@@ -194,7 +217,10 @@ impl<'s, 'm> Evaluator<'s, 'm> {
         subject: Subject<'_, 'm>,
     ) -> Result<Flow, AllocError>
         requires { AreBoundedCommands (commands_form commands.now) }
-        ensures { (e : Effects) → StandsFor e self.old → IfOk result (λ flow. StandsAt (commands_do subject.entry.message.now subject.entry.part (commands_form commands.now) e) flow self.new) }
+        ensures { (e : Effects) → StandsFor e self.old
+            → IfOk result (λ flow. StandsAt
+            (commands_do subject.entry.message.now subject.entry.part
+            (commands_form commands.now) e) flow self.new) }
     {
         'commands: for command in commands {
             match self.command(alloc, command, subject)? {
@@ -217,7 +243,8 @@ fn eval_commands(
     message: &Message<'_>,
 ) -> Result<Vec<Action>, AllocError>
     requires { AreBoundedCommands (commands_form commands.now) }
-    ensures { IfOk result (λ actions. actions.items ≡ meaning message.now (commands_form commands.now)) }
+    ensures { IfOk result (λ actions. actions.items
+        ≡ meaning message.now (commands_form commands.now)) }
 {
     let mut evaluator = Evaluator::new(alloc);
     let _flow = evaluator.commands(alloc, commands, Subject::of(message))?;
@@ -232,7 +259,8 @@ pub fn plain_eval(
     checked: &Checked,
     message: &Message<'_>,
 ) -> Result<Vec<Action>, AllocError>
-    ensures { IfOk result (λ actions. actions.items ≡ meaning message.now (commands_form checked.now.commands)) }
+    ensures { IfOk result (λ actions. actions.items
+        ≡ meaning message.now (commands_form checked.now.commands)) }
 {
     eval_commands(alloc, checked.commands(), message)
 }

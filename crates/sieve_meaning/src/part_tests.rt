@@ -26,7 +26,10 @@ impl<'s, 'm> Evaluator<'s, 'm> {
         order: Order,
         number: u64,
     ) -> Result<bool, AllocError>
-        ensures { (e : Effects) → StandsFor e self.now → IfOk result (λ value. Gives (of_part (λ p. verdict (is_size order number (length p.content)) e) e (current subject.entry.message.now subject.entry.part)) value self.now) }
+        ensures { (e : Effects) → StandsFor e self.now
+            → IfOk result (λ value. Gives
+            (of_part (λ p. verdict (is_size order number (length p.content)) e) e
+            (current subject.entry.message.now subject.entry.part)) value self.now) }
     {
         match subject.content(alloc)? {
             Some(content) => Ok(is_size(order, number, content.as_slice().len() as u64)),
@@ -45,7 +48,11 @@ impl<'s, 'm> Evaluator<'s, 'm> {
         keys: &[Vec<Segment>],
     ) -> Result<bool, AllocError>
         requires { IsBoundedList (templates_of keys.now) }
-        ensures { (e : Effects) → StandsFor e self.old → IfOk result (λ value. Gives (of_part (λ p. matched (body_match how p (all_expanded e (templates_of keys.now)) e.captures) e) e (current subject.entry.message.now subject.entry.part)) value self.new) }
+        ensures { (e : Effects) → StandsFor e self.old
+            → IfOk result (λ value. Gives
+            (of_part (λ p. matched (body_match how p (all_expanded e (templates_of keys.now))
+            e.captures) e) e (current subject.entry.message.now subject.entry.part))
+            value self.new) }
     {
         let Some(content) = subject.content(alloc)? else {
             return Ok(false);
@@ -65,7 +72,11 @@ impl<'s, 'm> Evaluator<'s, 'm> {
         keys: &[Vec<Segment>],
     ) -> Result<bool, AllocError>
         requires { IsBoundedList (templates_of keys.now) }
-        ensures { (e : Effects) → StandsFor e self.old → IfOk result (λ value. Gives (of_part (λ p. matched (digest_match p (all_expanded e (templates_of keys.now)) e.captures) e) e (current subject.entry.message.now subject.entry.part)) value self.new) }
+        ensures { (e : Effects) → StandsFor e self.old
+            → IfOk result (λ value. Gives
+            (of_part (λ p. matched (digest_match p (all_expanded e (templates_of keys.now))
+            e.captures) e) e (current subject.entry.message.now subject.entry.part))
+            value self.new) }
     {
         let Some(content) = subject.content(alloc)? else {
             return Ok(false);

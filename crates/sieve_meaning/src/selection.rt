@@ -23,7 +23,9 @@ pub fn reach_of(scope: Scope, current: Option<usize>) -> Reach
 
 /// What a test takes of a field.
 pub fn selector_of(selection: &Selection) -> Selector
-    ensures { (e : Effects) → code.selector_of result (all_expanded e (params_of (selected_form selection.now))) ≡ selector_of e (selected_form selection.now) }
+    ensures { (e : Effects) → code.selector_of result
+        (all_expanded e (params_of (selected_form selection.now)))
+        ≡ selector_of e (selected_form selection.now) }
 {
     match selection {
         Selection::Value => Selector::Value,

@@ -47,8 +47,11 @@ impl<'a, 'm> Subject<'a, 'm> {
     ///
     /// An error comes only where memory was refused.
     pub fn content(self, alloc: Global) -> Result<Option<CowSlice<'m, u8>>, AllocError>
-        ensures content { IfOk result (λ content. option_map cow_slice_items content ≡ option_map (λ p. p.content) (current self.entry.message.now self.entry.part)) }
-        ensures short { IfOk result (λ content. IfSome content (λ octets. length (cow_slice_items octets) ≤ max_message)) }
+        ensures content { IfOk result
+            (λ content. option_map cow_slice_items content
+            ≡ option_map (λ p. p.content) (current self.entry.message.now self.entry.part)) }
+        ensures short { IfOk result
+            (λ content. IfSome content (λ octets. length (cow_slice_items octets) ≤ max_message)) }
     {
         match self.part {
             Some(part) if part < self.message.parts() => {
@@ -60,7 +63,8 @@ impl<'a, 'm> Subject<'a, 'm> {
 
     /// The parts that a loop visits which begins here, by their numbers.
     pub fn visited(self) -> Range<usize>
-        ensures parts { numbers_from result.start (result.end - result.start) ≡ visited self.entry.part self.entry.message.now }
+        ensures parts { numbers_from result.start (result.end - result.start)
+            ≡ visited self.entry.part self.entry.message.now }
         ensures within { result.end ≤ length self.entry.message.now.parts }
     {
         let parts = self.message.parts();

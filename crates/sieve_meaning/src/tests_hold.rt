@@ -33,7 +33,10 @@ impl<'s, 'm> Evaluator<'s, 'm> {
         subject: Subject<'_, 'm>,
     ) -> Result<bool, AllocError>
         requires { IsBoundedTest (test_form test.now) }
-        ensures { (e : Effects) → StandsFor e self.old → IfOk result (λ value. Gives (test_does subject.entry.message.now subject.entry.part (test_form test.now) e) value self.new) }
+        ensures { (e : Effects) → StandsFor e self.old
+            → IfOk result (λ value. Gives
+            (test_does subject.entry.message.now subject.entry.part (test_form test.now) e)
+            value self.new) }
     {
         match test {
             Test::Constant(value) => Ok(*value),
@@ -93,7 +96,10 @@ impl<'s, 'm> Evaluator<'s, 'm> {
         subject: Subject<'_, 'm>,
     ) -> Result<bool, AllocError>
         requires { AreBoundedTests (tests_of (map test_form list.now)) }
-        ensures { (e : Effects) → StandsFor e self.old → IfOk result (λ value. Gives (all_do subject.entry.message.now subject.entry.part (tests_of (map test_form list.now)) e) value self.new) }
+        ensures { (e : Effects) → StandsFor e self.old
+            → IfOk result (λ value. Gives
+            (all_do subject.entry.message.now subject.entry.part
+            (tests_of (map test_form list.now)) e) value self.new) }
     {
         'list: for test in list {
             if !self.is_true(alloc, test, subject)? {
@@ -112,7 +118,10 @@ impl<'s, 'm> Evaluator<'s, 'm> {
         subject: Subject<'_, 'm>,
     ) -> Result<bool, AllocError>
         requires { AreBoundedTests (tests_of (map test_form list.now)) }
-        ensures { (e : Effects) → StandsFor e self.old → IfOk result (λ value. Gives (any_do subject.entry.message.now subject.entry.part (tests_of (map test_form list.now)) e) value self.new) }
+        ensures { (e : Effects) → StandsFor e self.old
+            → IfOk result (λ value. Gives
+            (any_do subject.entry.message.now subject.entry.part
+            (tests_of (map test_form list.now)) e) value self.new) }
     {
         'list: for test in list {
             if self.is_true(alloc, test, subject)? {
@@ -135,7 +144,13 @@ impl<'s, 'm> Evaluator<'s, 'm> {
         requires lists { AreBoundedLists (templates_of names.now) (templates_of keys.now) }
         requires params { length params.now ≤ max_test_strings }
         requires current { test.reach.current ≡ subject.part }
-        ensures { (e : Effects) → StandsFor e self.old → IfOk result (λ value. Gives (matched (header_match test.how (scope_of test.reach.scope) subject.entry.part (selector_of test.selector (all_expanded e (templates_of params.now))) (all_expanded e (templates_of names.now)) (all_expanded e (templates_of keys.now)) subject.entry.message.now e.captures) e) value self.new) }
+        ensures { (e : Effects) → StandsFor e self.old
+            → IfOk result (λ value. Gives
+            (matched (header_match test.how (scope_of test.reach.scope) subject.entry.part
+            (selector_of test.selector (all_expanded e (templates_of params.now)))
+            (all_expanded e (templates_of names.now))
+            (all_expanded e (templates_of keys.now)) subject.entry.message.now
+            e.captures) e) value self.new) }
     {
         let names = self.all_expanded(alloc, names)?;
         let params = self.all_expanded(alloc, params)?;
@@ -153,7 +168,10 @@ impl<'s, 'm> Evaluator<'s, 'm> {
         keys: &[Vec<Segment>],
     ) -> Result<bool, AllocError>
         requires { AreBoundedLists (templates_of sources.now) (templates_of keys.now) }
-        ensures { (e : Effects) → StandsFor e self.old → IfOk result (λ value. Gives (matched (first_match how (all_expanded e (templates_of sources.now)) (all_expanded e (templates_of keys.now)) e.captures) e) value self.new) }
+        ensures { (e : Effects) → StandsFor e self.old
+            → IfOk result (λ value. Gives
+            (matched (first_match how (all_expanded e (templates_of sources.now))
+            (all_expanded e (templates_of keys.now)) e.captures) e) value self.new) }
     {
         let sources = self.all_expanded(alloc, sources)?;
         let keys = self.all_expanded(alloc, keys)?;
@@ -163,7 +181,8 @@ impl<'s, 'm> Evaluator<'s, 'm> {
 
     /// Keeps the captures that a test has set, and says whether it has matched.
     pub fn settle(&mut self, outcome: Outcome<'m>) -> bool
-        ensures { (e : Effects) → StandsFor e self.old → Gives (matched (after outcome.entry e.captures) e) result self.new }
+        ensures { (e : Effects) → StandsFor e self.old
+            → Gives (matched (after outcome.entry e.captures) e) result self.new }
     {
         match outcome {
             Outcome::Fails => false,

@@ -29,7 +29,9 @@ impl<'s> Variables<'s> {
     ///
     /// An error comes only where memory was refused.
     pub fn set(&mut self, name: &'s [u8], value: Octets) -> Result<(), AllocError>
-        ensures { OnOk result ((other : List ℕ) → found_in self.new.values other ≡ with_value name.now value (found_in self.old.values) other) }
+        ensures { OnOk result ((other : List ℕ)
+            → found_in self.new.values other
+            ≡ with_value name.now value (found_in self.old.values) other) }
     {
         self.values.insert(name, value)?;
         Ok(())

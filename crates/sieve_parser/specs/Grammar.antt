@@ -31,14 +31,16 @@ arguments_spelled d (a ∷ args) = argument_spelled d a ++ arguments_spelled d a
 abbrev mutual
   -- how a test is written, or a command up to its end: identifier *argument [tests]
   pub invocation_spelled : ℕ → InvocationTree → List Placed
-  invocation_spelled d (invocation n name args tests) = at_depth d (identifier n name) ∷ (arguments_spelled d args ++ tests_spelled d tests)
+  invocation_spelled d (invocation n name args tests) = at_depth d (identifier n name)
+      ∷ (arguments_spelled d args ++ tests_spelled d tests)
 
   -- how tests are written: nothing / test / "(" test *("," test) ")"
   pub tests_spelled : ℕ → TestsTree → List Placed
   tests_spelled d no_test = []
   tests_spelled d (one_test t) = invocation_spelled (suc d) t
   tests_spelled d (test_list t ts) =
-      at_depth d opening_parenthesis ∷ (invocation_spelled (suc d) t ++ (more_tests_spelled d ts ++ at_depth d closing_parenthesis ∷ []))
+      at_depth d opening_parenthesis
+      ∷ (invocation_spelled (suc d) t ++ (more_tests_spelled d ts ++ at_depth d closing_parenthesis ∷ []))
 
   -- how the tests of a list are written after its first: *("," test)
   pub more_tests_spelled : ℕ → MoreTests → List Placed
@@ -50,7 +52,8 @@ abbrev mutual
   pub command_spelled : ℕ → CommandTree → List Placed
   command_spelled d (simple i) = invocation_spelled d i ++ at_depth d semicolon ∷ []
   command_spelled d (block i cs) =
-      invocation_spelled d i ++ (at_depth (suc d) opening_brace ∷ (commands_spelled (suc d) cs ++ at_depth (suc d) closing_brace ∷ []))
+      invocation_spelled d i ++ (at_depth (suc d) opening_brace
+      ∷ (commands_spelled (suc d) cs ++ at_depth (suc d) closing_brace ∷ []))
 
   -- how commands are written: *command
   pub commands_spelled : ℕ → CommandsTree → List Placed

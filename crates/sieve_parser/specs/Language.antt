@@ -13,7 +13,8 @@ body_end (suc d) = at_depth (suc d) closing_brace ∷ []
 -- the words that end arguments
 abbrev pub InFollow : Follow → List Placed → Type 0
 InFollow (command_end d) zs = (zs ≡ at_depth d semicolon ∷ [])
-    ⊎ ((cs : CommandsTree) × (zs ≡ at_depth (suc d) opening_brace ∷ (commands_spelled (suc d) cs ++ at_depth (suc d) closing_brace ∷ [])))
+    ⊎ ((cs : CommandsTree) × (zs ≡ at_depth (suc d) opening_brace
+    ∷ (commands_spelled (suc d) cs ++ at_depth (suc d) closing_brace ∷ [])))
 InFollow (test_end d) zs = (ts : MoreTests) × (zs ≡ more_tests_spelled d ts ++ at_depth d closing_parenthesis ∷ [])
 
 -- the words of a symbol
@@ -22,11 +23,17 @@ InSymbol (body d) zs = (cs : CommandsTree) × (zs ≡ commands_spelled d cs ++ b
 InSymbol (arguments d f) zs = (args : List ArgumentTree) × ((ts : TestsTree) × ((ys : List Placed)
     × ((zs ≡ (arguments_spelled d args ++ tests_spelled d ts) ++ ys) × InFollow f ys)))
 InSymbol (ending f) zs = InFollow f zs
-InSymbol (tests d) zs = (t : InvocationTree) × ((ts : MoreTests) × (zs ≡ invocation_spelled (suc d) t ++ (more_tests_spelled d ts ++ at_depth d closing_parenthesis ∷ [])))
-InSymbol (strings d) zs = (s : List ℕ) × ((ss : List (List ℕ)) × (zs ≡ at_depth d (string s) ∷ (more_strings_spelled d ss ++ at_depth d closing_bracket ∷ [])))
-InSymbol (more_strings d) zs = (ss : List (List ℕ)) × (zs ≡ more_strings_spelled d ss ++ at_depth d closing_bracket ∷ [])
+InSymbol (tests d) zs = (t : InvocationTree)
+    × ((ts : MoreTests) × (zs ≡ invocation_spelled (suc d) t
+    ++ (more_tests_spelled d ts ++ at_depth d closing_parenthesis ∷ [])))
+InSymbol (strings d) zs = (s : List ℕ)
+    × ((ss : List (List ℕ)) × (zs ≡ at_depth d (string s)
+    ∷ (more_strings_spelled d ss ++ at_depth d closing_bracket ∷ [])))
+InSymbol (more_strings d) zs = (ss : List (List ℕ))
+    × (zs ≡ more_strings_spelled d ss ++ at_depth d closing_bracket ∷ [])
 
 -- the words of a stack of symbols
 abbrev pub InStack : List Symbol → List Placed → Type 0
 InStack [] zs = zs ≡ []
-InStack (x ∷ stack) zs = (us : List Placed) × ((vs : List Placed) × ((zs ≡ us ++ vs) × InSymbol x us × InStack stack vs))
+InStack (x ∷ stack) zs = (us : List Placed)
+    × ((vs : List Placed) × ((zs ≡ us ++ vs) × InSymbol x us × InStack stack vs))

@@ -34,8 +34,9 @@ IsDone [] = Unit {0}
 IsDone (body zero ∷ stack) = IsDone stack
 IsDone _ = ⊥
 
--- What a reading has to read, and the place where it begins. The clauses below speak of every beginning: of that of the script, and of the
--- place where a function begins with its own rule, so that a refusal also says that what stands before it can be completed to a text of that rule.
+-- What a reading has to read, and the place where it begins. The clauses below speak of every
+-- beginning: of that of the script, and of the place where a function begins with its own rule, so
+-- that a refusal also says that what stands before it can be completed to a text of that rule.
 pub record Beginning : Type 0 where
   pub place : ℕ
   pub symbols : List Symbol
@@ -62,12 +63,14 @@ BeginsText symbols xs = (rest : List Placed) × InStack symbols (xs ++ rest)
 abbrev pub IsCompletable : List Symbol → List Lexeme → Type 0
 IsCompletable symbols ls = (xs : List Placed) × ((ls ≡ lexemes_placed xs) × BeginsText symbols xs × AreWithinDepth xs)
 
--- what stands before the place can be completed to a text of what was to be read; with what stands there, which may be the end, it can't
+-- what stands before the place can be completed to a text of what was to be read; with what stands
+-- there, which may be the end, it can't
 pub record IsSyntaxFaultIn (b : Beginning) (ls : List Lexeme) (place : ℕ) : Type 0 where
   pub from : b.place ≤ place
   pub within : place ≤ length ls
   pub before : IsCompletable b.symbols (read_by b ls place)
-  pub here : place < length ls → (xs : List Placed) → read_by b ls (place + 1) ≡ lexemes_placed xs → BeginsText b.symbols xs → ⊥
+  pub here : place < length ls → (xs : List Placed) → read_by b ls (place + 1) ≡ lexemes_placed xs
+      → BeginsText b.symbols xs → ⊥
   pub ended : place ≡ length ls → (xs : List Placed) → read_by b ls place ≡ lexemes_placed xs → InStack b.symbols xs → ⊥
 
 -- what stands at the place is the first that is deeper than the limit in a text of what was to be read
@@ -113,7 +116,8 @@ IsExpectedString ls at answer = MatchResult answer (λ s. (at < length ls) × (l
 -- a list of strings after its opening bracket, or the refusal
 abbrev pub IsListAfter : List Lexeme → ℕ → Result (Argument × ℕ) ParseError → Type 0
 IsListAfter ls at answer = (d : ℕ) (stack : List Symbol) → d ≤ max_nesting → MatchResult answer
-    (λ r. (w : List Placed) × ((argument_spelled d (argument_tree r.0) ≡ at_depth d opening_bracket ∷ w) × Stands ls at r.1 w × ((b : Beginning) → IsAt b ls at (strings d ∷ stack) → IsAt b ls r.1 stack)))
+    (λ r. (w : List Placed) × ((argument_spelled d (argument_tree r.0) ≡ at_depth d opening_bracket ∷ w)
+    × Stands ls at r.1 w × ((b : Beginning) → IsAt b ls at (strings d ∷ stack) → IsAt b ls r.1 stack)))
     (λ e. (b : Beginning) → IsAt b ls at (strings d ∷ stack) → IsFaultOf b ls e)
 
 -- the lexeme begins no argument
@@ -131,7 +135,8 @@ NoArgumentAt ls at = at < length ls → IsNoArgument (lexeme_at ls at)
 -- the argument at the place with the place after it, or nothing where none begins; or the refusal
 abbrev pub IsArgumentAt : List Lexeme → ℕ → Result (Option (Argument × ℕ)) ParseError → Type 0
 IsArgumentAt ls at answer = (d : ℕ) (f : Follow) (stack : List Symbol) → d ≤ max_nesting → MatchResult answer
-    (λ o. MatchOption o (NoArgumentAt ls at) (λ r. (at < r.1) × Stands ls at r.1 (argument_spelled d (argument_tree r.0))
+    (λ o. MatchOption o (NoArgumentAt ls at)
+    (λ r. (at < r.1) × Stands ls at r.1 (argument_spelled d (argument_tree r.0))
     × ((b : Beginning) → IsAt b ls at (arguments d f ∷ stack) → IsAt b ls r.1 (arguments d f ∷ stack))))
     (λ e. (b : Beginning) → IsAt b ls at (arguments d f ∷ stack) → IsFaultOf b ls e)
 
@@ -145,14 +150,16 @@ AreArgumentsAt ls at answer = (d : ℕ) (f : Follow) (stack : List Symbol) → d
 -- the invocation whose identifier has the number, with the place after it; or the refusal
 abbrev pub IsInvocationAt : List Lexeme → List ℕ → ℕ → ℕ → Result (Invocation × ℕ) ParseError → Type 0
 IsInvocationAt ls name n d answer = (f : Follow) (stack : List Symbol) → MatchResult answer
-    (λ r. (w : List Placed) × ((invocation_spelled d (invocation_tree r.0) ≡ at_depth d (identifier n name) ∷ w) × Stands ls (n + 1) r.1 w
+    (λ r. (w : List Placed) × ((invocation_spelled d (invocation_tree r.0) ≡ at_depth d (identifier n name) ∷ w)
+    × Stands ls (n + 1) r.1 w
     × ((b : Beginning) → IsAt b ls (n + 1) (arguments d f ∷ stack) → IsAt b ls r.1 (ending f ∷ stack))))
     (λ e. (b : Beginning) → IsAt b ls (n + 1) (arguments d f ∷ stack) → IsFaultOf b ls e)
 
 -- the test that has to begin at the place, with the place after it; or the refusal
 abbrev pub IsTestAt : List Lexeme → ℕ → ℕ → Result (Invocation × ℕ) ParseError → Type 0
 IsTestAt ls at d answer = (stack : List Symbol) → MatchResult answer
-    (λ r. Stands ls at r.1 (invocation_spelled (suc d) (invocation_tree r.0)) × ((b : Beginning) → IsAt b ls at (tests d ∷ stack) → IsAt b ls r.1 (ending (test_end d) ∷ stack)))
+    (λ r. Stands ls at r.1 (invocation_spelled (suc d) (invocation_tree r.0))
+    × ((b : Beginning) → IsAt b ls at (tests d ∷ stack) → IsAt b ls r.1 (ending (test_end d) ∷ stack)))
     (λ e. (b : Beginning) → IsAt b ls at (tests d ∷ stack) → IsFaultOf b ls e)
 
 -- the tests of a list after its opening bracket, with the place after the closing one; or the refusal
@@ -166,7 +173,8 @@ AreTestsAfter ls at d answer = (stack : List Symbol) → MatchResult answer
 -- the command whose identifier has the number, with the place after it; or the refusal
 abbrev pub IsCommandAt : List Lexeme → List ℕ → ℕ → ℕ → Result (Command × ℕ) ParseError → Type 0
 IsCommandAt ls name n d answer = (stack : List Symbol) → MatchResult answer
-    (λ r. (w : List Placed) × ((command_spelled d (command_tree r.0) ≡ at_depth d (identifier n name) ∷ w) × Stands ls (n + 1) r.1 w
+    (λ r. (w : List Placed) × ((command_spelled d (command_tree r.0) ≡ at_depth d (identifier n name) ∷ w)
+    × Stands ls (n + 1) r.1 w
     × ((b : Beginning) → IsAt b ls (n + 1) (arguments d (command_end d) ∷ stack) → IsAt b ls r.1 stack)))
     (λ e. (b : Beginning) → IsAt b ls (n + 1) (arguments d (command_end d) ∷ stack) → IsFaultOf b ls e)
 

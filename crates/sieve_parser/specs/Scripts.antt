@@ -23,5 +23,7 @@ abbrev pub IsParseRefusal : List ℕ → ParseError → Type 0
 IsParseRefusal script Memory = Unit {0}
 IsParseRefusal script ScriptTooLong = max_script < length script
 IsParseRefusal script (Lexical place) = (length script ≤ max_script) × IsFault script place
-IsParseRefusal script (Syntax place) = (length script ≤ max_script) × ((tokens : List Token) × (AreTokens script tokens × IsSyntaxFault (lexemes script tokens) place))
-IsParseRefusal script (TooDeep place) = (length script ≤ max_script) × ((tokens : List Token) × (AreTokens script tokens × IsTooDeep (lexemes script tokens) place))
+IsParseRefusal script (Syntax place) = (length script ≤ max_script)
+    × ((tokens : List Token) × (AreTokens script tokens × IsSyntaxFault (lexemes script tokens) place))
+IsParseRefusal script (TooDeep place) = (length script ≤ max_script)
+    × ((tokens : List Token) × (AreTokens script tokens × IsTooDeep (lexemes script tokens) place))

@@ -18,7 +18,8 @@ use std::alloc::Global;
 pub fn parse(alloc: Global, script: &[u8]) -> Result<Script, ParseError>
     ensures parsed { IfOk result (λ parsed. IsParsed script.now (commands_tree parsed)) }
     ensures refused { IfErr result (λ e. IsParseRefusal script.now e) }
-    ensures large { max_script < length script.now → IsErrAnd result (λ e. e ≡ ParseError.ScriptTooLong) }
+    ensures large { max_script < length script.now
+        → IsErrAnd result (λ e. e ≡ ParseError.ScriptTooLong) }
 {
     let tokens = sieve_lexer::tokens(alloc, script)?;
     let (commands, next) = commands(alloc, script, &tokens, 0, 0)?;

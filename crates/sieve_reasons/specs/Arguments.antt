@@ -103,9 +103,11 @@ rest_cause signature all given None (label name ∷ args) =
     or_cause (tag_named name) (about UnknownTag name) (λ tag.
     or_cause (add_tag signature tag given) (about (untaken_kind signature tag given.tags) name) (λ more.
     rest_cause signature all more (awaiting name tag) args))
-rest_cause signature all given None args = option_or (positional_cause signature.positional args) (missing_cause signature given.tags all)
+rest_cause signature all given None args = option_or (positional_cause signature.positional args)
+    (missing_cause signature given.tags all)
 rest_cause signature all given (Some last) (a ∷ args) =
-    or_cause (with_argument last.tag a given) (about (TagArgument last.tag) last.name) (λ more. rest_cause signature all more None args)
+    or_cause (with_argument last.tag a given) (about (TagArgument last.tag) last.name)
+    (λ more. rest_cause signature all more None args)
 rest_cause signature all given (Some last) [] = Some (about (TagArgument last.tag) last.name)
 
 -- what is wrong with arguments, if a signature can't read them

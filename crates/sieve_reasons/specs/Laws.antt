@@ -58,4 +58,6 @@ AreVisited = (script : CommandsTree) → map visit_of (commands_visited at_start
 abbrev pub IsOfItsSurroundings : Type 0
 IsOfItsSurroundings = (script : CommandsTree) (fault : Fault) (token : ℕ) → IsTree script
     → fault_of script ≡ Some (refusal token fault)
-    → reason_of script fault token ≡ option_and_then (λ (v : Visited). reason_at v.around fault v.found) (visited_at token (commands_visited at_start script))
+    → reason_of script fault token
+    ≡ option_and_then (λ (v : Visited). reason_at v.around fault v.found)
+    (visited_at token (commands_visited at_start script))

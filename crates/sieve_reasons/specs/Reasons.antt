@@ -59,7 +59,8 @@ mention_cause mentions =
 
 -- a wrong place: of a `break` with a name, that no loop around it has that name
 abbrev pub place_cause : CommandName → List ArgumentTree → Cause
-place_cause Break args = option_map_or (about NoSuchLoop) (name_read (reading (command_signature Break) args)) (plain Misplaced)
+place_cause Break args = option_map_or (about NoSuchLoop) (name_read (reading (command_signature Break) args))
+    (plain Misplaced)
 place_cause Require args = plain Misplaced
 place_cause If args = plain Misplaced
 place_cause Elsif args = plain Misplaced
@@ -81,7 +82,8 @@ ill_formed_command s name found ending =
 
 abbrev pub ill_formed_test : Context → TestName → Found → Option Cause
 ill_formed_test s name found =
-    option_or (shape_cause (test_signature name) found.arguments found.tests) (mention_cause (test_mentions s name found.arguments))
+    option_or (shape_cause (test_signature name) found.arguments found.tests)
+    (mention_cause (test_mentions s name found.arguments))
 
 -- or else it is the place: whatever else makes arguments bad was looked at before, so that is what is left
 abbrev pub bad_command : Context → CommandName → Found → Ending → Cause
@@ -119,12 +121,14 @@ large_mention_cause mentions =
 
 -- what of a command or test is beyond a limit by itself: the first that holds
 abbrev pub oversized_command : Context → CommandName → Found → Option Cause
-oversized_command s name found = option_or (long_string_cause found.arguments) (large_mention_cause (command_mentions s name found.arguments))
+oversized_command s name found = option_or (long_string_cause found.arguments)
+    (large_mention_cause (command_mentions s name found.arguments))
 
 abbrev pub oversized_test : Context → TestName → Found → Option Cause
 oversized_test s name found =
     option_or (long_string_cause found.arguments)
-    (option_or (many_strings_cause (test_signature name) found.arguments) (large_mention_cause (test_mentions s name found.arguments)))
+    (option_or (many_strings_cause (test_signature name) found.arguments)
+    (large_mention_cause (test_mentions s name found.arguments)))
 
 -- or else what the script has too many of with it: open loops where it is a loop, and variables
 -- where it is anything else
@@ -160,14 +164,17 @@ unknown_cause args = option_map (about UnknownCapability) (first_where (string_h
 
 abbrev pub command_cause : Context → Fault → Found → Ending → Option Cause
 command_cause s fault.UnknownCommand found ending = Some (plain UnknownCommand)
-command_cause s fault.MissingCapability found ending = option_map lacking (option_and_then (λ name. first_lacking (command_needs name) s.required) (command_named found.name))
+command_cause s fault.MissingCapability found ending = option_map lacking
+    (option_and_then (λ name. first_lacking (command_needs name) s.required) (command_named found.name))
 command_cause s fault.UnknownCapability found ending = unknown_cause found.arguments
-command_cause s fault.BadArguments found ending = option_map (λ name. bad_command s name found ending) (command_named found.name)
+command_cause s fault.BadArguments found ending = option_map (λ name. bad_command s name found ending)
+    (command_named found.name)
 command_cause s fault.Limit found ending = option_map (λ name. large_command s name found) (command_named found.name)
 
 abbrev pub test_cause : Context → Fault → Found → Option Cause
 test_cause s fault.UnknownCommand found = Some (plain UnknownTest)
-test_cause s fault.MissingCapability found = option_map lacking (option_and_then (λ name. first_lacking (test_needs name found.arguments) s.required) (test_named found.name))
+test_cause s fault.MissingCapability found = option_map lacking
+    (option_and_then (λ name. first_lacking (test_needs name found.arguments) s.required) (test_named found.name))
 test_cause s fault.UnknownCapability found = unknown_cause found.arguments
 test_cause s fault.BadArguments found = option_map (λ name. bad_test s name found) (test_named found.name)
 test_cause s fault.Limit found = option_map (λ name. large_test s name found) (test_named found.name)
@@ -188,4 +195,5 @@ reason_at s fault found = option_map (with_name found.name) (cause_of s fault fo
 
 -- the reason for the refusal of a script by that fault at the command or test whose identifier is that token
 abbrev pub reason_of : CommandsTree → Fault → ℕ → Option Reason
-reason_of script fault token = option_and_then (reason_at (behind_requires at_start script) fault) (at_token token (commands_heads script))
+reason_of script fault token = option_and_then (reason_at (behind_requires at_start script) fault)
+    (at_token token (commands_heads script))

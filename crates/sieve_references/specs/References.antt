@@ -4,8 +4,9 @@ use Rattle.std.specs.List.{list_all}
 use Rattle.std.specs.Option.{option_and_then, option_map, option_map_or}
 use Rattle.octets.specs.Ascii.{lowercase_of}
 
--- what a string consists of: a stretch of octets as they stand, or a reference, which is to a variable by its name as it is
--- written, to a capture, to a capture after the last one, or into a namespace
+-- what a string consists of: a stretch of octets as they stand, or a reference, which is to a
+-- variable by its name as it is written, to a capture, to a capture after the last one, or into a
+-- namespace
 pub data Segment : Type 0 where
   stretch : List ℕ → Segment
   variable : List ℕ → Segment
@@ -47,8 +48,8 @@ last_capture = 9
 abbrev pub capture_of : ℕ → Segment
 capture_of n = if nat_le n last_capture then capture n else beyond
 
--- the reference of the words between its braces, which dots separate: one word is a name or a number; of more the first is the
--- name of a namespace
+-- the reference of the words between its braces, which dots separate: one word is a name or a
+-- number; of more the first is the name of a namespace
 abbrev pub reference_of : List (List ℕ) → Option Segment
 reference_of [] = None
 reference_of (word ∷ []) =
@@ -85,7 +86,8 @@ with_rest n segment = record { segment = segment; rest = n }
 abbrev pub reference_at : List ℕ → Option Reference
 reference_at (x ∷ y ∷ rest) =
     if (x == 36) && (y == 123)
-    then option_and_then (λ inside. option_map (with_rest (length inside + 2)) (reference_of (words inside))) (before_brace rest)
+    then option_and_then (λ inside. option_map (with_rest (length inside + 2)) (reference_of (words inside)))
+    (before_brace rest)
     else None
 reference_at _ = None
 
@@ -99,7 +101,8 @@ abbrev pub segments_after : ℕ → List ℕ → List Segment
 segments_after n [] = []
 segments_after (suc n) (x ∷ xs) = segments_after n xs
 segments_after zero (x ∷ xs) =
-    option_map_or (λ (found : Reference). found.segment ∷ segments_after found.rest xs) (reference_at (x ∷ xs)) (with_one x (segments_after zero xs))
+    option_map_or (λ (found : Reference). found.segment ∷ segments_after found.rest xs) (reference_at (x ∷ xs))
+    (with_one x (segments_after zero xs))
 
 -- the segments of a string: its references, from left to right, and the longest stretches between them
 abbrev pub segments : List ℕ → List Segment

@@ -29,7 +29,8 @@ pub fn is_identifier(name: &[u8]) -> bool
 /// The number that a word of digits spells, or the one after the last capture where it is above that. None where the word
 /// isn't one or more digits.
 pub(crate) fn number(word: &[u8]) -> Option<u8>
-    ensures { result ≡ (if is_number word.now then Some (min (LAST_CAPTURE + 1) (value_after 0 word.now)) else None) }
+    ensures { result ≡ (if is_number word.now then Some
+        (min (LAST_CAPTURE + 1) (value_after 0 word.now)) else None) }
 {
     if word.is_empty() {
         return None;

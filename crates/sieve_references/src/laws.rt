@@ -11,7 +11,8 @@ pub fn segments_are_within_their_text()
 
 /// So is each of them: a stretch, and the name of a variable with the three octets around it.
 pub fn each_segment_is_within_its_text()
-    ensures { (text : List ℕ) → All (λ (segment : Segment). extent_of segment ≤ length text) (segments text) }
+    ensures { (text : List ℕ) → All (λ (segment : Segment). extent_of segment ≤ length text)
+        (segments text) }
 {}
 
 /// Stretches aren't empty, names are identifiers, and captures are at most the last one.

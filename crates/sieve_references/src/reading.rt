@@ -11,7 +11,8 @@ use crate::segment::Segment;
 
 // What the one word between the braces of a reference refers to.
 fn named(word: &[u8]) -> Option<Segment<'_>>
-    ensures { MatchOption result (reference_of (word.now ∷ []) ≡ None) (λ segment. reference_of (word.now ∷ []) ≡ Some (segment_of segment)) }
+    ensures { MatchOption result (reference_of (word.now ∷ []) ≡ None)
+        (λ segment. reference_of (word.now ∷ []) ≡ Some (segment_of segment)) }
 {
     if is_identifier(word) {
         return Some(Segment::Variable(word));
@@ -25,7 +26,8 @@ fn named(word: &[u8]) -> Option<Segment<'_>>
 
 // What stands behind the closing brace, where each of the words before it is a name or a number.
 fn elements(text: &[u8]) -> Option<&[u8]>
-    ensures { MatchOption result (elements text.now ≡ None) (λ after. elements text.now ≡ Some after.now) }
+    ensures { MatchOption result (elements text.now ≡ None)
+        (λ after. elements text.now ≡ Some after.now) }
 {
     let mut rest = text;
     'elements: while let Some((octets, end, after)) = word(rest) {
@@ -45,7 +47,9 @@ fn elements(text: &[u8]) -> Option<&[u8]>
 
 // The reference whose `${` stands before the text, and what stands after its closing brace.
 fn reference(text: &[u8]) -> Option<(Segment<'_>, &[u8])>
-    ensures { MatchOption result (reference text.now ≡ None) (λ found. reference text.now ≡ Some (record { segment = segment_of found.0; rest = found.1.now })) }
+    ensures { MatchOption result (reference text.now ≡ None)
+        (λ found. reference text.now
+        ≡ Some (record { segment = segment_of found.0; rest = found.1.now })) }
 {
     let (octets, end, after) = word(text)?;
     if end == b'}' {
@@ -59,7 +63,9 @@ fn reference(text: &[u8]) -> Option<(Segment<'_>, &[u8])>
 
 /// The reference whose `$` stands before the text, and what stands after it.
 pub(crate) fn reference_behind(text: &[u8]) -> Option<(Segment<'_>, &[u8])>
-    ensures { MatchOption result (reference_behind text.now ≡ None) (λ found. reference_behind text.now ≡ Some (record { segment = segment_of found.0; rest = found.1.now })) }
+    ensures { MatchOption result (reference_behind text.now ≡ None)
+        (λ found. reference_behind text.now
+        ≡ Some (record { segment = segment_of found.0; rest = found.1.now })) }
 {
     let (octet, inside) = first(text)?;
     if octet != b'{' {
@@ -70,7 +76,9 @@ pub(crate) fn reference_behind(text: &[u8]) -> Option<(Segment<'_>, &[u8])>
 
 /// The reference that the text begins with, and what stands after it.
 pub(crate) fn reference_at(text: &[u8]) -> Option<(Segment<'_>, &[u8])>
-    ensures { MatchOption result (found_at text.now ≡ None) (λ found. found_at text.now ≡ Some (record { segment = segment_of found.0; rest = found.1.now })) }
+    ensures { MatchOption result (found_at text.now ≡ None)
+        (λ found. found_at text.now
+        ≡ Some (record { segment = segment_of found.0; rest = found.1.now })) }
 {
     let (octet, after) = first(text)?;
     if octet != b'$' {

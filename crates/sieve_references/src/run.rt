@@ -23,7 +23,9 @@ fn word_len(text: &[u8]) -> usize
 
 /// The octets before the first `$`, and what stands after it.
 pub(crate) fn up_to_dollar(text: &[u8]) -> Option<(&[u8], &[u8])>
-    ensures { MatchOption result (list_all is_not_dollar text.now ≡ true) (λ parts. (list_all is_not_dollar parts.0.now ≡ true) × (text.now ≡ parts.0.now ++ 36 ∷ parts.1.now)) }
+    ensures { MatchOption result (list_all is_not_dollar text.now ≡ true)
+        (λ parts. (list_all is_not_dollar parts.0.now ≡ true)
+        × (text.now ≡ parts.0.now ++ 36 ∷ parts.1.now)) }
 {
     let (plain, at) = text.split_at(plain_len(text));
     let (_dollar, after) = first(at)?;
@@ -32,7 +34,9 @@ pub(crate) fn up_to_dollar(text: &[u8]) -> Option<(&[u8], &[u8])>
 
 /// The letters and digits that a text begins with, the octet after them, and what follows that.
 pub(crate) fn word(text: &[u8]) -> Option<(&[u8], u8, &[u8])>
-    ensures { MatchOption result (list_all is_word_octet text.now ≡ true) (λ parts. (list_all is_word_octet parts.0.now ≡ true) × (is_word_octet parts.1 ≡ false) × (text.now ≡ parts.0.now ++ parts.1 ∷ parts.2.now)) }
+    ensures { MatchOption result (list_all is_word_octet text.now ≡ true)
+        (λ parts. (list_all is_word_octet parts.0.now ≡ true) × (is_word_octet parts.1 ≡ false)
+        × (text.now ≡ parts.0.now ++ parts.1 ∷ parts.2.now)) }
 {
     let (octets, at) = text.split_at(word_len(text));
     let (end, after) = first(at)?;

@@ -26,7 +26,9 @@ pub enum Segment<'s> {
 ///
 /// Segments that are taken one after the other cost time in proportion to the string's length, whatever it has.
 pub fn first_segment(text: &[u8]) -> Option<(Segment<'_>, &[u8])>
-    ensures { MatchOption result (text.now ≡ []) (λ f. (segments text.now ≡ segment_of f.0 ∷ segments f.1.now) × (length f.1.now < length text.now)) }
+    ensures { MatchOption result (text.now ≡ [])
+        (λ f. (segments text.now ≡ segment_of f.0 ∷ segments f.1.now)
+        × (length f.1.now < length text.now)) }
 {
     if text.is_empty() {
         return None;

@@ -4,8 +4,9 @@ use Rattle.mime_decode.specs.Mail.{Mail}
 use Rattle.mime_decode.specs.Scope.{visited}
 use Rattle.sieve_vm.specs.State.{Frame, current_part}
 
--- a loop inside of these has come to a part that such a loop visits: one below the current part of the loop around it, or any where none
--- is; the parts that it has left come after that part, and those below the part are among them
+-- a loop inside of these has come to a part that such a loop visits: one below the current part of
+-- the loop around it, or any where none is; the parts that it has left come after that part, and
+-- those below the part are among them
 pub record IsAt (mail : Mail) (frame : Frame) (frames : List Frame) : Type 0 where
   pub inside : Contains (visited (current_part frames) mail) frame.part
   pub later : All (λ part. frame.part < part) frame.rest

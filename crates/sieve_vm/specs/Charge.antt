@@ -21,7 +21,8 @@ cost_of_names a current mail names = exists_cost (scope_numbered a) current name
 -- the same, and comparing each value that is selected with each key
 abbrev pub cost_of_matching : ℕ → Option ℕ → Mail → Lists → ℕ
 cost_of_matching a current mail lists =
-    header_cost (scope_numbered (scope_in a)) current (selector_numbered (selector_in a) lists.params) lists.names lists.keys mail
+    header_cost (scope_numbered (scope_in a)) current
+    (selector_numbered (selector_in a) lists.params) lists.names lists.keys mail
 
 -- comparing each source with each key
 abbrev pub cost_of_comparing : Lists → ℕ
@@ -30,7 +31,8 @@ cost_of_comparing lists = values_cost lists.names lists.keys
 -- what comparing costs that is with the current part; without one it costs nothing
 abbrev pub cost_with_part : (Part → List (List ℕ) → ℕ) → Mail → Option ℕ → OnTop → ℕ
 cost_with_part cost mail None keys = 0
-cost_with_part cost mail (Some current) keys = option_map_or (λ part. cost part keys.texts) (slice_get mail.parts current) 0
+cost_with_part cost mail (Some current) keys = option_map_or (λ part. cost part keys.texts)
+    (slice_get mail.parts current) 0
 
 -- how many octets texts have
 abbrev pub octets_on_top : OnTop → ℕ
@@ -39,7 +41,8 @@ octets_on_top top = sum_by length top.texts
 -- how many octets a variable gets of the current part's content, of which it takes so many at most; without one none
 abbrev pub octets_taken : ℕ → Mail → Option ℕ → ℕ
 octets_taken most mail None = 0
-octets_taken most mail (Some current) = option_map_or (λ (part : Part). min most (length part.content)) (slice_get mail.parts current) 0
+octets_taken most mail (Some current) = option_map_or (λ (part : Part). min most (length part.content))
+    (slice_get mail.parts current) 0
 
 -- the charge of an instruction, from the state that it meets
 abbrev pub charge_of : Code → Mail → Operation → Instruction → State → ℕ
@@ -54,13 +57,17 @@ charge_of code mail Not i state = 1
 charge_of code mail Jump i state = 1
 charge_of code mail JumpIfTrue i state = 1
 charge_of code mail JumpIfFalse i state = 1
-charge_of code mail Header i state = 1 + option_map_or (cost_of_matching i.a (current_part state.frames) mail) (lists_on_top i.b (params_in i.c) (keys_in i.c) state.stack) 0
-charge_of code mail Exists i state = 1 + option_map_or (cost_of_names i.a (current_part state.frames) mail) (texts_on_top i.b state.stack) 0
+charge_of code mail Header i state = 1 + option_map_or (cost_of_matching i.a (current_part state.frames) mail)
+    (lists_on_top i.b (params_in i.c) (keys_in i.c) state.stack) 0
+charge_of code mail Exists i state = 1 + option_map_or (cost_of_names i.a (current_part state.frames) mail)
+    (texts_on_top i.b state.stack) 0
 charge_of code mail String i state = 1 + option_map_or cost_of_comparing (lists_on_top i.b 0 i.c state.stack) 0
 charge_of code mail Size i state = 1
 charge_of code mail PartSize i state = 1
-charge_of code mail PartBody i state = 1 + option_map_or (cost_with_part body_cost mail (current_part state.frames)) (texts_on_top i.c state.stack) 0
-charge_of code mail PartDigest i state = 1 + option_map_or (cost_with_part digest_cost mail (current_part state.frames)) (texts_on_top i.c state.stack) 0
+charge_of code mail PartBody i state = 1 + option_map_or (cost_with_part body_cost mail (current_part state.frames))
+    (texts_on_top i.c state.stack) 0
+charge_of code mail PartDigest i state = 1 + option_map_or (cost_with_part digest_cost mail (current_part state.frames))
+    (texts_on_top i.c state.stack) 0
 charge_of code mail Keep i state = 1
 charge_of code mail Discard i state = 1
 charge_of code mail File i state = 1 + length_on_top state.stack

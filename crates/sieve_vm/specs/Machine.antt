@@ -25,8 +25,8 @@ use Rattle.sieve_vm.specs.Stack.{OnTop, Lists, texts_on_top, lists_on_top}
 use Rattle.sieve_vm.specs.MatchNumbers.{match_numbered, scope_numbered, selector_numbered}
 use Rattle.sieve_vm.specs.Charge.{charge_of}
 
--- what an operation does: the state that it leaves, still at its own place and without its charge, from which the run goes on
--- with the next instruction, jumps to a place, or ends; or it fails
+-- what an operation does: the state that it leaves, still at its own place and without its charge,
+-- from which the run goes on with the next instruction, jumps to a place, or ends; or it fails
 pub data Effect : Type 0 where
   on : State → Effect
   jumps : ℕ → State → Effect
@@ -98,7 +98,8 @@ file folder state = on (record state { actions = state.actions ++ action.File fo
 -- with the current part, its number first
 abbrev pub with_part : (ℕ → Part → State → Effect) → Mail → State → List Frame → Effect
 with_part go mail state [] = fails
-with_part go mail state (frame ∷ frames) = option_map_or (λ part. go frame.part part state) (slice_get mail.parts frame.part) fails
+with_part go mail state (frame ∷ frames) = option_map_or (λ part. go frame.part part state)
+    (slice_get mail.parts frame.part) fails
 
 -- the part is stored in the folder; the implicit keep stays
 abbrev pub store : ℕ → List ℕ → State → Effect
@@ -120,11 +121,13 @@ tested state (Some captures) = push (truth true) (record state { captures = capt
 abbrev pub test_values : Mail → ℕ → Lists → State → Effect
 test_values mail a lists state =
     tested state
-    (header_match (match_numbered (match_in a)) (scope_numbered (scope_in a)) (current_part state.frames) (selector_numbered (selector_in a) lists.params) lists.names lists.keys mail state.captures)
+    (header_match (match_numbered (match_in a)) (scope_numbered (scope_in a)) (current_part state.frames)
+    (selector_numbered (selector_in a) lists.params) lists.names lists.keys mail state.captures)
 
 -- whether a source matches a key
 abbrev pub test_sources : ℕ → Lists → State → Effect
-test_sources number lists state = tested state (first_match (match_numbered number) lists.names lists.keys state.captures)
+test_sources number lists state = tested state
+    (first_match (match_numbered number) lists.names lists.keys state.captures)
 
 -- whether the current part's content matches a key
 abbrev pub test_body : ℕ → Part → List (List ℕ) → State → Effect
@@ -142,7 +145,8 @@ set_content i number part state =
 -- the instructions at two places are an Each and a Next that name each other
 abbrev pub are_partners : Code → ℕ → ℕ → Bool
 are_partners code each next =
-    holds_at code each (λ i. opens (operation_of i.op) && (i.c == next)) && holds_at code next (λ i. closes (operation_of i.op) && (i.c == each))
+    holds_at code each (λ i. opens (operation_of i.op) && (i.c == next))
+    && holds_at code next (λ i. closes (operation_of i.op) && (i.c == each))
 
 -- a loop up to the Next at a place is open with the first of the parts; without parts the run goes on after it
 abbrev pub open_loop : ℕ → List ℕ → State → Effect
@@ -185,13 +189,17 @@ effect code mail Not i state = with_truth (λ b s. on (record s { stack = truth 
 effect code mail Jump i state = if is_sound_jump code state i then jumps i.c state else fails
 effect code mail JumpIfTrue i state = if is_sound_jump code state i then with_truth (branch i.c true) state state.stack else fails
 effect code mail JumpIfFalse i state = if is_sound_jump code state i then with_truth (branch i.c false) state state.stack else fails
-effect code mail Header i state = with_lists (test_values mail i.a) state (lists_on_top i.b (params_in i.c) (keys_in i.c) state.stack)
+effect code mail Header i state = with_lists (test_values mail i.a) state
+    (lists_on_top i.b (params_in i.c) (keys_in i.c) state.stack)
 effect code mail Exists i state = with_texts (test_names mail i.a) state (texts_on_top i.b state.stack)
 effect code mail String i state = with_lists (test_sources i.a) state (lists_on_top i.b 0 i.c state.stack)
 effect code mail Size i state = with_number i (size_of mail) state (slice_get code.numbers i.c)
-effect code mail PartSize i state = with_part (λ number part s. with_number i (length part.content) s (slice_get code.numbers i.c)) mail state state.frames
-effect code mail PartBody i state = with_part (λ number part s. with_texts (test_body i.a part) s (texts_on_top i.c s.stack)) mail state state.frames
-effect code mail PartDigest i state = with_part (λ number part s. with_texts (test_digest part) s (texts_on_top i.c s.stack)) mail state state.frames
+effect code mail PartSize i state = with_part
+    (λ number part s. with_number i (length part.content) s (slice_get code.numbers i.c)) mail state state.frames
+effect code mail PartBody i state = with_part
+    (λ number part s. with_texts (test_body i.a part) s (texts_on_top i.c s.stack)) mail state state.frames
+effect code mail PartDigest i state = with_part
+    (λ number part s. with_texts (test_digest part) s (texts_on_top i.c s.stack)) mail state state.frames
 effect code mail Keep i state = on (record state { actions = state.actions ++ action.Keep ∷ []; implicit_keep = false })
 effect code mail Discard i state = on (record state { implicit_keep = false })
 effect code mail File i state = with_text file state state.stack

@@ -9,7 +9,8 @@ use Rattle.mime_decode.specs.Mail.{Mail, Part}
 
 -- the tree of the message is a single chain: of each part all later parts are below it
 abbrev pub IsChain : Mail → Type 0
-IsChain mail = (place : ℕ) (part : Part) → slice_get mail.parts place ≡ Some part → suc (place + part.below) ≡ length mail.parts
+IsChain mail = (place : ℕ) (part : Part) → slice_get mail.parts place ≡ Some part
+    → suc (place + part.below) ≡ length mail.parts
 
 -- an operation that runs once in each turn, and has texts of the program alone
 abbrev pub is_plain : Operation → Bool
@@ -42,5 +43,8 @@ is_plain Take = false
 
 -- each operation of the program is one of these, and Halt stands once
 pub record IsPlain (code : Code) : Type 0 where
-  pub operations : (place : ℕ) (i : Instruction) (o : Operation) → slice_get code.instructions place ≡ Some i → operation_of i.op ≡ Some o → is_plain o ≡ true
-  pub one_end : (place other : ℕ) (i j : Instruction) → slice_get code.instructions place ≡ Some i → slice_get code.instructions other ≡ Some j → operation_of i.op ≡ Some Halt → operation_of j.op ≡ Some Halt → place ≡ other
+  pub operations : (place : ℕ) (i : Instruction) (o : Operation) → slice_get code.instructions place ≡ Some i
+      → operation_of i.op ≡ Some o → is_plain o ≡ true
+  pub one_end : (place other : ℕ) (i j : Instruction) → slice_get code.instructions place ≡ Some i
+      → slice_get code.instructions other ≡ Some j → operation_of i.op ≡ Some Halt → operation_of j.op ≡ Some Halt
+      → place ≡ other

@@ -14,22 +14,25 @@ use Rattle.sieve_vm.specs.State.{Frame, State, current_part}
 abbrev pub cap_value : Mail → Cap → ℕ
 cap_value mail cap = cap.fixed + cap.scaled * (size_of mail + 1)
 
--- what the instruction at a place may charge inside so many loops: its cap, for each turn of the further loops that it stands in, the
--- outermost of which has so many parts to visit
+-- what the instruction at a place may charge inside so many loops: its cap, for each turn of the
+-- further loops that it stands in, the outermost of which has so many parts to visit
 abbrev pub weight_at : Code → Mail → ℕ → ℕ → ℕ → ℕ
 weight_at code mail visits depth place =
-    cap_value mail (cap_at code place) * turns_left code.version (length mail.parts) visits (length (open_loops code place) - depth)
+    cap_value mail (cap_at code place) * turns_left code.version (length mail.parts) visits
+    (length (open_loops code place) - depth)
 
 -- what the instructions from a place on and before another may charge there
 abbrev pub stretch : Code → Mail → ℕ → ℕ → ℕ → ℕ → ℕ
 stretch code mail visits depth from to = sum_below (λ place. if nat_le from place then weight_at code mail visits depth place else 0) to
 
--- how many parts count for a loop that would be opened now: in programs of version 2 those that it would visit, else all
+-- how many parts count for a loop that would be opened now: in programs of version 2 those that it
+-- would visit, else all
 abbrev pub visits_now : Code → Mail → List Frame → ℕ
 visits_now code mail frames = if code.version == 2 then length (visited (current_part frames) mail) else length mail.parts
 
--- the rest of the innermost open loop's body, and the whole body again for the parts that the loop has left; then the same for the
--- loop around it, from after the inner Next; in the end the rest of the program
+-- the rest of the innermost open loop's body, and the whole body again for the parts that the loop
+-- has left; then the same for the loop around it, from after the inner Next; in the end the rest of
+-- the program
 abbrev pub potential_from : Code → Mail → ℕ → List Frame → ℕ
 potential_from code mail place [] = stretch code mail (visits_now code mail []) 0 place (length code.instructions)
 potential_from code mail place (frame ∷ frames) =

@@ -10,4 +10,5 @@ items_of (Shared octets) = octets.value.items
 
 -- the texts that were made of captures are those of the captures
 abbrev pub AreMade : List (Option SharedText) → List (List ℕ) → Type 0
-AreMade texts captures = (number : ℕ) → IfSome (slice_index_or texts number None) (λ text. items_of text ≡ slice_index_or captures number [])
+AreMade texts captures = (number : ℕ)
+    → IfSome (slice_index_or texts number None) (λ text. items_of text ≡ slice_index_or captures number [])

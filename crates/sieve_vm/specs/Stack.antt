@@ -19,7 +19,8 @@ texts_on_top (suc n) [] = None
 texts_on_top (suc n) (truth b ∷ stack) = None
 texts_on_top (suc n) (text octets ∷ stack) = option_map (with_last octets) (texts_on_top n stack)
 
--- lists of texts: names or sources, the parameters that were pushed after them, the keys after these, and the entries below
+-- lists of texts: names or sources, the parameters that were pushed after them, the keys after
+-- these, and the entries below
 pub record Lists : Type 0 where
   pub names : List (List ℕ)
   pub params : List (List ℕ)
@@ -32,7 +33,8 @@ with_params_and_keys params keys top = record { names = top.texts; params = para
 -- so many names or sources, and so many parameters above them, below keys that were taken
 abbrev pub lists_below : ℕ → ℕ → OnTop → Option Lists
 lists_below names params keys =
-    option_and_then (λ (between : OnTop). option_map (with_params_and_keys between.texts keys.texts) (texts_on_top names between.below)) (texts_on_top params keys.below)
+    option_and_then (λ (between : OnTop). option_map (with_params_and_keys between.texts keys.texts)
+    (texts_on_top names between.below)) (texts_on_top params keys.below)
 
 -- so many names or sources, so many parameters above them, and so many keys above these
 abbrev pub lists_on_top : ℕ → ℕ → ℕ → List Value → Option Lists

@@ -104,7 +104,8 @@ HasHad mail effect charge done machine = GoesFrom mail effect done.flow machine 
 -- what a test of fields finds
 abbrev pub found_in : Mail → ℕ → Lists → State → Option (List (List ℕ))
 found_in mail a lists state =
-    header_match (match_numbered (match_in a)) (scope_numbered (scope_in a)) (current_part state.frames) (selector_numbered (selector_in a) lists.params) lists.names lists.keys mail state.captures
+    header_match (match_numbered (match_in a)) (scope_numbered (scope_in a)) (current_part state.frames)
+    (selector_numbered (selector_in a) lists.params) lists.names lists.keys mail state.captures
 
 -- the machine goes from one state of the run to a later one
 pub record StepsOn (code : Code) (mail : Mail) (before after : Machine) : Type 0 where

@@ -38,6 +38,7 @@ pub data Turn : Type 0 where
   ends : State → Turn
   traps : Turn
 
--- before the first instruction: variables and captures are empty, the implicit keep stands, the stack is empty, no loop is open
+-- before the first instruction: variables and captures are empty, the implicit keep stands, the
+-- stack is empty, no loop is open
 abbrev pub start : Code → State
 start code = record { place = 0; stack = []; frames = []; variables = replicate code.variables []; captures = no_captures; actions = []; implicit_keep = true; charge = 0 }

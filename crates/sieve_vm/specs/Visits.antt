@@ -9,8 +9,9 @@ use Rattle.mime_decode.specs.Scope.{numbers_from}
 use Rattle.sieve_vm.specs.declared.frame.Frame as code
 use Rattle.sieve_vm.specs.State.{Frame, current_part}
 
--- a message, the loops that are open on its parts, the innermost first, and whether each holds the content of its current part; and by
--- the numbers of the parts what is known of their contents: how long they are, their digests, and their first octets
+-- a message, the loops that are open on its parts, the innermost first, and whether each holds the
+-- content of its current part; and by the numbers of the parts what is known of their contents: how
+-- long they are, their digests, and their first octets
 pub record Visits : Type 0 where
   pub mail : Mail
   pub frames : List Frame
@@ -33,13 +34,18 @@ held_in frames = map (λ frame. is_some frame.content) (reverse frames)
 
 -- the content that a frame has is that of its current part
 abbrev pub HasContent : Mail → code.Frame → Type 0
-HasContent mail frame = IfSome frame.content (λ content. (part : Part) → slice_get mail.parts frame.part ≡ Some part → cow_slice_items content ≡ part.content)
+HasContent mail frame = IfSome frame.content
+    (λ content. (part : Part) → slice_get mail.parts frame.part ≡ Some part → cow_slice_items content ≡ part.content)
 
--- what is known of parts is so: the lengths of their contents, the digests, and the first octets, as many as a variable's value has at most
+-- what is known of parts is so: the lengths of their contents, the digests, and the first octets,
+-- as many as a variable's value has at most
 pub record IsKnown (mail : Mail) (lengths : List (Option ℕ)) (digests beginnings : List (Option (List ℕ))) : Type 0 where
-  pub length_is : (place found : ℕ) (part : Part) → slice_index_or lengths place None ≡ Some found → slice_get mail.parts place ≡ Some part → found ≡ length part.content
-  pub digest_is : (place : ℕ) (found : List ℕ) (part : Part) → slice_index_or digests place None ≡ Some found → slice_get mail.parts place ≡ Some part → found ≡ digest_of part.content
-  pub beginning_is : (place : ℕ) (found : List ℕ) (part : Part) → slice_index_or beginnings place None ≡ Some found → slice_get mail.parts place ≡ Some part → found ≡ take max_value part.content
+  pub length_is : (place found : ℕ) (part : Part) → slice_index_or lengths place None ≡ Some found
+      → slice_get mail.parts place ≡ Some part → found ≡ length part.content
+  pub digest_is : (place : ℕ) (found : List ℕ) (part : Part) → slice_index_or digests place None ≡ Some found
+      → slice_get mail.parts place ≡ Some part → found ≡ digest_of part.content
+  pub beginning_is : (place : ℕ) (found : List ℕ) (part : Part) → slice_index_or beginnings place None ≡ Some found
+      → slice_get mail.parts place ≡ Some part → found ≡ take max_value part.content
 
 -- the current part
 abbrev pub part_in : Visits → Option Part

@@ -83,7 +83,9 @@ fn text_made<'p>(
     made: &[Option<SharedText<'p>>],
     place: usize,
 ) -> Result<Option<SharedText<'p>>, AllocError>
-    ensures some { IfOk result (λ found. IfSome found (λ text. IsSomeAnd (slice_index_or made.now place None) (λ held. items_of text ≡ items_of held))) }
+    ensures some { IfOk result (λ found. IfSome found
+        (λ text. IsSomeAnd (slice_index_or made.now place None)
+        (λ held. items_of text ≡ items_of held))) }
     ensures none { IfOk result (λ found. IsNone found → slice_index_or made.now place None ≡ None) }
 {
     match made.get(place) {

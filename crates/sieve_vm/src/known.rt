@@ -37,8 +37,12 @@ pub fn keep<T: Drop>(
     found: T,
 ) -> Result<(), AllocError>
     requires { part < parts }
-    ensures kept { OnOk result ((other : ℕ) → slice_index_or list.new.items other None ≡ (if other == part then Some found else slice_index_or list.old.items other None)) }
-    ensures refused { OnErr result ((other : ℕ) → slice_index_or list.new.items other None ≡ slice_index_or list.old.items other None) }
+    ensures kept { OnOk result ((other : ℕ)
+        → slice_index_or list.new.items other None
+        ≡ (if other == part then Some found else slice_index_or list.old.items other None)) }
+    ensures refused { OnErr result
+        ((other : ℕ) → slice_index_or list.new.items other None
+        ≡ slice_index_or list.old.items other None) }
 {
     widen(list, parts)?;
     list[part] = Some(found);
@@ -47,7 +51,8 @@ pub fn keep<T: Drop>(
 
 // Makes room for what is known of so many parts.
 fn widen<T: Drop>(list: &mut Vec<Option<T>>, parts: usize) -> Result<(), AllocError>
-    ensures same { (other : ℕ) → slice_index_or list.new.items other None ≡ slice_index_or list.old.items other None }
+    ensures same { (other : ℕ) → slice_index_or list.new.items other None
+        ≡ slice_index_or list.old.items other None }
     ensures room { OnOk result (parts ≤ length list.new.items) }
 {
     'room: while list.len() < parts {

@@ -15,59 +15,81 @@ ghost use Rattle.sieve_vm.specs.Stores.{NamesPart};
 
 /// Accepted programs never trap: no state that a run reaches from the start steps to a trap.
 pub fn accepted_programs_never_trap()
-    ensures { (code : Code) (mail : Mail) → IsAccepted code → IsMail mail → (n : ℕ) (state : State) → Run code mail n (start code) state → step code mail state ≢ traps }
+    ensures { (code : Code) (mail : Mail) → IsAccepted code → IsMail mail → (n : ℕ) (state : State)
+        → Run code mail n (start code) state → step code mail state ≢ traps }
 {}
 
 /// The potential is the budget at the start, and falls by each charge.
 pub fn potential_falls_by_each_charge()
-    ensures start { (code : Code) (mail : Mail) → IsAccepted code → potential code mail (start code) ≡ limit_of code mail }
-    ensures step { (code : Code) (mail : Mail) → IsAccepted code → IsMail mail → (n : ℕ) (state after : State) → Run code mail n (start code) state → step code mail state ≡ goes after → potential code mail after + after.charge ≤ potential code mail state + state.charge }
-    ensures end { (code : Code) (mail : Mail) → IsAccepted code → IsMail mail → (n : ℕ) (state end : State) → Run code mail n (start code) state → step code mail state ≡ ends end → end.charge ≤ potential code mail state + state.charge }
+    ensures start { (code : Code) (mail : Mail) → IsAccepted code
+        → potential code mail (start code) ≡ limit_of code mail }
+    ensures step { (code : Code) (mail : Mail) → IsAccepted code → IsMail mail
+        → (n : ℕ) (state after : State) → Run code mail n (start code) state
+        → step code mail state ≡ goes after
+        → potential code mail after + after.charge ≤ potential code mail state + state.charge }
+    ensures end { (code : Code) (mail : Mail) → IsAccepted code → IsMail mail
+        → (n : ℕ) (state end : State) → Run code mail n (start code) state
+        → step code mail state ≡ ends end → end.charge ≤ potential code mail state + state.charge }
 {}
 
 /// Each prefix of a run charges at most the budget, and a run has at most as many steps, that to its end
 /// included.
 pub fn runs_stay_within_the_budget()
-    ensures charge { (code : Code) (mail : Mail) → IsAccepted code → IsMail mail → (n : ℕ) (state : State) → Run code mail n (start code) state → state.charge ≤ limit_of code mail }
-    ensures steps { (code : Code) (mail : Mail) → IsAccepted code → IsMail mail → (n : ℕ) (state : State) → Run code mail n (start code) state → n ≤ limit_of code mail }
-    ensures ends { (code : Code) (mail : Mail) → IsAccepted code → IsMail mail → (n : ℕ) (state end : State) → Run code mail n (start code) state → step code mail state ≡ ends end → suc n ≤ limit_of code mail }
+    ensures charge { (code : Code) (mail : Mail) → IsAccepted code → IsMail mail
+        → (n : ℕ) (state : State) → Run code mail n (start code) state
+        → state.charge ≤ limit_of code mail }
+    ensures steps { (code : Code) (mail : Mail) → IsAccepted code → IsMail mail
+        → (n : ℕ) (state : State) → Run code mail n (start code) state → n ≤ limit_of code mail }
+    ensures ends { (code : Code) (mail : Mail) → IsAccepted code → IsMail mail
+        → (n : ℕ) (state end : State) → Run code mail n (start code) state
+        → step code mail state ≡ ends end → suc n ≤ limit_of code mail }
 {}
 
 /// Turns are chains of parts: the current part of each open loop is below that of the loop around it, what a
 /// loop has left comes after its current part, and what is below that part is among it.
 pub fn turns_are_chains()
-    ensures { (code : Code) (mail : Mail) → IsAccepted code → IsMail mail → (n : ℕ) (state : State) → Run code mail n (start code) state → AreChained mail state.frames }
+    ensures { (code : Code) (mail : Mail) → IsAccepted code → IsMail mail → (n : ℕ) (state : State)
+        → Run code mail n (start code) state → AreChained mail state.frames }
 {}
 
 /// The run of an accepted program reaches its end, within the budget.
 pub fn runs_reach_their_end()
-    ensures { (code : Code) (mail : Mail) → IsAccepted code → IsMail mail → (end : State) × RunEnds code mail end × (end.charge ≤ limit_of code mail) }
+    ensures { (code : Code) (mail : Mail) → IsAccepted code → IsMail mail
+        → (end : State) × RunEnds code mail end × (end.charge ≤ limit_of code mail) }
 {}
 
 /// A run has one end.
 pub fn runs_have_one_end()
-    ensures { (code : Code) (mail : Mail) (one other : State) → RunEnds code mail one → RunEnds code mail other → one ≡ other }
+    ensures { (code : Code) (mail : Mail) (one other : State) → RunEnds code mail one
+        → RunEnds code mail other → one ≡ other }
 {}
 
 /// Each action of a run that stores a part names one of the message.
 pub fn runs_store_parts_of_the_message()
-    ensures { (code : Code) (mail : Mail) → IsAccepted code → IsMail mail → (n : ℕ) (state : State) → Run code mail n (start code) state → All (NamesPart mail) state.actions }
+    ensures { (code : Code) (mail : Mail) → IsAccepted code → IsMail mail → (n : ℕ) (state : State)
+        → Run code mail n (start code) state → All (NamesPart mail) state.actions }
 {}
 
 /// And so does each final action.
 pub fn outcomes_store_parts_of_the_message()
-    ensures { (code : Code) (mail : Mail) (actions : List Action) (charged : ℕ) → IsAccepted code → IsMail mail → IsOutcome code mail actions charged → All (NamesPart mail) actions }
+    ensures { (code : Code) (mail : Mail) (actions : List Action) (charged : ℕ) → IsAccepted code
+        → IsMail mail → IsOutcome code mail actions charged → All (NamesPart mail) actions }
 {}
 
 /// What is accepted in one version runs the same in version 2: each step is the same, from every state, and so is the end.
 pub fn programs_run_the_same_in_version_two()
-    ensures step { (code : Code) (mail : Mail) → IsAccepted code → (state : State) → step (record code { version = 2 }) mail state ≡ step code mail state }
-    ensures ends { (code : Code) (mail : Mail) → IsAccepted code → (end : State) → RunEnds code mail end → RunEnds (record code { version = 2 }) mail end }
-    ensures no_other { (code : Code) (mail : Mail) → IsAccepted code → (end : State) → RunEnds (record code { version = 2 }) mail end → RunEnds code mail end }
+    ensures step { (code : Code) (mail : Mail) → IsAccepted code → (state : State)
+        → step (record code { version = 2 }) mail state ≡ step code mail state }
+    ensures ends { (code : Code) (mail : Mail) → IsAccepted code → (end : State)
+        → RunEnds code mail end → RunEnds (record code { version = 2 }) mail end }
+    ensures no_other { (code : Code) (mail : Mail) → IsAccepted code → (end : State)
+        → RunEnds (record code { version = 2 }) mail end → RunEnds code mail end }
 {}
 
 /// A program of version 2 of which each operation runs once in each turn, and has texts of the program alone, charges exactly its
 /// budget on a message whose parts are a chain.
 pub fn plain_programs_charge_their_budget_on_chains()
-    ensures { (code : Code) (mail : Mail) → IsAccepted code → IsMail mail → code.version ≡ 2 → IsPlain code → IsChain mail → (end : State) → RunEnds code mail end → end.charge ≡ limit_of code mail }
+    ensures { (code : Code) (mail : Mail) → IsAccepted code → IsMail mail → code.version ≡ 2
+        → IsPlain code → IsChain mail → (end : State) → RunEnds code mail end
+        → end.charge ≡ limit_of code mail }
 {}

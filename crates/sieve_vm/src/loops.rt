@@ -54,13 +54,21 @@ impl<'s, 'm> Model for Loops<'s, 'm> {
       beginnings = l.beginnings.items;
     } };
 
-    ghost invariant = { λ l. All (HasContent l.message.now) l.frames.items × IsKnown l.message.now l.lengths.items l.digests.items l.beginnings.items };
+    ghost invariant = { λ l. All (HasContent l.message.now) l.frames.items
+        × IsKnown l.message.now l.lengths.items l.digests.items l.beginnings.items };
 }
 
 impl<'s, 'm> Loops<'s, 'm> {
     /// No loop is open on the message.
     pub fn new(alloc: Global, message: &'s Message<'m>) -> Loops<'s, 'm>
-        ensures { result ≡ record { mail = message.now; frames = []; held = []; lengths = []; digests = []; beginnings = [] } }
+        ensures { result ≡ record {
+          mail = message.now;
+          frames = [];
+          held = [];
+          lengths = [];
+          digests = [];
+          beginnings = [];
+        } }
     {
         Loops {
             message,
@@ -84,8 +92,10 @@ impl<'s, 'm> Loops<'s, 'm> {
 
     // The first of the parts that a loop visits which is opened here, and how many they are.
     fn visited(&self) -> (usize, usize)
-        requires { IfSome (current_part self.now.frames) (λ part. part < length self.now.mail.parts) }
-        ensures parts { numbers_from result.0 result.1 ≡ visited (current_part self.now.frames) self.now.mail }
+        requires { IfSome (current_part self.now.frames)
+            (λ part. part < length self.now.mail.parts) }
+        ensures parts { numbers_from result.0 result.1
+            ≡ visited (current_part self.now.frames) self.now.mail }
         ensures few { result.0 + result.1 ≤ max_parts }
     {
         let parts = self.message.parts();
@@ -98,8 +108,10 @@ impl<'s, 'm> Loops<'s, 'm> {
     /// Opens a loop on its first part, if there is one.
     pub fn open(&mut self, each: usize, next: usize) -> bool
         requires room { length self.old.frames < max_loops }
-        requires current { IfSome (current_part self.old.frames) (λ part. part < length self.old.mail.parts) }
-        ensures { Opens each next (visited (current_part self.old.frames) self.old.mail) result self.old self.new }
+        requires current { IfSome (current_part self.old.frames)
+            (λ part. part < length self.old.mail.parts) }
+        ensures { Opens each next (visited (current_part self.old.frames) self.old.mail) result
+            self.old self.new }
     {
         let (first, number) = self.visited();
         if number == 0 {
@@ -119,7 +131,9 @@ impl<'s, 'm> Loops<'s, 'm> {
     #[inline(always)]
     pub fn next_part(&mut self) -> Option<usize>
         requires { 0 < length self.old.frames }
-        ensures { (frame : State.Frame) (frames : List State.Frame) → self.old.frames ≡ frame ∷ frames → Continues frame frames frame.rest result self.old self.new }
+        ensures { (frame : State.Frame) (frames : List State.Frame)
+            → self.old.frames ≡ frame ∷ frames
+            → Continues frame frames frame.rest result self.old self.new }
     {
         let innermost = self.frames.len() - 1;
         let each = self.frames[innermost].each;
@@ -134,7 +148,10 @@ impl<'s, 'm> Loops<'s, 'm> {
     pub fn close(&mut self, number: usize) -> usize
         requires some { 0 < number }
         requires there { number ≤ length self.old.frames }
-        ensures { (frame : State.Frame) (frames : List State.Frame) → drop (number - 1) self.old.frames ≡ frame ∷ frames → (result ≡ frame.next) × (self.new ≡ record self.old { frames = frames; held = drop number self.old.held }) }
+        ensures { (frame : State.Frame) (frames : List State.Frame)
+            → drop (number - 1) self.old.frames ≡ frame ∷ frames
+            → (result ≡ frame.next) × (self.new
+            ≡ record self.old { frames = frames; held = drop number self.old.held }) }
     {
         let left = self.frames.len() - number;
         let next = self.frames[left].next;
@@ -169,7 +186,8 @@ impl<'s, 'm> Loops<'s, 'm> {
 
     // Holds this content, which is that of the current part.
     fn hold(&mut self, content: CowSlice<'m, u8>)
-        requires { (part : Part) × ((part_in self.old ≡ Some part) × (cow_slice_items content ≡ part.content)) }
+        requires { (part : Part) × ((part_in self.old ≡ Some part)
+            × (cow_slice_items content ≡ part.content)) }
         ensures { self.new ≡ holding self.old }
     {
         let innermost = self.frames.len() - 1;
@@ -180,7 +198,8 @@ impl<'s, 'm> Loops<'s, 'm> {
     pub fn content(&self) -> &CowSlice<'m, u8>
         requires part { IsSome (part_in self.now) }
         requires held { holds self.now ≡ true }
-        ensures { (part : Part) → part_in self.now ≡ Some part → cow_slice_items result.now ≡ part.content }
+        ensures { (part : Part) → part_in self.now ≡ Some part
+            → cow_slice_items result.now ≡ part.content }
     {
         let innermost = self.frames.len() - 1;
         self.frames[innermost].content.as_ref().unwrap()
@@ -192,11 +211,15 @@ impl<'s, 'm> Loops<'s, 'm> {
     /// length is known.
     pub fn length(&mut self, alloc: Global) -> Result<usize, AllocError>
         requires { IsSome (part_in self.old) }
-        ensures length { IfOk result (λ found. (part : Part) → part_in self.old ≡ Some part → found ≡ length part.content) }
+        ensures length { IfOk result
+            (λ found. (part : Part) → part_in self.old ≡ Some part → found ≡ length part.content) }
         ensures same { OnOk result (HasSameLoops self.old self.new) }
-        ensures known { OnOk result (IsSome (known_of self.old.lengths self.old) → self.new ≡ self.old) }
-        ensures held { OnOk result (known_of self.old.lengths self.old ≡ None → self.new ≡ record (holding self.old) { lengths = self.new.lengths }) }
-        ensures kept { IfOk result (λ found. Learns found self.old.lengths self.new.lengths self.old) }
+        ensures known { OnOk result
+            (IsSome (known_of self.old.lengths self.old) → self.new ≡ self.old) }
+        ensures held { OnOk result (known_of self.old.lengths self.old ≡ None
+            → self.new ≡ record (holding self.old) { lengths = self.new.lengths }) }
+        ensures kept { IfOk result (λ found. Learns found self.old.lengths self.new.lengths
+            self.old) }
         ensures refused { OnErr result (known_of self.old.lengths self.old ≡ None) }
     {
         let part = self.part();
@@ -215,11 +238,16 @@ impl<'s, 'm> Loops<'s, 'm> {
     /// digest is known.
     pub fn digest(&mut self, alloc: Global) -> Result<[u8; 64], AllocError>
         requires { IsSome (part_in self.old) }
-        ensures digest { IfOk result (λ found. (part : Part) → part_in self.old ≡ Some part → found ≡ digest_of part.content) }
+        ensures digest { IfOk result
+            (λ found. (part : Part) → part_in self.old ≡ Some part
+            → found ≡ digest_of part.content) }
         ensures same { OnOk result (HasSameLoops self.old self.new) }
-        ensures known { OnOk result (IsSome (known_of self.old.digests self.old) → self.new ≡ self.old) }
-        ensures held { OnOk result (known_of self.old.digests self.old ≡ None → self.new ≡ record (holding self.old) { digests = self.new.digests }) }
-        ensures kept { IfOk result (λ found. Learns found self.old.digests self.new.digests self.old) }
+        ensures known { OnOk result
+            (IsSome (known_of self.old.digests self.old) → self.new ≡ self.old) }
+        ensures held { OnOk result (known_of self.old.digests self.old ≡ None
+            → self.new ≡ record (holding self.old) { digests = self.new.digests }) }
+        ensures kept { IfOk result (λ found. Learns found self.old.digests self.new.digests
+            self.old) }
         ensures refused { OnErr result (known_of self.old.digests self.old ≡ None) }
     {
         let part = self.part();
@@ -239,10 +267,14 @@ impl<'s, 'm> Loops<'s, 'm> {
     pub fn beginning(&mut self, alloc: Global, most: usize) -> Result<Vec<u8>, AllocError>
         requires part { IsSome (part_in self.old) }
         requires few { most ≤ max_value }
-        ensures octets { IfOk result (λ octets. (part : Part) → part_in self.old ≡ Some part → octets.items ≡ take most part.content) }
+        ensures octets { IfOk result
+            (λ octets. (part : Part) → part_in self.old ≡ Some part
+            → octets.items ≡ take most part.content) }
         ensures same { OnOk result (HasSameLoops self.old self.new) }
-        ensures known { OnOk result (IsSome (known_of self.old.beginnings self.old) → self.new ≡ self.old) }
-        ensures held { OnOk result (known_of self.old.beginnings self.old ≡ None → self.new ≡ record (holding self.old) { beginnings = self.new.beginnings }) }
+        ensures known { OnOk result
+            (IsSome (known_of self.old.beginnings self.old) → self.new ≡ self.old) }
+        ensures held { OnOk result (known_of self.old.beginnings self.old ≡ None
+            → self.new ≡ record (holding self.old) { beginnings = self.new.beginnings }) }
     {
         let part = self.part();
         if let Some(found) = octets_known(&self.beginnings, part) {
@@ -272,7 +304,8 @@ fn decoded_beginning(
     alloc: Global,
     content: &CowSlice<'_, u8>,
 ) -> Result<Option<Octets>, AllocError>
-    ensures decoded { IfOk result (λ found. IfSome found (λ octets. octets ≡ take max_value (cow_slice_items content.now))) }
+    ensures decoded { IfOk result
+        (λ found. IfSome found (λ octets. octets ≡ take max_value (cow_slice_items content.now))) }
     ensures lent { IfOk result (λ found. IsNone found → IsBorrowedSlice content.now) }
 {
     match content {

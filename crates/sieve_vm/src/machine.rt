@@ -90,8 +90,10 @@ impl<'p, 's, 'm> Machine<'p, 's, 'm> {
         requires accepted { IsAccepted program.now }
         requires mail { IsMail message.now }
         requires running { IsRunning program.now message.now self.old }
-        ensures goes_on { IfOk result (λ turn. turn ≡ Turn.GoesOn → StepsOn program.now message.now self.old self.new) }
-        ensures ends { IfOk result (λ turn. turn ≡ Turn.Ends → IsOver program.now message.now self.new) }
+        ensures goes_on { IfOk result
+            (λ turn. turn ≡ Turn.GoesOn → StepsOn program.now message.now self.old self.new) }
+        ensures ends { IfOk result (λ turn. turn ≡ Turn.Ends
+            → IsOver program.now message.now self.new) }
     {
         let instruction = program.instructions()[self.place];
         let operation = Operation::of(instruction.op).unwrap();
@@ -126,7 +128,9 @@ impl<'p, 's, 'm> Machine<'p, 's, 'm> {
         requires here { slice_get program.now.instructions self.old.place ≡ Some instruction.now }
         requires named { operation_of instruction.now.op ≡ Some operation }
         requires running { IsRunning program.now message.now self.old }
-        ensures { IfOk result (λ done. (s : State) → IsIn program.now message.now s self.old → HasHad message.now (effect program.now message.now operation instruction.now s) (charge_of program.now message.now operation instruction.now s) done self.new) }
+        ensures { IfOk result (λ done. (s : State) → IsIn program.now message.now s self.old
+            → HasHad message.now (effect program.now message.now operation instruction.now s)
+            (charge_of program.now message.now operation instruction.now s) done self.new) }
     {
         match operation {
             Operation::Halt => Ok(once(Flow::Ends)),
@@ -172,7 +176,9 @@ impl<'p, 's, 'm> Machine<'p, 's, 'm> {
     /// Puts a truth value on top of the stack.
     #[inline(always)]
     pub fn push(&mut self, value: bool) -> Result<Done, AllocError>
-        ensures done { IfOk result (λ done. (done ≡ once Flow.On) × ((mail : Mail) (s : State) → StandsFor mail s self.old → StandsFor mail (record s { stack = truth value ∷ s.stack }) self.new)) }
+        ensures done { IfOk result (λ done. (done ≡ once Flow.On)
+            × ((mail : Mail) (s : State) → StandsFor mail s self.old
+            → StandsFor mail (record s { stack = truth value ∷ s.stack }) self.new)) }
         ensures loops { self.new.loops ≡ self.old.loops }
     {
         self.work.push(Entry::Truth(value))?;
@@ -182,7 +188,9 @@ impl<'p, 's, 'm> Machine<'p, 's, 'm> {
     // Puts a text that the program lends on top of the stack.
     #[inline(always)]
     fn push_text(&mut self, octets: &'p [u8]) -> Result<Done, AllocError>
-        ensures { IfOk result (λ done. (done ≡ once Flow.On) × ((mail : Mail) (s : State) → StandsFor mail s self.old → StandsFor mail (record s { stack = text octets.now ∷ s.stack }) self.new)) }
+        ensures { IfOk result (λ done. (done ≡ once Flow.On)
+            × ((mail : Mail) (s : State) → StandsFor mail s self.old
+            → StandsFor mail (record s { stack = text octets.now ∷ s.stack }) self.new)) }
     {
         self.work.push(Entry::Text(SharedText::Lent(octets)))?;
         Ok(once(Flow::On))
@@ -191,7 +199,11 @@ impl<'p, 's, 'm> Machine<'p, 's, 'm> {
     // Puts the value of a variable on top of the stack.
     #[inline(always)]
     fn push_variable(&mut self, number: usize) -> Result<Done, AllocError>
-        ensures { IfOk result (λ done. (done ≡ once Flow.On) × ((mail : Mail) (s : State) → StandsFor mail s self.old → StandsFor mail (record s { stack = text (slice_index_or s.variables number []) ∷ s.stack }) self.new)) }
+        ensures { IfOk result (λ done. (done ≡ once Flow.On)
+            × ((mail : Mail) (s : State) → StandsFor mail s self.old
+            → StandsFor mail (record
+            s { stack = text (slice_index_or s.variables number []) ∷ s.stack })
+            self.new)) }
     {
         self.work.push_variable(number)?;
         Ok(once(Flow::On))
@@ -200,7 +212,11 @@ impl<'p, 's, 'm> Machine<'p, 's, 'm> {
     // Puts a capture on top of the stack.
     #[inline(always)]
     fn push_capture(&mut self, alloc: Global, number: u8) -> Result<Done, AllocError>
-        ensures { IfOk result (λ done. (done ≡ once Flow.On) × ((mail : Mail) (s : State) → StandsFor mail s self.old → StandsFor mail (record s { stack = text (slice_index_or s.captures number []) ∷ s.stack }) self.new)) }
+        ensures { IfOk result (λ done. (done ≡ once Flow.On)
+            × ((mail : Mail) (s : State) → StandsFor mail s self.old
+            → StandsFor mail (record
+            s { stack = text (slice_index_or s.captures number []) ∷ s.stack })
+            self.new)) }
     {
         self.work.push_capture(alloc, number)?;
         Ok(once(Flow::On))
@@ -209,8 +225,12 @@ impl<'p, 's, 'm> Machine<'p, 's, 'm> {
     // Takes the truth value on top of the stack.
     #[inline(always)]
     fn take(&mut self) -> bool
-        requires { (mail : Mail) × ((s : State) × ((b : Bool) × ((rest : List Value) × (StandsFor mail s self.old × (s.stack ≡ truth b ∷ rest))))) }
-        ensures { (mail : Mail) (s : State) (b : Bool) (rest : List Value) → StandsFor mail s self.old → s.stack ≡ truth b ∷ rest → (result ≡ b) × StandsFor mail (record s { stack = rest }) self.new }
+        requires { (mail : Mail) × ((s : State)
+            × ((b : Bool) × ((rest : List Value)
+            × (StandsFor mail s self.old × (s.stack ≡ truth b ∷ rest))))) }
+        ensures { (mail : Mail) (s : State) (b : Bool) (rest : List Value)
+            → StandsFor mail s self.old → s.stack ≡ truth b ∷ rest
+            → (result ≡ b) × StandsFor mail (record s { stack = rest }) self.new }
     {
         self.work.take_truth()
     }
@@ -218,8 +238,12 @@ impl<'p, 's, 'm> Machine<'p, 's, 'm> {
     // Takes the truth value on top of the stack, and goes to the target where it is this one.
     #[inline(always)]
     fn branch(&mut self, target: u32, wanted: bool) -> Done
-        requires { (mail : Mail) × ((s : State) × ((b : Bool) × ((rest : List Value) × (StandsFor mail s self.old × (s.stack ≡ truth b ∷ rest))))) }
-        ensures { (mail : Mail) (s : State) (b : Bool) (rest : List Value) → StandsFor mail s self.old → s.stack ≡ truth b ∷ rest → HasHad mail (branch target wanted b (record s { stack = rest })) 1 result self.new }
+        requires { (mail : Mail) × ((s : State)
+            × ((b : Bool) × ((rest : List Value)
+            × (StandsFor mail s self.old × (s.stack ≡ truth b ∷ rest))))) }
+        ensures { (mail : Mail) (s : State) (b : Bool) (rest : List Value)
+            → StandsFor mail s self.old → s.stack ≡ truth b ∷ rest
+            → HasHad mail (branch target wanted b (record s { stack = rest })) 1 result self.new }
     {
         if self.take() == wanted {
             once(Flow::To(target as usize))
@@ -231,7 +255,11 @@ impl<'p, 's, 'm> Machine<'p, 's, 'm> {
     // Lists Keep, and takes the implicit keep away.
     #[inline(always)]
     fn keep(&mut self) -> Result<Done, AllocError>
-        ensures { IfOk result (λ done. (done ≡ once Flow.On) × ((mail : Mail) (s : State) → StandsFor mail s self.old → StandsFor mail (record s { actions = s.actions ++ Action.Keep ∷ []; implicit_keep = false }) self.new)) }
+        ensures { IfOk result (λ done. (done ≡ once Flow.On)
+            × ((mail : Mail) (s : State) → StandsFor mail s self.old
+            → StandsFor mail (record
+            s { actions = s.actions ++ Action.Keep ∷ []; implicit_keep = false })
+            self.new)) }
     {
         self.list(Action::Keep)?;
         Ok(self.discard())
@@ -239,9 +267,18 @@ impl<'p, 's, 'm> Machine<'p, 's, 'm> {
 
     // Lists File for the folder on top of the stack, which is taken, and takes the implicit keep away.
     fn file(&mut self, alloc: Global) -> Result<Done, AllocError>
-        requires { (mail : Mail) × ((s : State) × ((t : List ℕ) × ((rest : List Value) × (StandsFor mail s self.old × (s.stack ≡ text t ∷ rest))))) }
-        ensures { IfOk result (λ done. (mail : Mail) (s : State) (t : List ℕ) (rest : List Value) → StandsFor mail s self.old → s.stack ≡ text t ∷ rest
-            → (done ≡ record { flow = Flow.On; cost = length t }) × StandsFor mail (record s { stack = rest; actions = s.actions ++ Action.File t ∷ []; implicit_keep = false }) self.new) }
+        requires { (mail : Mail) × ((s : State)
+            × ((t : List ℕ) × ((rest : List Value)
+            × (StandsFor mail s self.old × (s.stack ≡ text t ∷ rest))))) }
+        ensures { IfOk result (λ done. (mail : Mail) (s : State) (t : List ℕ) (rest : List Value)
+            → StandsFor mail s self.old → s.stack ≡ text t ∷ rest
+            → (done ≡ record { flow = Flow.On; cost = length t })
+            × StandsFor mail (record s {
+              stack = rest;
+              actions = s.actions ++ Action.File t
+                  ∷ [];
+              implicit_keep = false;
+            }) self.new) }
     {
         let folder = self.work.take_text(alloc)?;
         let cost = folder.len() as u128;
@@ -253,7 +290,8 @@ impl<'p, 's, 'm> Machine<'p, 's, 'm> {
     // Lists an action.
     #[inline(always)]
     fn list(&mut self, action: Action) -> Result<(), AllocError>
-        ensures { OnOk result ((mail : Mail) (s : State) → StandsFor mail s self.old → StandsFor mail (record s { actions = s.actions ++ action ∷ [] }) self.new) }
+        ensures { OnOk result ((mail : Mail) (s : State) → StandsFor mail s self.old
+            → StandsFor mail (record s { actions = s.actions ++ action ∷ [] }) self.new) }
     {
         Ok(self.actions.push(action)?)
     }
@@ -262,7 +300,8 @@ impl<'p, 's, 'm> Machine<'p, 's, 'm> {
     #[inline(always)]
     fn discard(&mut self) -> Done
         ensures flow { result ≡ once Flow.On }
-        ensures stands { (mail : Mail) (s : State) → StandsFor mail s self.old → StandsFor mail (record s { implicit_keep = false }) self.new }
+        ensures stands { (mail : Mail) (s : State) → StandsFor mail s self.old
+            → StandsFor mail (record s { implicit_keep = false }) self.new }
     {
         self.implicit_keep = false;
         once(Flow::On)
@@ -271,9 +310,19 @@ impl<'p, 's, 'm> Machine<'p, 's, 'm> {
     // Lists Store for the current part and the folder on top of the stack, which is taken.
     fn store(&mut self, alloc: Global) -> Result<Done, AllocError>
         requires part { IsSome (current_part self.old.loops.frames) }
-        requires top { (mail : Mail) × ((s : State) × ((t : List ℕ) × ((rest : List Value) × (StandsFor mail s self.old × (s.stack ≡ text t ∷ rest))))) }
-        ensures { IfOk result (λ done. (mail : Mail) (s : State) (t : List ℕ) (rest : List Value) (part : ℕ) → StandsFor mail s self.old → s.stack ≡ text t ∷ rest → current_part s.frames ≡ Some part
-            → (done ≡ record { flow = Flow.On; cost = length t }) × StandsFor mail (record s { stack = rest; actions = s.actions ++ Action.Store t part ∷ [] }) self.new) }
+        requires top { (mail : Mail)
+            × ((s : State) × ((t : List ℕ)
+            × ((rest : List Value) × (StandsFor mail s self.old
+            × (s.stack ≡ text t ∷ rest))))) }
+        ensures { IfOk result (λ done. (mail : Mail) (s : State) (t : List ℕ) (rest : List Value)
+            (part : ℕ) → StandsFor mail s self.old → s.stack ≡ text t ∷ rest
+            → current_part s.frames ≡ Some part
+            → (done ≡ record { flow = Flow.On; cost = length t })
+            × StandsFor mail (record s {
+              stack = rest;
+              actions = s.actions
+                  ++ Action.Store t part ∷ [];
+            }) self.new) }
     {
         let part = self.loops.current().unwrap();
         let folder = self.work.take_text(alloc)?;
@@ -288,8 +337,11 @@ impl<'p, 's, 'm> Machine<'p, 's, 'm> {
     // Opens the loop of this Each, whose Next stands at the place, on its first part; or goes on after it.
     fn each(&mut self, next: u32) -> Done
         requires room { length self.old.loops.frames < max_loops }
-        requires current { IfSome (current_part self.old.loops.frames) (λ part. part < length self.old.loops.mail.parts) }
-        ensures { (mail : Mail) (s : State) → StandsFor mail s self.old → HasHad mail (open_loop next (visited (current_part s.frames) mail) s) 1 result self.new }
+        requires current { IfSome (current_part self.old.loops.frames)
+            (λ part. part < length self.old.loops.mail.parts) }
+        ensures { (mail : Mail) (s : State) → StandsFor mail s self.old
+            → HasHad mail (open_loop next (visited (current_part s.frames) mail) s) 1 result
+            self.new }
     {
         if self.loops.open(self.place, next as usize) {
             once(Flow::On)
@@ -301,8 +353,10 @@ impl<'p, 's, 'm> Machine<'p, 's, 'm> {
     // Goes on with the next part of the innermost loop, or closes it.
     #[inline(always)]
     fn next(&mut self) -> Done
-        requires { (frame : Frame) × ((frames : List Frame) × ((self.old.loops.frames ≡ frame ∷ frames) × (frame.each < max_instructions))) }
-        ensures { (mail : Mail) (s : State) (frame : Frame) (frames : List Frame) → StandsFor mail s self.old → s.frames ≡ frame ∷ frames
+        requires { (frame : Frame) × ((frames : List Frame)
+            × ((self.old.loops.frames ≡ frame ∷ frames) × (frame.each < max_instructions))) }
+        ensures { (mail : Mail) (s : State) (frame : Frame) (frames : List Frame)
+            → StandsFor mail s self.old → s.frames ≡ frame ∷ frames
             → HasHad mail (next_part frame frames frame.rest s) 1 result self.new }
     {
         match self.loops.next_part() {
@@ -314,9 +368,13 @@ impl<'p, 's, 'm> Machine<'p, 's, 'm> {
     // Closes so many loops, and goes on after the last one's Next.
     fn close(&mut self, number: usize) -> Done
         requires some { 0 < number }
-        requires there { (frame : Frame) × ((frames : List Frame) × ((drop (number - 1) self.old.loops.frames ≡ frame ∷ frames) × (frame.next < max_instructions))) }
-        ensures { (mail : Mail) (s : State) (frame : Frame) (frames : List Frame) → StandsFor mail s self.old → drop (number - 1) s.frames ≡ frame ∷ frames
-            → HasHad mail (jumps (suc frame.next) (record s { frames = frames })) 1 result self.new }
+        requires there { (frame : Frame)
+            × ((frames : List Frame) × ((drop (number - 1) self.old.loops.frames ≡ frame ∷ frames)
+            × (frame.next < max_instructions))) }
+        ensures { (mail : Mail) (s : State) (frame : Frame) (frames : List Frame)
+            → StandsFor mail s self.old → drop (number - 1) s.frames ≡ frame ∷ frames
+            → HasHad mail (jumps (suc frame.next) (record s { frames = frames })) 1 result
+            self.new }
     {
         let next = self.loops.close(number);
         once(Flow::To(next + 1))
@@ -324,9 +382,16 @@ impl<'p, 's, 'm> Machine<'p, 's, 'm> {
 
     // Joins so many texts on top of the stack.
     fn join(&mut self, alloc: Global, number: usize) -> Result<Done, AllocError>
-        requires { (mail : Mail) × ((s : State) × ((top : OnTop) × (StandsFor mail s self.old × (texts_on_top number s.stack ≡ Some top) × AreTexts top.texts))) }
-        ensures { IfOk result (λ done. (mail : Mail) (s : State) (top : OnTop) → StandsFor mail s self.old → texts_on_top number s.stack ≡ Some top
-            → (done ≡ record { flow = Flow.On; cost = octets_on_top top }) × StandsFor mail (record s { stack = text (take max_string (concat top.texts)) ∷ top.below }) self.new) }
+        requires { (mail : Mail) × ((s : State)
+            × ((top : OnTop) × (StandsFor mail s self.old
+            × (texts_on_top number s.stack ≡ Some top) × AreTexts top.texts))) }
+        ensures { IfOk result (λ done. (mail : Mail) (s : State) (top : OnTop)
+            → StandsFor mail s self.old → texts_on_top number s.stack ≡ Some top
+            → (done ≡ record { flow = Flow.On; cost = octets_on_top top })
+            × StandsFor mail (record s {
+              stack = text (take max_string (concat top.texts))
+                  ∷ top.below;
+            }) self.new) }
     {
         let len = self.work.join(alloc, number)?;
         Ok(Done {
@@ -338,9 +403,19 @@ impl<'p, 's, 'm> Machine<'p, 's, 'm> {
     // Takes the text on top of the stack, and gives it, modified, to a variable.
     fn set(&mut self, alloc: Global, instruction: &Instruction) -> Result<Done, AllocError>
         requires modifiers { IsSome (modifiers_numbered instruction.now.a) }
-        requires top { (mail : Mail) × ((s : State) × ((t : List ℕ) × ((rest : List Value) × (StandsFor mail s self.old × (s.stack ≡ text t ∷ rest) × (instruction.now.c < length s.variables))))) }
-        ensures { IfOk result (λ done. (mail : Mail) (s : State) (t : List ℕ) (rest : List Value) (modifiers : Modifiers) → StandsFor mail s self.old → s.stack ≡ text t ∷ rest → modifiers_numbered instruction.now.a ≡ Some modifiers
-            → (done ≡ record { flow = Flow.On; cost = length t }) × StandsFor mail (record s { stack = rest; variables = slice_set s.variables instruction.now.c (take max_value (modified modifiers t)) }) self.new) }
+        requires top { (mail : Mail)
+            × ((s : State) × ((t : List ℕ)
+            × ((rest : List Value) × (StandsFor mail s self.old × (s.stack ≡ text t ∷ rest)
+            × (instruction.now.c < length s.variables))))) }
+        ensures { IfOk result (λ done. (mail : Mail) (s : State) (t : List ℕ) (rest : List Value)
+            (modifiers : Modifiers) → StandsFor mail s self.old → s.stack ≡ text t ∷ rest
+            → modifiers_numbered instruction.now.a ≡ Some modifiers
+            → (done ≡ record { flow = Flow.On; cost = length t })
+            × StandsFor mail (record s {
+              stack = rest;
+              variables = slice_set s.variables
+                  instruction.now.c (take max_value (modified modifiers t));
+            }) self.new) }
     {
         let modifiers = Modifiers::of(instruction.a).unwrap();
         let taken = self.work.set(alloc, instruction.c as usize, modifiers)?;
@@ -354,9 +429,20 @@ impl<'p, 's, 'm> Machine<'p, 's, 'm> {
     fn set_content(&mut self, alloc: Global, instruction: &Instruction) -> Result<Done, AllocError>
         requires part { IsSome (part_in self.old.loops) }
         requires few { instruction.now.b ≤ max_value }
-        requires variable { (mail : Mail) × ((s : State) × (StandsFor mail s self.old × (instruction.now.c < length s.variables))) }
-        ensures { IfOk result (λ done. (mail : Mail) (s : State) (part : Part) → StandsFor mail s self.old → part_in self.old.loops ≡ Some part
-            → (done ≡ record { flow = Flow.On; cost = min instruction.now.b (length part.content) }) × StandsFor mail (record s { variables = slice_set s.variables instruction.now.c (take instruction.now.b part.content) }) self.new) }
+        requires variable { (mail : Mail)
+            × ((s : State) × (StandsFor mail s self.old
+            × (instruction.now.c < length s.variables))) }
+        ensures { IfOk result (λ done. (mail : Mail) (s : State) (part : Part)
+            → StandsFor mail s self.old → part_in self.old.loops ≡ Some part
+            → (done ≡ record {
+              flow = Flow.On;
+              cost = min instruction.now.b
+                  (length part.content);
+            })
+            × StandsFor mail (record s {
+              variables = slice_set s.variables instruction.now.c
+                  (take instruction.now.b part.content);
+            }) self.new) }
     {
         let octets = self.loops.beginning(alloc, instruction.b as usize)?;
         let cost = octets.len() as u128;

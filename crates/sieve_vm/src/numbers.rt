@@ -51,7 +51,8 @@ pub fn scope_numbered(number: u8) -> Scope
 
 /// What is selected of a field.
 pub fn selector_numbered(number: u8) -> Selector
-    ensures { (params : List (List ℕ)) → selector_of result params ≡ selector_numbered number params }
+    ensures { (params : List (List ℕ))
+        → selector_of result params ≡ selector_numbered number params }
 {
     match number {
         0 => Selector::Value,
@@ -67,7 +68,8 @@ pub fn header_test(a: u8, current: Option<usize>) -> HeaderTest
     ensures how { result.how ≡ match_numbered (match_in a) }
     ensures scope { scope_of result.reach.scope ≡ scope_numbered (scope_in a) }
     ensures current { result.reach.current ≡ current }
-    ensures selector { (params : List (List ℕ)) → selector_of result.selector params ≡ selector_numbered (selector_in a) params }
+    ensures selector { (params : List (List ℕ))
+        → selector_of result.selector params ≡ selector_numbered (selector_in a) params }
 {
     HeaderTest {
         reach: Reach {
@@ -81,7 +83,11 @@ pub fn header_test(a: u8, current: Option<usize>) -> HeaderTest
 
 /// How many names, parameters and keys a test of fields has.
 pub fn header_counts(instruction: &Instruction) -> Counts
-    ensures { result ≡ record { names = instruction.now.b; params = params_in instruction.now.c; keys = keys_in instruction.now.c } }
+    ensures { result ≡ record {
+      names = instruction.now.b;
+      params = params_in instruction.now.c;
+      keys = keys_in instruction.now.c;
+    } }
 {
     Counts {
         names: instruction.b as usize,

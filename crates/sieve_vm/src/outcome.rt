@@ -24,7 +24,8 @@ pub struct Outcome {
 /// The outcome is that of the one run that the definitions give. An error comes only where memory
 /// was refused. The run takes at most as many steps as the program's budget at the message.
 pub fn run(alloc: Global, verified: &Verified, message: &Message<'_>) -> Result<Outcome, AllocError>
-    ensures { IfOk result (λ outcome. IsOutcome verified.now message.now outcome.actions.items outcome.charged) }
+    ensures { IfOk result (λ outcome. IsOutcome verified.now message.now outcome.actions.items
+        outcome.charged) }
 {
     let program = verified.program();
     // What holds of every message is known where it is asked.

@@ -35,11 +35,25 @@ impl<'p, 's, 'm> Machine<'p, 's, 'm> {
         message: &Message<'m>,
         instruction: &Instruction,
     ) -> Result<Done, AllocError>
-        requires current { IfSome (current_part self.old.loops.frames) (λ part. part < length message.now.parts) }
-        requires top { (mail : Mail) × ((s : State) × ((top : OnTop) × (StandsFor mail s self.old × (texts_on_top instruction.now.b s.stack ≡ Some top) × AreTexts top.texts))) }
-        ensures { IfOk result (λ done. (s : State) (top : OnTop) → StandsFor message.now s self.old → texts_on_top instruction.now.b s.stack ≡ Some top
-            → (done ≡ record { flow = Flow.On; cost = cost_of_names instruction.now.a (current_part s.frames) message.now top })
-            × StandsFor message.now (record s { stack = truth (exists_in (scope_numbered instruction.now.a) (current_part s.frames) top.texts message.now) ∷ top.below }) self.new) }
+        requires current { IfSome (current_part self.old.loops.frames)
+            (λ part. part < length message.now.parts) }
+        requires top { (mail : Mail)
+            × ((s : State) × ((top : OnTop)
+            × (StandsFor mail s self.old
+            × (texts_on_top instruction.now.b s.stack ≡ Some top)
+            × AreTexts top.texts))) }
+        ensures { IfOk result (λ done. (s : State) (top : OnTop) → StandsFor message.now s self.old
+            → texts_on_top instruction.now.b s.stack ≡ Some top
+            → (done ≡ record {
+              flow = Flow.On;
+              cost = cost_of_names instruction.now.a
+                  (current_part s.frames) message.now top;
+            })
+            × StandsFor message.now (record
+            s {
+              stack = truth (exists_in (scope_numbered instruction.now.a)
+                  (current_part s.frames) top.texts message.now) ∷ top.below;
+            }) self.new) }
     {
         let number = instruction.b as usize;
         let reach = Reach {
@@ -64,13 +78,28 @@ impl<'p, 's, 'm> Machine<'p, 's, 'm> {
         message: &Message<'m>,
         instruction: &Instruction,
     ) -> Result<Done, AllocError>
-        requires current { IfSome (current_part self.old.loops.frames) (λ part. part < length message.now.parts) }
-        requires top { (mail : Mail) × ((s : State) × ((top : Lists) × (StandsFor mail s self.old × (lists_on_top instruction.now.b (params_in instruction.now.c) (keys_in instruction.now.c) s.stack ≡ Some top) × AreTexts top.names × AreTexts top.params × AreTexts top.keys))) }
-        ensures { IfOk result (λ done. (s : State) (top : Lists) → StandsFor message.now s self.old → lists_on_top instruction.now.b (params_in instruction.now.c) (keys_in instruction.now.c) s.stack ≡ Some top
-            → (done ≡ record { flow = Flow.On; cost = cost_of_matching instruction.now.a (current_part s.frames) message.now top })
-            × StandsFor message.now (record s {
-              stack = truth (is_some (found_in message.now instruction.now.a top s)) ∷ top.below;
-              captures = unwrap_or (found_in message.now instruction.now.a top s) s.captures;
+        requires current { IfSome (current_part self.old.loops.frames)
+            (λ part. part < length message.now.parts) }
+        requires top { (mail : Mail)
+            × ((s : State) × ((top : Lists)
+            × (StandsFor mail s self.old
+            × (lists_on_top instruction.now.b (params_in instruction.now.c)
+            (keys_in instruction.now.c) s.stack ≡ Some top) × AreTexts top.names
+            × AreTexts top.params × AreTexts top.keys))) }
+        ensures { IfOk result (λ done. (s : State) (top : Lists) → StandsFor message.now s self.old
+            → lists_on_top instruction.now.b (params_in instruction.now.c)
+            (keys_in instruction.now.c) s.stack ≡ Some top
+            → (done ≡ record {
+              flow = Flow.On;
+              cost = cost_of_matching instruction.now.a
+                  (current_part s.frames) message.now top;
+            })
+            × StandsFor message.now (record
+            s {
+              stack = truth (is_some (found_in message.now instruction.now.a top s))
+                  ∷ top.below;
+              captures = unwrap_or
+                  (found_in message.now instruction.now.a top s) s.captures;
             }) self.new) }
     {
         let counts = header_counts(instruction);
@@ -90,12 +119,21 @@ impl<'p, 's, 'm> Machine<'p, 's, 'm> {
 
     /// Takes sources and the keys above them, and pushes whether a source matches a key.
     pub fn string(&mut self, alloc: Global, instruction: &Instruction) -> Result<Done, AllocError>
-        requires { (mail : Mail) × ((s : State) × ((top : Lists) × (StandsFor mail s self.old × (lists_on_top instruction.now.b 0 instruction.now.c s.stack ≡ Some top) × AreTexts top.names × AreTexts top.keys))) }
-        ensures { IfOk result (λ done. (mail : Mail) (s : State) (top : Lists) → StandsFor mail s self.old → lists_on_top instruction.now.b 0 instruction.now.c s.stack ≡ Some top
+        requires { (mail : Mail) × ((s : State)
+            × ((top : Lists) × (StandsFor mail s self.old
+            × (lists_on_top instruction.now.b 0 instruction.now.c s.stack ≡ Some top)
+            × AreTexts top.names × AreTexts top.keys))) }
+        ensures { IfOk result (λ done. (mail : Mail) (s : State) (top : Lists)
+            → StandsFor mail s self.old
+            → lists_on_top instruction.now.b 0 instruction.now.c s.stack ≡ Some top
             → (done ≡ record { flow = Flow.On; cost = cost_of_comparing top })
             × StandsFor mail (record s {
-              stack = truth (is_some (first_match (match_numbered instruction.now.a) top.names top.keys s.captures)) ∷ top.below;
-              captures = unwrap_or (first_match (match_numbered instruction.now.a) top.names top.keys s.captures) s.captures;
+              stack = truth
+                  (is_some (first_match (match_numbered instruction.now.a) top.names top.keys
+                  s.captures)) ∷ top.below;
+              captures = unwrap_or
+                  (first_match (match_numbered instruction.now.a) top.names top.keys
+                  s.captures) s.captures;
             }) self.new) }
     {
         let counts = string_counts(instruction);
@@ -118,8 +156,13 @@ impl<'p, 's, 'm> Machine<'p, 's, 'm> {
         number: u64,
     ) -> Result<Done, AllocError>
         requires { IsSome (part_in self.old.loops) }
-        ensures { IfOk result (λ done. (mail : Mail) (s : State) (part : Part) → StandsFor mail s self.old → part_in self.old.loops ≡ Some part
-            → (done ≡ once Flow.On) × StandsFor mail (record s { stack = truth (compares instruction.now number (length part.content)) ∷ s.stack }) self.new) }
+        ensures { IfOk result (λ done. (mail : Mail) (s : State) (part : Part)
+            → StandsFor mail s self.old → part_in self.old.loops ≡ Some part
+            → (done ≡ once Flow.On) × StandsFor mail
+            (record s {
+              stack = truth (compares instruction.now number (length part.content))
+                  ∷ s.stack;
+            }) self.new) }
     {
         let length = self.loops.length(alloc)?;
         self.push(compares(instruction, number, length as u64))
@@ -131,13 +174,24 @@ impl<'p, 's, 'm> Machine<'p, 's, 'm> {
         alloc: Global,
         instruction: &Instruction,
     ) -> Result<Done, AllocError>
-        requires part { (part : Part) × ((part_in self.old.loops ≡ Some part) × (length part.content ≤ max_message)) }
-        requires top { (mail : Mail) × ((s : State) × ((top : OnTop) × (StandsFor mail s self.old × (texts_on_top instruction.now.c s.stack ≡ Some top) × AreTexts top.texts))) }
-        ensures done { IfOk result (λ done. (mail : Mail) (s : State) (top : OnTop) (part : Part) → StandsFor mail s self.old → texts_on_top instruction.now.c s.stack ≡ Some top → part_in self.old.loops ≡ Some part
+        requires part { (part : Part)
+            × ((part_in self.old.loops ≡ Some part) × (length part.content ≤ max_message)) }
+        requires top { (mail : Mail)
+            × ((s : State) × ((top : OnTop)
+            × (StandsFor mail s self.old
+            × (texts_on_top instruction.now.c s.stack ≡ Some top)
+            × AreTexts top.texts))) }
+        ensures done { IfOk result (λ done. (mail : Mail) (s : State) (top : OnTop) (part : Part)
+            → StandsFor mail s self.old → texts_on_top instruction.now.c s.stack ≡ Some top
+            → part_in self.old.loops ≡ Some part
             → (done ≡ record { flow = Flow.On; cost = body_cost part top.texts })
             × StandsFor mail (record s {
-              stack = truth (is_some (body_match (match_numbered instruction.now.a) part top.texts s.captures)) ∷ top.below;
-              captures = unwrap_or (body_match (match_numbered instruction.now.a) part top.texts s.captures) s.captures;
+              stack = truth
+                  (is_some (body_match (match_numbered instruction.now.a) part top.texts
+                  s.captures)) ∷ top.below;
+              captures = unwrap_or
+                  (body_match (match_numbered instruction.now.a) part top.texts s.captures)
+                  s.captures;
             }) self.new) }
         ensures held { OnOk result (self.new.loops ≡ holding self.old.loops) }
     {
@@ -153,12 +207,20 @@ impl<'p, 's, 'm> Machine<'p, 's, 'm> {
     /// Takes so many keys, and pushes whether the digest of the current part's content equals one.
     pub fn part_digest(&mut self, alloc: Global, number: usize) -> Result<Done, AllocError>
         requires part { IsSome (part_in self.old.loops) }
-        requires top { (mail : Mail) × ((s : State) × ((top : OnTop) × (StandsFor mail s self.old × (texts_on_top number s.stack ≡ Some top) × AreTexts top.texts))) }
-        ensures { IfOk result (λ done. (mail : Mail) (s : State) (top : OnTop) (part : Part) → StandsFor mail s self.old → texts_on_top number s.stack ≡ Some top → part_in self.old.loops ≡ Some part
+        requires top { (mail : Mail)
+            × ((s : State) × ((top : OnTop)
+            × (StandsFor mail s self.old × (texts_on_top number s.stack ≡ Some top)
+            × AreTexts top.texts))) }
+        ensures { IfOk result (λ done. (mail : Mail) (s : State) (top : OnTop) (part : Part)
+            → StandsFor mail s self.old → texts_on_top number s.stack ≡ Some top
+            → part_in self.old.loops ≡ Some part
             → (done ≡ record { flow = Flow.On; cost = digest_cost part top.texts })
             × StandsFor mail (record s {
-              stack = truth (is_some (digest_match part top.texts s.captures)) ∷ top.below;
-              captures = unwrap_or (digest_match part top.texts s.captures) s.captures;
+              stack = truth
+                  (is_some (digest_match part top.texts s.captures))
+                  ∷ top.below;
+              captures = unwrap_or (digest_match part top.texts s.captures)
+                  s.captures;
             }) self.new) }
     {
         let found = self.loops.digest(alloc)?;
@@ -170,10 +232,15 @@ impl<'p, 's, 'm> Machine<'p, 's, 'm> {
 
     /// Keeps the captures that a test has set, and pushes whether it has matched.
     pub fn settle(&mut self, answer: Answer<'m>) -> Result<Done, AllocError>
-        ensures done { IfOk result (λ done. (done ≡ record { flow = Flow.On; cost = answer.entry.cost })
-            × ((mail : Mail) (s : State) → StandsFor mail s self.old → StandsFor mail (record s {
-              stack = truth (is_some (after answer.entry.outcome s.captures)) ∷ s.stack;
-              captures = unwrap_or (after answer.entry.outcome s.captures) s.captures;
+        ensures done { IfOk result (λ done.
+            (done ≡ record { flow = Flow.On; cost = answer.entry.cost })
+            × ((mail : Mail) (s : State) → StandsFor mail s self.old
+            → StandsFor mail (record
+            s {
+              stack = truth (is_some (after answer.entry.outcome s.captures))
+                  ∷ s.stack;
+              captures = unwrap_or (after answer.entry.outcome s.captures)
+                  s.captures;
             }) self.new)) }
         ensures loops { self.new.loops ≡ self.old.loops }
     {

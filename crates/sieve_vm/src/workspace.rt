@@ -85,7 +85,12 @@ impl<'p, 'm> Workspace<'p, 'm> {
     /// Makes so many variables, which are empty.
     pub fn begin(&mut self, variables: u16) -> Result<(), AllocError>
         requires { IsNew self.old }
-        ensures { OnOk result (held_of self.new ≡ record { stack = []; variables = replicate variables []; captures = no_captures }) }
+        ensures { OnOk result (held_of self.new
+            ≡ record {
+              stack = [];
+              variables = replicate variables [];
+              captures = no_captures;
+            }) }
     {
         self.variables.reserve(usize::from(variables))?;
         'variables: for _ in 0..variables {
@@ -97,14 +102,23 @@ impl<'p, 'm> Workspace<'p, 'm> {
     /// Puts an entry on top of the stack.
     #[inline(always)]
     pub fn push(&mut self, entry: Entry<'p>) -> Result<(), AllocError>
-        ensures { OnOk result (held_of self.new ≡ record (held_of self.old) { stack = value_of entry.entry ∷ (held_of self.old).stack }) }
+        ensures { OnOk result (held_of self.new
+            ≡ record (held_of self.old) {
+              stack = value_of entry.entry
+                  ∷ (held_of self.old).stack;
+            }) }
     {
         Ok(self.entries.push(entry)?)
     }
 
     /// Puts the value of a variable on top of the stack.
     pub fn push_variable(&mut self, number: usize) -> Result<(), AllocError>
-        ensures { OnOk result (held_of self.new ≡ record (held_of self.old) { stack = text (slice_index_or (held_of self.old).variables number []) ∷ (held_of self.old).stack }) }
+        ensures { OnOk result (held_of self.new
+            ≡ record (held_of self.old) {
+              stack = text
+                  (slice_index_or (held_of self.old).variables number [])
+                  ∷ (held_of self.old).stack;
+            }) }
     {
         let value = self.variable(number)?;
         self.push(Entry::Text(value))
@@ -112,7 +126,12 @@ impl<'p, 'm> Workspace<'p, 'm> {
 
     /// Puts a capture on top of the stack.
     pub fn push_capture(&mut self, alloc: Global, number: u8) -> Result<(), AllocError>
-        ensures { OnOk result (held_of self.new ≡ record (held_of self.old) { stack = text (slice_index_or (held_of self.old).captures number []) ∷ (held_of self.old).stack }) }
+        ensures { OnOk result (held_of self.new
+            ≡ record (held_of self.old) {
+              stack = text
+                  (slice_index_or (held_of self.old).captures number [])
+                  ∷ (held_of self.old).stack;
+            }) }
     {
         let text = self.captures.share(alloc, number)?;
         self.push(Entry::Text(text))
@@ -121,8 +140,10 @@ impl<'p, 'm> Workspace<'p, 'm> {
     /// Takes the truth value on top of the stack.
     #[inline(always)]
     pub fn take_truth(&mut self) -> bool
-        requires { (b : Bool) × ((rest : List Value) × ((held_of self.old).stack ≡ truth b ∷ rest)) }
-        ensures { (b : Bool) (rest : List Value) → (held_of self.old).stack ≡ truth b ∷ rest → (result ≡ b) × (held_of self.new ≡ record (held_of self.old) { stack = rest }) }
+        requires { (b : Bool) × ((rest : List Value)
+            × ((held_of self.old).stack ≡ truth b ∷ rest)) }
+        ensures { (b : Bool) (rest : List Value) → (held_of self.old).stack ≡ truth b ∷ rest
+            → (result ≡ b) × (held_of self.new ≡ record (held_of self.old) { stack = rest }) }
     {
         match self.entries.pop() {
             Some(Entry::Truth(value)) => value,
@@ -132,8 +153,10 @@ impl<'p, 'm> Workspace<'p, 'm> {
 
     /// Takes the text on top of the stack.
     pub fn take_text(&mut self, alloc: Global) -> Result<Octets, AllocError>
-        requires { (t : List ℕ) × ((rest : List Value) × ((held_of self.old).stack ≡ text t ∷ rest)) }
-        ensures { IfOk result (λ octets. (t : List ℕ) (rest : List Value) → (held_of self.old).stack ≡ text t ∷ rest
+        requires { (t : List ℕ) × ((rest : List Value)
+            × ((held_of self.old).stack ≡ text t ∷ rest)) }
+        ensures { IfOk result (λ octets. (t : List ℕ) (rest : List Value)
+            → (held_of self.old).stack ≡ text t ∷ rest
             → (octets ≡ t) × (held_of self.new ≡ record (held_of self.old) { stack = rest })) }
     {
         match self.entries.pop() {
@@ -151,9 +174,17 @@ impl<'p, 'm> Workspace<'p, 'm> {
         modifiers: Modifiers,
     ) -> Result<usize, AllocError>
         requires there { variable < length (held_of self.old).variables }
-        requires top { (t : List ℕ) × ((rest : List Value) × ((held_of self.old).stack ≡ text t ∷ rest)) }
-        ensures { IfOk result (λ len. (t : List ℕ) (rest : List Value) → (held_of self.old).stack ≡ text t ∷ rest
-            → (len ≡ length t) × (held_of self.new ≡ record (held_of self.old) { stack = rest; variables = slice_set (held_of self.old).variables variable (take max_value (modified modifiers t)) })) }
+        requires top { (t : List ℕ)
+            × ((rest : List Value) × ((held_of self.old).stack ≡ text t ∷ rest)) }
+        ensures { IfOk result (λ len. (t : List ℕ) (rest : List Value)
+            → (held_of self.old).stack ≡ text t ∷ rest
+            → (len ≡ length t) × (held_of self.new
+            ≡ record (held_of self.old) {
+              stack = rest;
+              variables = slice_set
+                  (held_of self.old).variables variable
+                  (take max_value (modified modifiers t));
+            })) }
     {
         let Some(entry) = self.entries.pop() else {
             unreachable!()
@@ -167,7 +198,11 @@ impl<'p, 'm> Workspace<'p, 'm> {
     /// Gives a text to a variable.
     pub fn assign(&mut self, variable: usize, value: SharedText<'p>)
         requires { variable < length (held_of self.old).variables }
-        ensures { held_of self.new ≡ record (held_of self.old) { variables = slice_set (held_of self.old).variables variable (items_of value.entry) } }
+        ensures { held_of self.new ≡ record
+            (held_of self.old) {
+              variables = slice_set (held_of self.old).variables variable
+                  (items_of value.entry);
+            } }
     {
         self.variables[variable] = value;
     }
@@ -175,9 +210,16 @@ impl<'p, 'm> Workspace<'p, 'm> {
     /// Joins so many texts on top of the stack to one, of which the first octets stay. Answers how many
     /// octets the texts have.
     pub fn join(&mut self, alloc: Global, number: usize) -> Result<usize, AllocError>
-        requires { (top : OnTop) × ((texts_on_top number (held_of self.old).stack ≡ Some top) × AreTexts top.texts) }
-        ensures { IfOk result (λ len. (top : OnTop) → texts_on_top number (held_of self.old).stack ≡ Some top
-            → (len ≡ sum_by length top.texts) × (held_of self.new ≡ record (held_of self.old) { stack = text (take max_string (concat top.texts)) ∷ top.below })) }
+        requires { (top : OnTop) × ((texts_on_top number (held_of self.old).stack ≡ Some top)
+            × AreTexts top.texts) }
+        ensures { IfOk result (λ len. (top : OnTop)
+            → texts_on_top number (held_of self.old).stack ≡ Some top
+            → (len ≡ sum_by length top.texts)
+            × (held_of self.new ≡ record
+            (held_of self.old) {
+              stack = text (take max_string (concat top.texts))
+                  ∷ top.below;
+            })) }
     {
         let texts = self.texts(number);
         let len = total_len(&texts);
@@ -190,7 +232,8 @@ impl<'p, 'm> Workspace<'p, 'm> {
     /// So many texts on top of the stack.
     pub fn texts<'s>(&'s self, number: usize) -> Pushed<'s, 'p>
         requires { (top : OnTop) × (texts_on_top number (held_of self.now).stack ≡ Some top) }
-        ensures { (top : OnTop) → texts_on_top number (held_of self.now).stack ≡ Some top → texts_of result ≡ top.texts }
+        ensures { (top : OnTop) → texts_on_top number (held_of self.now).stack ≡ Some top
+            → texts_of result ≡ top.texts }
     {
         let below = self.entries.len() - number;
         Pushed {
@@ -200,10 +243,17 @@ impl<'p, 'm> Workspace<'p, 'm> {
 
     /// So many names or sources on the stack, so many parameters above them, and so many keys above these.
     pub fn lists<'s>(&'s self, counts: Counts) -> PushedLists<'s, 'p>
-        requires { (top : Lists) × (lists_on_top counts.names counts.params counts.keys (held_of self.now).stack ≡ Some top) }
-        ensures names { (top : Lists) → lists_on_top counts.names counts.params counts.keys (held_of self.now).stack ≡ Some top → texts_of result.names ≡ top.names }
-        ensures params { (top : Lists) → lists_on_top counts.names counts.params counts.keys (held_of self.now).stack ≡ Some top → texts_of result.params ≡ top.params }
-        ensures keys { (top : Lists) → lists_on_top counts.names counts.params counts.keys (held_of self.now).stack ≡ Some top → texts_of result.keys ≡ top.keys }
+        requires { (top : Lists) × (lists_on_top counts.names counts.params counts.keys
+            (held_of self.now).stack ≡ Some top) }
+        ensures names { (top : Lists)
+            → lists_on_top counts.names counts.params counts.keys (held_of self.now).stack
+            ≡ Some top → texts_of result.names ≡ top.names }
+        ensures params { (top : Lists)
+            → lists_on_top counts.names counts.params counts.keys (held_of self.now).stack
+            ≡ Some top → texts_of result.params ≡ top.params }
+        ensures keys { (top : Lists)
+            → lists_on_top counts.names counts.params counts.keys (held_of self.now).stack
+            ≡ Some top → texts_of result.keys ≡ top.keys }
     {
         let keys = self.entries.len() - counts.keys;
         let params = keys - counts.params;
@@ -229,7 +279,8 @@ impl<'p, 'm> Workspace<'p, 'm> {
     /// Drops so many texts on top of the stack.
     pub fn drop_texts(&mut self, number: usize)
         requires { (top : OnTop) × (texts_on_top number (held_of self.old).stack ≡ Some top) }
-        ensures { (top : OnTop) → texts_on_top number (held_of self.old).stack ≡ Some top → held_of self.new ≡ record (held_of self.old) { stack = top.below } }
+        ensures { (top : OnTop) → texts_on_top number (held_of self.old).stack ≡ Some top
+            → held_of self.new ≡ record (held_of self.old) { stack = top.below } }
     {
         let below = self.entries.len() - number;
         self.entries.truncate(below);
@@ -237,8 +288,11 @@ impl<'p, 'm> Workspace<'p, 'm> {
 
     /// Drops so many names or sources on the stack, so many parameters above them, and so many keys above these.
     pub fn drop_lists(&mut self, counts: Counts)
-        requires { (top : Lists) × (lists_on_top counts.names counts.params counts.keys (held_of self.old).stack ≡ Some top) }
-        ensures { (top : Lists) → lists_on_top counts.names counts.params counts.keys (held_of self.old).stack ≡ Some top → held_of self.new ≡ record (held_of self.old) { stack = top.below } }
+        requires { (top : Lists) × (lists_on_top counts.names counts.params counts.keys
+            (held_of self.old).stack ≡ Some top) }
+        ensures { (top : Lists) → lists_on_top counts.names counts.params counts.keys
+            (held_of self.old).stack ≡ Some top
+            → held_of self.new ≡ record (held_of self.old) { stack = top.below } }
     {
         let keys = self.entries.len() - counts.keys;
         let params = keys - counts.params;
@@ -249,7 +303,11 @@ impl<'p, 'm> Workspace<'p, 'm> {
     /// Keeps the captures that a test has set, and says whether it has matched.
     pub fn settle(&mut self, outcome: Outcome<'m>) -> bool
         ensures matched { result ≡ is_some (after outcome.entry (held_of self.old).captures) }
-        ensures kept { held_of self.new ≡ record (held_of self.old) { captures = unwrap_or (after outcome.entry (held_of self.old).captures) (held_of self.old).captures } }
+        ensures kept { held_of self.new
+            ≡ record (held_of self.old) {
+              captures = unwrap_or
+                  (after outcome.entry (held_of self.old).captures) (held_of self.old).captures;
+            } }
     {
         match outcome {
             Outcome::Fails => false,
@@ -263,7 +321,8 @@ impl<'p, 'm> Workspace<'p, 'm> {
 
     // The value of a variable.
     fn variable(&self, number: usize) -> Result<SharedText<'p>, AllocError>
-        ensures { IfOk result (λ value. items_of value ≡ slice_index_or (held_of self.now).variables number []) }
+        ensures { IfOk result (λ value. items_of value
+            ≡ slice_index_or (held_of self.now).variables number []) }
     {
         match self.variables.get(number) {
             Some(value) => value.share(),
@@ -300,7 +359,8 @@ fn value_for<'p>(
     entry: Entry<'p>,
     modifiers: Modifiers,
 ) -> Result<SharedText<'p>, AllocError>
-    ensures { IfOk result (λ value. items_of value ≡ take max_value (modified modifiers (octets_of entry.entry))) }
+    ensures { IfOk result (λ value. items_of value
+        ≡ take max_value (modified modifiers (octets_of entry.entry))) }
 {
     if modifiers.is_none() {
         return cut(alloc, entry);
