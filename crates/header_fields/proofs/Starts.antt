@@ -3,12 +3,13 @@ use Rattle.std.proofs.Common.{◌≡◌, ℕ, zero, suc, ◌+◌, ◌<◌, ◌�
 use Rattle.std.specs.List.{prefix_len}
 use Rattle.std.specs.Prelude.{reverse}
 use Rattle.std.proofs.lemmas.Bool.{cases_Bool, cases_lt}
-use Rattle.std.proofs.lemmas.List.{append-nil, length-append, length-drop, length-reverse, length-take, reverse-append, reverse-reverse, take_all, take-append-le}
+use Rattle.std.proofs.lemmas.List.{append-nil, append_assoc, length-append, length-drop, length-reverse, length-take, reverse-append, reverse-reverse, take_all, take-append-drop, take-append-le}
 use Rattle.std.proofs.Math.Seq.{take-append-add}
 use Rattle.octets.specs.Blank.{is_blank, without_leading_blanks, without_trailing_blanks, without_outer_blanks}
 use Rattle.text_lines.specs.Lines.{TextLine, lines_of, line_octets, octets_of}
 use Rattle.text_lines.proofs.Broken.{octets_of-lines_of}
 use Rattle.header_fields.specs.Header.{after_colon, after_name, beginning_of, contents, is_name_octet, without_breaks}
+use Rattle.header_fields.proofs.FieldLines.{ends-trimmed}
 use Rattle.header_fields.proofs.Lengths.{value_fits}
 use Rattle.header_fields.proofs.Measuring.{leading_none, leading_some}
 use Rattle.header_fields.proofs.Trimming.{trimmed_again, trimmed_fits, trimmed_with}
@@ -129,3 +130,12 @@ pub value_within : (lines : List ℕ) → length (without_outer_blanks (without_
 value_within lines =
     let text = after_colon lines in
     omega (arith, value_fits (without_breaks text), contents_fit (lines_of text), ap length (octets_of-lines_of text), after_colon_fits lines)
+
+-- a value goes on after its beginning
+pub beginning_rest : (most : ℕ) (value : List ℕ) → (rest : List ℕ) × (value ≡ beginning_of most value ++ rest)
+beginning_rest most value =
+    let start = take most value in
+    let e = ends-trimmed (reverse start) in
+    let trimmed = without_trailing_blanks start in
+    let all : start ≡ trimmed ++ reverse e.0 = sym (reverse-reverse start) ∙ ap reverse e.1 ∙ reverse-append e.0 (without_leading_blanks (reverse start)) in
+    (reverse e.0 ++ drop most value, sym (take-append-drop most value) ∙ ap (λ t. t ++ drop most value) all ∙ append_assoc trimmed (reverse e.0) (drop most value))

@@ -109,3 +109,9 @@ without_breaks text = contents (lines_of text)
 -- the first octets of a text, at most so many, without the blanks that they end with
 abbrev pub beginning_of : ℕ → List ℕ → List ℕ
 beginning_of most text = without_trailing_blanks (take most text)
+
+-- the field that lines hold, which have their breaks but the last
+abbrev pub field_written : List ℕ → Field
+field_written lines =
+    let text = after_colon lines in
+    record { name = name_of lines; value = without_outer_blanks (without_breaks text); folded = has_feed text }

@@ -3,7 +3,7 @@ ghost use Rattle.std.specs.Prelude.{◌≡◌, ◌↔◌, false, IsTrue, IfOk, I
 ghost use Rattle.std.specs.Cow.{cow_slice_items, IsBorrowedSlice};
 ghost use Rattle.octets.specs.Ascii.{EqualIgnoringCase};
 ghost use Rattle.octets.specs.Blank.{without_outer_blanks, without_trailing_blanks};
-ghost use Rattle.header_fields.specs.Header.{after_colon, beginning_of, has_feed, name_of, without_breaks};
+ghost use Rattle.header_fields.specs.Header.{after_colon, beginning_of, field_written, without_breaks};
 
 use crate::error::HeaderError;
 use crate::field_line::{after_colon, name_length, name_of_length};
@@ -24,19 +24,18 @@ pub struct Field<'a> {
 }
 
 impl<'a> Model for Field<'a> {
-    ghost use Rattle.octets.specs.Blank.{without_outer_blanks};
     ghost use Rattle.header_fields.specs.Fields.{Field};
-    ghost use Rattle.header_fields.specs.Header.{after_colon, has_feed, name_of, without_breaks};
+    ghost use Rattle.header_fields.specs.Header.{field_written};
 
     ghost Value = { Field };
 
-    ghost view = { λ f. record { name = name_of f.lines.now; value = without_outer_blanks (without_breaks (after_colon f.lines.now)); folded = has_feed (after_colon f.lines.now) } };
+    ghost view = { λ f. field_written f.lines.now };
 }
 
 impl<'a> Field<'a> {
     // The field of its lines, with their breaks but the last.
     pub(crate) fn new(lines: &'a [u8]) -> Field<'a>
-        ensures { result ≡ record { name = name_of lines.now; value = without_outer_blanks (without_breaks (after_colon lines.now)); folded = has_feed (after_colon lines.now) } }
+        ensures { result ≡ field_written lines.now }
     {
         Field { lines }
     }

@@ -18,6 +18,12 @@ use std::borrow::CowSlice;
 /// time.
 const TYPE_START: usize = 1024;
 
+/// How many times as many are unfolded then, where those don't settle the type.
+const TYPE_MORE: usize = 16;
+
+/// Where more than so many octets don't, all are unfolded.
+const LONGEST_START: usize = 4_194_304;
+
 /// A text that the field's type is read in: a beginning of its value that settles it, or the whole of it; an empty one if the
 /// field is none of the two that have a type.
 ///
@@ -41,9 +47,13 @@ pub(crate) fn type_text<'a>(
 fn media_text<'a>(alloc: Global, field: &Field<'a>) -> Result<CowSlice<'a, u8>, AllocError>
     ensures { IfOk result (λ text. type_names (cow_slice_items text) ≡ type_names field.now.value) }
 {
-    let start = unfold_start(alloc, field, TYPE_START)?;
-    if settles_type(start.as_slice()) {
-        return Ok(start);
+    let mut most = TYPE_START;
+    'starts: while most <= LONGEST_START {
+        let start = unfold_start(alloc, field, most)?;
+        if settles_type(start.as_slice()) {
+            return Ok(start);
+        }
+        most *= TYPE_MORE;
     }
     Ok(unfold(alloc, field)?)
 }
@@ -52,9 +62,13 @@ fn media_text<'a>(alloc: Global, field: &Field<'a>) -> Result<CowSlice<'a, u8>, 
 fn disposition_text<'a>(alloc: Global, field: &Field<'a>) -> Result<CowSlice<'a, u8>, AllocError>
     ensures { IfOk result (λ text. disposition_name (cow_slice_items text) ≡ disposition_name field.now.value) }
 {
-    let start = unfold_start(alloc, field, TYPE_START)?;
-    if settles_disposition(start.as_slice()) {
-        return Ok(start);
+    let mut most = TYPE_START;
+    'starts: while most <= LONGEST_START {
+        let start = unfold_start(alloc, field, most)?;
+        if settles_disposition(start.as_slice()) {
+            return Ok(start);
+        }
+        most *= TYPE_MORE;
     }
     Ok(unfold(alloc, field)?)
 }

@@ -4,8 +4,8 @@
 //! reading stops at the first parameter that is malformed, and keeps those before it. [`parameters_of`] gives the parameters
 //! of any field's value, [`param`] the value of one. Comments may be nested to any depth.
 //!
-//! A value may have millions of parameters. [`type_names`] and [`disposition_name`] read none of them, and [`type_param`],
-//! [`disposition_param`] and [`param_of`] keep one alone; [`LentParameters`] gives them one after the other, as they are written.
+//! A value may have millions of parameters. [`type_names`] and [`disposition_name`] read none of them, [`type_param`] and
+//! [`disposition_param`] keep one alone; [`LentParameters`] gives them one after the other, as they are written.
 //! Of a long value the beginning may be enough: [`settles_type`] and [`settles_disposition`] say whether it is.
 #![tactic(auto)]
 
@@ -27,4 +27,4 @@ pub use media::{
     Disposition, MediaType, disposition_name, disposition_param, read_disposition, read_type,
     type_names, type_param,
 };
-pub use params::{Parameter, Params, param, param_of, parameters_of};
+pub use params::{Parameter, Params, param, parameters_of};

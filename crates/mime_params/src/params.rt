@@ -6,8 +6,6 @@ ghost use Rattle.mime_params.specs.MediaValue.{param_at, params_in, parameters_o
 
 use crate::error::ValueError;
 use crate::gap::{after_gap, first};
-use crate::lent::LentParameters;
-use crate::lookup::first_named;
 use crate::words::{token, value};
 use octets::{Octets, equal_ignoring_case};
 use std::alloc::{AllocError, Global};
@@ -76,16 +74,6 @@ pub fn param<'a>(params: &'a Params, name: &[u8]) -> Option<&'a [u8]>
         }
     }
     None
-}
-
-/// The value of the first parameter of this name, without ASCII case, of those of a field's value, from its first semicolon on.
-/// No other is kept.
-///
-/// [`ValueError::Memory`] comes only where memory was refused.
-pub fn param_of(alloc: Global, text: &[u8], name: &[u8]) -> Result<Option<Octets>, ValueError>
-    ensures { IfOk result (λ value. value ≡ value_named name.now (parameters_of text.now)) }
-{
-    first_named(alloc, LentParameters::of(text), name)
 }
 
 /// Where the first semicolon stands, or the text ends.

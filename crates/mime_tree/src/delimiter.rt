@@ -30,6 +30,10 @@ pub(crate) fn name_of(line: &[u8]) -> Option<&[u8]>
 pub(crate) fn mark_of(name: &[u8], boundary: &[u8], preamble: bool) -> Option<Mark>
     ensures { result ≡ mark_of preamble boundary.now name.now }
 {
+    // where many are open, most are told apart by their lengths
+    if name.len() != boundary.len() && name.len() != boundary.len() + 2 {
+        return None;
+    }
     if name == boundary {
         return Some(Mark::Delimiter);
     }

@@ -9,7 +9,8 @@ use Rattle.octets.specs.Blank.{is_blank, without_leading_blanks, without_trailin
 use Rattle.text_lines.specs.Lines.{TextLine, lines_of, is_first_of_break, onto_content}
 use Rattle.text_lines.proofs.FirstLine.{lines_feed, lines_other, no_break_of}
 use Rattle.text_lines.proofs.Broken.{beginning, lines_crlf}
-use Rattle.quoted_printable.specs.QuotedPrintable.{unescaped, is_hex, ends_in_equals, without_last, decoded_line, decoding_of}
+use Rattle.octets.specs.Escapes.{is_hex}
+use Rattle.quoted_printable.specs.QuotedPrintable.{unescaped, ends_in_equals, without_last, decoded_line, decoding_of}
 use Rattle.quoted_printable.proofs.Decoded.{unescaped-other}
 
 -- ---- blanks at the end
@@ -172,7 +173,7 @@ hex_is x e = record {
   ]
 
 ended_escape : (high low : ℕ) (kept break : List ℕ) → is_hex high ≡ true → is_hex low ≡ true
-    → ended (61 ∷ high ∷ low ∷ kept) break ≡ (digit_value high * 16 + digit_value low) ∷ ended kept break
+    → ended (61 ∷ high ∷ low ∷ kept) break ≡ (16 * digit_value high + digit_value low) ∷ ended kept break
 ended_escape high low kept break h l =
     let digit = hex_is low l in
     elim (cases_Bool (ends_in_equals kept)) [
@@ -185,7 +186,7 @@ ended_escape high low kept break h l =
     ]
 
 pub decoded-escape : (high low : ℕ) (text : List ℕ) → is_hex high ≡ true → is_hex low ≡ true
-    → decoding_of (61 ∷ high ∷ low ∷ text) ≡ (digit_value high * 16 + digit_value low) ∷ decoding_of text
+    → decoding_of (61 ∷ high ∷ low ∷ text) ≡ (16 * digit_value high + digit_value low) ∷ decoding_of text
 unfolding decoding_of
 decoded-escape high low text h l =
     let first = hex_is high h in
@@ -196,7 +197,7 @@ decoded-escape high low text h l =
     ∙ ap (onto_content high) (lines_other low text second.no_feed (no_break_of low text second.no_return))) in
     ap (flat_map decoded_line) lines ∙ onto_escape high low (lines_of text) h l second.no_blank first.no_blank where
       onto_escape : (high low : ℕ) (lines : List TextLine) → is_hex high ≡ true → is_hex low ≡ true → is_blank low ≡ false → is_blank high ≡ false
-          → flat_map decoded_line (onto_content 61 (onto_content high (onto_content low lines))) ≡ (digit_value high * 16 + digit_value low) ∷ flat_map decoded_line lines
+          → flat_map decoded_line (onto_content 61 (onto_content high (onto_content low lines))) ≡ (16 * digit_value high + digit_value low) ∷ flat_map decoded_line lines
       onto_escape high low [] h l b a =
           let kept : without_trailing_blanks (61 ∷ high ∷ low ∷ []) ≡ 61 ∷ high ∷ low ∷ [] =
           trailing_kept 61 (high ∷ low ∷ []) refl ∙ ap (λ l. 61 ∷ l) (trailing_kept high (low ∷ []) a ∙ ap (λ l. high ∷ l) (trailing_kept low [] b)) in

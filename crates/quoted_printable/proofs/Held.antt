@@ -8,7 +8,8 @@ use Rattle.octets.specs.Blank.{is_blank, without_leading_blanks, without_trailin
 use Rattle.text_lines.specs.Lines.{lines_of, line_octets, octets_of, onto_content}
 use Rattle.text_lines.proofs.FirstLine.{lines_other, no_break_of}
 use Rattle.text_lines.proofs.Broken.{octets_of-lines_of}
-use Rattle.quoted_printable.specs.QuotedPrintable.{unescaped, is_hex, ends_in_equals, without_last, decoded_line, decoding_of}
+use Rattle.octets.specs.Escapes.{is_hex}
+use Rattle.quoted_printable.specs.QuotedPrintable.{unescaped, ends_in_equals, without_last, decoded_line, decoding_of}
 use Rattle.quoted_printable.specs.Pieces.{Reads, Stops, all_follow, begins, follows, goes_on, has_digit, is_held, last_of}
 use Rattle.quoted_printable.proofs.Heads.{IsFirm, blank_is, decoded-blank, decoded-escape, decoded-plain, ended, firm_after, firm_here, hex_is, last_more, lead_none, trailing_kept, turned}
 
@@ -309,10 +310,10 @@ escape_literal held x text is has other =
     ∙ ap (λ l. 61 ∷ l) (decoded-plain digit (x ∷ text) (record { no_equals = d.no_equals; no_blank = d.no_blank })))
 
 pub escape_read : (held : List ℕ) (x : ℕ) (text : List ℕ) → is_held held ≡ true → has_digit held ≡ true → is_hex x ≡ true
-    → decoding_of (held ++ x ∷ text) ≡ (digit_value (get_or held 1 0) * 16 + digit_value x) ∷ decoding_of text
+    → decoding_of (held ++ x ∷ text) ≡ (16 * digit_value (get_or held 1 0) + digit_value x) ∷ decoding_of text
 escape_read held x text is has low =
     let (digit, e, hex) = digit_form held is has in
-    subst (λ l. decoding_of (l ++ x ∷ text) ≡ (digit_value (get_or l 1 0) * 16 + digit_value x) ∷ decoding_of text) (sym e) (decoded-escape digit x text hex low)
+    subst (λ l. decoding_of (l ++ x ∷ text) ≡ (16 * digit_value (get_or l 1 0) + digit_value x) ∷ decoding_of text) (sym e) (decoded-escape digit x text hex low)
 
 -- ---- what is kept, and LF
 
@@ -371,10 +372,10 @@ release_literal was now held (x ∷ rest) is digit some other e =
     reads_after was held now held (x ∷ rest) (x ∷ rest) e (λ after. escape_literal held x (rest ++ after) is digit no_hex)
 
 pub release_octet : (was now held rest : List ℕ) → is_held held ≡ true → has_digit held ≡ true → 0 < length rest → (is_hex (get_or held 1 0) && is_hex (get_or rest 0 0)) ≡ true
-    → now ≡ was ++ (digit_value (get_or held 1 0) * 16 + digit_value (get_or rest 0 0)) ∷ [] → Reads was (held ++ rest) now (drop 1 rest)
+    → now ≡ was ++ (16 * digit_value (get_or held 1 0) + digit_value (get_or rest 0 0)) ∷ [] → Reads was (held ++ rest) now (drop 1 rest)
 release_octet was now held [] is digit some both e = absurd (omega arith)
 release_octet was now held (x ∷ rest) is digit some both e =
-    reads_after was ((digit_value (get_or held 1 0) * 16 + digit_value x) ∷ []) now held (x ∷ rest) rest e
+    reads_after was ((16 * digit_value (get_or held 1 0) + digit_value x) ∷ []) now held (x ∷ rest) rest e
     (λ after. escape_read held x (rest ++ after) is digit (and_both (is_hex (get_or held 1 0)) (is_hex x) both).1)
 
 pub release_soft : (was held rest : List ℕ) → is_held held ≡ true → has_digit held ≡ false → 0 < length rest → get_or rest 0 0 ≡ 10 → 0 < length held → get_or held 0 0 ≡ 61

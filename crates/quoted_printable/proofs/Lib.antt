@@ -4,6 +4,7 @@ mod Examples
 pub mod Extended
 pub mod Filling
 pub mod Heads
+mod Known
 pub mod Held
 pub mod Lengths
 pub mod Pieced

@@ -4,7 +4,8 @@ use Rattle.std.specs.Char.{digit_value}
 use Rattle.std.proofs.lemmas.Bool.{cases_Bool, true≢false}
 use Rattle.std.proofs.lemmas.List.{append_assoc, append-nil, length-append}
 use Rattle.octets.specs.Blank.{is_blank, without_leading_blanks}
-use Rattle.quoted_printable.specs.QuotedPrintable.{decoding_of, is_hex, joined}
+use Rattle.octets.specs.Escapes.{is_hex}
+use Rattle.quoted_printable.specs.QuotedPrintable.{decoding_of, joined}
 use Rattle.quoted_printable.specs.Pieces.{HasFed, HaveFed, follows, goes_on, has_digit, is_held, last_of}
 use Rattle.quoted_printable.proofs.Heads.{blank_is, decoded-none, decoded-plain}
 use Rattle.quoted_printable.proofs.Held.{IsGap, NotKept, escape_literal, escape_read, gap_digit, held_form, line_hard, line_soft, not_kept}
@@ -86,9 +87,9 @@ most text left d r more is ours others =
       | inl e ↦ ended_there d more (decoding_of (r ++ [])) (ap (λ l. more ++ l) (sym (ap (λ l. decoding_of (l ++ [])) e ∙ decoded-none)) ∙ both [])
       | inr (inl (digit, e, hex)) ↦
           let has : has_digit left ≡ true = ap has_digit e ∙ hex in
-          let octet = escape_read left 48 [] is has refl ∙ ap (λ l. (digit_value (get_or left 1 0) * 16 + 0) ∷ l) decoded-none in
+          let octet = escape_read left 48 [] is has refl ∙ ap (λ l. (16 * digit_value (get_or left 1 0) + 0) ∷ l) decoded-none in
           let literal = kept_literal left is ∙ ap (λ l. l ++ 120 ∷ []) e in
-          apart d more (decoding_of (r ++ 48 ∷ [])) (decoding_of (r ++ 120 ∷ [])) [] (digit ∷ 120 ∷ []) (digit_value (get_or left 1 0) * 16 + 0) 61
+          apart d more (decoding_of (r ++ 48 ∷ [])) (decoding_of (r ++ 120 ∷ [])) [] (digit ∷ 120 ∷ []) (16 * digit_value (get_or left 1 0) + 0) 61
           (λ same. omega (arith, same))
           (ap (λ l. more ++ l) (sym octet) ∙ both (48 ∷ [])) (ap (λ l. more ++ l) (sym literal) ∙ both (120 ∷ []))
       | inr (inr (inl (gap, e, is_gap))) ↦

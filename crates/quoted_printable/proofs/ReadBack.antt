@@ -7,7 +7,8 @@ use Rattle.std.proofs.lemmas.List.{append_assoc, append-nil, take-append-drop, d
 use Rattle.std.proofs.lemmas.List.Elements.{All-head, All-tail}
 use Rattle.text_lines.proofs.FirstLine.{no_break_of}
 use Rattle.octets.specs.Blank.{is_blank}
-use Rattle.quoted_printable.specs.QuotedPrintable.{IsOctets, decoding_of, encoding_of, first_line, hex_of, in_lines, is_hex, is_last_line, is_literal, is_none, joined, run_of, soft_break, stands, token_of, tokens_of, tokens_of_line}
+use Rattle.octets.specs.Escapes.{is_hex}
+use Rattle.quoted_printable.specs.QuotedPrintable.{IsOctets, decoding_of, encoding_of, first_line, hex_of, in_lines, is_last_line, is_literal, is_none, joined, run_of, soft_break, stands, token_of, tokens_of, tokens_of_line}
 use Rattle.quoted_printable.proofs.Encoded.{in_lines_none, length-tokens_of, run_some, tokens_drop}
 use Rattle.quoted_printable.proofs.Heads.{IsFirm, IsPlain, decoded-blank, decoded-escape, decoded-none, decoded-plain, decoded-soft, firm_after, firm_here}
 
@@ -78,7 +79,7 @@ every_at test (suc n) i e lt = elim (cases_Bool (i == n)) [
 
 digits_read : ℕ → Bool
 digits_read octet =
-    is_hex (hex_of (octet / 16)) && (is_hex (hex_of (octet % 16)) && ((digit_value (hex_of (octet / 16)) * 16 + digit_value (hex_of (octet % 16))) == octet))
+    is_hex (hex_of (octet / 16)) && (is_hex (hex_of (octet % 16)) && ((16 * digit_value (hex_of (octet / 16)) + digit_value (hex_of (octet % 16))) == octet))
 
 all_read : every digits_read 256 ≡ true
 unfolding every digits_read
@@ -88,7 +89,7 @@ decoded-digits : (octet : ℕ) (text : List ℕ) → octet < 256 → decoding_of
 unfolding digits_read
 decoded-digits octet text small =
     let reads = every_at digits_read 256 octet all_read small in
-    let value = (digit_value (hex_of (octet / 16)) * 16 + digit_value (hex_of (octet % 16))) == octet in
+    let value = (16 * digit_value (hex_of (octet / 16)) + digit_value (hex_of (octet % 16))) == octet in
     let second = and_right (is_hex (hex_of (octet / 16))) (is_hex (hex_of (octet % 16)) && value) reads in
     decoded-escape (hex_of (octet / 16)) (hex_of (octet % 16)) text (and_left (is_hex (hex_of (octet / 16))) (is_hex (hex_of (octet % 16)) && value) reads)
     (and_left (is_hex (hex_of (octet % 16))) value second)

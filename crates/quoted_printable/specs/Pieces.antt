@@ -1,7 +1,8 @@
 -- Quoted-printable texts read in pieces: the octets that are kept until it is known what they stand for.
-use Rattle.std.specs.Prelude.{ℕ, ◌≡◌, ◌==◌, ◌&&◌, ◌||◌, Bool, true, false, List, [], ◌∷◌, ◌++◌, length, take}
+use Rattle.std.specs.Prelude.{ℕ, ◌+◌, ◌<◌, ◌≤◌, ◌≡◌, ◌==◌, ◌&&◌, ◌||◌, Bool, true, false, List, [], ◌∷◌, ◌++◌, length, take}
 use Rattle.octets.specs.Blank.{is_blank}
-use Rattle.quoted_printable.specs.QuotedPrintable.{decoding_of, equals, is_hex}
+use Rattle.octets.specs.Escapes.{is_hex}
+use Rattle.quoted_printable.specs.QuotedPrintable.{decoding_of, equals, unescaped}
 
 -- an octet that may be the first one kept: `=`, SP or TAB
 abbrev pub begins : ℕ → Bool
@@ -63,3 +64,15 @@ abbrev pub HaveFed : List ℕ → List (List ℕ) → List ℕ → List ℕ → 
 HaveFed held [] left was now = (left ≡ held) × (now ≡ was)
 HaveFed held (piece ∷ pieces) left was now =
     (held_next : List ℕ) × (next : List ℕ) × HasFed held piece held_next was next × HaveFed held_next pieces left next now
+
+-- A text begins with octets that stand for this one, whatever comes after it, and this is left after them.
+pub record StandsFor (text : List ℕ) (octet : ℕ) (rest : List ℕ) : Type 0 where
+  pub line : unescaped text ≡ octet ∷ unescaped rest
+  pub anywhere : (after : List ℕ) → decoding_of (text ++ after) ≡ octet ∷ decoding_of (rest ++ after)
+  pub shorter : length rest < length text
+
+-- The same of several octets.
+pub record AreFor (text octets rest : List ℕ) : Type 0 where
+  pub line : unescaped text ≡ octets ++ unescaped rest
+  pub anywhere : (after : List ℕ) → decoding_of (text ++ after) ≡ octets ++ decoding_of (rest ++ after)
+  pub shorter : length rest + length octets ≤ length text

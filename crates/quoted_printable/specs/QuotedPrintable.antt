@@ -1,8 +1,9 @@
 -- Quoted-printable (RFC 2045, section 6.7).
-use Rattle.std.specs.Prelude.{ℕ, zero, suc, ◌+◌, ◌-◌, ◌*◌, ◌/◌, ◌%◌, ◌<◌, ◌==◌, ◌&&◌, ◌||◌, nat_le, nat_lt, Bool, true, false, not, if◌then◌else◌, List, [], ◌∷◌, ◌++◌, length, take, drop, slice_index, codes}
+use Rattle.std.specs.Prelude.{ℕ, zero, suc, ◌+◌, ◌-◌, ◌*◌, ◌/◌, ◌%◌, ◌<◌, ◌==◌, ◌&&◌, ◌||◌, nat_le, Bool, true, false, not, if◌then◌else◌, List, [], ◌∷◌, ◌++◌, length, take, drop, slice_index, codes}
 use Rattle.std.specs.Char.{digit_value}
 use Rattle.std.specs.List.{All, flat_map}
 use Rattle.octets.specs.Blank.{is_blank, without_trailing_blanks}
+use Rattle.octets.specs.Escapes.{is_hex}
 use Rattle.text_lines.specs.Lines.{TextLine, lines_of}
 
 -- `=`
@@ -10,10 +11,6 @@ abbrev pub equals : ℕ
 equals = 61
 
 -- ---- decoding
-
--- a hexadecimal digit of either case
-abbrev pub is_hex : ℕ → Bool
-is_hex octet = nat_lt (digit_value octet) 16
 
 -- `=` and two hexadecimal digits
 abbrev pub is_escape : ℕ → ℕ → ℕ → Bool
@@ -25,7 +22,7 @@ unescaped [] = []
 unescaped (octet ∷ []) = octet ∷ []
 unescaped (octet ∷ following ∷ []) = octet ∷ following ∷ []
 unescaped (octet ∷ high ∷ low ∷ rest) =
-    if is_escape octet high low then (digit_value high * 16 + digit_value low) ∷ unescaped rest else octet ∷ unescaped (high ∷ low ∷ rest)
+    if is_escape octet high low then (16 * digit_value high + digit_value low) ∷ unescaped rest else octet ∷ unescaped (high ∷ low ∷ rest)
 
 -- whether the last octet is `=`
 abbrev pub ends_in_equals : List ℕ → Bool

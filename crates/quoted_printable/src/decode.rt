@@ -1,17 +1,19 @@
 // Texts read.
-ghost use Rattle.std.specs.Prelude.{◌≡◌, ◌++◌, ◌*◌, ◌+◌, ◌<◌, ◌&&◌, true, IfOk, OnOk, IsTrue, SomeIff, length, slice_index};
-ghost use Rattle.std.specs.Char.{digit_value};
+ghost use Rattle.std.specs.Prelude.{◌≡◌, ◌∷◌, ◌++◌, ◌<◌, ◌≤◌, IfOk, IfSome, OnOk, IsTrue, length, slice_index, take};
 ghost use Rattle.text_lines.specs.Lines.{text_line};
-ghost use Rattle.quoted_printable.specs.Pieces.{Extends};
-ghost use Rattle.quoted_printable.specs.QuotedPrintable.{decoded_line, decoding_of, ends_in_equals, is_hex, unescaped};
+ghost use Rattle.quoted_printable.specs.Pieces.{AreFor, Extends, StandsFor};
+ghost use Rattle.quoted_printable.specs.QuotedPrintable.{decoded_line, decoding_of, ends_in_equals, unescaped};
 
 use crate::decoder::QpDecoder;
 use memchr::memchr;
-use octets::trim_trailing_blanks;
+use octets::{octet_of_digits, trim_trailing_blanks};
 use std::alloc::{AllocError, Global};
 use text_lines::Lines;
 
 pub(crate) const EQUALS: u8 = b'=';
+
+/// How many octets are decoded together.
+pub(crate) const STRETCH: usize = 32;
 
 /// The octets of a quoted-printable text; any text is read.
 ///
@@ -80,7 +82,10 @@ fn append_unescaped(text: &[u8], out: &mut Vec<u8>) -> Result<(), AllocError>
     'escapes: while let Some(place) = memchr(EQUALS, rest) {
         let (before, escape) = rest.split_at(place);
         out.extend_from_slice(before)?;
-        rest = append_escape(escape, out)?;
+        // where escapes are many, the next is near
+        let (octets, n, after) = first_octets(append_escape(escape, out)?);
+        out.extend_from_slice(&octets[..n])?;
+        rest = after;
     }
     out.extend_from_slice(rest)
 }
@@ -95,7 +100,7 @@ fn append_escape<'a>(text: &'a [u8], out: &mut Vec<u8>) -> Result<&'a [u8], Allo
     ensures more { Extends out.old.items out.new.items }
 {
     if text.len() >= 3 {
-        if let Some(octet) = octet_of(text[1], text[2]) {
+        if let Some(octet) = octet_of_digits(text[1], text[2]) {
             out.push(octet)?;
             let (_, after) = text.split_at(3);
             return Ok(after);
@@ -106,20 +111,51 @@ fn append_escape<'a>(text: &'a [u8], out: &mut Vec<u8>) -> Result<&'a [u8], Allo
     Ok(after)
 }
 
-// The octet whose value two hexadecimal digits write.
-#[inline]
-pub(crate) fn octet_of(high: u8, low: u8) -> Option<u8>
-    ensures { SomeIff result ((is_hex high && is_hex low) ≡ true) (digit_value high * 16 + digit_value low) }
+// What the first octets of a text stand for, at most [`STRETCH`], and what follows those: up to the first that depend on what comes
+// after them.
+#[inline(always)]
+pub(crate) fn first_octets(text: &[u8]) -> ([u8; STRETCH], usize, &[u8])
+    ensures octets { AreFor text.now (take result.1 result.0) result.2.now }
+    ensures few { result.1 ≤ 32 }
 {
-    let high = hex_value(high)?;
-    let low = hex_value(low)?;
-    Some(high * 16 + low)
+    let mut octets = [0; STRETCH];
+    let mut n = 0;
+    let mut rest = text;
+    'octets: while n < STRETCH {
+        let Some((octet, after)) = first_octet(rest) else {
+            break;
+        };
+        octets[n] = octet;
+        n += 1;
+        rest = after;
+    }
+    (octets, n, rest)
 }
 
-#[inline]
-pub(crate) fn hex_value(octet: u8) -> Option<u8>
-    ensures { SomeIff result (is_hex octet ≡ true) (digit_value octet) }
+// The octet that the first ones of a text stand for, and what follows those; nothing where it depends on what comes after them.
+#[inline(always)]
+fn first_octet(text: &[u8]) -> Option<(u8, &[u8])>
+    ensures { IfSome result (λ read. StandsFor text.now read.0 read.1.now) }
 {
-    let digit = char::from(octet).to_digit(16)?;
-    Some(digit as u8)
+    let (octet, after) = text.split_first()?;
+    if *octet == EQUALS {
+        return after_equals(after);
+    }
+    if *octet == b' ' || *octet == b'\t' {
+        return None;
+    }
+    Some((*octet, after))
+}
+
+// The octet whose digits follow a `=`.
+#[inline(always)]
+fn after_equals(text: &[u8]) -> Option<(u8, &[u8])>
+    ensures { IfSome result (λ read. StandsFor (61 ∷ text.now) read.0 read.1.now) }
+{
+    if text.len() < 2 {
+        return None;
+    }
+    let octet = octet_of_digits(text[0], text[1])?;
+    let (_, rest) = text.split_at(2);
+    Some((octet, rest))
 }

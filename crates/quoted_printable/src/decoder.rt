@@ -1,12 +1,13 @@
 // Texts read in pieces.
 ghost use Rattle.std.specs.Prelude.{◌≡◌, ◌++◌, ◌<◌, ◌≤◌, ℕ, [], false, true, List, IfOk, OnErr, OnOk, length, slice_index};
 ghost use Rattle.octets.specs.Blank.{is_blank};
-ghost use Rattle.quoted_printable.specs.QuotedPrintable.{decoding_of, is_hex};
+ghost use Rattle.octets.specs.Escapes.{is_hex};
+ghost use Rattle.quoted_printable.specs.QuotedPrintable.{decoding_of};
 ghost use Rattle.quoted_printable.specs.Pieces.{Extends, HasFed, Reads, Stops, begins, follows, goes_on, has_digit, is_held};
 
-use crate::decode::{EQUALS, append_decoding, hex_value, octet_of};
+use crate::decode::{EQUALS, append_decoding, first_octets};
 use memchr::{memchr3, memrchr};
-use octets::trim_leading_blanks;
+use octets::{octet_of_digits, trim_leading_blanks};
 use std::alloc::{AllocError, Global};
 use std::marker::Model;
 
@@ -158,7 +159,7 @@ fn is_blank(octet: u8) -> bool
 fn is_hex(octet: u8) -> bool
     ensures { result ≡ is_hex octet }
 {
-    hex_value(octet).is_some()
+    octet.is_ascii_hexdigit()
 }
 
 // Appends what the octets kept stand for, now that it is known what follows them, and gives what is left after them.
@@ -202,7 +203,7 @@ fn release_escape<'a>(
     ensures within { IfOk result (λ left. length left.now ≤ length rest.now) }
     ensures more { Extends out.old.items out.new.items }
 {
-    if let Some(octet) = octet_of(held[1], rest[0]) {
+    if let Some(octet) = octet_of_digits(held[1], rest[0]) {
         out.push(octet)?;
         let (_, after) = rest.split_at(1);
         return Ok(after);
@@ -259,7 +260,7 @@ fn append_octets(alloc: Global, text: &[u8], out: &mut Vec<u8>) -> Result<Vec<u8
     ensures more { Extends out.old.items out.new.items }
 {
     let mut held = Vec::new(alloc);
-    let mut rest = append_plain(text, out)?;
+    let mut rest = append_known(text, out)?;
     'places: while !rest.is_empty() {
         let after = hold(&mut held, rest)?;
         if after.is_empty() {
@@ -267,9 +268,29 @@ fn append_octets(alloc: Global, text: &[u8], out: &mut Vec<u8>) -> Result<Vec<u8
         }
         let left = release(&held, after, out)?;
         held.clear();
-        rest = append_plain(left, out)?;
+        rest = append_known(left, out)?;
     }
     Ok(held)
+}
+
+// Appends what is known of a text up to a place at which something may have to be kept, and gives what follows.
+#[inline]
+fn append_known<'a>(text: &'a [u8], out: &mut Vec<u8>) -> Result<&'a [u8], AllocError>
+    ensures read { IfOk result (λ left. Reads out.old.items text.now out.new.items left.now) }
+    ensures begins { IfOk result (λ left. 0 < length left.now → begins (slice_index left.now 0) ≡ true) }
+    ensures within { IfOk result (λ left. length left.now ≤ length text.now) }
+    ensures more { Extends out.old.items out.new.items }
+{
+    let mut rest = append_plain(text, out)?;
+    'stretches: while !rest.is_empty() {
+        let (octets, n, after) = first_octets(rest);
+        if n == 0 {
+            break;
+        }
+        out.extend_from_slice(&octets[..n])?;
+        rest = append_plain(after, out)?;
+    }
+    Ok(rest)
 }
 
 // Appends the octets before the first `=`, SP or TAB, and gives what follows them.

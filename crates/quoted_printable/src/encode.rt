@@ -118,7 +118,7 @@ fn put_run(line: &mut [u8; LINE_ROOM], at: usize, octets: &[u8], room: usize) ->
     let Some((block, after)) = octets.split_first_chunk::<LANES>() else {
         return 0;
     };
-    if after.is_empty() {
+    if after.is_empty() || !stands(block[1], false) {
         return 0;
     }
     line[at..at + LANES].copy_from_slice(block);

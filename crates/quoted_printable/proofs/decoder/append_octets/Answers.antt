@@ -5,5 +5,5 @@ places-init c = record {
   none = c.new-held.ensures.items;
   begin = c.in_ok-rest.ensures.begins;
   read = c.in_ok-rest.ensures.read;
-  more = c.append_plain.ensures.more;
+  more = c.append_known.ensures.more;
 }
