@@ -493,6 +493,7 @@ impl Signature {
     }
 
     /// The arguments, read: tags in any order, then the others. Nothing where they aren't those that are taken.
+    #[inline(always)]
     pub fn read(self, arguments: &[Argument]) -> Option<Reading>
         ensures { Reads (reading self (map argument_tree arguments.now)) result }
     {
