@@ -1,4 +1,5 @@
--- The first value that matches a key, and the captures after it (RFC 5228, sections 2.7.1 and 5.7; RFC 5229, section 3.2).
+-- The first value that matches a key, and the captures after it (RFC 5228, sections 2.7.1 and 5.7;
+-- RFC 5229, section 3.2).
 use Rattle.std.specs.Prelude.{◌≡◌, ◌⊎◌, ℕ, ◌-◌, List, [], ◌∷◌, ◌++◌, length, replicate, Option, None, Some, if◌then◌else◌}
 use Rattle.std.specs.Option.{option_map, option_or}
 use Rattle.glob_match.specs.Comparison.{is_match}
@@ -22,8 +23,8 @@ captures_of (Some captures) = captures
 abbrev pub ten_of : List (List ℕ) → List (List ℕ)
 ten_of captures = captures ++ replicate (max_captures - length captures) []
 
--- the captures after a value and a key were compared, where the value matches: `:matches` sets all of them, `:is` and `:contains`
--- leave them
+-- the captures after a value and a key were compared, where the value matches: `:matches` sets all
+-- of them, `:is` and `:contains` leave them
 abbrev pub after_comparison : MatchType → Comparator → List ℕ → List ℕ → List (List ℕ) → Option (List (List ℕ))
 after_comparison Is comparator value key captures = if is_match comparator value key then Some captures else None
 after_comparison Contains comparator value key captures = if contains_match comparator value key then Some captures else None
@@ -35,12 +36,15 @@ after_match how value key captures = after_comparison how.kind how.comparator va
 -- the captures after the first of the keys, in order, that the value matches; None where it matches none
 abbrev pub first_key : Match → List ℕ → List (List ℕ) → List (List ℕ) → Option (List (List ℕ))
 first_key how value [] captures = None
-first_key how value (key ∷ keys) captures = option_or (after_match how value key captures) (first_key how value keys captures)
+first_key how value (key ∷ keys) captures = option_or (after_match how value key captures)
+    (first_key how value keys captures)
 
--- the captures after the first match of the values, in order, with the keys, for each value in order; None where there is none
+-- the captures after the first match of the values, in order, with the keys, for each value in
+-- order; None where there is none
 abbrev pub first_match : Match → List (List ℕ) → List (List ℕ) → List (List ℕ) → Option (List (List ℕ))
 first_match how [] keys captures = None
-first_match how (value ∷ values) keys captures = option_or (first_key how value keys captures) (first_match how values keys captures)
+first_match how (value ∷ values) keys captures = option_or (first_key how value keys captures)
+    (first_match how values keys captures)
 
 -- a test that fails or holds, and in neither case sets captures
 abbrev pub KeepsCaptures : (List (List ℕ) → Option (List (List ℕ))) → Type 0

@@ -25,10 +25,12 @@ abbrev pub exists_cost : Scope → Option ℕ → List (List ℕ) → Mail → �
 exists_cost scope current names mail = names_cost (fields_in_scope scope current mail) names
 
 -- `header`: the captures after the first selected value that matches a key; None where no value does
-abbrev pub header_match : Match → Scope → Option ℕ → Selector → List (List ℕ) → List (List ℕ) → Mail → List (List ℕ) → Option (List (List ℕ))
+abbrev pub header_match : Match → Scope → Option ℕ → Selector → List (List ℕ) → List (List ℕ) → Mail → List (List ℕ)
+    → Option (List (List ℕ))
 header_match how scope current selector names keys mail captures =
     first_match how (selected_values scope current selector names mail) keys captures
 
 abbrev pub header_cost : Scope → Option ℕ → Selector → List (List ℕ) → List (List ℕ) → Mail → ℕ
 header_cost scope current selector names keys mail =
-    names_cost (fields_in_scope scope current mail) names + values_cost (selected_values scope current selector names mail) keys
+    names_cost (fields_in_scope scope current mail) names + values_cost
+    (selected_values scope current selector names mail) keys

@@ -29,7 +29,9 @@ after_compared value Differs captures = None
 after_compared value Matches captures = Some captures
 after_compared value (Sets stretches) captures = Some (ten_of (texts value stretches))
 
--- after the values that were taken before, these were: they are compared where none of the former matched, and they count in any case
+-- after the values that were taken before, these were: they are compared where none of the former
+-- matched, and they count in any case
 pub record GoesOn (how : Match) (values keys : List (List ℕ)) (old new : Progress) : Type 0 where
-  pub outcome : (captures : List (List ℕ)) → after new.outcome captures ≡ option_or (after old.outcome captures) (first_match how values keys captures)
+  pub outcome : (captures : List (List ℕ))
+      → after new.outcome captures ≡ option_or (after old.outcome captures) (first_match how values keys captures)
   pub extent : new.extent ≡ old.extent + extent_of values

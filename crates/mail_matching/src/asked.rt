@@ -76,7 +76,8 @@ fn first_named<'f, 'v>(
     params: &'f [LentParameter<'v>],
     name: &[u8],
 ) -> Option<&'f LentParameter<'v>>
-    ensures { MatchOption result (value_named name.now params.now ≡ None) (λ param. value_named name.now params.now ≡ Some param.now.value) }
+    ensures { MatchOption result (value_named name.now params.now ≡ None)
+        (λ param. value_named name.now params.now ≡ Some param.now.value) }
 {
     for param in params {
         if equal_ignoring_case(param.name(), name) {

@@ -34,9 +34,13 @@ pub(crate) fn first_key<'a, K: Texts>(
 ) -> Result<Outcome<'a>, AllocError>
     requires value { length (cow_slice_items value.now) ≤ max_message }
     requires keys { AreTexts (K.texts keys.now) }
-    ensures outcome { IfOk result (λ outcome. (captures : List (List ℕ)) → after outcome captures ≡ first_key how (cow_slice_items value.now) (K.texts keys.now) captures) }
+    ensures outcome { IfOk result
+        (λ outcome. (captures : List (List ℕ))
+        → after outcome captures ≡ first_key how (cow_slice_items value.now) (K.texts keys.now)
+        captures) }
     ensures lent { IsBorrowedSlice value.now → IsOk result }
-    ensures told { KeepsCaptures (first_key how (cow_slice_items value.now) (K.texts keys.now)) → IsOk result }
+    ensures told { KeepsCaptures (first_key how (cow_slice_items value.now) (K.texts keys.now))
+        → IsOk result }
 {
     Ok(match first_comparison(value.as_slice(), keys, how) {
         Compared::Differs => Outcome::Fails,
@@ -56,7 +60,9 @@ pub(crate) fn first_key_of_lent<'a, K: Texts>(
 ) -> Result<Outcome<'a>, AllocError>
     requires value { length value.now ≤ max_message }
     requires keys { AreTexts (K.texts keys.now) }
-    ensures outcome { IfOk result (λ outcome. (captures : List (List ℕ)) → after outcome captures ≡ first_key how value.now (K.texts keys.now) captures) }
+    ensures outcome { IfOk result
+        (λ outcome. (captures : List (List ℕ))
+        → after outcome captures ≡ first_key how value.now (K.texts keys.now) captures) }
     ensures told { KeepsCaptures (first_key how value.now (K.texts keys.now)) → IsOk result }
 {
     Ok(match first_comparison(value, keys, how) {
@@ -72,7 +78,9 @@ pub(crate) fn first_key_of_lent<'a, K: Texts>(
 pub(crate) fn first_comparison<K: Texts>(value: &[u8], keys: &K, how: Match) -> Compared
     requires value { length value.now ≤ max_message }
     requires keys { AreTexts (K.texts keys.now) }
-    ensures { (captures : List (List ℕ)) → after_compared value.now result captures ≡ first_key how value.now (K.texts keys.now) captures }
+    ensures { (captures : List (List ℕ))
+        → after_compared value.now result captures
+        ≡ first_key how value.now (K.texts keys.now) captures }
 {
     for place in 0..keys.count() {
         match compare(value, keys.text(place), how) {
@@ -98,7 +106,8 @@ fn matched(value_is_key: bool) -> Compared
 fn compare(value: &[u8], key: &[u8], how: Match) -> Compared
     requires value { length value.now ≤ max_message }
     requires key { length key.now ≤ max_string }
-    ensures { (captures : List (List ℕ)) → after_compared value.now result captures ≡ after_match how value.now key.now captures }
+    ensures { (captures : List (List ℕ))
+        → after_compared value.now result captures ≡ after_match how value.now key.now captures }
 {
     match how.kind {
         MatchType::Is => matched(is(value, key, how.comparator).0),

@@ -22,8 +22,10 @@ use mime_decode::Message;
 pub fn exists<N: Texts>(message: &Message, reach: Reach, names: &N) -> (bool, u64)
     requires current { IfSome reach.current (λ current. current < length message.now.parts) }
     requires names { AreTexts (N.texts names.now) }
-    ensures value { result.0 ≡ exists_in (scope_of reach.scope) reach.current (N.texts names.now) message.now }
-    ensures cost { result.1 ≡ exists_cost (scope_of reach.scope) reach.current (N.texts names.now) message.now }
+    ensures value { result.0 ≡ exists_in (scope_of reach.scope) reach.current (N.texts names.now)
+        message.now }
+    ensures cost { result.1 ≡ exists_cost (scope_of reach.scope) reach.current (N.texts names.now)
+        message.now }
 {
     let headers = Headers::in_scope(message, reach);
     let cost = names_cost(fields_number(&headers), names);

@@ -42,12 +42,20 @@ pub fn header<'m, N: Texts, P: Texts, K: Texts>(
     requires names { AreTexts (N.texts names.now) }
     requires params { AreTexts (P.texts params.now) }
     requires keys { AreTexts (K.texts keys.now) }
-    ensures outcome { IfOk result (λ answer. (captures : List (List ℕ))
+    ensures outcome { IfOk result
+        (λ answer. (captures : List (List ℕ))
         → after answer.outcome captures
-        ≡ header_match test.how (scope_of test.reach.scope) test.reach.current (selector_of test.selector (P.texts params.now)) (N.texts names.now) (K.texts keys.now) message.now captures) }
+        ≡ header_match test.how (scope_of test.reach.scope) test.reach.current
+        (selector_of test.selector (P.texts params.now)) (N.texts names.now) (K.texts keys.now)
+        message.now captures) }
     ensures cost { IfOk result (λ answer. answer.cost
-        ≡ header_cost (scope_of test.reach.scope) test.reach.current (selector_of test.selector (P.texts params.now)) (N.texts names.now) (K.texts keys.now) message.now) }
-    ensures told { test.selector ≡ Value → All (AreUnfolded (N.texts names.now)) (headers_in_scope (scope_of test.reach.scope) test.reach.current message.now) → IsOk result }
+        ≡ header_cost (scope_of test.reach.scope) test.reach.current
+        (selector_of test.selector (P.texts params.now)) (N.texts names.now) (K.texts keys.now)
+        message.now) }
+    ensures told { test.selector ≡ Value
+        → All (AreUnfolded (N.texts names.now))
+        (headers_in_scope (scope_of test.reach.scope) test.reach.current message.now)
+        → IsOk result }
 {
     let headers = Headers::in_scope(message, test.reach);
     let comparison = Comparison {
@@ -74,8 +82,12 @@ fn compared<'m, N: Texts, P: Texts, K: Texts>(
     requires names { AreTexts (N.texts names.now) }
     requires params { AreTexts (P.texts test.now.params.now) }
     requires keys { AreTexts (K.texts test.now.keys.now) }
-    ensures goes { IfOk result (λ progress. GoesOn test.now.how (selected_in_all (selector_of test.now.selector (P.texts test.now.params.now)) (N.texts names.now) headers.now) (K.texts test.now.keys.now) (record { outcome = Fails; extent = 0 }) progress) }
-    ensures told { test.now.selector ≡ Value → All (AreUnfolded (N.texts names.now)) headers.now → IsOk result }
+    ensures goes { IfOk result (λ progress. GoesOn test.now.how
+        (selected_in_all (selector_of test.now.selector (P.texts test.now.params.now))
+        (N.texts names.now) headers.now) (K.texts test.now.keys.now)
+        (record { outcome = Fails; extent = 0 }) progress) }
+    ensures told { test.now.selector ≡ Value → All (AreUnfolded (N.texts names.now)) headers.now
+        → IsOk result }
 {
     let mut progress = Progress {
         outcome: Outcome::Fails,

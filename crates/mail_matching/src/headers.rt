@@ -32,7 +32,8 @@ impl<'a, 'm> Model for Headers<'a, 'm> {
 
     ghost view = { λ h. headers_from h.first h.number h.message.now };
 
-    ghost invariant = { λ h. (h.first + h.number ≤ length h.message.now.parts) × IsMail h.message.now };
+    ghost invariant = { λ h. (h.first + h.number ≤ length h.message.now.parts)
+        × IsMail h.message.now };
 }
 
 impl<'a, 'm> Headers<'a, 'm> {
@@ -69,7 +70,8 @@ impl<'a, 'm> Headers<'a, 'm> {
 // The first of the parts in scope, and how many there are.
 fn numbers_in_scope(message: &Message, reach: Reach) -> (usize, usize)
     requires { IfSome reach.current (λ current. current < length message.now.parts) }
-    ensures parts { take result.1 (drop result.0 message.now.parts) ≡ parts_in_scope (scope_of reach.scope) reach.current message.now }
+    ensures parts { take result.1 (drop result.0 message.now.parts)
+        ≡ parts_in_scope (scope_of reach.scope) reach.current message.now }
     ensures within { result.0 + result.1 ≤ length message.now.parts }
     ensures mail { IsMail message.now }
 {

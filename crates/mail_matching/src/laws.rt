@@ -12,20 +12,25 @@ ghost use Rattle.mail_matching.specs.Selection.{values_of_a_field};
 
 /// Looking for fields by their names costs at most one more than the message has octets, for each octet of a name and for one more.
 pub fn names_cost_is_within_the_message()
-    ensures { (mail : Mail) → IsMail mail → (scope : Scope) (current : Option ℕ) (names : List (List ℕ))
-        → names_cost (fields_in_scope scope current mail) names ≤ (size_of mail + 1) * extent_of names }
+    ensures { (mail : Mail) → IsMail mail
+        → (scope : Scope) (current : Option ℕ) (names : List (List ℕ))
+        → names_cost (fields_in_scope scope current mail) names
+        ≤ (size_of mail + 1) * extent_of names }
 {}
 
 /// Comparing what is selected of the fields of so many names costs at most that many times what the message's octets do, for
 /// each value that may be selected of a field.
 pub fn values_cost_is_within_the_message()
-    ensures { (mail : Mail) → IsMail mail → (scope : Scope) (current : Option ℕ) (selector : Selector) (names keys : List (List ℕ))
-        → values_cost (selected_values scope current selector names mail) keys ≤ length names * values_of_a_field selector * size_of mail * extent_of keys }
+    ensures { (mail : Mail) → IsMail mail
+        → (scope : Scope) (current : Option ℕ) (selector : Selector) (names keys : List (List ℕ))
+        → values_cost (selected_values scope current selector names mail) keys
+        ≤ length names * values_of_a_field selector * size_of mail * extent_of keys }
 {}
 
 /// Comparing the content of a part costs at most what the message's octets do.
 pub fn body_cost_is_within_the_message()
-    ensures { (mail : Mail) → IsMail mail → (place : ℕ) (part : Part) → slice_get mail.parts place ≡ Some part → (keys : List (List ℕ))
+    ensures { (mail : Mail) → IsMail mail → (place : ℕ) (part : Part)
+        → slice_get mail.parts place ≡ Some part → (keys : List (List ℕ))
         → body_cost part keys ≤ (size_of mail + 1) * extent_of keys }
 {}
 
@@ -36,11 +41,13 @@ pub fn digest_cost_is_fixed()
 
 /// The cost of comparing is a product.
 pub fn values_cost_is_a_product()
-    ensures { (values keys : List (List ℕ)) → values_cost values keys ≡ extent_of values * extent_of keys }
+    ensures { (values keys : List (List ℕ))
+        → values_cost values keys ≡ extent_of values * extent_of keys }
 {}
 
 /// There are always ten captures.
 pub fn captures_stay_ten()
-    ensures { (how : Match) (values keys captures after : List (List ℕ)) → length captures ≡ max_captures
-        → first_match how values keys captures ≡ Some after → length after ≡ max_captures }
+    ensures { (how : Match) (values keys captures after : List (List ℕ))
+        → length captures ≡ max_captures → first_match how values keys captures ≡ Some after
+        → length after ≡ max_captures }
 {}

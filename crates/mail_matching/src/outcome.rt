@@ -46,7 +46,8 @@ impl<'a> Captured<'a> {
         value: &CowSlice<'a, u8>,
         stretches: Captures,
     ) -> Result<Captured<'a>, AllocError>
-        ensures captures { IfOk result (λ captured. captured ≡ ten_of (texts (cow_slice_items value.now) stretches)) }
+        ensures captures { IfOk result
+            (λ captured. captured ≡ ten_of (texts (cow_slice_items value.now) stretches)) }
         ensures lent { IsBorrowedSlice value.now → IsOk result }
     {
         match value {

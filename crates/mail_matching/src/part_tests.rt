@@ -31,11 +31,15 @@ pub fn body<'m, K: Texts>(
 ) -> Result<Answer<'m>, AllocError>
     requires content { length (cow_slice_items content.now) ≤ max_message }
     requires keys { AreTexts (K.texts keys.now) }
-    ensures outcome { IfOk result (λ answer. (captures : List (List ℕ))
-        → after answer.outcome captures ≡ first_match how (cow_slice_items content.now ∷ []) (K.texts keys.now) captures) }
-    ensures cost { IfOk result (λ answer. answer.cost ≡ values_cost (cow_slice_items content.now ∷ []) (K.texts keys.now)) }
+    ensures outcome { IfOk result
+        (λ answer. (captures : List (List ℕ))
+        → after answer.outcome captures
+        ≡ first_match how (cow_slice_items content.now ∷ []) (K.texts keys.now) captures) }
+    ensures cost { IfOk result (λ answer. answer.cost
+        ≡ values_cost (cow_slice_items content.now ∷ []) (K.texts keys.now)) }
     ensures lent { IsBorrowedSlice content.now → IsOk result }
-    ensures told { KeepsCaptures (first_match how (cow_slice_items content.now ∷ []) (K.texts keys.now)) → IsOk result }
+    ensures told { KeepsCaptures
+        (first_match how (cow_slice_items content.now ∷ []) (K.texts keys.now)) → IsOk result }
 {
     Ok(Answer {
         outcome: first_key(alloc, content, keys, how)?,
@@ -46,7 +50,9 @@ pub fn body<'m, K: Texts>(
 /// Whether the digest of a part equals a key, octet by octet. No captures are set, and no memory is taken.
 pub fn digest<'m, K: Texts>(digest: &[u8; 64], keys: &K) -> Answer<'m>
     requires keys { AreTexts (K.texts keys.now) }
-    ensures outcome { (captures : List (List ℕ)) → after result.outcome captures ≡ first_match exactly (digest.now ∷ []) (K.texts keys.now) captures }
+    ensures outcome { (captures : List (List ℕ))
+        → after result.outcome captures
+        ≡ first_match exactly (digest.now ∷ []) (K.texts keys.now) captures }
     ensures cost { result.cost ≡ values_cost (digest.now ∷ []) (K.texts keys.now) }
 {
     let outcome = if equals_a_key(digest, keys) {
@@ -64,7 +70,9 @@ pub fn digest<'m, K: Texts>(digest: &[u8; 64], keys: &K) -> Answer<'m>
 fn equals_a_key<K: Texts>(value: &[u8], keys: &K) -> bool
     requires value { length value.now ≤ max_message }
     requires keys { AreTexts (K.texts keys.now) }
-    ensures { (captures : List (List ℕ)) → first_key exactly value.now (K.texts keys.now) captures ≡ (if result then Some captures else None) }
+    ensures { (captures : List (List ℕ))
+        → first_key exactly value.now (K.texts keys.now) captures
+        ≡ (if result then Some captures else None) }
 {
     for place in 0..keys.count() {
         if is(value, keys.text(place), Comparator::Octet).0 {

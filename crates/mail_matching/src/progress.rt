@@ -52,9 +52,14 @@ impl<'m> Progress<'m> {
         requires params { AreTexts (P.texts test.now.params.now) }
         requires keys { AreTexts (K.texts test.now.keys.now) }
         requires fields { fields_extent fields.now ≤ max_message }
-        requires room { self.old.extent + extent_of (selected_among (selector_of test.now.selector (P.texts test.now.params.now)) (N.texts names.now) fields.now) < 2 ^ 64 }
-        ensures goes { OnOk result (GoesOn test.now.how (selected_among (selector_of test.now.selector (P.texts test.now.params.now)) (N.texts names.now) fields.now) (K.texts test.now.keys.now) self.old self.new) }
-        ensures told { test.now.selector ≡ Value → AreUnfolded (N.texts names.now) fields.now → IsOk result }
+        requires room { self.old.extent + extent_of
+            (selected_among (selector_of test.now.selector (P.texts test.now.params.now))
+            (N.texts names.now) fields.now) < 2 ^ 64 }
+        ensures goes { OnOk result (GoesOn test.now.how
+            (selected_among (selector_of test.now.selector (P.texts test.now.params.now))
+            (N.texts names.now) fields.now) (K.texts test.now.keys.now) self.old self.new) }
+        ensures told { test.now.selector ≡ Value → AreUnfolded (N.texts names.now) fields.now
+            → IsOk result }
     {
         if fields.is_empty() {
             return Ok(());
@@ -76,9 +81,14 @@ impl<'m> Progress<'m> {
         requires params { AreTexts (P.texts test.now.params.now) }
         requires keys { AreTexts (K.texts test.now.keys.now) }
         requires fields { fields_extent fields.now ≤ max_message }
-        requires room { self.old.extent + extent_of (selected_named (selector_of test.now.selector (P.texts test.now.params.now)) fields.now name.now) < 2 ^ 64 }
-        ensures goes { OnOk result (GoesOn test.now.how (selected_named (selector_of test.now.selector (P.texts test.now.params.now)) fields.now name.now) (K.texts test.now.keys.now) self.old self.new) }
-        ensures told { test.now.selector ≡ Value → All (IsUnfolded name.now) fields.now → IsOk result }
+        requires room { self.old.extent + extent_of
+            (selected_named (selector_of test.now.selector (P.texts test.now.params.now)) fields.now
+            name.now) < 2 ^ 64 }
+        ensures goes { OnOk result (GoesOn test.now.how
+            (selected_named (selector_of test.now.selector (P.texts test.now.params.now))
+            fields.now name.now) (K.texts test.now.keys.now) self.old self.new) }
+        ensures told { test.now.selector ≡ Value → All (IsUnfolded name.now) fields.now
+            → IsOk result }
     {
         for field in fields {
             self.take_where_named(alloc, field, name, test)?;
@@ -97,8 +107,12 @@ impl<'m> Progress<'m> {
         requires params { AreTexts (P.texts test.now.params.now) }
         requires keys { AreTexts (K.texts test.now.keys.now) }
         requires field { length field.now.value ≤ max_message }
-        requires room { self.old.extent + extent_of (selected_named (selector_of test.now.selector (P.texts test.now.params.now)) (field.now ∷ []) name.now) < 2 ^ 64 }
-        ensures goes { OnOk result (GoesOn test.now.how (selected_named (selector_of test.now.selector (P.texts test.now.params.now)) (field.now ∷ []) name.now) (K.texts test.now.keys.now) self.old self.new) }
+        requires room { self.old.extent + extent_of
+            (selected_named (selector_of test.now.selector (P.texts test.now.params.now))
+            (field.now ∷ []) name.now) < 2 ^ 64 }
+        ensures goes { OnOk result (GoesOn test.now.how
+            (selected_named (selector_of test.now.selector (P.texts test.now.params.now))
+            (field.now ∷ []) name.now) (K.texts test.now.keys.now) self.old self.new) }
         ensures told { test.now.selector ≡ Value → IsUnfolded name.now field.now → IsOk result }
     {
         if is_named(field, name) {
@@ -117,8 +131,12 @@ impl<'m> Progress<'m> {
         requires params { AreTexts (P.texts test.now.params.now) }
         requires keys { AreTexts (K.texts test.now.keys.now) }
         requires field { length field.now.value ≤ max_message }
-        requires room { self.old.extent + extent_of (selected_of (selector_of test.now.selector (P.texts test.now.params.now)) field.now) < 2 ^ 64 }
-        ensures goes { OnOk result (GoesOn test.now.how (selected_of (selector_of test.now.selector (P.texts test.now.params.now)) field.now) (K.texts test.now.keys.now) self.old self.new) }
+        requires room { self.old.extent + extent_of
+            (selected_of (selector_of test.now.selector (P.texts test.now.params.now)) field.now)
+            < 2 ^ 64 }
+        ensures goes { OnOk result (GoesOn test.now.how
+            (selected_of (selector_of test.now.selector (P.texts test.now.params.now))
+            field.now) (K.texts test.now.keys.now) self.old self.new) }
         ensures told { test.now.selector ≡ Value → field.now.folded ≡ false → IsOk result }
     {
         match test.selector {
@@ -154,7 +172,8 @@ impl<'m> Progress<'m> {
         requires keys { AreTexts (K.texts keys.now) }
         requires field { length field.now.value ≤ max_message }
         requires room { self.old.extent + extent_of (field.now.value ∷ []) < 2 ^ 64 }
-        ensures goes { OnOk result (GoesOn how (field.now.value ∷ []) (K.texts keys.now) self.old self.new) }
+        ensures goes { OnOk result (GoesOn how (field.now.value ∷ []) (K.texts keys.now) self.old
+            self.new) }
         ensures told { field.now.folded ≡ false → IsOk result }
     {
         if self.outcome.holds() {
@@ -177,8 +196,12 @@ impl<'m> Progress<'m> {
         requires keys { AreTexts (K.texts test.now.keys.now) }
         requires field { length field.now.value ≤ max_message }
         requires value { value.now ≡ field.now.value }
-        requires room { self.old.extent + extent_of (values_of_params (params_of (reading_of field.now)) (P.texts test.now.params.now)) < 2 ^ 64 }
-        ensures { OnOk result (GoesOn test.now.how (values_of_params (params_of (reading_of field.now)) (P.texts test.now.params.now)) (K.texts test.now.keys.now) self.old self.new) }
+        requires room { self.old.extent + extent_of
+            (values_of_params (params_of (reading_of field.now)) (P.texts test.now.params.now))
+            < 2 ^ 64 }
+        ensures { OnOk result (GoesOn test.now.how
+            (values_of_params (params_of (reading_of field.now)) (P.texts test.now.params.now))
+            (K.texts test.now.keys.now) self.old self.new) }
     {
         let found = asked_params(alloc, params_in(field, value), test.params)?;
         for place in 0..test.params.count() {
@@ -219,7 +242,8 @@ impl<'m> Progress<'m> {
         requires keys { AreTexts (K.texts keys.now) }
         requires value { length (cow_slice_items value.now) ≤ max_message }
         requires room { self.old.extent + extent_of (cow_slice_items value.now ∷ []) < 2 ^ 64 }
-        ensures goes { OnOk result (GoesOn how (cow_slice_items value.now ∷ []) (K.texts keys.now) self.old self.new) }
+        ensures goes { OnOk result (GoesOn how (cow_slice_items value.now ∷ []) (K.texts keys.now)
+            self.old self.new) }
         ensures lent { IsBorrowedSlice value.now → IsOk result }
     {
         self.extent += value.len() as u64 + 1;

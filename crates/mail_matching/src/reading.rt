@@ -60,7 +60,8 @@ fn media_text<'a>(alloc: Global, field: &Field<'a>) -> Result<CowSlice<'a, u8>, 
 
 // A text with the disposition of the field's value, as that of a Content-Disposition.
 fn disposition_text<'a>(alloc: Global, field: &Field<'a>) -> Result<CowSlice<'a, u8>, AllocError>
-    ensures { IfOk result (λ text. disposition_name (cow_slice_items text) ≡ disposition_name field.now.value) }
+    ensures { IfOk result (λ text. disposition_name (cow_slice_items text)
+        ≡ disposition_name field.now.value) }
 {
     let mut most = TYPE_START;
     'starts: while most <= LONGEST_START {
@@ -107,7 +108,8 @@ pub(crate) fn content_type_of<'v>(
     text: &[u8],
 ) -> Result<CowSlice<'v, u8>, AllocError>
     requires { IsTypeText field.now text.now }
-    ensures { IfOk result (λ octets. cow_slice_items octets ≡ content_type_of (reading_of field.now)) }
+    ensures { IfOk result (λ octets. cow_slice_items octets
+        ≡ content_type_of (reading_of field.now)) }
 {
     if is_content_type(field) {
         content_type_in(alloc, text)
@@ -152,7 +154,8 @@ fn sub_in(text: &[u8]) -> &[u8]
 
 // The type, a slash and the subtype in the value of a Content-Type.
 fn content_type_in<'v>(alloc: Global, text: &[u8]) -> Result<CowSlice<'v, u8>, AllocError>
-    ensures { IfOk result (λ octets. cow_slice_items octets ≡ content_type_of (as_media (media_type_of text.now))) }
+    ensures { IfOk result (λ octets. cow_slice_items octets
+        ≡ content_type_of (as_media (media_type_of text.now))) }
 {
     let Some((main, sub)) = type_names(text) else {
         return Ok(CowSlice::Borrowed(b""));

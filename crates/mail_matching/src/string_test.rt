@@ -28,10 +28,14 @@ pub fn string<'m, S: Texts, K: Texts>(
 ) -> Result<Answer<'m>, AllocError>
     requires sources { AreTexts (S.texts sources.now) }
     requires keys { AreTexts (K.texts keys.now) }
-    ensures outcome { IfOk result (λ answer. (captures : List (List ℕ))
-        → after answer.outcome captures ≡ first_match how (S.texts sources.now) (K.texts keys.now) captures) }
-    ensures cost { IfOk result (λ answer. answer.cost ≡ values_cost (S.texts sources.now) (K.texts keys.now)) }
-    ensures told { KeepsCaptures (first_match how (S.texts sources.now) (K.texts keys.now)) → IsOk result }
+    ensures outcome { IfOk result
+        (λ answer. (captures : List (List ℕ))
+        → after answer.outcome captures
+        ≡ first_match how (S.texts sources.now) (K.texts keys.now) captures) }
+    ensures cost { IfOk result (λ answer. answer.cost
+        ≡ values_cost (S.texts sources.now) (K.texts keys.now)) }
+    ensures told { KeepsCaptures (first_match how (S.texts sources.now) (K.texts keys.now))
+        → IsOk result }
 {
     let outcome = first_source(alloc, sources, keys, how)?;
     let cost = values_cost(sources, keys);
@@ -47,9 +51,12 @@ fn first_source<'m, S: Texts, K: Texts>(
 ) -> Result<Outcome<'m>, AllocError>
     requires sources { AreTexts (S.texts sources.now) }
     requires keys { AreTexts (K.texts keys.now) }
-    ensures outcome { IfOk result (λ outcome. (captures : List (List ℕ))
-        → after outcome captures ≡ first_match how (S.texts sources.now) (K.texts keys.now) captures) }
-    ensures told { KeepsCaptures (first_match how (S.texts sources.now) (K.texts keys.now)) → IsOk result }
+    ensures outcome { IfOk result
+        (λ outcome. (captures : List (List ℕ))
+        → after outcome captures ≡ first_match how (S.texts sources.now) (K.texts keys.now)
+        captures) }
+    ensures told { KeepsCaptures (first_match how (S.texts sources.now) (K.texts keys.now))
+        → IsOk result }
 {
     for place in 0..sources.count() {
         let outcome = first_key_of_lent(alloc, sources.text(place), keys, how)?;
