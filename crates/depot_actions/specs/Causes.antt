@@ -66,7 +66,8 @@ abbrev pub IsFull : Entries → Command → Type 0
 IsFull before (SetScript user script) = ⊥
 IsFull before (SetCode user program) = ⊥
 IsFull before (Deliver user message) =
-    (actions : List Action) × AreActions (before.programs user) (mail_of message) actions × (HasRoom before user (length actions) → ⊥)
+    (actions : List Action) × AreActions (before.programs user) (mail_of message) actions
+    × (HasRoom before user (length actions) → ⊥)
 IsFull before (ListAll user) = ⊥
 IsFull before (ProgramOf user) = ⊥
 IsFull before (Export user number encoding) = ⊥
@@ -78,7 +79,8 @@ abbrev pub IsColliding : Trees → Entries → Command → Type 0
 IsColliding trees before (SetScript user script) = ⊥
 IsColliding trees before (SetCode user program) = ⊥
 IsColliding trees before (Deliver user message) =
-    (actions : List Action) × AreActions (before.programs user) (mail_of message) actions × HasRoom before user (length actions)
+    (actions : List Action) × AreActions (before.programs user) (mail_of message) actions
+    × HasRoom before user (length actions)
     × Collides trees (drafts_of (mail_of message) actions)
 IsColliding trees before (ListAll user) = ⊥
 IsColliding trees before (ProgramOf user) = ⊥
@@ -100,10 +102,13 @@ IsExport Migrate = ⊥
 abbrev pub HasCause : Refusal → Command → State → Type 0
 HasCause Memory command state = Unit {0}
 HasCause UserName command state = IsNamed command → ⊥
-HasCause NoSuchEntry command state = IsNamed command × ((before : Entries) → Stands state.now before → NamesNone before command)
-HasCause NumberFull command state = IsNamed command × IsSound command × ((before : Entries) → Stands state.now before → IsFull before command)
+HasCause NoSuchEntry command state = IsNamed command
+    × ((before : Entries) → Stands state.now before → NamesNone before command)
+HasCause NumberFull command state = IsNamed command × IsSound command
+    × ((before : Entries) → Stands state.now before → IsFull before command)
 HasCause Collision command state =
-    IsNamed command × IsSound command × ((before : Entries) → Stands state.now before → IsColliding state.now.trees before command)
+    IsNamed command × IsSound command
+    × ((before : Entries) → Stands state.now before → IsColliding state.now.trees before command)
 HasCause Database command state = IsNamed command × IsSound command
 HasCause Write command state = IsNamed command × IsExport command
 HasCause refusal command state = IsNamed command × IsUnsound command refusal
@@ -117,7 +122,8 @@ HasOpenCause {D} {g} image (Err refusal) = refusal ≡ Database → IsUnready g 
 
 -- where the tables stand for a state, `Database` is told only of a database that can't work, or for this other cause
 abbrev pub IsStoreFault : (Entries → Trees → Type 0) → State → State → Refusal → Type 0
-IsStoreFault Other old new refusal = refusal ≡ Database → (before : Entries) → Stands old.now before → HasFailed old new ⊎ Other before old.now.trees
+IsStoreFault Other old new refusal = refusal ≡ Database → (before : Entries) → Stands old.now before
+    → HasFailed old new ⊎ Other before old.now.trees
 
 -- a stored program no longer reads and verifies
 abbrev pub IsSpoilt : Option (List ℕ) → Type 0
@@ -128,21 +134,24 @@ IsSpoilt (Some program) = (refusal : Refusal) × (refusal ≢ Memory) × IsProgr
 abbrev pub LackRoom : List ℕ → List Draft → Entries → Trees → Type 0
 LackRoom user drafts before db = HasNoUserRoom user (with_entries user drafts before) db ⊎ HaveNoRoom user drafts db
 
--- What may keep a store that works from a command: what is to be put in has no room, or a stored program is spoilt. Where a command only
--- reads or removes, nothing does.
+-- What may keep a store that works from a command: what is to be put in has no room, or a stored
+-- program is spoilt. Where a command only reads or removes, nothing does.
 abbrev pub IsHindered : Command → Entries → Trees → Type 0
-IsHindered (SetScript user script) before db = (code : Code) × IsCompiled script code × HasNoUserRoom user (with_program user (spelling code) before) db
+IsHindered (SetScript user script) before db = (code : Code) × IsCompiled script code
+    × HasNoUserRoom user (with_program user (spelling code) before) db
 IsHindered (SetCode user program) before db = HasNoUserRoom user (with_program user program before) db
 IsHindered (Deliver user message) before db =
     IsSpoilt (before.programs user)
-    ⊎ ((actions : List Action) × AreActions (before.programs user) (mail_of message) actions × LackRoom user (drafts_of (mail_of message) actions) before db)
+    ⊎ ((actions : List Action) × AreActions (before.programs user) (mail_of message) actions
+    × LackRoom user (drafts_of (mail_of message) actions) before db)
 IsHindered (ListAll user) before db = ⊥
 IsHindered (ProgramOf user) before db = ⊥
 IsHindered (Export user number encoding) before db = ⊥
 IsHindered (Remove user number) before db = ⊥
 IsHindered Migrate before db =
     ((user : List ℕ) × IsSpoilt (before.programs user))
-    ⊎ ((stored : List UserProgram) × (renewed : List UserProgram) × AreProgramsOf before stored × AreRenewals stored renewed × HaveNoUserRoom renewed before db)
+    ⊎ ((stored : List UserProgram) × (renewed : List UserProgram) × AreProgramsOf before stored
+    × AreRenewals stored renewed × HaveNoUserRoom renewed before db)
 
 -- the store refuses the command only so
 abbrev pub IsFault : Command → State → State → Refusal → Type 0
@@ -151,12 +160,14 @@ IsFault command = IsStoreFault (IsHindered command)
 -- the octets of all contents, or of a user's entries, are more than 64 bits can count
 abbrev pub IsUncounted : Entries → Trees → Type 0
 IsUncounted before db =
-    (2 ^ 64 ≤ octets_of (db contents_tree)) ⊎ ((user : List ℕ) × (2 ^ 64 ≤ sum_by (λ (e : Listing). e.octets) (map listing_of (entries_of user before))))
+    (2 ^ 64 ≤ octets_of (db contents_tree))
+    ⊎ ((user : List ℕ) × (2 ^ 64 ≤ sum_by (λ (e : Listing). e.octets) (map listing_of (entries_of user before))))
 
 -- ---- which refusals a command may get, whatever the disk does
 
--- The refusals of a command of its own: what its script, program or message is refused for; of a delivery also NumberFull and Collision; of
--- an export NoSuchEntry and Write; of a removal NoSuchEntry. The others have none.
+-- The refusals of a command of its own: what its script, program or message is refused for; of a
+-- delivery also NumberFull and Collision; of an export NoSuchEntry and Write; of a removal
+-- NoSuchEntry. The others have none.
 abbrev pub IsOwn : Command → Refusal → Type 0
 IsOwn (SetScript user script) refusal = IsScriptRefusal script refusal
 IsOwn (SetCode user program) refusal = IsProgramRefusal program refusal
@@ -167,8 +178,8 @@ IsOwn (Export user number encoding) refusal = (refusal ≡ NoSuchEntry) ⊎ (ref
 IsOwn (Remove user number) refusal = refusal ≡ NoSuchEntry
 IsOwn Migrate refusal = ⊥
 
--- UserName where a user's name is none, before all else; else Memory, one of the command's own, or, after its script, program or
--- message, Database.
+-- UserName where a user's name is none, before all else; else Memory, one of the command's own, or,
+-- after its script, program or message, Database.
 abbrev pub MayRefuse : Command → Refusal → Type 0
 MayRefuse command refusal =
     ((refusal ≡ UserName) × (IsNamed command → ⊥))

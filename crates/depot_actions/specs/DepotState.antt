@@ -1,5 +1,6 @@
--- The commands of a depot: what each replies, and what it leaves. What a depot holds is the `Entries` of its store: the entries, and of each user
--- the program, if he has one, and the last number that was given.
+-- The commands of a depot: what each replies, and what it leaves. What a depot holds is the
+-- `Entries` of its store: the entries, and of each user the program, if he has one, and the last
+-- number that was given.
 use Rattle.std.specs.Prelude.{◌≡◌, ◌⊎◌, ◌==◌, ℕ, ◌+◌, Bool, not, IfSome, IsTrue, List, [], ◌∷◌, filter, length, map, Option, None, Some}
 use Rattle.std.specs.List.{AllZip}
 use Rattle.sqlite.specs.State.{State}
@@ -20,9 +21,10 @@ use Rattle.depot_actions.specs.Texts.{text_of}
 use Rattle.depot_actions.specs.Users.{is_user_name}
 use Rattle.depot_actions.specs.declared.encoding.Encoding.{Encoding}
 
--- What a depot is asked for, by a user: to store the code of a script, or a program; to file a message; for the list of his
--- entries; for his program; for the text of an entry's octets in an encoding; and to remove an entry. And what it is asked for by
--- whoever keeps it: to give all programs the latest version.
+-- What a depot is asked for, by a user: to store the code of a script, or a program; to file a
+-- message; for the list of his entries; for his program; for the text of an entry's octets in an
+-- encoding; and to remove an entry. And what it is asked for by whoever keeps it: to give all
+-- programs the latest version.
 pub data Command : Type 0 where
   SetScript : List ℕ → List ℕ → Command
   SetCode : List ℕ → List ℕ → Command
@@ -33,8 +35,8 @@ pub data Command : Type 0 where
   Remove : List ℕ → ℕ → Command
   Migrate : Command
 
--- what it replies: that it is done; entries; a program, if there is one; a text; or how many programs have the latest version now
--- that had another
+-- what it replies: that it is done; entries; a program, if there is one; a text; or how many
+-- programs have the latest version now that had another
 pub data Reply : Type 0 where
   Done : Reply
   Listed : List Listing → Reply
@@ -60,7 +62,8 @@ IsNamed command = IfSome (user_of command) (λ user. IsTrue (is_user_name user))
 -- the actions on a message are the final ones of the user's program, or Keep where he has none
 abbrev pub AreActions : Option (List ℕ) → Mail → List Action → Type 0
 AreActions None mail actions = actions ≡ Keep ∷ []
-AreActions (Some program) mail actions = (code : Code) × (charged : ℕ) × IsChecked program code × IsOutcome code mail actions charged
+AreActions (Some program) mail actions = (code : Code) × (charged : ℕ) × IsChecked program code
+    × IsOutcome code mail actions charged
 
 -- the drafts become the user's entries under his next numbers; where there is none nothing changes
 abbrev pub filed : List ℕ → List Draft → Entries → Entries
@@ -73,7 +76,8 @@ pub record Delivers (before : Entries) (user message : List ℕ) (reply : Reply)
   pub actions : List Action
   pub are : AreActions (before.programs user) (mail_of message) actions
   pub room : HasRoom before user (length actions)
-  pub listed : reply ≡ Listed (map listing_of (numbered user (before.lasts user + 1) (drafts_of (mail_of message) actions)))
+  pub listed : reply ≡ Listed (map listing_of
+      (numbered user (before.lasts user + 1) (drafts_of (mail_of message) actions)))
   pub filed : after ≡ filed user (drafts_of (mail_of message) actions) before
 
 -- the version that a migration gives
@@ -89,7 +93,8 @@ IsRenewed (Some program) after = (code : Code) × IsChecked program code × (aft
 abbrev pub is_latest : Code → Bool
 is_latest code = code.version == latest_version
 
--- Every program is accepted, and gets the latest version; the reply is how many had another. Entries and last numbers stay.
+-- Every program is accepted, and gets the latest version; the reply is how many had another.
+-- Entries and last numbers stay.
 pub record Migrates (before : Entries) (reply : Reply) (after : Entries) : Type 0 where
   pub stored : List UserProgram
   pub are : AreProgramsOf before stored
@@ -100,17 +105,22 @@ pub record Migrates (before : Entries) (reply : Reply) (after : Entries) : Type 
   pub entries : after.entries ≡ before.entries
   pub lasts : after.lasts ≡ before.lasts
 
--- What a command replies, and what it leaves: a script's code, or a program, is the user's program; a message is delivered; an entry is
--- gone, and the last number stays; all programs are migrated; and the others change nothing.
+-- What a command replies, and what it leaves: a script's code, or a program, is the user's program;
+-- a message is delivered; an entry is gone, and the last number stays; all programs are migrated;
+-- and the others change nothing.
 abbrev pub Steps : Entries → Command → Reply → Entries → Type 0
-Steps before (SetScript user script) reply after = (code : Code) × IsCompiled script code × (reply ≡ Done) × (after ≡ with_program user (spelling code) before)
-Steps before (SetCode user program) reply after = (code : Code) × IsChecked program code × (reply ≡ Done) × (after ≡ with_program user program before)
+Steps before (SetScript user script) reply after = (code : Code) × IsCompiled script code × (reply ≡ Done)
+    × (after ≡ with_program user (spelling code) before)
+Steps before (SetCode user program) reply after = (code : Code) × IsChecked program code × (reply ≡ Done)
+    × (after ≡ with_program user program before)
 Steps before (Deliver user message) reply after = Delivers before user message reply after
 Steps before (ListAll user) reply after = (reply ≡ Listed (map listing_of (entries_of user before))) × (after ≡ before)
 Steps before (ProgramOf user) reply after = (reply ≡ Program (before.programs user)) × (after ≡ before)
 Steps before (Export user number encoding) reply after =
-    (entry : Entry) × IsEntryAt before user number entry × (reply ≡ Text (text_of encoding entry.octets)) × (after ≡ before)
-Steps before (Remove user number) reply after = (entry : Entry) × IsEntryAt before user number entry × (reply ≡ Done) × (after ≡ without_entry user number before)
+    (entry : Entry) × IsEntryAt before user number entry × (reply ≡ Text (text_of encoding entry.octets))
+    × (after ≡ before)
+Steps before (Remove user number) reply after = (entry : Entry) × IsEntryAt before user number entry × (reply ≡ Done)
+    × (after ≡ without_entry user number before)
 Steps before Migrate reply after = Migrates before reply after
 
 -- a depot that holds this accepts the command with this reply, and holds that afterwards
@@ -120,8 +130,8 @@ pub record Accepts (before : Entries) (command : Command) (reply : Reply) (after
 
 -- ---- on a store
 
--- What is open stands for what a command leaves, and that is committed. The store is open, unless the command changes nothing and the disk failed
--- as it ended.
+-- What is open stands for what a command leaves, and that is committed. The store is open, unless
+-- the command changes nothing and the disk failed as it ended.
 pub record Leaves (before after : Entries) (old new : State) : Type 0 where
   pub stands : IsTrue new.is_open → Stands new.now after × (new.committed ≡ new.now)
   pub closes : IsTrue new.is_open ⊎ ((after ≡ before) × DiskFailed old new)
@@ -129,9 +139,11 @@ pub record Leaves (before after : Entries) (old new : State) : Type 0 where
 -- the store, which was open, does the command with this reply
 abbrev pub Does : Command → Reply → State → State → Type 0
 Does command reply old new =
-    IsTrue old.is_open × ((before : Entries) → Stands old.now before → (after : Entries) × Accepts before command reply after × Leaves before after old new)
+    IsTrue old.is_open × ((before : Entries) → Stands old.now before
+    → (after : Entries) × Accepts before command reply after × Leaves before after old new)
 
 -- the store of what the command leaves: with the step that the store itself makes, all that a crash may leave
 abbrev pub MayLeave : Command → State → Trees → Type 0
 MayLeave command old trees =
-    (before : Entries) → Stands old.now before → (reply : Reply) × (after : Entries) × Accepts before command reply after × IsStored trees after
+    (before : Entries) → Stands old.now before
+    → (reply : Reply) × (after : Entries) × Accepts before command reply after × IsStored trees after

@@ -32,7 +32,8 @@ file_name_in (Some value) = file_name (disposition_of value)
 -- a part's name: the file name of its first Content-Disposition, else the name of its media type, else none
 abbrev pub name_of : Part → List ℕ
 name_of part =
-    unwrap_or (file_name_in (first_value (codes "Content-Disposition") part.fields)) (unwrap_or (value_named (codes "name") part.media.params) [])
+    unwrap_or (file_name_in (first_value (codes "Content-Disposition") part.fields))
+    (unwrap_or (value_named (codes "name") part.media.params) [])
 
 -- the whole message, in a folder
 abbrev pub message_draft : List ℕ → Mail → Draft

@@ -24,7 +24,8 @@ pub record IsStored (stored : StoredPart) (part : Part) : Type 0 where
 -- there is a place for each part of the message, and what is kept at a place is of that part
 pub record AreKept (mail : Mail) (kept : List (Option StoredPart)) : Type 0 where
   pub number : length kept ≡ length mail.parts
-  pub each : (place : ℕ) → IfSome (slice_index_or kept place None) (λ stored. HoldsAt (IsStored stored) mail.parts place)
+  pub each : (place : ℕ) → IfSome (slice_index_or kept place None)
+      (λ stored. HoldsAt (IsStored stored) mail.parts place)
 
 -- the part of this number is kept
 abbrev pub Keeps : List (Option StoredPart) → ℕ → Type 0
@@ -52,9 +53,11 @@ pub record Adds (user : List ℕ) (drafts : List Draft) (rows : List Listing) (o
 abbrev pub IsUnfiled : Refusal → List ℕ → List Draft → State → Type 0
 IsUnfiled Memory user drafts old = Unit {0}
 IsUnfiled Database user drafts old = Unit {0}
-IsUnfiled NumberFull user drafts old = IsTrue old.is_open × ((before : Entries) → Stands old.now before → HasRoom before user (length drafts) → ⊥)
+IsUnfiled NumberFull user drafts old = IsTrue old.is_open
+    × ((before : Entries) → Stands old.now before → HasRoom before user (length drafts) → ⊥)
 IsUnfiled Collision user drafts old =
-    IsTrue old.is_open × ((before : Entries) → Stands old.now before → HasRoom before user (length drafts) × Collides old.now.trees drafts)
+    IsTrue old.is_open × ((before : Entries) → Stands old.now before
+    → HasRoom before user (length drafts) × Collides old.now.trees drafts)
 IsUnfiled _ user drafts old = ⊥
 
 -- the store of what filing the drafts leaves

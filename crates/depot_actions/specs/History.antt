@@ -31,4 +31,5 @@ IsStep command (Some reply) before after = Accepts before command reply after
 -- what a depot holds after calls, one after another
 abbrev pub AreSteps : List Call → Entries → Entries → Type 0
 AreSteps [] before after = after ≡ before
-AreSteps (call ∷ calls) before after = (mid : Entries) × IsStep call.command call.reply before mid × AreSteps calls mid after
+AreSteps (call ∷ calls) before after = (mid : Entries) × IsStep call.command call.reply before mid
+    × AreSteps calls mid after

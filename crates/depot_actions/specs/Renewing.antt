@@ -28,4 +28,5 @@ renewals (pair ∷ stored) (code ∷ codes) = with_renewal (renewal code) pair (
 
 -- the stored programs are accepted, and these take the place of those that have another version
 abbrev pub AreRenewals : List UserProgram → List UserProgram → Type 0
-AreRenewals stored renewed = (codes : List Code) × AllZip (λ pair code. IsChecked pair.1 code) stored codes × (renewed ≡ renewals stored codes)
+AreRenewals stored renewed = (codes : List Code) × AllZip (λ pair code. IsChecked pair.1 code) stored codes
+    × (renewed ≡ renewals stored codes)

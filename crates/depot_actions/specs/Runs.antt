@@ -13,8 +13,8 @@ use Rattle.part_store.specs.Standing.{Stands}
 use Rattle.depot_actions.specs.DepotState.{Accepts, Command, MayLeave, Reply}
 use Rattle.depot_actions.specs.History.{Answers, IsStep}
 
--- A command with its reply, or none where it was refused; the depot as it was opened and as the run ended, in whatever way; and what the two
--- files hold then.
+-- A command with its reply, or none where it was refused; the depot as it was opened and as the run
+-- ended, in whatever way; and what the two files hold then.
 pub record Run {D : Type 0} (g : Ghosts D) : Type 0 where
   pub command : Command
   pub reply : Option Reply
@@ -25,17 +25,21 @@ pub record Run {D : Type 0} (g : Ghosts D) : Type 0 where
 module _ {D : Type 0} {g : Ghosts D} where
   -- an open depot was closed, and the files hold what it stood for
   abbrev pub IsClosedAs : Held (FileStore D g) → Image → Type 0
-  IsClosedAs depot image = IsTrue (file_state depot).is_open × ((held : Entries) → Stands (file_state depot).now held → HoldsStore image held)
+  IsClosedAs depot image = IsTrue (file_state depot).is_open
+      × ((held : Entries) → Stands (file_state depot).now held → HoldsStore image held)
 
-  -- A run over files that held the image. The depot is what `open_from` found in them; its command was answered, and left what its call says, also
-  -- if the disk failed from some moment on; and then the files hold what a close leaves, or what a crash may.
+  -- A run over files that held the image. The depot is what `open_from` found in them; its command
+  -- was answered, and left what its call says, also if the disk failed from some moment on; and
+  -- then the files hold what a close leaves, or what a crash may.
   pub record IsRun (image : Image) (run : Run g) : Type 0 where
-    pub found : HasCleanDisk (file_state run.opened) → (held : Entries) → HoldsStore image held → IsAt held (file_state run.opened)
+    pub found : HasCleanDisk (file_state run.opened) → (held : Entries) → HoldsStore image held
+        → IsAt held (file_state run.opened)
     pub empty : HasCleanDisk (file_state run.opened) → HoldsNoTables image → IsAt no_entries (file_state run.opened)
     pub clean : HasCleanDisk (file_state run.ended)
     pub numbered : HasNumberedTrees run.ended
     pub answers : Answers run.command run.reply (file_state run.opened) (file_state run.ended)
-    pub survives : Survives (file_state run.opened) (file_state run.ended) (MayLeave run.command (file_state run.opened))
+    pub survives : Survives (file_state run.opened) (file_state run.ended)
+        (MayLeave run.command (file_state run.opened))
     pub left : MayLeaveFiles run.ended run.left ⊎ IsClosedAs run.ended run.left
 
   -- runs one after another, each over the files that the one before left
@@ -48,7 +52,8 @@ module _ {D : Type 0} {g : Ghosts D} where
   left_by image [] = image
   left_by image (run ∷ runs) = left_by run.left runs
 
-  -- What a run makes of a state: nothing, or what its command makes of it. A run that ends with the depot open makes what its reply says.
+  -- What a run makes of a state: nothing, or what its command makes of it. A run that ends with the
+  -- depot open makes what its reply says.
   pub record IsRunStep (run : Run g) (before after : Entries) : Type 0 where
     pub either : (after ≡ before) ⊎ ((reply : Reply) × Accepts before run.command reply after)
     pub told : IsTrue (file_state run.ended).is_open → IsStep run.command run.reply before after

@@ -23,8 +23,9 @@ text_of Base32Hex octets = encoding_of alphabet.Base32Hex octets
 text_of Base16 octets = encode_upper octets
 text_of Qp octets = qp.encoding_of octets
 
--- Octets whose text comes first, whatever octets follow them: whole groups of 24 or 40 bits (RFC 4648, sections 4 and 6), or whole lines of 76
--- characters (RFC 2045, section 6.8). In quoted-printable what follows decides where a line ends.
+-- Octets whose text comes first, whatever octets follow them: whole groups of 24 or 40 bits (RFC
+-- 4648, sections 4 and 6), or whole lines of 76 characters (RFC 2045, section 6.8). In
+-- quoted-printable what follows decides where a line ends.
 abbrev pub IsPiece : Encoding → List ℕ → Type 0
 IsPiece Raw octets = Unit {0}
 IsPiece Base64 octets = length octets % 3 ≡ 0
@@ -34,8 +35,9 @@ IsPiece Base32Hex octets = length octets % 5 ≡ 0
 IsPiece Base16 octets = Unit {0}
 IsPiece Qp octets = ⊥
 
--- A text reads as octets: in MIME base64 by their bits, whatever stands between them; in quoted-printable line by line; in
--- base16 where it is their text but for the case of letters; else where it is their text.
+-- A text reads as octets: in MIME base64 by their bits, whatever stands between them; in
+-- quoted-printable line by line; in base16 where it is their text but for the case of letters; else
+-- where it is their text.
 abbrev pub Reads : Encoding → List ℕ → List ℕ → Type 0
 Reads Base64Mime text octets = octets ≡ mime_decoding_of text
 Reads Base16 text octets = uppercase_of text ≡ text_of Base16 octets

@@ -5,7 +5,8 @@ use Rattle.octets.specs.Limits.{max_user}
 
 -- a letter from a to z, a digit, a dot, an underscore or a hyphen
 abbrev pub is_name_octet : ℕ → Bool
-is_name_octet octet = (nat_le 97 octet && nat_le octet 122) || (nat_le 48 octet && nat_le octet 57) || octet == 46 || octet == 95 || octet == 45
+is_name_octet octet = (nat_le 97 octet && nat_le octet 122) || (nat_le 48 octet && nat_le octet 57) || octet == 46
+    || octet == 95 || octet == 45
 
 -- a user's name has at least one of them, and no others
 abbrev pub is_user_name : List ℕ → Bool

@@ -18,7 +18,8 @@ use std::alloc::Global;
 ///
 /// What the script is refused for. `Memory` where an allocation was refused.
 pub(crate) fn code_octets(alloc: Global, script: &[u8]) -> Result<Vec<u8>, Refusal>
-    ensures compiled { IfOk result (λ octets. (code : Code) × IsCompiled script.now code × (octets.items ≡ spelling code)) }
+    ensures compiled { IfOk result
+        (λ octets. (code : Code) × IsCompiled script.now code × (octets.items ≡ spelling code)) }
     ensures refused { IfErr result (λ e. IsScriptRefusal script.now e) }
 {
     let program = compile_script(alloc, script)?;

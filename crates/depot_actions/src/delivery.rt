@@ -35,10 +35,12 @@ pub(crate) fn actions_of(
     program: Option<Vec<u8>>,
     message: &Message,
 ) -> Result<Vec<Action>, Refusal>
-    ensures actions { IfOk result (λ actions. AreActions (option_map (λ v. v.items) program) message.now actions.items) }
+    ensures actions { IfOk result
+        (λ actions. AreActions (option_map (λ v. v.items) program) message.now actions.items) }
     ensures parts { IfOk result (λ actions. All (NamesPart message.now) actions.items) }
     ensures refused { IfErr result (λ e. (e ≡ Memory) ⊎ (e ≡ Database)) }
-    ensures cause { IfErr result (λ e. e ≡ Database → IsSpoilt (option_map (λ v. v.items) program)) }
+    ensures cause { IfErr result
+        (λ e. e ≡ Database → IsSpoilt (option_map (λ v. v.items) program)) }
 {
     let Some(program) = program else {
         return Ok(keep_alone(alloc)?);
@@ -74,14 +76,24 @@ pub(crate) fn file_all<S: Alter>(
     requires some { 0 < length actions.now }
     requires parts { All (NamesPart message.now) actions.now }
     requires octets { message.now.octets ≡ octets.now }
-    ensures added { HasCleanDisk (state S.Store store.new) → IfOk result (λ rows. IsTrue (state S.Store store.old).is_open × ((before : Entries) → Stands (state S.Store store.old).now before → Adds user.now (drafts_of message.now actions.now) (map listed rows.items) (state S.Store store.old) (state S.Store store.new) before)) }
-    ensures shut { HasCleanDisk (state S.Store store.new) → IsTrue (state S.Store store.new).is_open → IsTrue (state S.Store store.old).is_open }
-    ensures spared { HasCleanDisk (state S.Store store.new) → OnErr result (Spares (state S.Store store.old) (state S.Store store.new)) }
+    ensures added { HasCleanDisk (state S.Store store.new)
+        → IfOk result (λ rows. IsTrue (state S.Store store.old).is_open
+        × ((before : Entries) → Stands (state S.Store store.old).now before
+        → Adds user.now (drafts_of message.now actions.now) (map listed rows.items)
+        (state S.Store store.old) (state S.Store store.new) before)) }
+    ensures shut { HasCleanDisk (state S.Store store.new) → IsTrue (state S.Store store.new).is_open
+        → IsTrue (state S.Store store.old).is_open }
+    ensures spared { HasCleanDisk (state S.Store store.new)
+        → OnErr result (Spares (state S.Store store.old) (state S.Store store.new)) }
     ensures which { IfErr result MayUnfile }
-    ensures refused { HasCleanDisk (state S.Store store.new) → IfErr result (λ e. IsUnfiled e user.now (drafts_of message.now actions.now) (state S.Store store.old)) }
-    ensures cause { HasCleanDisk (state S.Store store.new) → IfErr result
-        (IsStoreFault (LackRoom user.now (drafts_of message.now actions.now)) (state S.Store store.old) (state S.Store store.new)) }
-    ensures survives { Survives (state S.Store store.old) (state S.Store store.new) (MayFile user.now (drafts_of message.now actions.now) (state S.Store store.old)) }
+    ensures refused { HasCleanDisk (state S.Store store.new)
+        → IfErr result (λ e. IsUnfiled e user.now (drafts_of message.now actions.now)
+        (state S.Store store.old)) }
+    ensures cause { HasCleanDisk (state S.Store store.new)
+        → IfErr result (IsStoreFault (LackRoom user.now (drafts_of message.now actions.now))
+        (state S.Store store.old) (state S.Store store.new)) }
+    ensures survives { Survives (state S.Store store.old) (state S.Store store.new)
+        (MayFile user.now (drafts_of message.now actions.now) (state S.Store store.old)) }
 {
     let kept = kept_parts(alloc, message, actions)?;
     let entries = new_entries(alloc, octets, &kept, actions)?;
@@ -96,14 +108,24 @@ fn add_all<S: Alter>(
     entries: &[NewEntry<'_>],
 ) -> Result<Vec<EntryRow>, Refusal>
     requires some { 0 < length entries.now }
-    ensures added { HasCleanDisk (state S.Store store.new) → IfOk result (λ rows. IsTrue (state S.Store store.old).is_open × ((before : Entries) → Stands (state S.Store store.old).now before → Adds user.now (map draft_of entries.now) (map listed rows.items) (state S.Store store.old) (state S.Store store.new) before)) }
-    ensures shut { HasCleanDisk (state S.Store store.new) → IsTrue (state S.Store store.new).is_open → IsTrue (state S.Store store.old).is_open }
-    ensures spared { HasCleanDisk (state S.Store store.new) → OnErr result (Spares (state S.Store store.old) (state S.Store store.new)) }
+    ensures added { HasCleanDisk (state S.Store store.new)
+        → IfOk result (λ rows. IsTrue (state S.Store store.old).is_open
+        × ((before : Entries) → Stands (state S.Store store.old).now before
+        → Adds user.now (map draft_of entries.now) (map listed rows.items)
+        (state S.Store store.old) (state S.Store store.new) before)) }
+    ensures shut { HasCleanDisk (state S.Store store.new) → IsTrue (state S.Store store.new).is_open
+        → IsTrue (state S.Store store.old).is_open }
+    ensures spared { HasCleanDisk (state S.Store store.new)
+        → OnErr result (Spares (state S.Store store.old) (state S.Store store.new)) }
     ensures which { IfErr result MayUnfile }
-    ensures refused { HasCleanDisk (state S.Store store.new) → IfErr result (λ e. IsUnfiled e user.now (map draft_of entries.now) (state S.Store store.old)) }
-    ensures cause { HasCleanDisk (state S.Store store.new) → IfErr result
-        (IsStoreFault (LackRoom user.now (map draft_of entries.now)) (state S.Store store.old) (state S.Store store.new)) }
-    ensures survives { Survives (state S.Store store.old) (state S.Store store.new) (MayFile user.now (map draft_of entries.now) (state S.Store store.old)) }
+    ensures refused { HasCleanDisk (state S.Store store.new)
+        → IfErr result (λ e. IsUnfiled e user.now (map draft_of entries.now)
+        (state S.Store store.old)) }
+    ensures cause { HasCleanDisk (state S.Store store.new)
+        → IfErr result (IsStoreFault (LackRoom user.now (map draft_of entries.now))
+        (state S.Store store.old) (state S.Store store.new)) }
+    ensures survives { Survives (state S.Store store.old) (state S.Store store.new)
+        (MayFile user.now (map draft_of entries.now) (state S.Store store.old)) }
 {
     let mut rows = unnumbered_rows(alloc, entries)?;
     let first = store.add_entries(user, entries).map_err(refused)?;

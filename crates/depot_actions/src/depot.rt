@@ -80,12 +80,20 @@ impl<S: Alter> Depot<S> {
     /// `UserName`; then what the script is refused for; then `Database`, also where its code has no room. `Memory` where an allocation was
     /// refused.
     pub fn set_script(&mut self, alloc: Global, user: &str, script: &[u8]) -> Result<(), Refusal>
-        ensures done { HasCleanDisk (state S.Store self.new) → OnOk result (Does (SetScript user.now script.now) Done (state S.Store self.old) (state S.Store self.new)) }
-        ensures spared { HasCleanDisk (state S.Store self.new) → OnErr result (Spares (state S.Store self.old) (state S.Store self.new)) }
+        ensures done { HasCleanDisk (state S.Store self.new)
+            → OnOk result (Does (SetScript user.now script.now) Done (state S.Store self.old)
+            (state S.Store self.new)) }
+        ensures spared { HasCleanDisk (state S.Store self.new)
+            → OnErr result (Spares (state S.Store self.old) (state S.Store self.new)) }
         ensures which { IfErr result (MayRefuse (SetScript user.now script.now)) }
-        ensures refused { HasCleanDisk (state S.Store self.new) → IfErr result (λ e. HasCause e (SetScript user.now script.now) (state S.Store self.old)) }
-        ensures cause { HasCleanDisk (state S.Store self.new) → IfErr result (IsFault (SetScript user.now script.now) (state S.Store self.old) (state S.Store self.new)) }
-        ensures survives { Survives (state S.Store self.old) (state S.Store self.new) (MayLeave (SetScript user.now script.now) (state S.Store self.old)) }
+        ensures refused { HasCleanDisk (state S.Store self.new)
+            → IfErr result (λ e. HasCause e (SetScript user.now script.now)
+            (state S.Store self.old)) }
+        ensures cause { HasCleanDisk (state S.Store self.new)
+            → IfErr result (IsFault (SetScript user.now script.now) (state S.Store self.old)
+            (state S.Store self.new)) }
+        ensures survives { Survives (state S.Store self.old) (state S.Store self.new)
+            (MayLeave (SetScript user.now script.now) (state S.Store self.old)) }
     {
         if !is_user_name(user) {
             return Err(Refusal::UserName);
@@ -101,12 +109,20 @@ impl<S: Alter> Depot<S> {
     /// `UserName`; then what the program is refused for; then `Database`, also where it has no room. `Memory` where an allocation was
     /// refused.
     pub fn set_code(&mut self, alloc: Global, user: &str, program: &[u8]) -> Result<(), Refusal>
-        ensures done { HasCleanDisk (state S.Store self.new) → OnOk result (Does (SetCode user.now program.now) Done (state S.Store self.old) (state S.Store self.new)) }
-        ensures spared { HasCleanDisk (state S.Store self.new) → OnErr result (Spares (state S.Store self.old) (state S.Store self.new)) }
+        ensures done { HasCleanDisk (state S.Store self.new)
+            → OnOk result (Does (SetCode user.now program.now) Done (state S.Store self.old)
+            (state S.Store self.new)) }
+        ensures spared { HasCleanDisk (state S.Store self.new)
+            → OnErr result (Spares (state S.Store self.old) (state S.Store self.new)) }
         ensures which { IfErr result (MayRefuse (SetCode user.now program.now)) }
-        ensures refused { HasCleanDisk (state S.Store self.new) → IfErr result (λ e. HasCause e (SetCode user.now program.now) (state S.Store self.old)) }
-        ensures cause { HasCleanDisk (state S.Store self.new) → IfErr result (IsFault (SetCode user.now program.now) (state S.Store self.old) (state S.Store self.new)) }
-        ensures survives { Survives (state S.Store self.old) (state S.Store self.new) (MayLeave (SetCode user.now program.now) (state S.Store self.old)) }
+        ensures refused { HasCleanDisk (state S.Store self.new)
+            → IfErr result (λ e. HasCause e (SetCode user.now program.now)
+            (state S.Store self.old)) }
+        ensures cause { HasCleanDisk (state S.Store self.new)
+            → IfErr result (IsFault (SetCode user.now program.now) (state S.Store self.old)
+            (state S.Store self.new)) }
+        ensures survives { Survives (state S.Store self.old) (state S.Store self.new)
+            (MayLeave (SetCode user.now program.now) (state S.Store self.old)) }
     {
         if !is_user_name(user) {
             return Err(Refusal::UserName);
@@ -129,12 +145,21 @@ impl<S: Alter> Depot<S> {
         user: &str,
         message: &[u8],
     ) -> Result<Vec<EntryRow>, Refusal>
-        ensures done { HasCleanDisk (state S.Store self.new) → IfOk result (λ rows. Does (Deliver user.now message.now) (Listed (map listed rows.items)) (state S.Store self.old) (state S.Store self.new)) }
-        ensures spared { HasCleanDisk (state S.Store self.new) → OnErr result (Spares (state S.Store self.old) (state S.Store self.new)) }
+        ensures done { HasCleanDisk (state S.Store self.new)
+            → IfOk result (λ rows. Does (Deliver user.now message.now)
+            (Listed (map listed rows.items)) (state S.Store self.old)
+            (state S.Store self.new)) }
+        ensures spared { HasCleanDisk (state S.Store self.new)
+            → OnErr result (Spares (state S.Store self.old) (state S.Store self.new)) }
         ensures which { IfErr result (MayRefuse (Deliver user.now message.now)) }
-        ensures refused { HasCleanDisk (state S.Store self.new) → IfErr result (λ e. HasCause e (Deliver user.now message.now) (state S.Store self.old)) }
-        ensures cause { HasCleanDisk (state S.Store self.new) → IfErr result (IsFault (Deliver user.now message.now) (state S.Store self.old) (state S.Store self.new)) }
-        ensures survives { Survives (state S.Store self.old) (state S.Store self.new) (MayLeave (Deliver user.now message.now) (state S.Store self.old)) }
+        ensures refused { HasCleanDisk (state S.Store self.new)
+            → IfErr result (λ e. HasCause e (Deliver user.now message.now)
+            (state S.Store self.old)) }
+        ensures cause { HasCleanDisk (state S.Store self.new)
+            → IfErr result (IsFault (Deliver user.now message.now) (state S.Store self.old)
+            (state S.Store self.new)) }
+        ensures survives { Survives (state S.Store self.old) (state S.Store self.new)
+            (MayLeave (Deliver user.now message.now) (state S.Store self.old)) }
     {
         if !is_user_name(user) {
             return Err(Refusal::UserName);
@@ -154,11 +179,17 @@ impl<S: Alter> Depot<S> {
     ///
     /// `UserName`, then `Database`. `Memory` where an allocation was refused.
     pub fn list(&mut self, user: &str) -> Result<Vec<EntryRow>, Refusal>
-        ensures done { HasCleanDisk (state S.Store self.new) → IfOk result (λ rows. Does (ListAll user.now) (Listed (map listed rows.items)) (state S.Store self.old) (state S.Store self.new)) }
-        ensures spared { HasCleanDisk (state S.Store self.new) → Spares (state S.Store self.old) (state S.Store self.new) }
+        ensures done { HasCleanDisk (state S.Store self.new)
+            → IfOk result (λ rows. Does (ListAll user.now) (Listed (map listed rows.items))
+            (state S.Store self.old) (state S.Store self.new)) }
+        ensures spared { HasCleanDisk (state S.Store self.new)
+            → Spares (state S.Store self.old) (state S.Store self.new) }
         ensures which { IfErr result (MayRefuse (ListAll user.now)) }
-        ensures refused { HasCleanDisk (state S.Store self.new) → IfErr result (λ e. HasCause e (ListAll user.now) (state S.Store self.old)) }
-        ensures cause { HasCleanDisk (state S.Store self.new) → IfErr result (IsFault (ListAll user.now) (state S.Store self.old) (state S.Store self.new)) }
+        ensures refused { HasCleanDisk (state S.Store self.new)
+            → IfErr result (λ e. HasCause e (ListAll user.now) (state S.Store self.old)) }
+        ensures cause { HasCleanDisk (state S.Store self.new)
+            → IfErr result (IsFault (ListAll user.now) (state S.Store self.old)
+            (state S.Store self.new)) }
         ensures survives { Survives (state S.Store self.old) (state S.Store self.new) (λ _. ⊥) }
     {
         if !is_user_name(user) {
@@ -173,11 +204,18 @@ impl<S: Alter> Depot<S> {
     ///
     /// `UserName`, then `Database`. `Memory` where an allocation was refused.
     pub fn program_of(&mut self, user: &str) -> Result<Option<Vec<u8>>, Refusal>
-        ensures done { HasCleanDisk (state S.Store self.new) → IfOk result (λ found. Does (ProgramOf user.now) (Program (option_map (λ v. v.items) found)) (state S.Store self.old) (state S.Store self.new)) }
-        ensures spared { HasCleanDisk (state S.Store self.new) → Spares (state S.Store self.old) (state S.Store self.new) }
+        ensures done { HasCleanDisk (state S.Store self.new)
+            → IfOk result (λ found. Does (ProgramOf user.now)
+            (Program (option_map (λ v. v.items) found)) (state S.Store self.old)
+            (state S.Store self.new)) }
+        ensures spared { HasCleanDisk (state S.Store self.new)
+            → Spares (state S.Store self.old) (state S.Store self.new) }
         ensures which { IfErr result (MayRefuse (ProgramOf user.now)) }
-        ensures refused { HasCleanDisk (state S.Store self.new) → IfErr result (λ e. HasCause e (ProgramOf user.now) (state S.Store self.old)) }
-        ensures cause { HasCleanDisk (state S.Store self.new) → IfErr result (IsFault (ProgramOf user.now) (state S.Store self.old) (state S.Store self.new)) }
+        ensures refused { HasCleanDisk (state S.Store self.new)
+            → IfErr result (λ e. HasCause e (ProgramOf user.now) (state S.Store self.old)) }
+        ensures cause { HasCleanDisk (state S.Store self.new)
+            → IfErr result (IsFault (ProgramOf user.now) (state S.Store self.old)
+            (state S.Store self.new)) }
         ensures survives { Survives (state S.Store self.old) (state S.Store self.new) (λ _. ⊥) }
     {
         if !is_user_name(user) {
@@ -201,17 +239,34 @@ impl<S: Alter> Depot<S> {
         encoding: Encoding,
         writer: &mut W,
     ) -> Result<(), Refusal>
-        ensures done { OnOk result ((text : List ℕ) × HasTaken text (W.output writer.old) (W.output writer.new)
-            × (HasCleanDisk (state S.Store self.new) → Does (Export user.now number encoding) (Text text) (state S.Store self.old) (state S.Store self.new))) }
-        ensures stopped { IfErr result (λ e. e ≡ Write → (text : List ℕ) × HasBroken text (W.output writer.old) (W.output writer.new)
-            × (HasCleanDisk (state S.Store self.new) → Does (Export user.now number encoding) (Text text) (state S.Store self.old) (state S.Store self.new))) }
-        ensures begun { IfErr result (λ e. e ≡ Memory → (W.output writer.new ≡ W.output writer.old) ⊎ ((text : List ℕ) × HasBegun text (W.output writer.old) (W.output writer.new)
-            × (HasCleanDisk (state S.Store self.new) → Does (Export user.now number encoding) (Text text) (state S.Store self.old) (state S.Store self.new)))) }
-        ensures unwritten { IfErr result (λ e. e ≢ Write → e ≢ Memory → W.output writer.new ≡ W.output writer.old) }
-        ensures spared { HasCleanDisk (state S.Store self.new) → Spares (state S.Store self.old) (state S.Store self.new) }
+        ensures done { OnOk result ((text : List ℕ)
+            × HasTaken text (W.output writer.old) (W.output writer.new)
+            × (HasCleanDisk (state S.Store self.new)
+            → Does (Export user.now number encoding) (Text text) (state S.Store self.old)
+            (state S.Store self.new))) }
+        ensures stopped { IfErr result
+            (λ e. e ≡ Write → (text : List ℕ)
+            × HasBroken text (W.output writer.old) (W.output writer.new)
+            × (HasCleanDisk (state S.Store self.new)
+            → Does (Export user.now number encoding) (Text text) (state S.Store self.old)
+            (state S.Store self.new))) }
+        ensures begun { IfErr result
+            (λ e. e ≡ Memory → (W.output writer.new ≡ W.output writer.old)
+            ⊎ ((text : List ℕ) × HasBegun text (W.output writer.old) (W.output writer.new)
+            × (HasCleanDisk (state S.Store self.new)
+            → Does (Export user.now number encoding) (Text text)
+            (state S.Store self.old) (state S.Store self.new)))) }
+        ensures unwritten { IfErr result
+            (λ e. e ≢ Write → e ≢ Memory → W.output writer.new ≡ W.output writer.old) }
+        ensures spared { HasCleanDisk (state S.Store self.new)
+            → Spares (state S.Store self.old) (state S.Store self.new) }
         ensures which { IfErr result (MayRefuse (Export user.now number encoding)) }
-        ensures refused { HasCleanDisk (state S.Store self.new) → IfErr result (λ e. HasCause e (Export user.now number encoding) (state S.Store self.old)) }
-        ensures cause { HasCleanDisk (state S.Store self.new) → IfErr result (IsFault (Export user.now number encoding) (state S.Store self.old) (state S.Store self.new)) }
+        ensures refused { HasCleanDisk (state S.Store self.new)
+            → IfErr result (λ e. HasCause e (Export user.now number encoding)
+            (state S.Store self.old)) }
+        ensures cause { HasCleanDisk (state S.Store self.new)
+            → IfErr result (IsFault (Export user.now number encoding) (state S.Store self.old)
+            (state S.Store self.new)) }
         ensures survives { Survives (state S.Store self.old) (state S.Store self.new) (λ _. ⊥) }
     {
         if !is_user_name(user) {
@@ -227,12 +282,19 @@ impl<S: Alter> Depot<S> {
     ///
     /// `UserName`, then `NoSuchEntry` where he has none of that number, and `Database`. `Memory` where an allocation was refused.
     pub fn remove(&mut self, user: &str, number: u32) -> Result<(), Refusal>
-        ensures done { HasCleanDisk (state S.Store self.new) → OnOk result (Does (Remove user.now number) Done (state S.Store self.old) (state S.Store self.new)) }
-        ensures spared { HasCleanDisk (state S.Store self.new) → OnErr result (Spares (state S.Store self.old) (state S.Store self.new)) }
+        ensures done { HasCleanDisk (state S.Store self.new)
+            → OnOk result (Does (Remove user.now number) Done (state S.Store self.old)
+            (state S.Store self.new)) }
+        ensures spared { HasCleanDisk (state S.Store self.new)
+            → OnErr result (Spares (state S.Store self.old) (state S.Store self.new)) }
         ensures which { IfErr result (MayRefuse (Remove user.now number)) }
-        ensures refused { HasCleanDisk (state S.Store self.new) → IfErr result (λ e. HasCause e (Remove user.now number) (state S.Store self.old)) }
-        ensures cause { HasCleanDisk (state S.Store self.new) → IfErr result (IsFault (Remove user.now number) (state S.Store self.old) (state S.Store self.new)) }
-        ensures survives { Survives (state S.Store self.old) (state S.Store self.new) (MayLeave (Remove user.now number) (state S.Store self.old)) }
+        ensures refused { HasCleanDisk (state S.Store self.new)
+            → IfErr result (λ e. HasCause e (Remove user.now number) (state S.Store self.old)) }
+        ensures cause { HasCleanDisk (state S.Store self.new)
+            → IfErr result (IsFault (Remove user.now number) (state S.Store self.old)
+            (state S.Store self.new)) }
+        ensures survives { Survives (state S.Store self.old) (state S.Store self.new)
+            (MayLeave (Remove user.now number) (state S.Store self.old)) }
     {
         if !is_user_name(user) {
             return Err(Refusal::UserName);
@@ -250,12 +312,16 @@ impl<S: Alter> Depot<S> {
     pub fn migrate(&mut self, alloc: Global) -> Result<usize, Refusal>
         ensures done { HasCleanDisk (state S.Store self.new) → IfOk result (λ number.
             Does Migrate (Migrated number) (state S.Store self.old) (state S.Store self.new)) }
-        ensures spared { HasCleanDisk (state S.Store self.new) → OnErr result (Spares (state S.Store self.old) (state S.Store self.new)) }
+        ensures spared { HasCleanDisk (state S.Store self.new)
+            → OnErr result (Spares (state S.Store self.old) (state S.Store self.new)) }
         ensures which { IfErr result (MayRefuse Migrate) }
-        ensures refused { HasCleanDisk (state S.Store self.new) → IfErr result (λ e. HasCause e Migrate (state S.Store self.old)) }
-        ensures cause { HasCleanDisk (state S.Store self.new) → AreNamed (state S.Store self.old).now.trees
+        ensures refused { HasCleanDisk (state S.Store self.new)
+            → IfErr result (λ e. HasCause e Migrate (state S.Store self.old)) }
+        ensures cause { HasCleanDisk (state S.Store self.new)
+            → AreNamed (state S.Store self.old).now.trees
             → IfErr result (IsFault Migrate (state S.Store self.old) (state S.Store self.new)) }
-        ensures survives { Survives (state S.Store self.old) (state S.Store self.new) (MayLeave Migrate (state S.Store self.old)) }
+        ensures survives { Survives (state S.Store self.old) (state S.Store self.new)
+            (MayLeave Migrate (state S.Store self.old)) }
     {
         let stored = self.store.programs().map_err(refused)?;
         let renewed = renewed_programs(alloc, &stored)?;
@@ -273,12 +339,17 @@ impl<S: Alter> Depot<S> {
     ///
     /// `Database`, also where octets are more than 64 bits can count or a user's name isn't UTF-8. `Memory` where an allocation was refused.
     pub fn inspect(&mut self, alloc: Global) -> Result<Overview, Refusal>
-        ensures told { HasCleanDisk (state S.Store self.new) → IfOk result (λ x. IsTrue (state S.Store self.old).is_open
-            × ((before : Entries) → Stands (state S.Store self.old).now before → IsOverview (state S.Store self.old).now.trees before x)) }
-        ensures spared { HasCleanDisk (state S.Store self.new) → Spares (state S.Store self.old) (state S.Store self.new) }
+        ensures told { HasCleanDisk (state S.Store self.new)
+            → IfOk result (λ x. IsTrue (state S.Store self.old).is_open
+            × ((before : Entries) → Stands (state S.Store self.old).now before
+            → IsOverview (state S.Store self.old).now.trees before x)) }
+        ensures spared { HasCleanDisk (state S.Store self.new)
+            → Spares (state S.Store self.old) (state S.Store self.new) }
         ensures refused { IfErr result (λ e. (e ≡ Memory) ⊎ (e ≡ Database)) }
-        ensures cause { HasCleanDisk (state S.Store self.new) → AreNamed (state S.Store self.old).now.trees
-            → IfErr result (IsStoreFault IsUncounted (state S.Store self.old) (state S.Store self.new)) }
+        ensures cause { HasCleanDisk (state S.Store self.new)
+            → AreNamed (state S.Store self.old).now.trees
+            → IfErr result (IsStoreFault IsUncounted (state S.Store self.old)
+            (state S.Store self.new)) }
         ensures survives { Survives (state S.Store self.old) (state S.Store self.new) (λ _. ⊥) }
     {
         look_over(&mut self.store, alloc)
@@ -293,7 +364,8 @@ impl Depot<MemStore> {
     /// `Memory` where an allocation was refused, `Database` where the database fails.
     pub fn in_memory(alloc: Global) -> Result<Depot<MemStore>, Refusal>
         ensures empty { IfOk result (λ d. Stands (state over_memory d).now no_entries) }
-        ensures committed { IfOk result (λ d. (state over_memory d).committed ≡ (state over_memory d).now) }
+        ensures committed { IfOk result
+            (λ d. (state over_memory d).committed ≡ (state over_memory d).now) }
         ensures open { IfOk result (λ d. IsTrue (state over_memory d).is_open) }
         ensures settled { IfOk result (λ d. (state over_memory d).in_transaction ≡ false) }
         ensures refused { IfErr result (λ e. (e ≡ Memory) ⊎ (e ≡ Database)) }

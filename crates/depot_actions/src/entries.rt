@@ -20,7 +20,8 @@ pub(crate) fn new_entries<'e>(
     actions: &'e [Action],
 ) -> Result<Vec<NewEntry<'e>>, AllocError>
     requires { All (KeepsAction kept.now) actions.now }
-    ensures { (mail : Mail) → mail.octets ≡ octets.now → AreKept mail kept.now → IfOk result (λ entries. map draft_of entries.items ≡ drafts_of mail actions.now) }
+    ensures { (mail : Mail) → mail.octets ≡ octets.now → AreKept mail kept.now
+        → IfOk result (λ entries. map draft_of entries.items ≡ drafts_of mail actions.now) }
 {
     let mut entries = Vec::with_capacity(alloc, actions.len())?;
     for action in actions {
@@ -36,7 +37,8 @@ fn entry_of<'e>(
     action: &'e Action,
 ) -> NewEntry<'e>
     requires { KeepsAction kept.now action.now }
-    ensures { (mail : Mail) → mail.octets ≡ octets.now → AreKept mail kept.now → draft_of result ≡ draft_of_action mail action.now }
+    ensures { (mail : Mail) → mail.octets ≡ octets.now → AreKept mail kept.now
+        → draft_of result ≡ draft_of_action mail action.now }
 {
     match action {
         Action::Keep => message_entry(b"INBOX", octets),
@@ -47,7 +49,8 @@ fn entry_of<'e>(
 
 // The entry of a whole message in a folder.
 fn message_entry<'e>(folder: &'e [u8], octets: &'e [u8]) -> NewEntry<'e>
-    ensures { (mail : Mail) → mail.octets ≡ octets.now → draft_of result ≡ message_draft folder.now mail }
+    ensures { (mail : Mail) → mail.octets ≡ octets.now
+        → draft_of result ≡ message_draft folder.now mail }
 {
     NewEntry {
         folder,

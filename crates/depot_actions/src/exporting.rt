@@ -44,8 +44,10 @@ pub(crate) fn put_text<W: Sink>(
     octets: &[u8],
     writer: &mut W,
 ) -> Result<(), Refusal>
-    ensures ok { OnOk result (HasTaken (text_of encoding octets.now) (W.output writer.old) (W.output writer.new)) }
-    ensures err { IfErr result (λ e. HasStopped e (text_of encoding octets.now) (W.output writer.old) (W.output writer.new)) }
+    ensures ok { OnOk result (HasTaken (text_of encoding octets.now) (W.output writer.old)
+        (W.output writer.new)) }
+    ensures err { IfErr result (λ e. HasStopped e (text_of encoding octets.now)
+        (W.output writer.old) (W.output writer.new)) }
 {
     match encoding {
         Encoding::Raw => Ok(put_pieces(octets, writer)?),
@@ -70,8 +72,10 @@ fn put_pieces<W: Sink>(octets: &[u8], writer: &mut W) -> Result<(), DeviceFailed
 
 // Writes the quoted-printable text of the octets, a line at a time.
 fn put_lines<W: Sink>(alloc: Global, octets: &[u8], writer: &mut W) -> Result<(), Refusal>
-    ensures ok { OnOk result (HasTaken (text_of Qp octets.now) (W.output writer.old) (W.output writer.new)) }
-    ensures err { IfErr result (λ e. HasStopped e (text_of Qp octets.now) (W.output writer.old) (W.output writer.new)) }
+    ensures ok { OnOk result (HasTaken (text_of Qp octets.now) (W.output writer.old)
+        (W.output writer.new)) }
+    ensures err { IfErr result (λ e. HasStopped e (text_of Qp octets.now) (W.output writer.old)
+        (W.output writer.new)) }
 {
     let mut line = Vec::with_capacity(alloc, LINE_OCTETS)?;
     let mut rest = octets;
@@ -93,8 +97,10 @@ fn put_groups<W: Sink>(
     writer: &mut W,
 ) -> Result<(), Refusal>
     requires { encoding ≢ Qp }
-    ensures ok { OnOk result (HasTaken (text_of encoding octets.now) (W.output writer.old) (W.output writer.new)) }
-    ensures err { IfErr result (λ e. HasStopped e (text_of encoding octets.now) (W.output writer.old) (W.output writer.new)) }
+    ensures ok { OnOk result (HasTaken (text_of encoding octets.now) (W.output writer.old)
+        (W.output writer.new)) }
+    ensures err { IfErr result (λ e. HasStopped e (text_of encoding octets.now)
+        (W.output writer.old) (W.output writer.new)) }
 {
     let mut rest = octets;
     'pieces: while !rest.is_empty() {
@@ -112,8 +118,10 @@ fn first_groups<'a>(
     octets: &'a [u8],
 ) -> Result<(Vec<u8>, &'a [u8]), AllocError>
     requires { encoding ≢ Qp }
-    ensures text { IfOk result (λ first. text_of encoding octets.now ≡ first.0.items ++ text_of encoding first.1.now) }
-    ensures shorter { IfOk result (λ first. 0 < length octets.now → length first.1.now < length octets.now) }
+    ensures text { IfOk result (λ first. text_of encoding octets.now ≡ first.0.items
+        ++ text_of encoding first.1.now) }
+    ensures shorter { IfOk result
+        (λ first. 0 < length octets.now → length first.1.now < length octets.now) }
 {
     let (piece, rest) = octets.split_at(octets.len().min(PIECE_OCTETS));
     Ok((encode(alloc, encoding, piece)?, rest))

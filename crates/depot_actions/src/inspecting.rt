@@ -31,12 +31,17 @@ pub(crate) fn look_over<S: Alter>(
     store: &mut PartStore<S>,
     alloc: Global,
 ) -> Result<Overview, Refusal>
-    ensures told { HasCleanDisk (state S.Store store.new) → IfOk result (λ x. IsTrue (state S.Store store.old).is_open
-        × ((before : Entries) → Stands (state S.Store store.old).now before → IsOverview (state S.Store store.old).now.trees before x)) }
-    ensures spared { HasCleanDisk (state S.Store store.new) → Spares (state S.Store store.old) (state S.Store store.new) }
+    ensures told { HasCleanDisk (state S.Store store.new)
+        → IfOk result (λ x. IsTrue (state S.Store store.old).is_open
+        × ((before : Entries) → Stands (state S.Store store.old).now before
+        → IsOverview (state S.Store store.old).now.trees before x)) }
+    ensures spared { HasCleanDisk (state S.Store store.new)
+        → Spares (state S.Store store.old) (state S.Store store.new) }
     ensures refused { IfErr result (λ e. (e ≡ Memory) ⊎ (e ≡ Database)) }
-    ensures cause { HasCleanDisk (state S.Store store.new) → AreNamed (state S.Store store.old).now.trees
-        → IfErr result (IsStoreFault IsUncounted (state S.Store store.old) (state S.Store store.new)) }
+    ensures cause { HasCleanDisk (state S.Store store.new)
+        → AreNamed (state S.Store store.old).now.trees
+        → IfErr result (IsStoreFault IsUncounted (state S.Store store.old)
+        (state S.Store store.new)) }
     ensures survives { Survives (state S.Store store.old) (state S.Store store.new) (λ _. ⊥) }
 {
     let rows = rows_of(store)?;
@@ -47,13 +52,19 @@ pub(crate) fn look_over<S: Alter>(
 
 // The users that have a row.
 fn rows_of<S: Alter>(store: &mut PartStore<S>) -> Result<Vec<UserRow>, Refusal>
-    ensures told { HasCleanDisk (state S.Store store.new) → IfOk result (λ rows.
-        (before : Entries) → Stands (state S.Store store.old).now before → AreUsersOf ((state S.Store store.old).now.trees users_tree) before (map line_of rows.items)) }
-    ensures open { HasCleanDisk (state S.Store store.new) → OnOk result (IsTrue (state S.Store store.old).is_open) }
-    ensures spared { HasCleanDisk (state S.Store store.new) → Spares (state S.Store store.old) (state S.Store store.new) }
+    ensures told { HasCleanDisk (state S.Store store.new)
+        → IfOk result (λ rows. (before : Entries) → Stands (state S.Store store.old).now before
+        → AreUsersOf ((state S.Store store.old).now.trees users_tree) before
+        (map line_of rows.items)) }
+    ensures open { HasCleanDisk (state S.Store store.new)
+        → OnOk result (IsTrue (state S.Store store.old).is_open) }
+    ensures spared { HasCleanDisk (state S.Store store.new)
+        → Spares (state S.Store store.old) (state S.Store store.new) }
     ensures refused { IfErr result (λ e. (e ≡ Memory) ⊎ (e ≡ Database)) }
-    ensures cause { HasCleanDisk (state S.Store store.new) → AreNamed (state S.Store store.old).now.trees
-        → IfErr result (IsStoreFault IsUncounted (state S.Store store.old) (state S.Store store.new)) }
+    ensures cause { HasCleanDisk (state S.Store store.new)
+        → AreNamed (state S.Store store.old).now.trees
+        → IfErr result (IsStoreFault IsUncounted (state S.Store store.old)
+        (state S.Store store.new)) }
     ensures survives { Survives (state S.Store store.old) (state S.Store store.new) (λ _. ⊥) }
 {
     store.users().map_err(refused)
@@ -61,10 +72,13 @@ fn rows_of<S: Alter>(store: &mut PartStore<S>) -> Result<Vec<UserRow>, Refusal>
 
 // How many contents there are, and their octets.
 fn total_of<S: Alter>(store: &mut PartStore<S>) -> Result<ContentTotal, Refusal>
-    ensures told { HasCleanDisk (state S.Store store.new) → IfOk result (λ total.
-        (before : Entries) → Stands (state S.Store store.old).now before → IsTotalOf ((state S.Store store.old).now.trees contents_tree) total) }
-    ensures open { HasCleanDisk (state S.Store store.new) → OnOk result (IsTrue (state S.Store store.old).is_open) }
-    ensures spared { HasCleanDisk (state S.Store store.new) → Spares (state S.Store store.old) (state S.Store store.new) }
+    ensures told { HasCleanDisk (state S.Store store.new)
+        → IfOk result (λ total. (before : Entries) → Stands (state S.Store store.old).now before
+        → IsTotalOf ((state S.Store store.old).now.trees contents_tree) total) }
+    ensures open { HasCleanDisk (state S.Store store.new)
+        → OnOk result (IsTrue (state S.Store store.old).is_open) }
+    ensures spared { HasCleanDisk (state S.Store store.new)
+        → Spares (state S.Store store.old) (state S.Store store.new) }
     ensures refused { IfErr result (λ e. (e ≡ Memory) ⊎ (e ≡ Database)) }
     ensures cause { HasCleanDisk (state S.Store store.new) → IfErr result
         (IsStoreFault IsUncounted (state S.Store store.old) (state S.Store store.new)) }
@@ -79,9 +93,11 @@ fn summaries<S: Alter>(
     alloc: Global,
     rows: &[UserRow],
 ) -> Result<Vec<UserOverview>, Refusal>
-    ensures told { HasCleanDisk (state S.Store store.new) → IfOk result (λ users.
-        (before : Entries) → Stands (state S.Store store.old).now before → AreSummaries before (map line_of rows.now) users.items) }
-    ensures spared { HasCleanDisk (state S.Store store.new) → Spares (state S.Store store.old) (state S.Store store.new) }
+    ensures told { HasCleanDisk (state S.Store store.new)
+        → IfOk result (λ users. (before : Entries) → Stands (state S.Store store.old).now before
+        → AreSummaries before (map line_of rows.now) users.items) }
+    ensures spared { HasCleanDisk (state S.Store store.new)
+        → Spares (state S.Store store.old) (state S.Store store.new) }
     ensures refused { IfErr result (λ e. (e ≡ Memory) ⊎ (e ≡ Database)) }
     ensures cause { HasCleanDisk (state S.Store store.new) → IfErr result
         (IsStoreFault IsUncounted (state S.Store store.old) (state S.Store store.new)) }
@@ -101,10 +117,14 @@ fn summary<S: Alter>(
     alloc: Global,
     row: &UserRow,
 ) -> Result<UserOverview, Refusal>
-    ensures told { HasCleanDisk (state S.Store store.new) → IfOk result (λ x.
-        (before : Entries) → Stands (state S.Store store.old).now before → Summarises (line_of row.now) (map listing_of (entries_of (string_bytes row.now.user) before)) x) }
-    ensures open { HasCleanDisk (state S.Store store.new) → OnOk result (IsTrue (state S.Store store.old).is_open) }
-    ensures spared { HasCleanDisk (state S.Store store.new) → Spares (state S.Store store.old) (state S.Store store.new) }
+    ensures told { HasCleanDisk (state S.Store store.new)
+        → IfOk result (λ x. (before : Entries) → Stands (state S.Store store.old).now before
+        → Summarises (line_of row.now)
+        (map listing_of (entries_of (string_bytes row.now.user) before)) x) }
+    ensures open { HasCleanDisk (state S.Store store.new)
+        → OnOk result (IsTrue (state S.Store store.old).is_open) }
+    ensures spared { HasCleanDisk (state S.Store store.new)
+        → Spares (state S.Store store.old) (state S.Store store.new) }
     ensures refused { IfErr result (λ e. (e ≡ Memory) ⊎ (e ≡ Database)) }
     ensures cause { HasCleanDisk (state S.Store store.new) → IfErr result
         (IsStoreFault IsUncounted (state S.Store store.old) (state S.Store store.new)) }
@@ -116,10 +136,13 @@ fn summary<S: Alter>(
 
 // The entries of a user, who may have any name that is stored.
 fn entries_in<S: Alter>(store: &mut PartStore<S>, user: &str) -> Result<Vec<EntryRow>, Refusal>
-    ensures told { HasCleanDisk (state S.Store store.new) → IfOk result (λ rows.
-        (before : Entries) → Stands (state S.Store store.old).now before → map listed rows.items ≡ map listing_of (entries_of user.now before)) }
-    ensures open { HasCleanDisk (state S.Store store.new) → OnOk result (IsTrue (state S.Store store.old).is_open) }
-    ensures spared { HasCleanDisk (state S.Store store.new) → Spares (state S.Store store.old) (state S.Store store.new) }
+    ensures told { HasCleanDisk (state S.Store store.new)
+        → IfOk result (λ rows. (before : Entries) → Stands (state S.Store store.old).now before
+        → map listed rows.items ≡ map listing_of (entries_of user.now before)) }
+    ensures open { HasCleanDisk (state S.Store store.new)
+        → OnOk result (IsTrue (state S.Store store.old).is_open) }
+    ensures spared { HasCleanDisk (state S.Store store.new)
+        → Spares (state S.Store store.old) (state S.Store store.new) }
     ensures refused { IfErr result (λ e. (e ≡ Memory) ⊎ (e ≡ Database)) }
     ensures cause { HasCleanDisk (state S.Store store.new) → IfErr result
         (IsStoreFault IsUncounted (state S.Store store.old) (state S.Store store.new)) }
@@ -132,7 +155,8 @@ fn entries_in<S: Alter>(store: &mut PartStore<S>, user: &str) -> Result<Vec<Entr
 fn summary_of(alloc: Global, row: &UserRow, entries: &[EntryRow]) -> Result<UserOverview, Refusal>
     ensures told { IfOk result (λ x. Summarises (line_of row.now) (map listed entries.now) x) }
     ensures refused { IfErr result (λ e. (e ≡ Memory) ⊎ (e ≡ Database)) }
-    ensures cause { IfErr result (λ e. e ≡ Database → 2 ^ 64 ≤ sum_by (λ (e : Listing). e.octets) (map listed entries.now)) }
+    ensures cause { IfErr result
+        (λ e. e ≡ Database → 2 ^ 64 ≤ sum_by (λ (e : Listing). e.octets) (map listed entries.now)) }
 {
     let octets = octets_of(entries)?;
     let program = program_state(alloc, &row.program)?;

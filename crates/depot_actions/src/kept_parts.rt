@@ -49,7 +49,8 @@ fn keep_stored<'m>(
     requires kept { AreKept message.now kept.old.items }
     ensures parts { OnOk result (AreKept message.now kept.new.items) }
     ensures there { OnOk result (KeepsAction kept.new.items action.now) }
-    ensures more { OnOk result ((number : ℕ) → Keeps kept.old.items number → Keeps kept.new.items number) }
+    ensures more { OnOk result ((number : ℕ) → Keeps kept.old.items number
+        → Keeps kept.new.items number) }
 {
     match action {
         Action::Keep | Action::File(_) => Ok(()),
@@ -68,7 +69,8 @@ fn keep_part<'m>(
     requires kept { AreKept message.now kept.old.items }
     ensures parts { OnOk result (AreKept message.now kept.new.items) }
     ensures there { OnOk result (Keeps kept.new.items part) }
-    ensures more { OnOk result ((number : ℕ) → Keeps kept.old.items number → Keeps kept.new.items number) }
+    ensures more { OnOk result ((number : ℕ) → Keeps kept.old.items number
+        → Keeps kept.new.items number) }
 {
     if kept[part].is_none() {
         kept[part] = Some(StoredPart::read(alloc, message, part)?);

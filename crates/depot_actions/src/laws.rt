@@ -23,31 +23,39 @@ use sqlite_disk::Disk;
 
 /// Each text reads as one list of octets at most.
 pub fn reads_at_most_one()
-    ensures { (encoding : Encoding) (text x y : List ℕ) → IsOctets x → IsOctets y → Reads encoding text x → Reads encoding text y → x ≡ y }
+    ensures { (encoding : Encoding) (text x y : List ℕ) → IsOctets x → IsOctets y
+        → Reads encoding text x → Reads encoding text y → x ≡ y }
 {}
 
 /// What was written is read back.
 pub fn reads_what_was_written()
-    ensures { (encoding : Encoding) (octets : List ℕ) → IsOctets octets → Reads encoding (text_of encoding octets) octets }
+    ensures { (encoding : Encoding) (octets : List ℕ) → IsOctets octets
+        → Reads encoding (text_of encoding octets) octets }
 {}
 
 /// The text of octets is that of a piece of them, then that of the others.
 pub fn text_is_the_texts_of_its_pieces()
-    ensures { (encoding : Encoding) (piece rest : List ℕ) → IsPiece encoding piece → text_of encoding (piece ++ rest) ≡ text_of encoding piece ++ text_of encoding rest }
+    ensures { (encoding : Encoding) (piece rest : List ℕ) → IsPiece encoding piece
+        → text_of encoding (piece ++ rest) ≡ text_of encoding piece ++ text_of encoding rest }
 {}
 
 /// Whatever calls a depot is given, and whichever of them fail, what its store shows while it is open stands for what the accepted ones make of
 /// what it stood for, one after another. A store that a failure has shut accepts nothing more.
 pub fn commands_are_a_fold<S: Alter>()
-    ensures { (calls : List Call) (old new : Held S) (before : Entries) → AreAnswered S.Store calls old new → (IsTrue (state S.Store old).is_open → Stands (state S.Store old).now before)
-        → (after : Entries) × AreSteps calls before after × (IsTrue (state S.Store new).is_open → Stands (state S.Store new).now after) }
+    ensures { (calls : List Call) (old new : Held S) (before : Entries)
+        → AreAnswered S.Store calls old new
+        → (IsTrue (state S.Store old).is_open → Stands (state S.Store old).now before)
+        → (after : Entries) × AreSteps calls before after
+        × (IsTrue (state S.Store new).is_open → Stands (state S.Store new).now after) }
 {}
 
 /// The disk of a store that is open has returned what was written, and a crash then leaves what is committed, nothing else. So what a command
 /// leaves committed is what a later open finds.
 pub fn open_stores_leave_what_is_committed<S: Alter>()
-    ensures clean { (store : Held S) → IsTrue (state S.Store store).is_open → HasCleanDisk (state S.Store store) }
-    ensures left { (store : Held S) (trees : Trees) → IsTrue (state S.Store store).is_open → (state S.Store store).may_leave trees → trees ≡ (state S.Store store).committed.trees }
+    ensures clean { (store : Held S) → IsTrue (state S.Store store).is_open
+        → HasCleanDisk (state S.Store store) }
+    ensures left { (store : Held S) (trees : Trees) → IsTrue (state S.Store store).is_open
+        → (state S.Store store).may_leave trees → trees ≡ (state S.Store store).committed.trees }
 {}
 
 /// What one command left is what the next one finds. Commands over two files, each in a run that
@@ -55,8 +63,11 @@ pub fn open_stores_leave_what_is_committed<S: Alter>()
 /// commands make of what was held, one after another. A run that ends with the depot open makes
 /// what its reply says; one that a crash or a failure of the disk met makes that, or nothing.
 pub fn runs_are_a_fold<D: Disk + Drop>()
-    ensures held { (runs : List (Run D.Disk)) (image : Image) (before : Entries) → HoldsStore image before → AreRuns image runs → ∥ HoldFold image runs before ∥₁ }
-    ensures new { (run : Run D.Disk) (runs : List (Run D.Disk)) (image : Image) → HoldsNoTables image → AreRuns image (run ∷ runs) → ∥ HoldFold image (run ∷ runs) no_entries ∥₁ }
+    ensures held { (runs : List (Run D.Disk)) (image : Image) (before : Entries)
+        → HoldsStore image before → AreRuns image runs → ∥ HoldFold image runs before ∥₁ }
+    ensures new { (run : Run D.Disk) (runs : List (Run D.Disk)) (image : Image)
+        → HoldsNoTables image → AreRuns image (run ∷ runs)
+        → ∥ HoldFold image (run ∷ runs) no_entries ∥₁ }
 {
     open_stores_leave_what_is_committed::<FileStore<D>>();
     each_image_holds_one_left::<D>();
@@ -65,14 +76,19 @@ pub fn runs_are_a_fold<D: Disk + Drop>()
 /// An accepted command has none of the causes that commands are refused for: its user is named, an entry that it names is
 /// there, and the numbers that a delivery needs suffice.
 pub fn accepted_commands_have_no_cause()
-    ensures user { (before after : Entries) (command : Command) (reply : Reply) → Accepts before command reply after → IsNamed command }
-    ensures entry { (before after : Entries) (command : Command) (reply : Reply) → Accepts before command reply after → NamesNone before command → ⊥ }
-    ensures numbers { (before after : Entries) (command : Command) (reply : Reply) → Accepts before command reply after → IsFull before command → ⊥ }
+    ensures user { (before after : Entries) (command : Command) (reply : Reply)
+        → Accepts before command reply after → IsNamed command }
+    ensures entry { (before after : Entries) (command : Command) (reply : Reply)
+        → Accepts before command reply after → NamesNone before command → ⊥ }
+    ensures numbers { (before after : Entries) (command : Command) (reply : Reply)
+        → Accepts before command reply after → IsFull before command → ⊥ }
 {}
 
 /// A migration changes no delivery: on every message the final actions of each user's program are what they were. Nor does its budget grow
 /// (`budgets_do_not_grow_in_version_two` of bytecode_verifier).
 pub fn migrations_change_no_actions()
-    ensures { (before after : Entries) (reply : Reply) → Accepts before Migrate reply after → (user : List ℕ) (mail : Mail) (actions : List Action)
-        → AreActions (before.programs user) mail actions → AreActions (after.programs user) mail actions }
+    ensures { (before after : Entries) (reply : Reply) → Accepts before Migrate reply after
+        → (user : List ℕ) (mail : Mail) (actions : List Action)
+        → AreActions (before.programs user) mail actions
+        → AreActions (after.programs user) mail actions }
 {}

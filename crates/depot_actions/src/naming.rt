@@ -37,7 +37,8 @@ pub(crate) fn media_text(alloc: Global, media: &MediaType) -> Result<Vec<u8>, Al
 
 // The file name that the first Content-Disposition has.
 fn file_name(alloc: Global, fields: &[Field]) -> Result<Option<Vec<u8>>, AllocError>
-    ensures { IfOk result (λ name. option_map (λ v. v.items) name ≡ file_name_in (first_value (codes "Content-Disposition") fields.now)) }
+    ensures { IfOk result (λ name. option_map (λ v. v.items) name
+        ≡ file_name_in (first_value (codes "Content-Disposition") fields.now)) }
 {
     match first_named(fields, b"Content-Disposition") {
         Some(field) => file_name_of(alloc, unfold(alloc, field)?.as_slice()),
@@ -57,7 +58,8 @@ fn file_name_of(alloc: Global, value: &[u8]) -> Result<Option<Vec<u8>>, AllocErr
 
 // The first field of this name.
 fn first_named<'f, 'a>(fields: &'f [Field<'a>], name: &[u8]) -> Option<&'f Field<'a>>
-    ensures { MatchOption result (first_value name.now fields.now ≡ None) (λ field. first_value name.now fields.now ≡ Some field.now.value) }
+    ensures { MatchOption result (first_value name.now fields.now ≡ None)
+        (λ field. first_value name.now fields.now ≡ Some field.now.value) }
 {
     for field in fields {
         if name_is(field, name) {

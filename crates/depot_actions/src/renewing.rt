@@ -25,9 +25,12 @@ pub(crate) fn renewed_programs(
     alloc: Global,
     stored: &[(String, Vec<u8>)],
 ) -> Result<Vec<(String, Vec<u8>)>, Refusal>
-    ensures renewed { IfOk result (λ renewed. AreRenewals (map pair_of stored.now) (map pair_of renewed.items)) }
+    ensures renewed { IfOk result
+        (λ renewed. AreRenewals (map pair_of stored.now) (map pair_of renewed.items)) }
     ensures refused { IfErr result (λ e. (e ≡ Memory) ⊎ (e ≡ Database)) }
-    ensures cause { IfErr result (λ e. e ≡ Database → (pair : _) × Has (map pair_of stored.now) pair × IsSpoilt (Some pair.1)) }
+    ensures cause { IfErr result
+        (λ e. e ≡ Database → (pair : _) × Has (map pair_of stored.now) pair
+        × IsSpoilt (Some pair.1)) }
 {
     let mut renewed = Vec::new(alloc);
     for (user, program) in stored {
@@ -43,8 +46,10 @@ fn push_renewed(
     program: &[u8],
     renewed: &mut Vec<(String, Vec<u8>)>,
 ) -> Result<(), Refusal>
-    ensures renewed { OnOk result ((code : Code) × IsChecked program.now code
-        × (map pair_of renewed.new.items ≡ map pair_of renewed.old.items ++ with_renewal (renewal code) (user.now, program.now) [])) }
+    ensures renewed { OnOk result
+        ((code : Code) × IsChecked program.now code
+        × (map pair_of renewed.new.items ≡ map pair_of renewed.old.items
+        ++ with_renewal (renewal code) (user.now, program.now) [])) }
     ensures refused { IfErr result (λ e. (e ≡ Memory) ⊎ (e ≡ Database)) }
     ensures cause { IfErr result (λ e. e ≡ Database → IsSpoilt (Some program.now)) }
 {
@@ -56,7 +61,9 @@ fn push_renewed(
 
 // The program with the latest version, where it has another.
 fn renewed_program(alloc: Global, program: &[u8]) -> Result<Option<Vec<u8>>, Refusal>
-    ensures renewed { IfOk result (λ renewed. (code : Code) × IsChecked program.now code × (option_map (λ v. v.items) renewed ≡ renewal code)) }
+    ensures renewed { IfOk result
+        (λ renewed. (code : Code) × IsChecked program.now code
+        × (option_map (λ v. v.items) renewed ≡ renewal code)) }
     ensures refused { IfErr result (λ e. (e ≡ Memory) ⊎ (e ≡ Database)) }
     ensures cause { IfErr result (λ e. e ≡ Database → IsSpoilt (Some program.now)) }
 {
@@ -69,7 +76,8 @@ fn renewed_program(alloc: Global, program: &[u8]) -> Result<Option<Vec<u8>>, Ref
 
 // The octets of a program with the latest version.
 fn in_latest_version(alloc: Global, program: &[u8]) -> Result<Vec<u8>, Refusal>
-    ensures renewed { IfOk result (λ octets. (code : Code) × Spells program.now code × (octets.items ≡ renewed_octets code)) }
+    ensures renewed { IfOk result
+        (λ octets. (code : Code) × Spells program.now code × (octets.items ≡ renewed_octets code)) }
     ensures refused { IfErr result (λ e. (e ≡ Memory) ⊎ (e ≡ Database)) }
     ensures cause { IfErr result (λ e. e ≡ Database → IsSpoilt (Some program.now)) }
 {

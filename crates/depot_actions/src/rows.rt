@@ -13,7 +13,8 @@ pub(crate) fn unnumbered_rows(
     alloc: Global,
     entries: &[NewEntry<'_>],
 ) -> Result<Vec<EntryRow>, AllocError>
-    ensures { IfOk result (λ rows. map listed rows.items ≡ map unnumbered (map draft_of entries.now)) }
+    ensures { IfOk result (λ rows. map listed rows.items
+        ≡ map unnumbered (map draft_of entries.now)) }
 {
     let mut rows = Vec::with_capacity(alloc, entries.len())?;
     for entry in entries {
@@ -24,7 +25,9 @@ pub(crate) fn unnumbered_rows(
 
 /// Numbers the rows from a number on, as their entries are.
 pub(crate) fn set_numbers(rows: &mut Vec<EntryRow>, first: u32)
-    ensures { (user : List ℕ) (drafts : List Draft) → map listed rows.old.items ≡ map unnumbered drafts → first + length drafts ≤ max_entry_number + 1
+    ensures { (user : List ℕ) (drafts : List Draft)
+        → map listed rows.old.items ≡ map unnumbered drafts
+        → first + length drafts ≤ max_entry_number + 1
         → map listed rows.new.items ≡ map listing_of (numbered user first drafts) }
 {
     let mut number = first;

@@ -23,7 +23,8 @@ pub trait Sink {
     fn write(&mut self, octets: &[u8]) -> Result<usize, DeviceFailed>
         ensures bound { IfOk result (λ n. n ≤ length octets.now) }
         ensures some { IfOk result (λ n. 0 < length octets.now → 0 < n) }
-        ensures ok { IfOk result (λ n. HasTaken (take n octets.now) (output self.old) (output self.new)) }
+        ensures ok { IfOk result (λ n. HasTaken (take n octets.now) (output self.old)
+            (output self.new)) }
         ensures err { OnErr result (HasFailed (output self.old) (output self.new)) };
 }
 
@@ -45,7 +46,8 @@ impl<W: Write + Drop> OfWrite<W> {
     /// The writer, of whose calls none has failed. The octets that it holds count as taken.
     pub fn new(inner: W) -> OfWrite<W>
         ensures fields { result ≡ record { inner = inner; faults = 0 } }
-        ensures output { ⟦<OfWrite<W> as Sink>⟧.output result ≡ record { written = W.contents inner; faults = 0 } }
+        ensures output { ⟦<OfWrite<W> as Sink>⟧.output result
+            ≡ record { written = W.contents inner; faults = 0 } }
     {
         OfWrite { inner, faults: 0 }
     }
@@ -67,7 +69,8 @@ impl<W: Write + Drop> Sink for OfWrite<W> {
 fn write_some<W: Write>(writer: &mut W, octets: &[u8]) -> Result<usize, DeviceFailed>
     ensures bound { IfOk result (λ n. n ≤ length octets.now) }
     ensures some { IfOk result (λ n. 0 < length octets.now → 0 < n) }
-    ensures ok { IfOk result (λ n. Appends (W.contents writer.old) (W.contents writer.new) (take n octets.now)) }
+    ensures ok { IfOk result (λ n. Appends (W.contents writer.old) (W.contents writer.new)
+        (take n octets.now)) }
     ensures err { OnErr result (Keeps (W.contents writer.old) (W.contents writer.new)) }
 {
     for _ in 0..MAX_TRIES {

@@ -43,7 +43,8 @@ impl<'m> StoredPart<'m> {
 
     /// The entry of the part in a folder.
     pub(crate) fn entry<'e>(&'e self, folder: &'e [u8]) -> NewEntry<'e>
-        ensures { (part : Part) → IsStored self.now part → draft_of result ≡ part_draft folder.now part }
+        ensures { (part : Part) → IsStored self.now part
+            → draft_of result ≡ part_draft folder.now part }
     {
         NewEntry {
             folder,
