@@ -5,19 +5,21 @@ use Rattle.std.proofs.lemmas.Bool.{cases_Bool, true≢false}
 use Rattle.sqlite_disk.specs.declared.Disk.{Ghosts}
 use Rattle.sqlite_trees.specs.Tree.{Trees}
 use Rattle.sqlite.specs.declared.FileStore.{FileStore}
+use Rattle.sqlite.specs.declared.error.Error.{Error}
+use Rattle.sqlite.specs.declared.file.Leftover.{Leftover}
 use Rattle.sqlite.specs.Effect.{Database}
-use Rattle.sqlite.specs.Files.{file_state}
+use Rattle.sqlite.specs.Files.{file_state, IsCleanLeft}
 use Rattle.sqlite.specs.Held.{Held}
 use Rattle.sqlite.specs.Recovery.{Image}
 use Rattle.sqlite.specs.State.{State, HasCleanDisk}
-use Rattle.part_store.specs.Crashes.{HasNumberedTrees, HoldsOneLeft, LeavesStores, MayLeaveFiles}
+use Rattle.part_store.specs.Crashes.{HasNumberedTrees, HoldsOneLeft, LeavesStores, MayLeaveFiles, MayLeaveRefused, TakesSize}
 use Rattle.part_store.specs.Entries.{Entries, no_entries}
-use Rattle.part_store.specs.Opening.{HoldsNoTables, HoldsStore, IsAt}
+use Rattle.part_store.specs.Opening.{HoldsNoTables, HoldsStore, IsAt, IsUnopened}
 use Rattle.part_store.specs.Standing.{IsStored, Stands}
 use Rattle.part_store.proofs.Stored.{stored_as}
 use Rattle.depot_actions.specs.DepotState.{Accepts, Command, Reply}
 use Rattle.depot_actions.specs.History.{Answers, IsStep}
-use Rattle.depot_actions.specs.Runs.{AreRuns, HoldFold, IsRun, IsRunStep, Run}
+use Rattle.depot_actions.specs.Runs.{AreRefusedOpens, AreRuns, HoldFold, IsRun, IsRunStep, Run, after_opens}
 
 -- what a command with this reply, or none, left in a store that is open
 record Left (command : Command) (reply : Option Reply) (before : Entries) (new : State) : Type 0 where
@@ -45,7 +47,9 @@ record Comes (command : Command) (before : Entries) (trees : Trees) : Type 0 whe
   stored : IsStored trees after
 
 module _ {D : Type 0} {g : Ghosts D} (one_left : (c : Held (FileStore D g)) → HasNumberedTrees c → LeavesStores (file_state c) → (image : Image) → MayLeaveFiles c image → ∥ HoldsOneLeft c image ∥₁)
-    (settled : (c : Held (FileStore D g)) (trees : Trees) → IsTrue (file_state c).is_open → (file_state c).may_leave trees → trees ≡ (file_state c).committed.trees) where
+    (settled : (c : Held (FileStore D g)) (trees : Trees) → IsTrue (file_state c).is_open → (file_state c).may_leave trees → trees ≡ (file_state c).committed.trees)
+    (spared : (image : Image) (left : Leftover D g) (e : Error) → IsUnopened image (Some left) e → IsCleanLeft left → TakesSize image left
+    → (held : Entries) → HoldsStore image held → (other : Image) → MayLeaveRefused left other → ∥ HoldsStore other held ∥₁) where
   trees_of : (c : Held (FileStore D g)) (e : Entries) → IsTrue (file_state c).is_open → (file_state c).committed ≡ (file_state c).now → Stands (file_state c).now e
       → (trees : Trees) → (file_state c).may_leave trees → IsStored trees e
   trees_of c e is_open same stands trees may = stored_as trees (file_state c).now e (settled c trees is_open may ∙ ap (λ (d : Database). d.trees) same) stands
@@ -91,11 +95,19 @@ module _ {D : Type 0} {g : Ghosts D} (one_left : (c : Held (FileStore D g)) → 
   more_runs run runs image before it at rest = ∥∥₁_elim (one_run image run it before at) squash₁ (λ made.
       ∥∥₁_map (rest made.0 made.2) (λ fold. let r : HoldFold image (run ∷ runs) before = (fold.0, (made.0, made.1, fold.1), fold.2) in r))
 
+  opened_again : (image : Image) (others : List Image) (held : Entries) → HoldsStore image held → AreRefusedOpens image others → ∥ HoldsStore (after_opens image others) held ∥₁
+  opened_again image [] held holds all = ∣ holds ∣₁
+  opened_again image (other ∷ others) held holds (it, more) =
+      ∥∥₁_elim (spared image it.leftover it.error it.unopened it.clean it.size held holds other it.may) squash₁ (λ still. opened_again other others held still more)
+
   pub runs_fold : (runs : List (Run g)) (image : Image) (before : Entries) → HoldsStore image before → AreRuns image runs → ∥ HoldFold image runs before ∥₁
   runs_fold [] image before holds all = ∣ (before, refl, holds) ∣₁
-  runs_fold (run ∷ runs) image before holds (it, more) =
-      more_runs run runs image before it (it.found (early image run it) before holds) (λ mid held. runs_fold runs run.left mid held more)
+  runs_fold (run ∷ runs) image before holds (opens, it, more) =
+      let start = after_opens image run.refused in
+      ∥∥₁_elim (opened_again image run.refused before holds opens) squash₁ (λ still.
+      more_runs run runs start before it (it.found (early start run it) before still) (λ mid held. runs_fold runs run.left mid held more))
 
-  pub first_runs_fold : (run : Run g) (runs : List (Run g)) (image : Image) → HoldsNoTables image → AreRuns image (run ∷ runs) → ∥ HoldFold image (run ∷ runs) no_entries ∥₁
-  first_runs_fold run runs image none (it, more) =
-      more_runs run runs image no_entries it (it.empty (early image run it) none) (λ mid held. runs_fold runs run.left mid held more)
+  pub first_runs_fold : (run : Run g) (runs : List (Run g)) (image : Image) → HoldsNoTables image → run.refused ≡ [] → AreRuns image (run ∷ runs) → ∥ HoldFold image (run ∷ runs) no_entries ∥₁
+  first_runs_fold run runs image none no_opens (opens, it, more) =
+      let first : IsRun image run = subst (λ (others : List Image). IsRun (after_opens image others) run) no_opens it in
+      more_runs run runs image no_entries first (first.empty (early image run first) none) (λ mid held. runs_fold runs run.left mid held more)

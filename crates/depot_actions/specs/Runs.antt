@@ -1,21 +1,26 @@
--- Commands over two files, each in a run of its own that ends by itself or in a crash.
-use Rattle.std.specs.Prelude.{◌≡◌, ◌⊎◌, IsTrue, List, [], ◌∷◌, Option, ⊤}
+-- Commands over two files, each in a run of its own that ends by itself or in a crash, and opens of
+-- the files that are refused or cut off.
+use Rattle.std.specs.Prelude.{◌≡◌, ◌⊎◌, IsTrue, List, [], ◌∷◌, Option, Some, ⊤}
 use Rattle.sqlite_disk.specs.declared.Disk.{Ghosts}
 use Rattle.sqlite.specs.declared.FileStore.{FileStore}
-use Rattle.sqlite.specs.Files.{file_state}
+use Rattle.sqlite.specs.declared.error.Error.{Error}
+use Rattle.sqlite.specs.declared.file.Leftover.{Leftover}
+use Rattle.sqlite.specs.Files.{file_state, IsCleanLeft}
 use Rattle.sqlite.specs.Held.{Held}
 use Rattle.sqlite.specs.Recovery.{Image}
 use Rattle.sqlite.specs.State.{HasCleanDisk, Survives}
-use Rattle.part_store.specs.Crashes.{HasNumberedTrees, MayLeaveFiles}
+use Rattle.part_store.specs.Crashes.{HasNumberedTrees, MayLeaveFiles, MayLeaveRefused, TakesSize}
 use Rattle.part_store.specs.Entries.{Entries, no_entries}
-use Rattle.part_store.specs.Opening.{HoldsNoTables, HoldsStore, IsAt}
+use Rattle.part_store.specs.Opening.{HoldsNoTables, HoldsStore, IsAt, IsUnopened}
 use Rattle.part_store.specs.Standing.{Stands}
 use Rattle.depot_actions.specs.DepotState.{Accepts, Command, MayLeave, Reply}
 use Rattle.depot_actions.specs.History.{Answers, IsStep}
 
--- A command with its reply, or none where it was refused; the depot as it was opened and as the run
--- ended, in whatever way; and what the two files hold then.
+-- What the two files held after each open since the run before that was refused or cut off; a command
+-- with its reply, or none where it was refused; the depot as it was opened and as the run ended, in
+-- whatever way; and what the files hold then.
 pub record Run {D : Type 0} (g : Ghosts D) : Type 0 where
+  pub refused : List Image
   pub command : Command
   pub reply : Option Reply
   pub opened : Held (FileStore D g)
@@ -42,10 +47,30 @@ module _ {D : Type 0} {g : Ghosts D} where
         (MayLeave run.command (file_state run.opened))
     pub left : MayLeaveFiles run.ended run.left ⊎ IsClosedAs run.ended run.left
 
-  -- runs one after another, each over the files that the one before left
+  -- An open of files that held the image was refused, or a crash cut it off, and they hold the other
+  -- then. What the database's open left is known, and its page size is that of the files.
+  pub record IsRefusedOpen (image other : Image) : Type 0 where
+    pub leftover : Leftover D g
+    pub error : Error
+    pub unopened : IsUnopened image (Some leftover) error
+    pub clean : IsCleanLeft leftover
+    pub size : TakesSize image leftover
+    pub may : MayLeaveRefused leftover other
+
+  abbrev pub AreRefusedOpens : Image → List Image → Type 0
+  AreRefusedOpens image [] = ⊤
+  AreRefusedOpens image (other ∷ others) = IsRefusedOpen image other × AreRefusedOpens other others
+
+  -- what the files hold after them
+  abbrev pub after_opens : Image → List Image → Image
+  after_opens image [] = image
+  after_opens image (other ∷ others) = after_opens other others
+
+  -- runs one after another, each over the files that the one before left, and the opens between them
   abbrev pub AreRuns : Image → List (Run g) → Type 0
   AreRuns image [] = ⊤
-  AreRuns image (run ∷ runs) = IsRun image run × AreRuns run.left runs
+  AreRuns image (run ∷ runs) =
+      AreRefusedOpens image run.refused × IsRun (after_opens image run.refused) run × AreRuns run.left runs
 
   -- what the files hold after them
   abbrev pub left_by : Image → List (Run g) → Image

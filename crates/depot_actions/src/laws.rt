@@ -1,5 +1,5 @@
 //! What holds of the definitions alone.
-ghost use Rattle.std.specs.Prelude.{◌≡◌, ◌++◌, ◌∷◌, ℕ, List, IsTrue};
+ghost use Rattle.std.specs.Prelude.{◌≡◌, ◌++◌, ◌∷◌, [], ℕ, List, IsTrue};
 ghost use Rattle.bytecode_format.specs.declared.action.Action.{Action};
 ghost use Rattle.mime_decode.specs.Mail.{Mail};
 ghost use Rattle.octet_lanes.specs.Encoding.{IsOctets};
@@ -17,7 +17,7 @@ ghost use Rattle.depot_actions.specs.Runs.{AreRuns, HoldFold, Run};
 ghost use Rattle.depot_actions.specs.Texts.{IsPiece, Reads, text_of};
 ghost use Rattle.depot_actions.specs.declared.encoding.Encoding.{Encoding};
 
-use part_store::laws::each_image_holds_one_left;
+use part_store::laws::{each_image_holds_one_left, refused_opens_leave_the_store};
 use sqlite::{Alter, FileStore};
 use sqlite_disk::Disk;
 
@@ -61,16 +61,18 @@ pub fn open_stores_leave_what_is_committed<S: Alter>()
 /// What one command left is what the next one finds. Commands over two files, each in a run that
 /// opens them, does one command, and ends by itself or in a crash, leave files that hold what the
 /// commands make of what was held, one after another. A run that ends with the depot open makes
-/// what its reply says; one that a crash or a failure of the disk met makes that, or nothing.
+/// what its reply says; one that a crash or a failure of the disk met makes that, or nothing. An open
+/// between them that is refused, or that a crash cuts off, changes nothing of that.
 pub fn runs_are_a_fold<D: Disk + Drop>()
     ensures held { (runs : List (Run D.Disk)) (image : Image) (before : Entries)
         → HoldsStore image before → AreRuns image runs → ∥ HoldFold image runs before ∥₁ }
     ensures new { (run : Run D.Disk) (runs : List (Run D.Disk)) (image : Image)
-        → HoldsNoTables image → AreRuns image (run ∷ runs)
+        → HoldsNoTables image → run.refused ≡ [] → AreRuns image (run ∷ runs)
         → ∥ HoldFold image (run ∷ runs) no_entries ∥₁ }
 {
     open_stores_leave_what_is_committed::<FileStore<D>>();
     each_image_holds_one_left::<D>();
+    refused_opens_leave_the_store::<D>();
 }
 
 /// An accepted command has none of the causes that commands are refused for: its user is named, an entry that it names is
