@@ -1,5 +1,4 @@
 pub mod FromIndex
-pub mod Words
 pub mod Forms
 pub mod TestLists
 pub mod SequenceSteps

@@ -126,12 +126,11 @@ pub enum Capability {
     CasemapComparator,
 }
 
-// Whether the name is the word but for the case of ASCII letters. Nearly all names are told apart by their lengths.
-#[inline(always)]
+// Whether the name is the word but for the case of ASCII letters.
 fn is_word(name: &[u8], word: &[u8]) -> bool
     ensures { result ≡ is_word name.now word.now }
 {
-    name.len() == word.len() && equal_ignoring_case(name, word)
+    equal_ignoring_case(name, word)
 }
 
 /// The command of that name, if it is known.

@@ -1,6 +1,5 @@
 // The lines of a multi-line string.
-ghost use Rattle.std.specs.Prelude.{◌≡◌, ◌↔◌, ◌+◌, ◌<◌, ◌≤◌, codes, length, map, slice_index, slice_range, MatchOption, IfSome, IsTrue};
-ghost use Rattle.std.specs.Char.{to_ascii_lowercase};
+ghost use Rattle.std.specs.Prelude.{◌≡◌, ◌↔◌, ◌<◌, ◌≤◌, length, slice_index, MatchOption, IfSome, IsTrue};
 ghost use Rattle.sieve_lexer.specs.Chain.{Stops};
 ghost use Rattle.sieve_lexer.specs.Strings.{IsLine, IsClosingLine, IsMultiLineRest, IsOpeningEnd, IsOpeningLine};
 
@@ -63,22 +62,13 @@ fn opening_end(script: &[u8], place: usize) -> Option<usize>
     }
 }
 
-// Whether `text:` stands at the place, its letters in any case. Most words are told from it by their fifth octet.
-#[inline(always)]
-fn begins_text(script: &[u8], place: usize) -> bool
-    requires { place + 5 ≤ length script.now }
-    ensures { IsTrue result ↔ (map to_ascii_lowercase (slice_range script.now place (place + 5)) ≡ codes "text:") }
-{
-    script[place + 4] == b':' && equal_ignoring_case(&script[place..place + 5], b"text:")
-}
-
 // Where the line ends that opens a multi-line string at this place, if one does.
 pub fn opening_line_end(script: &[u8], place: usize) -> Option<usize>
     requires { place ≤ length script.now }
     ensures line { MatchOption result (Stops (IsOpeningLine script.now) place) (IsOpeningLine script.now place) }
     ensures bound { IfSome result (λ end. (place < end) × (end ≤ length script.now)) }
 {
-    if script.len() < place + 5 || !begins_text(script, place) {
+    if script.len() < place + 5 || !equal_ignoring_case(&script[place..place + 5], b"text:") {
         return None;
     }
     opening_end(script, blanks_end(script, place + 5))
