@@ -95,7 +95,7 @@ module _ {D : Type 0} {g : Ghosts D} (one_left : (c : Held (FileStore D g)) → 
   more_runs run runs image before it at rest = ∥∥₁_elim (one_run image run it before at) squash₁ (λ made.
       ∥∥₁_map (rest made.0 made.2) (λ fold. let r : HoldFold image (run ∷ runs) before = (fold.0, (made.0, made.1, fold.1), fold.2) in r))
 
-  opened_again : (image : Image) (others : List Image) (held : Entries) → HoldsStore image held → AreRefusedOpens image others → ∥ HoldsStore (after_opens image others) held ∥₁
+  opened_again : (image : Image) (others : List Image) (held : Entries) → HoldsStore image held → AreRefusedOpens g image others → ∥ HoldsStore (after_opens image others) held ∥₁
   opened_again image [] held holds all = ∣ holds ∣₁
   opened_again image (other ∷ others) held holds (it, more) =
       ∥∥₁_elim (spared image it.leftover it.error it.unopened it.clean it.size held holds other it.may) squash₁ (λ still. opened_again other others held still more)

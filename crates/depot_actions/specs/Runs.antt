@@ -27,6 +27,26 @@ pub record Run {D : Type 0} (g : Ghosts D) : Type 0 where
   pub ended : Held (FileStore D g)
   pub left : Image
 
+-- An open of files that held the image was refused, or a crash cut it off, and they hold the other
+-- then. What the database's open left is known, and its page size is that of the files.
+pub record IsRefusedOpen {D : Type 0} (g : Ghosts D) (image other : Image) : Type 0 where
+  pub leftover : Leftover D g
+  pub error : Error
+  pub unopened : IsUnopened image (Some leftover) error
+  pub clean : IsCleanLeft leftover
+  pub size : TakesSize image leftover
+  pub may : MayLeaveRefused leftover other
+
+-- opens one after another, and what the files held after each
+abbrev pub AreRefusedOpens : {D : Type 0} (g : Ghosts D) → Image → List Image → Type 0
+AreRefusedOpens g image [] = ⊤
+AreRefusedOpens g image (other ∷ others) = IsRefusedOpen g image other × AreRefusedOpens g other others
+
+-- what the files hold after them
+abbrev pub after_opens : Image → List Image → Image
+after_opens image [] = image
+after_opens image (other ∷ others) = after_opens other others
+
 module _ {D : Type 0} {g : Ghosts D} where
   -- an open depot was closed, and the files hold what it stood for
   abbrev pub IsClosedAs : Held (FileStore D g) → Image → Type 0
@@ -47,30 +67,11 @@ module _ {D : Type 0} {g : Ghosts D} where
         (MayLeave run.command (file_state run.opened))
     pub left : MayLeaveFiles run.ended run.left ⊎ IsClosedAs run.ended run.left
 
-  -- An open of files that held the image was refused, or a crash cut it off, and they hold the other
-  -- then. What the database's open left is known, and its page size is that of the files.
-  pub record IsRefusedOpen (image other : Image) : Type 0 where
-    pub leftover : Leftover D g
-    pub error : Error
-    pub unopened : IsUnopened image (Some leftover) error
-    pub clean : IsCleanLeft leftover
-    pub size : TakesSize image leftover
-    pub may : MayLeaveRefused leftover other
-
-  abbrev pub AreRefusedOpens : Image → List Image → Type 0
-  AreRefusedOpens image [] = ⊤
-  AreRefusedOpens image (other ∷ others) = IsRefusedOpen image other × AreRefusedOpens other others
-
-  -- what the files hold after them
-  abbrev pub after_opens : Image → List Image → Image
-  after_opens image [] = image
-  after_opens image (other ∷ others) = after_opens other others
-
   -- runs one after another, each over the files that the one before left, and the opens between them
   abbrev pub AreRuns : Image → List (Run g) → Type 0
   AreRuns image [] = ⊤
   AreRuns image (run ∷ runs) =
-      AreRefusedOpens image run.refused × IsRun (after_opens image run.refused) run × AreRuns run.left runs
+      AreRefusedOpens g image run.refused × IsRun (after_opens image run.refused) run × AreRuns run.left runs
 
   -- what the files hold after them
   abbrev pub left_by : Image → List (Run g) → Image
