@@ -55,7 +55,8 @@ impl Captures {
     pub(crate) fn push(&mut self, start: usize, end: usize)
         requires { start ≤ end }
         ensures few { length self.new ≤ max_captures }
-        ensures places { self.new ≡ with_stretches self.old (record { start = start; end = end } ∷ []) }
+        ensures places { self.new ≡ with_stretches self.old (record { start = start; end = end }
+            ∷ []) }
     {
         if !self.stretches.is_full() {
             let kept = (end - start).min(MAX_CAPTURE);
@@ -93,8 +94,10 @@ impl Captures {
     ///
     /// An allocation was refused.
     pub fn gathered(&self, alloc: Global, value: &[u8]) -> Result<(Vec<u8>, Captures), AllocError>
-        ensures octets { IfOk result (λ gathered. gathered.0.items ≡ concat (texts value.now self.now)) }
-        ensures same { IfOk result (λ gathered. texts gathered.0.items gathered.1 ≡ texts value.now self.now) }
+        ensures octets { IfOk result (λ gathered. gathered.0.items
+            ≡ concat (texts value.now self.now)) }
+        ensures same { IfOk result (λ gathered. texts gathered.0.items gathered.1
+            ≡ texts value.now self.now) }
     {
         let mut octets = Vec::new(alloc);
         let mut captures = Captures {
@@ -111,7 +114,8 @@ impl Captures {
         requires room { length self.old < max_captures }
         requires within { LieWithin (length octets.old.items) self.old }
         ensures octets { OnOk result (octets.new.items ≡ octets.old.items ++ text.now) }
-        ensures texts { OnOk result (texts octets.new.items self.new ≡ texts octets.old.items self.old ++ text.now ∷ []) }
+        ensures texts { OnOk result (texts octets.new.items self.new
+            ≡ texts octets.old.items self.old ++ text.now ∷ []) }
         ensures within { OnOk result (LieWithin (length octets.new.items) self.new) }
         ensures number { OnOk result (length self.new ≡ length self.old + 1) }
     {

@@ -17,8 +17,10 @@ pub(crate) fn places_before(value: &[u8], segment: &[u8], comparator: Comparator
     requires room { 31 + length (tokens_of segment.now) ≤ length value.now }
     requires no_star { NoStar (tokens_of segment.now) }
     ensures few { result ≤ 32 }
-    ensures before { (j : ℕ) → j < result → begins_with comparator (tokens_of segment.now) (drop j value.now) ≡ false }
-    ensures there { result < 32 → begins_with comparator (tokens_of segment.now) (drop result value.now) ≡ true }
+    ensures before { (j : ℕ) → j < result → begins_with comparator (tokens_of segment.now)
+        (drop j value.now) ≡ false }
+    ensures there { result < 32 → begins_with comparator (tokens_of segment.now)
+        (drop result value.now) ≡ true }
 {
     // 255 for the places that fit so far
     let mut kept = u8x32::splat(255);
@@ -42,7 +44,8 @@ fn kept_by(token: Token, octets: &[u8], comparator: Comparator, kept: u8x32) -> 
     requires room { 32 ≤ length octets.now }
     requires no_star { NoStar (token ∷ []) }
     ensures lanes { length result ≡ 32 }
-    ensures marks { (key : List Token) → marked (begins_with comparator (token ∷ key)) kept octets.now
+    ensures marks { (key : List Token)
+        → marked (begins_with comparator (token ∷ key)) kept octets.now
         ≡ marked (begins_with comparator key) result (drop 1 octets.now) }
 {
     let Token::Literal(literal) = token else {

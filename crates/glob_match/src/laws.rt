@@ -9,14 +9,17 @@ ghost use Rattle.glob_match.specs.Matching.{Captured, Fits, IsLeastFit, captures
 
 /// The function that goes over the tokens gives the least list of stretches that the value fits with.
 pub fn least_fit_is_the_least()
-    ensures { (comparator : Comparator) (key : List Token) (value : List ℕ) (stretches : List (List ℕ))
-        → (least_fit comparator key value ≡ Some stretches) ↔ IsLeastFit comparator key value stretches }
+    ensures { (comparator : Comparator) (key : List Token) (value : List ℕ)
+        (stretches : List (List ℕ))
+        → (least_fit comparator key value ≡ Some stretches)
+        ↔ IsLeastFit comparator key value stretches }
 {}
 
 /// It gives none exactly where the value fits with none.
 pub fn none_where_nothing_fits()
     ensures { (comparator : Comparator) (key : List Token) (value : List ℕ)
-        → (least_fit comparator key value ≡ None) ↔ ((stretches : List (List ℕ)) → Fits comparator key stretches value → ⊥) }
+        → (least_fit comparator key value ≡ None) ↔ ((stretches : List (List ℕ))
+        → Fits comparator key stretches value → ⊥) }
 {}
 
 /// The function of value and key gives the captures.
@@ -28,21 +31,27 @@ pub fn match_is_captured()
 /// A value and a key have one list of captures at most.
 pub fn captures_are_unique()
     ensures { (comparator : Comparator) (value key : List ℕ) (captures others : List (List ℕ))
-        → Captured comparator value key captures → Captured comparator value key others → captures ≡ others }
+        → Captured comparator value key captures → Captured comparator value key others
+        → captures ≡ others }
 {}
 
 /// The captures of a value that fits stand within it, and what stands there is their texts.
 pub fn captures_stand_in_the_value()
-    ensures within { (comparator : Comparator) (value : List ℕ) (key : List Token) (stretches : List (List ℕ))
-        → Fits comparator key stretches value → LieWithin (length value) (capture_places value key stretches) }
-    ensures texts { (comparator : Comparator) (value : List ℕ) (key : List Token) (stretches : List (List ℕ))
-        → Fits comparator key stretches value → texts value (capture_places value key stretches) ≡ captures_of value stretches }
+    ensures within { (comparator : Comparator) (value : List ℕ) (key : List Token)
+        (stretches : List (List ℕ))
+        → Fits comparator key stretches value
+        → LieWithin (length value) (capture_places value key stretches) }
+    ensures texts { (comparator : Comparator) (value : List ℕ) (key : List Token)
+        (stretches : List (List ℕ))
+        → Fits comparator key stretches value → texts value (capture_places value key stretches)
+        ≡ captures_of value stretches }
 {}
 
 /// `:is` is equality of what is compared.
 pub fn is_means_equal()
     ensures { (comparator : Comparator) (value key : List ℕ)
-        → IsTrue (is_match comparator value key) ↔ (compared comparator value ≡ compared comparator key) }
+        → IsTrue (is_match comparator value key)
+        ↔ (compared comparator value ≡ compared comparator key) }
 {}
 
 /// `:contains` is that an equal stretch exists.

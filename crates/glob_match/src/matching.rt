@@ -19,7 +19,8 @@ use crate::segment::{begins_with, push_any_octets, split_segment, width};
 /// for it: it begins where what stands before the wildcard in the key ends in the value.
 pub fn matches(value: &[u8], key: &[u8], comparator: Comparator) -> (Option<Captures>, u64)
     requires { (length value.now + 1) * (length key.now + 1) < 2 ^ 64 }
-    ensures captures { option_map (texts value.now) result.0 ≡ match_of comparator value.now key.now }
+    ensures captures { option_map (texts value.now) result.0
+        ≡ match_of comparator value.now key.now }
     ensures places { result.0 ≡ places_of_match comparator value.now key.now }
     ensures most { result.1 ≤ (length value.now + 1) * (length key.now + 1) }
     ensures least { OnSome result.0 (literals (tokens_of key.now) ≤ result.1) }
@@ -121,7 +122,8 @@ fn push_placed(captures: &mut Captures, segment: &[u8], start: usize, place: usi
     requires from { start ≤ place }
     requires room { place + length (tokens_of segment.now) < 2 ^ 64 }
     ensures few { length captures.new ≤ max_captures }
-    ensures places { captures.new ≡ with_stretches captures.old (record { start = start; end = place } ∷ any_places place (tokens_of segment.now)) }
+    ensures places { captures.new ≡ with_stretches captures.old
+        (record { start = start; end = place } ∷ any_places place (tokens_of segment.now)) }
 {
     captures.push(start, place);
     push_any_octets(captures, segment, place);

@@ -20,7 +20,8 @@ pub(crate) fn find_segment(
 ) -> (Option<usize>, u64)
     requires no_star { NoStar (tokens_of segment.now) }
     requires room { (length value.now + 1) * (length segment.now + 1) < 2 ^ 64 }
-    ensures place { result.0 ≡ first_place (begins_with comparator (tokens_of segment.now)) value.now }
+    ensures place { result.0 ≡ first_place (begins_with comparator
+        (tokens_of segment.now)) value.now }
     ensures most { result.1 ≤ (length value.now + 1) * (length segment.now + 1) }
     ensures least { length segment.now ≤ result.1 }
 {
@@ -41,7 +42,8 @@ pub(crate) fn find_segment(
 
 // Whether an octet of the segment doesn't stand for itself.
 fn has_special(segment: &[u8]) -> bool
-    ensures { result ≡ list_any (λ octet. (octet == question_mark) || (octet == backslash)) segment.now }
+    ensures { result ≡ list_any (λ octet. (octet == question_mark)
+        || (octet == backslash)) segment.now }
 {
     segment
         .iter()
@@ -59,7 +61,8 @@ fn find_unescaped<const TEXT: usize>(
     requires text { length (tokens_of segment.now) ≤ TEXT }
     requires small { TEXT < 2 ^ 63 }
     requires room { (length value.now + 1) * (length segment.now + 1) < 2 ^ 64 }
-    ensures place { result.0 ≡ first_place (begins_with comparator (tokens_of segment.now)) value.now }
+    ensures place { result.0 ≡ first_place (begins_with comparator
+        (tokens_of segment.now)) value.now }
     ensures most { result.1 ≤ (length value.now + 1) * (length segment.now + 1) }
     ensures least { length segment.now ≤ result.1 }
 {
@@ -96,7 +99,8 @@ fn unescape(segment: &[u8], text: &mut [u8]) -> Option<usize>
 fn find_by_tokens(value: &[u8], segment: &[u8], comparator: Comparator) -> (Option<usize>, u64)
     requires no_star { NoStar (tokens_of segment.now) }
     requires room { (length value.now + 1) * (length segment.now + 1) < 2 ^ 64 }
-    ensures place { result.0 ≡ first_place (begins_with comparator (tokens_of segment.now)) value.now }
+    ensures place { result.0 ≡ first_place (begins_with comparator
+        (tokens_of segment.now)) value.now }
     ensures most { result.1 ≤ (length value.now + 1) * (length segment.now + 1) }
     ensures least { length segment.now ≤ result.1 }
 {
@@ -131,8 +135,10 @@ fn places_tried(
     ensures some { 0 < result.1 }
     ensures within { result.1 + width ≤ length value.now + 1 }
     ensures few { result.0 ≤ result.1 }
-    ensures before { (j : ℕ) → j < result.0 → begins_with comparator (tokens_of segment.now) (drop j value.now) ≡ false }
-    ensures there { result.0 < result.1 → begins_with comparator (tokens_of segment.now) (drop result.0 value.now) ≡ true }
+    ensures before { (j : ℕ) → j < result.0 → begins_with comparator (tokens_of segment.now)
+        (drop j value.now) ≡ false }
+    ensures there { result.0 < result.1 → begins_with comparator (tokens_of segment.now)
+        (drop result.0 value.now) ≡ true }
 {
     if value.len() - width >= 31 {
         (places_before(value, segment, comparator), 32)

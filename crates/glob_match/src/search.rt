@@ -28,7 +28,8 @@ const LONG_WINDOW: usize = 3 * LONG;
 /// The first place of the value at which the text stands under the comparator, and an estimate of the work.
 pub(crate) fn find(value: &[u8], text: &[u8], comparator: Comparator) -> (Option<usize>, u64)
     requires { (length value.now + 1) * (length text.now + 1) < 2 ^ 64 }
-    ensures place { result.0 ≡ first_place (begins_with comparator (map Literal text.now)) value.now }
+    ensures place { result.0 ≡ first_place (begins_with comparator
+        (map Literal text.now)) value.now }
     ensures most { result.1 ≤ (length value.now + 1) * (length text.now + 1) }
     ensures least { length text.now ≤ result.1 }
 {
@@ -69,7 +70,8 @@ fn find_octets(value: &[u8], text: &[u8]) -> Option<usize>
 fn find_casemap(value: &[u8], text: &[u8]) -> (Option<usize>, u64)
     requires fits { length text.now ≤ length value.now }
     requires room { (length value.now + 1) * (length text.now + 1) < 2 ^ 64 }
-    ensures place { FindsNeedle (compared Casemap value.now) (compared Casemap text.now) 0 result.0 }
+    ensures place { FindsNeedle (compared Casemap value.now)
+        (compared Casemap text.now) 0 result.0 }
     ensures most { result.1 ≤ (length value.now + 1) * (length text.now + 1) }
     ensures least { length text.now ≤ result.1 }
 {

@@ -66,7 +66,8 @@ pub(crate) fn push_any_octets(captures: &mut Captures, segment: &[u8], start: us
     requires few { length captures.old ≤ max_captures }
     requires room { start + length (tokens_of segment.now) < 2 ^ 64 }
     ensures few { length captures.new ≤ max_captures }
-    ensures places { captures.new ≡ with_stretches captures.old (any_places start (tokens_of segment.now)) }
+    ensures places { captures.new ≡ with_stretches captures.old
+        (any_places start (tokens_of segment.now)) }
 {
     let mut place = start;
     let mut tokens = segment;

@@ -33,7 +33,8 @@ impl Token {
 /// The first token of a key, and what follows it.
 #[inline(always)]
 pub(crate) fn first_token(key: &[u8]) -> Option<(Token, &[u8])>
-    ensures tokens { MatchOption result (key.now ≡ []) (λ read. tokens_of key.now ≡ read.0 ∷ tokens_of read.1.now) }
+    ensures tokens { MatchOption result (key.now ≡ []) (λ read. tokens_of key.now
+        ≡ read.0 ∷ tokens_of read.1.now) }
     ensures shorter { IfSome result (λ read. length read.1.now < length key.now) }
 {
     match key {

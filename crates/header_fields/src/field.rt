@@ -79,7 +79,8 @@ pub fn unfold_start<'a>(
     field: &Field<'a>,
     most: usize,
 ) -> Result<CowSlice<'a, u8>, HeaderError>
-    ensures start { IfOk result (λ start. cow_slice_items start ≡ beginning_of most field.now.value) }
+    ensures start { IfOk result (λ start. cow_slice_items start
+        ≡ beginning_of most field.now.value) }
     ensures lent { field.now.folded ≡ false → IfOk result (λ start. IsBorrowedSlice start) }
     ensures told { field.now.folded ≡ false → IsOk result }
 {
@@ -103,7 +104,8 @@ pub fn unfolded_length(field: &Field) -> usize
 
 // The first octets of the text without its line breaks and outer blanks: so many, without the blanks that they end with.
 fn joined(alloc: Global, text: &[u8], most: usize) -> Result<Vec<u8>, HeaderError>
-    ensures { IfOk result (λ start. start.items ≡ beginning_of most (without_outer_blanks (without_breaks text.now))) }
+    ensures { IfOk result (λ start. start.items ≡ beginning_of most (without_outer_blanks
+        (without_breaks text.now))) }
 {
     let mut start = Vec::with_capacity(alloc, text.len().min(most))?;
     for line in Lines::new(text) {

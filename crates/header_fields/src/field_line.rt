@@ -23,7 +23,8 @@ pub(crate) fn name_length(line: &[u8]) -> usize
 
 /// The name that the line begins with, if it has this length. No more octets are looked at than one beyond it.
 pub(crate) fn name_of_length(line: &[u8], most: usize) -> Option<&[u8]>
-    ensures { MatchOption result (length (name_of line.now) ≢ most) (λ name. (name.now ≡ name_of line.now) × (length name.now ≡ most)) }
+    ensures { MatchOption result (length (name_of line.now) ≢ most)
+        (λ name. (name.now ≡ name_of line.now) × (length name.now ≡ most)) }
 {
     if line.len() < most {
         return None;

@@ -66,7 +66,8 @@ impl<'a> Header<'a> {
 
 // The fields of the header that the octets begin with, and where the body begins.
 fn read_fields<'a>(alloc: Global, text: &'a [u8]) -> Result<(Vec<Field<'a>>, usize), HeaderError>
-    ensures { IfOk result (λ read. (read.0.items ≡ fields_of text.now) × (read.1 ≡ body_start_of text.now)) }
+    ensures { IfOk result (λ read. (read.0.items ≡ fields_of text.now)
+        × (read.1 ≡ body_start_of text.now)) }
 {
     let mut fields = Vec::new(alloc);
     let mut lines = Lines::new(text);

@@ -40,7 +40,8 @@ impl Decoder {
     ///
     /// Memory ran out; then decoder and `out` are as they were.
     pub fn feed(&mut self, piece: &[u8], out: &mut Vec<u8>) -> Result<(), AllocError>
-        ensures octets { OnOk result (out.new.items ≡ out.old.items ++ octets_of (bits_with self.old piece.now)) }
+        ensures octets { OnOk result (out.new.items ≡ out.old.items ++ octets_of
+            (bits_with self.old piece.now)) }
         ensures kept { OnOk result (self.new ≡ kept_with self.old piece.now) }
         ensures refused { OnErr result ((self.new ≡ self.old) × (out.new.items ≡ out.old.items)) }
     {

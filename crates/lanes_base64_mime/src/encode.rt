@@ -40,7 +40,8 @@ pub fn encode_mime(alloc: Global, octets: &[u8]) -> Result<Vec<u8>, AllocError>
 // Appends the first line.
 #[inline(always)]
 fn append_line(octets: &[u8], out: &mut Vec<u8>) -> Result<(), AllocError>
-    ensures { OnOk result (out.new.items ≡ out.old.items ++ (encoding_of Base64 (take (min (length octets.now) 57) octets.now) ++ line_break)) }
+    ensures { OnOk result (out.new.items ≡ out.old.items
+        ++ (encoding_of Base64 (take (min (length octets.now) 57) octets.now) ++ line_break)) }
 {
     if let Some(lanes) = octets.first_chunk::<LANES>() {
         return append_whole_line(lanes, out);
@@ -53,7 +54,8 @@ fn append_line(octets: &[u8], out: &mut Vec<u8>) -> Result<(), AllocError>
 // Appends a line of 57 octets: two blocks of 24, and the prefix of a third one.
 #[inline(always)]
 fn append_whole_line(octets: &[u8; LANES], out: &mut Vec<u8>) -> Result<(), AllocError>
-    ensures { OnOk result (out.new.items ≡ out.old.items ++ (encoding_of Base64 (take 57 octets.now) ++ line_break)) }
+    ensures { OnOk result (out.new.items ≡ out.old.items ++ (encoding_of Base64 (take 57 octets.now)
+        ++ line_break)) }
 {
     out.extend_from_slice(&symbols_at(octets, 0))?;
     out.extend_from_slice(&symbols_at(octets, 24))?;

@@ -20,7 +20,8 @@ pub(crate) fn decoded<'a>(
     encoding: TransferEncoding,
     body: &'a [u8],
 ) -> Result<CowSlice<'a, u8>, AllocError>
-    ensures content { IfOk result (λ content. cow_slice_items content ≡ content_of encoding body.now) }
+    ensures content { IfOk result (λ content. cow_slice_items content
+        ≡ content_of encoding body.now) }
     ensures lent { is_decoded encoding ≡ false → IfOk result (λ content. IsBorrowedSlice content) }
     ensures told { is_decoded encoding ≡ false → IsOk result }
 {

@@ -6,7 +6,8 @@ ghost use Rattle.mime_decode.specs.Mail.{IsMail, IsReadable, mail_of};
 
 /// In no encoding does a body stand for more octets than it has.
 pub fn content_is_no_longer_than_its_body()
-    ensures { (encoding : TransferEncoding) (body : List ℕ) → length (content_of encoding body) ≤ length body }
+    ensures { (encoding : TransferEncoding) (body : List ℕ) → length (content_of encoding body)
+        ≤ length body }
 {}
 
 /// Whatever can be read is a mail.

@@ -48,7 +48,8 @@ impl<'a> Message<'a> {
         ensures read { IfOk result (λ m. IsReadable octets.now × (m ≡ mail_of octets.now)) }
         ensures mail { IfOk result (λ m. IsMail m) }
         ensures refused { IfErr result (λ e. IsMessageRefusal octets.now e) }
-        ensures large { max_message < length octets.now → IsErrAnd result (λ e. e ≡ MessageTooLarge) }
+        ensures large { max_message < length octets.now
+            → IsErrAnd result (λ e. e ≡ MessageTooLarge) }
     {
         let tree = Tree::read(alloc, octets)?;
         Ok(Message { octets, tree })
@@ -95,9 +96,12 @@ impl<'a> Message<'a> {
     /// An allocation was refused.
     pub fn content(&self, alloc: Global, part: usize) -> Result<CowSlice<'a, u8>, AllocError>
         requires { part < length self.now.parts }
-        ensures content { HoldsAt (λ p. IfOk result (λ content. cow_slice_items content ≡ p.content)) self.now.parts part }
-        ensures lent { HoldsAt (λ p. is_decoded p.encoding ≡ false → IfOk result (λ content. IsBorrowedSlice content)) self.now.parts part }
-        ensures told { HoldsAt (λ p. is_decoded p.encoding ≡ false → IsOk result) self.now.parts part }
+        ensures content { HoldsAt (λ p. IfOk result (λ content. cow_slice_items content
+            ≡ p.content)) self.now.parts part }
+        ensures lent { HoldsAt (λ p. is_decoded p.encoding ≡ false
+            → IfOk result (λ content. IsBorrowedSlice content)) self.now.parts part }
+        ensures told { HoldsAt (λ p. is_decoded p.encoding ≡ false
+            → IsOk result) self.now.parts part }
     {
         decoded(alloc, self.tree.encoding(part), self.tree.body(part))
     }
@@ -109,8 +113,10 @@ impl<'a> Message<'a> {
     /// An allocation was refused; where the body isn't decoded, none is made.
     pub fn digest(&self, alloc: Global, part: usize) -> Result<[u8; 64], AllocError>
         requires { part < length self.now.parts }
-        ensures digest { HoldsAt (λ p. IfOk result (λ digest. digest ≡ digest_of p.content)) self.now.parts part }
-        ensures told { HoldsAt (λ p. is_decoded p.encoding ≡ false → IsOk result) self.now.parts part }
+        ensures digest { HoldsAt (λ p. IfOk result (λ digest. digest ≡ digest_of p.content))
+            self.now.parts part }
+        ensures told { HoldsAt (λ p. is_decoded p.encoding ≡ false
+            → IsOk result) self.now.parts part }
     {
         let content = self.content(alloc, part)?;
         Ok(digest_of(content.as_slice()))

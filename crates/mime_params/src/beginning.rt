@@ -48,7 +48,8 @@ pub fn settles_disposition(start: &[u8]) -> bool
 
 // What follows the slash that the text begins with.
 fn after_slash(text: &[u8]) -> Option<&[u8]>
-    ensures { MatchOption result (after_octet 47 text.now ≡ None) (λ after. after_octet 47 text.now ≡ Some after.now) }
+    ensures { MatchOption result (after_octet 47 text.now ≡ None) (λ after. after_octet 47 text.now
+        ≡ Some after.now) }
 {
     let (octet, after) = first(text)?;
     if octet == b'/' { Some(after) } else { None }

@@ -32,7 +32,8 @@ pub fn after_gap(text: &[u8]) -> &[u8]
 
 // What follows a comment, after its opening bracket; nothing where it isn't closed.
 fn after_comment(text: &[u8]) -> Option<&[u8]>
-    ensures { MatchOption result (after_comment 0 text.now ≡ None) (λ after. after_comment 0 text.now ≡ Some after.now) }
+    ensures { MatchOption result (after_comment 0 text.now ≡ None)
+        (λ after. after_comment 0 text.now ≡ Some after.now) }
 {
     let mut depth: usize = 0;
     let mut rest = text;

@@ -135,7 +135,8 @@ impl<'t> FusedIterator for LentParameters<'t> {}
 
 // The first of the parameters that the text begins with, and the text that the others begin.
 fn first_param(text: &[u8]) -> Option<(LentParameter<'_>, &[u8])>
-    ensures { MatchOption result (params_in text.now ≡ []) (λ read. params_in text.now ≡ read.0 ∷ params_in read.1.now) }
+    ensures { MatchOption result (params_in text.now ≡ []) (λ read. params_in text.now
+        ≡ read.0 ∷ params_in read.1.now) }
 {
     let mut rest = text;
     'params: while let Some((octet, more)) = first(rest) {
@@ -156,7 +157,8 @@ fn first_param(text: &[u8]) -> Option<(LentParameter<'_>, &[u8])>
 // The parameter that the text begins with, and what follows it; nothing where it is malformed.
 #[tactic(auto, unfolding(crate::specs::MediaValue::param_at))]
 fn param_at(text: &[u8]) -> Option<(LentParameter<'_>, &[u8])>
-    ensures { MatchOption result (param_at text.now ≡ None) (λ read. param_at text.now ≡ Some (record { param = read.0; rest = read.1.now })) }
+    ensures { MatchOption result (param_at text.now ≡ None) (λ read. param_at text.now
+        ≡ Some (record { param = read.0; rest = read.1.now })) }
 {
     let (name, after) = token(text)?;
     let Some((b'=', after)) = first(after_gap(after)) else {

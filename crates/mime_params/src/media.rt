@@ -48,7 +48,8 @@ pub fn read_type(alloc: Global, text: &[u8]) -> Result<Option<MediaType>, ValueE
 /// The type and the subtype that the value of a Content-Type has, or nothing where it has no reading. Its parameters aren't
 /// read, since it has its type whatever they are. Takes no memory.
 pub fn type_names(text: &[u8]) -> Option<(&[u8], &[u8])>
-    ensures { MatchOption result (type_names text.now ≡ None) (λ names. type_names text.now ≡ Some (names.0.now, names.1.now)) }
+    ensures { MatchOption result (type_names text.now ≡ None) (λ names. type_names text.now
+        ≡ Some (names.0.now, names.1.now)) }
 {
     let (main, sub, _after) = names_at(text)?;
     Some((main, sub))
@@ -67,7 +68,9 @@ pub fn type_param(alloc: Global, text: &[u8], name: &[u8]) -> Result<Option<Octe
 #[tactic(auto, unfolding(crate::specs::MediaValue::media_type_of))]
 pub(crate) fn names_at(text: &[u8]) -> Option<(&[u8], &[u8], &[u8])>
     ensures { MatchOption result (media_type_of text.now ≡ None)
-        (λ read. media_type_of text.now ≡ Some (record { main = read.0.now; sub = read.1.now; params = params_in (after_gap read.2.now) })) }
+        (λ read. media_type_of text.now
+            ≡ Some (record { main = read.0.now; sub = read.1.now; params = params_in
+            (after_gap read.2.now) })) }
 {
     let (main, after) = token(after_gap(text))?;
     let Some((b'/', after)) = first(after_gap(after)) else {
@@ -95,7 +98,8 @@ pub fn read_disposition(alloc: Global, text: &[u8]) -> Result<Option<Disposition
 /// The disposition that the value of a Content-Disposition has, without its parameters, which aren't read; or nothing where it
 /// has no reading. Takes no memory.
 pub fn disposition_name(text: &[u8]) -> Option<&[u8]>
-    ensures { MatchOption result (disposition_name text.now ≡ None) (λ name. disposition_name text.now ≡ Some name.now) }
+    ensures { MatchOption result (disposition_name text.now ≡ None)
+        (λ name. disposition_name text.now ≡ Some name.now) }
 {
     let (main, _after) = disposition_at(text)?;
     Some(main)
@@ -119,7 +123,8 @@ pub fn disposition_param(
 #[tactic(auto, unfolding(crate::specs::MediaValue::disposition_of))]
 pub(crate) fn disposition_at(text: &[u8]) -> Option<(&[u8], &[u8])>
     ensures { MatchOption result (disposition_of text.now ≡ None)
-        (λ read. disposition_of text.now ≡ Some (record { main = read.0.now; params = params_in (after_gap read.1.now) })) }
+        (λ read. disposition_of text.now ≡ Some (record { main = read.0.now; params = params_in
+            (after_gap read.1.now) })) }
 {
     token(after_gap(text))
 }

@@ -66,7 +66,8 @@ pub fn parameters_of(alloc: Global, text: &[u8]) -> Result<Params, ValueError>
 
 /// The value of the first parameter of this name, without ASCII case. Takes no memory.
 pub fn param<'a>(params: &'a Params, name: &[u8]) -> Option<&'a [u8]>
-    ensures { MatchOption result (value_named name.now params.now ≡ None) (λ value. value_named name.now params.now ≡ Some value.now) }
+    ensures { MatchOption result (value_named name.now params.now ≡ None)
+        (λ value. value_named name.now params.now ≡ Some value.now) }
 {
     for param in &params.items {
         if equal_ignoring_case(param.name.as_slice(), name) {
@@ -117,7 +118,8 @@ pub(crate) fn is_empty_param(body: &[u8]) -> bool
 // The parameter that the text begins with, and what follows it; nothing where it is malformed.
 #[tactic(auto, unfolding(crate::specs::MediaValue::param_at))]
 fn param_at(alloc: Global, text: &[u8]) -> Result<Option<(Parameter, &[u8])>, AllocError>
-    ensures { IfOk result (λ read. MatchOption read (param_at text.now ≡ None) (λ r. param_at text.now ≡ Some (record { param = r.0; rest = r.1.now }))) }
+    ensures { IfOk result (λ read. MatchOption read (param_at text.now ≡ None)
+        (λ r. param_at text.now ≡ Some (record { param = r.0; rest = r.1.now }))) }
 {
     let Some((name, after)) = token(text) else {
         return Ok(None);

@@ -50,7 +50,8 @@ fn plain_len(text: &[u8]) -> usize
 
 /// The token that the text begins with, and what follows it.
 pub fn token(text: &[u8]) -> Option<(&[u8], &[u8])>
-    ensures { MatchOption result (token text.now ≡ None) (λ read. token text.now ≡ Some (record { octets = read.0.now; rest = read.1.now })) }
+    ensures { MatchOption result (token text.now ≡ None) (λ read. token text.now
+        ≡ Some (record { octets = read.0.now; rest = read.1.now })) }
 {
     let (octets, rest) = text.split_at(token_len(text));
     if octets.is_empty() {
@@ -61,7 +62,9 @@ pub fn token(text: &[u8]) -> Option<(&[u8], &[u8])>
 
 // The value without quotes that the text begins with, and what follows it.
 fn plain(text: &[u8]) -> Option<(&[u8], &[u8])>
-    ensures { MatchOption result (word is_value_octet text.now ≡ None) (λ read. word is_value_octet text.now ≡ Some (record { octets = read.0.now; rest = read.1.now })) }
+    ensures { MatchOption result (word is_value_octet text.now ≡ None)
+        (λ read. word is_value_octet text.now
+        ≡ Some (record { octets = read.0.now; rest = read.1.now })) }
 {
     let (octets, rest) = text.split_at(plain_len(text));
     if octets.is_empty() {
@@ -96,7 +99,8 @@ fn quoted(alloc: Global, text: &[u8]) -> Result<Option<(Octets, &[u8])>, AllocEr
 
 // What follows a quoted string, after its opening quote; nothing where it isn't closed.
 fn after_quoted(text: &[u8]) -> Option<&[u8]>
-    ensures { MatchOption result (after_word (quoted text.now) ≡ None) (λ after. after_word (quoted text.now) ≡ Some after.now) }
+    ensures { MatchOption result (after_word (quoted text.now) ≡ None) (λ after. after_word
+        (quoted text.now) ≡ Some after.now) }
 {
     let mut rest = text;
     'quoted: while let Some((octet, more)) = first(rest) {
@@ -115,7 +119,8 @@ fn after_quoted(text: &[u8]) -> Option<&[u8]>
 
 /// What follows the value that the text begins with. Takes no memory.
 pub fn after_value(text: &[u8]) -> Option<&[u8]>
-    ensures { MatchOption result (after_word (value text.now) ≡ None) (λ after. after_word (value text.now) ≡ Some after.now) }
+    ensures { MatchOption result (after_word (value text.now) ≡ None) (λ after. after_word
+        (value text.now) ≡ Some after.now) }
 {
     if let Some((b'"', rest)) = first(text) {
         return after_quoted(rest);

@@ -49,7 +49,8 @@ pub(crate) fn mark_of(name: &[u8], boundary: &[u8], preamble: bool) -> Option<Ma
 /// What follows the two dashes that a line begins with.
 #[inline]
 pub(crate) fn after_dashes(line: &[u8]) -> Option<&[u8]>
-    ensures { MatchOption result ((rest : List ℕ) → line.now ≢ 45 ∷ 45 ∷ rest) (λ after. line.now ≡ 45 ∷ 45 ∷ after.now) }
+    ensures { MatchOption result ((rest : List ℕ) → line.now ≢ 45 ∷ 45 ∷ rest) (λ after. line.now
+        ≡ 45 ∷ 45 ∷ after.now) }
 {
     match line {
         [b'-', b'-', after @ ..] => Some(after),

@@ -16,23 +16,27 @@ pub fn fields_fit_into_the_message()
 
 /// The first part is the message, and all others are below it.
 pub fn first_part_is_the_message()
-    ensures { (octets : List ℕ) (part : Part) → slice_get (tree_of octets) 0 ≡ Some part → IsWhole octets (tree_of octets) part }
+    ensures { (octets : List ℕ) (part : Part) → slice_get (tree_of octets) 0 ≡ Some part
+        → IsWhole octets (tree_of octets) part }
 {}
 
 /// The parts below a part come right after it, and below one of those are none but they.
 pub fn parts_nest()
-    ensures { (octets : List ℕ) (place : ℕ) (part : Part) → slice_get (tree_of octets) place ≡ Some part → Nests (tree_of octets) place part }
+    ensures { (octets : List ℕ) (place : ℕ) (part : Part) → slice_get (tree_of octets) place
+        ≡ Some part → Nests (tree_of octets) place part }
 {}
 
 /// Each part is a stretch of the message, where it says that it begins; its body is no longer than it, and it isn't too deep.
 pub fn parts_stand_in_the_message()
-    ensures { (octets : List ℕ) (place : ℕ) (part : Part) → slice_get (tree_of octets) place ≡ Some part → IsInMessage octets part }
+    ensures { (octets : List ℕ) (place : ℕ) (part : Part) → slice_get (tree_of octets) place
+        ≡ Some part → IsInMessage octets part }
 {}
 
 /// Each part goes up to the first line after its beginning that is a delimiter or closing line of any multipart around it, whose break
 /// before it isn't the part's; where there is none, to the end of the message. So the lines of a message, taken once from the first to
 /// the last, tell where each part ends.
 pub fn any_multipart_around_ends_a_part()
-    ensures parts { (octets : List ℕ) → map (λ (e : Enclosed). e.part) (enclosed_in octets) ≡ tree_of octets }
+    ensures parts { (octets : List ℕ) → map (λ (e : Enclosed). e.part) (enclosed_in octets)
+        ≡ tree_of octets }
     ensures ends { (octets : List ℕ) → All (IsEnded octets) (enclosed_in octets) }
 {}

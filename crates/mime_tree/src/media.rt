@@ -37,7 +37,8 @@ impl DefaultType {
 
 // A media type without parameters.
 fn without_params(alloc: Global, main: &[u8], sub: &[u8]) -> Result<MediaType, AllocError>
-    ensures { IfOk result (λ media. media ≡ record { main = main.now; sub = sub.now; params = [] }) }
+    ensures { IfOk result (λ media. media
+        ≡ record { main = main.now; sub = sub.now; params = [] }) }
 {
     Ok(MediaType {
         main: Octets::from_vec(main.to_vec(alloc)?),
@@ -53,7 +54,8 @@ pub(crate) fn media_of(
     fields: &[Field],
     default: DefaultType,
 ) -> Result<MediaType, AllocError>
-    ensures { IfOk result (λ media. media ≡ media_or (default_media default) (first_value (codes "Content-Type") fields.now)) }
+    ensures { IfOk result (λ media. media ≡ media_or (default_media default)
+        (first_value (codes "Content-Type") fields.now)) }
 {
     let Some(value) = first_value(alloc, fields, b"Content-Type")? else {
         return default.media(alloc);
@@ -70,7 +72,8 @@ pub(crate) fn media_without_params(
     fields: &[Field],
     default: DefaultType,
 ) -> Result<MediaType, AllocError>
-    ensures { IfOk result (λ media. media ≡ without_params (media_or (default_media default) (first_value (codes "Content-Type") fields.now))) }
+    ensures { IfOk result (λ media. media ≡ without_params (media_or (default_media default)
+        (first_value (codes "Content-Type") fields.now))) }
 {
     let Some(value) = first_value(alloc, fields, b"Content-Type")? else {
         return default.media(alloc);
@@ -87,7 +90,8 @@ pub(crate) fn media_param(
     fields: &[Field],
     name: &[u8],
 ) -> Result<Option<Octets>, AllocError>
-    ensures { IfOk result (λ value. (default : DefaultType) → value ≡ value_named name.now (media_or (default_media default) (first_value (codes "Content-Type") fields.now)).params) }
+    ensures { IfOk result (λ value. (default : DefaultType) → value ≡ value_named name.now
+        (media_or (default_media default) (first_value (codes "Content-Type") fields.now)).params) }
 {
     match first_value(alloc, fields, b"Content-Type")? {
         Some(value) => Ok(type_param(alloc, value.as_slice(), name)?),
@@ -97,7 +101,8 @@ pub(crate) fn media_param(
 
 /// The encoding that the fields of a header give: that of the first Content-Transfer-Encoding, or 7bit (RFC 2045, section 6.1).
 pub(crate) fn encoding_of(alloc: Global, fields: &[Field]) -> Result<TransferEncoding, TreeError>
-    ensures encoding { IfOk result (λ encoding. encoding ≡ encoding_or_7bit (first_value (codes "Content-Transfer-Encoding") fields.now)) }
+    ensures encoding { IfOk result (λ encoding. encoding ≡ encoding_or_7bit
+        (first_value (codes "Content-Transfer-Encoding") fields.now)) }
     ensures refused { IfErr result (λ e. e ≡ TreeError.Memory) }
 {
     match first_value(alloc, fields, b"Content-Transfer-Encoding")? {
@@ -112,7 +117,8 @@ fn first_value<'a>(
     fields: &[Field<'a>],
     name: &[u8],
 ) -> Result<Option<CowSlice<'a, u8>>, HeaderError>
-    ensures { IfOk result (λ value. option_map cow_slice_items value ≡ first_value name.now fields.now) }
+    ensures { IfOk result (λ value. option_map cow_slice_items value
+        ≡ first_value name.now fields.now) }
 {
     for field in fields {
         if name_is(field, name) {

@@ -44,7 +44,8 @@ impl<'a> Model for Part<'a> {
 
     ghost use Rattle.mime_tree.specs.PartTree.{without_params};
 
-    ghost invariant = { λ p. p.names ≡ without_params (media_or (default_media p.default) (first_value (codes "Content-Type") p.header.fields)) };
+    ghost invariant = { λ p. p.names ≡ without_params (media_or (default_media p.default)
+        (first_value (codes "Content-Type") p.header.fields)) };
 }
 
 impl<'a> Part<'a> {
@@ -61,7 +62,8 @@ impl<'a> Part<'a> {
         header: usize,
     ) -> Result<Part<'a>, TreeError>
         requires { header ≤ length rest.now }
-        ensures part { IfOk result (λ part. part ≡ part_read depth (default_media default) place rest.now header) }
+        ensures part { IfOk result (λ part. part ≡ part_read depth
+            (default_media default) place rest.now header) }
         ensures refused { IfErr result (λ e. e ≡ TreeError.Memory) }
     {
         let header = Header::read(alloc, &rest[..header])?;
@@ -81,7 +83,8 @@ impl<'a> Part<'a> {
 
     /// Ends it at a place of the message, with so many parts below it.
     pub(crate) fn end(&mut self, end: usize, below: usize)
-        ensures { self.new ≡ record self.old { below = below; raw = take (end - self.old.place) self.old.raw } }
+        ensures { self.new ≡ record self.old { below = below; raw = take
+            (end - self.old.place) self.old.raw } }
     {
         let length = end.saturating_sub(self.place).min(self.raw.len());
         self.raw = &self.raw[..length];
@@ -104,7 +107,8 @@ impl<'a> Part<'a> {
 
     /// The boundary between its children, if it can have several.
     pub(crate) fn boundary(&self, alloc: Global) -> Result<Option<Vec<u8>>, AllocError>
-        ensures { IfOk result (λ boundary. option_map (λ v. v.items) boundary ≡ boundary_inside self.now) }
+        ensures { IfOk result (λ boundary. option_map (λ v. v.items) boundary
+            ≡ boundary_inside self.now) }
     {
         if !is_plain(self.encoding) || !is_word(self.names.main.as_slice(), b"multipart") {
             return Ok(None);

@@ -30,7 +30,8 @@ struct Beginning {
 ///
 /// `TooManyParts` comes only where they are more than [`MAX_PARTS`], and `Memory` only where memory was refused.
 pub(crate) fn message_parts<'a>(alloc: Global, text: &'a [u8]) -> Result<Vec<Part<'a>>, TreeError>
-    ensures parts { IfOk result (λ parts. (parts.items ≡ tree_of text.now) × (length parts.items ≤ max_parts)) }
+    ensures parts { IfOk result (λ parts. (parts.items ≡ tree_of text.now)
+        × (length parts.items ≤ max_parts)) }
     ensures refused { IfErr result (λ e. IsRefusedFor e (length (tree_of text.now))) }
 {
     let mut parts = Vec::new(alloc);
@@ -61,9 +62,12 @@ fn read_part<'a>(
     requires among { AreAmong (vec_len parts.old) opened.old.items }
     ensures next { IfOk result (λ next. GivesPart text.now next) }
     ensures among { OnOk result (AreAmong (vec_len parts.new) opened.new.items) }
-    ensures same { IfOk result (λ next. wanted text.now next opened.new.items parts.new.items ≡ wanted_from text.now beginning opened.old.items parts.old.items) }
-    ensures few { OnOk result ((vec_len parts.new ≡ vec_len parts.old + 1) × (vec_len parts.new ≤ max_parts)) }
-    ensures refused { IfErr result (λ e. IsRefusedFor e (length (wanted_from text.now beginning opened.old.items parts.old.items))) }
+    ensures same { IfOk result (λ next. wanted text.now next opened.new.items parts.new.items
+        ≡ wanted_from text.now beginning opened.old.items parts.old.items) }
+    ensures few { OnOk result ((vec_len parts.new ≡ vec_len parts.old + 1)
+        × (vec_len parts.new ≤ max_parts)) }
+    ensures refused { IfErr result (λ e. IsRefusedFor e
+        (length (wanted_from text.now beginning opened.old.items parts.old.items))) }
 {
     if parts.len() == MAX_PARTS {
         return Err(TreeError::TooManyParts);
@@ -90,9 +94,11 @@ fn read_header<'a>(
     opened: &[OpenPart],
 ) -> Result<(Part<'a>, usize), TreeError>
     requires { IsBeginning text.now beginning }
-    ensures header { IfOk result (λ read. read.1 ≡ header_length (cut (boundaries_in [] opened.now) (lines_at text.now beginning.place))) }
+    ensures header { IfOk result (λ read. read.1 ≡ header_length (cut (boundaries_in [] opened.now)
+        (lines_at text.now beginning.place))) }
     ensures within { IfOk result (λ read. beginning.place + read.1 ≤ length text.now) }
-    ensures part { IfOk result (λ read. read.0 ≡ part_read (max_depth - beginning.levels) (default_media beginning.default) beginning.place (drop beginning.place text.now) read.1) }
+    ensures part { IfOk result (λ read. read.0 ≡ part_read (max_depth - beginning.levels)
+        (default_media beginning.default) beginning.place (drop beginning.place text.now) read.1) }
     ensures refused { IfErr result (λ e. e ≡ TreeError.Memory) }
 {
     let rest = &text[beginning.place..];
@@ -119,7 +125,8 @@ fn add_part<'a>(
     requires { levels < max_depth }
     ensures parts { OnOk result (parts.new.items ≡ parts.old.items ++ part.entry ∷ []) }
     ensures len { OnOk result (vec_len parts.new ≡ vec_len parts.old + 1) }
-    ensures opened { OnOk result (opened.new.items ≡ opened.old.items ++ opening (length parts.old.items) levels part.entry ∷ []) }
+    ensures opened { OnOk result (opened.new.items ≡ opened.old.items ++ opening
+        (length parts.old.items) levels part.entry ∷ []) }
     ensures message { IfOk result (λ holds. holds ≡ message_below levels part.entry) }
     ensures refused { IfErr result (λ e. e ≡ TreeError.Memory) }
 {
@@ -142,7 +149,8 @@ fn next_part(
     requires among { AreAmong (vec_len parts.old) opened.old.items }
     ensures next { GivesPart text.now result }
     ensures among { AreAmong (vec_len parts.new) opened.new.items }
-    ensures same { wanted text.now result opened.new.items parts.new.items ≡ finished true [] place end (lines_at text.now place) opened.old.items parts.old.items }
+    ensures same { wanted text.now result opened.new.items parts.new.items
+        ≡ finished true [] place end (lines_at text.now place) opened.old.items parts.old.items }
     ensures len { vec_len parts.new ≡ vec_len parts.old }
 {
     let mut place = place;

@@ -47,7 +47,8 @@ impl<'a> Tree<'a> {
     pub fn read(alloc: Global, octets: &'a [u8]) -> Result<Tree<'a>, TreeError>
         ensures read { IfOk result (λ tree. IsReadable octets.now × (tree ≡ tree_of octets.now)) }
         ensures refused { IfErr result (λ e. IsTreeRefusal octets.now e) }
-        ensures large { max_message < length octets.now → IsErrAnd result (λ e. e ≡ MessageTooLarge) }
+        ensures large { max_message < length octets.now
+            → IsErrAnd result (λ e. e ≡ MessageTooLarge) }
     {
         if octets.len() > MAX_MESSAGE {
             return Err(TreeError::MessageTooLarge);
@@ -137,7 +138,8 @@ impl<'a> Tree<'a> {
         name: &[u8],
     ) -> Result<Option<Octets>, AllocError>
         requires { part < length self.now }
-        ensures { HoldsAt (λ p. IfOk result (λ value. value ≡ value_named name.now p.media.params)) self.now part }
+        ensures { HoldsAt (λ p. IfOk result (λ value. value ≡ value_named name.now p.media.params))
+            self.now part }
     {
         self.parts[part].media_param(alloc, name)
     }

@@ -10,7 +10,8 @@ use std::simd::prelude::*;
 /// The values among the classes, in order, then [`STRAY`] in each lane that is left; and the number of the values.
 #[inline(always)]
 pub fn close_up(classes: &[u8; 32]) -> ([u8; 32], usize)
-    ensures lanes { result.0 ≡ values_among classes.now ++ replicate (32 - length (values_among classes.now)) stray }
+    ensures lanes { result.0 ≡ values_among classes.now ++ replicate
+        (32 - length (values_among classes.now)) stray }
     ensures number { result.1 ≡ length (values_among classes.now) }
     ensures few { result.1 ≤ 32 }
 {
@@ -30,7 +31,8 @@ pub fn close_up(classes: &[u8; 32]) -> ([u8; 32], usize)
 // The classes, eight by eight, each eight with as many stray ones after them.
 #[inline(always)]
 fn eights(classes: u8x32) -> [u8x16; 4]
-    ensures { result ≡ map (λ eighth. take 8 (drop (eighth * 8) classes) ++ replicate 8 stray) (0 ∷ 1 ∷ 2 ∷ 3 ∷ []) }
+    ensures { result ≡ map (λ eighth. take 8 (drop (eighth * 8) classes) ++ replicate 8 stray)
+        (0 ∷ 1 ∷ 2 ∷ 3 ∷ []) }
 {
     let strays = u8x32::splat(STRAY);
     [

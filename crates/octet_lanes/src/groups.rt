@@ -12,7 +12,8 @@ use std::simd::prelude::*;
 /// The bits of the first `4 * width` octets, as 32 groups of the alphabet's width.
 #[inline(always)]
 pub fn split(octets: &[u8; 32], alphabet: Alphabet) -> [u8; 32]
-    ensures bits { all_bits (width alphabet) result ≡ all_bits 8 (take (4 * width alphabet) octets.now) }
+    ensures bits { all_bits (width alphabet) result ≡ all_bits 8
+        (take (4 * width alphabet) octets.now) }
     ensures groups { All (λ group. group < 2 ^ width alphabet) result }
 {
     let lanes = u8x32::from_array(*octets);

@@ -5,10 +5,12 @@ ghost use Rattle.octet_lanes.specs.declared.alphabet.Alphabet.{Alphabet};
 
 /// Each text spells at most one list of octets.
 pub fn spells_at_most_one()
-    ensures { (alphabet : Alphabet) (text x y : List ℕ) → IsOctets x → IsOctets y → Spells alphabet text x → Spells alphabet text y → x ≡ y }
+    ensures { (alphabet : Alphabet) (text x y : List ℕ) → IsOctets x → IsOctets y
+        → Spells alphabet text x → Spells alphabet text y → x ≡ y }
 {}
 
 /// What was written is read back.
 pub fn reads_what_was_written()
-    ensures { (alphabet : Alphabet) (octets : List ℕ) → IsOctets octets → decoding_of alphabet (encoding_of alphabet octets) ≡ octets }
+    ensures { (alphabet : Alphabet) (octets : List ℕ) → IsOctets octets
+        → decoding_of alphabet (encoding_of alphabet octets) ≡ octets }
 {}

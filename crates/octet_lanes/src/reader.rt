@@ -61,9 +61,12 @@ impl Held {
     ) -> Result<(), AllocError>
         requires { IsHeld alphabet self.old }
         ensures held { IsHeld alphabet self.new }
-        ensures octets { OnOk result (out.new.items ≡ out.old.items ++ octets_of (kept_bits alphabet self.old ++ taken_bits alphabet self.old.ended piece.now)) }
-        ensures kept { OnOk result (kept_bits alphabet self.new ≡ left_over 8 (kept_bits alphabet self.old ++ taken_bits alphabet self.old.ended piece.now)) }
-        ensures ended { OnOk result (self.new.ended ≡ (self.old.ended || contains_padding piece.now)) }
+        ensures octets { OnOk result (out.new.items ≡ out.old.items ++ octets_of
+            (kept_bits alphabet self.old ++ taken_bits alphabet self.old.ended piece.now)) }
+        ensures kept { OnOk result (kept_bits alphabet self.new ≡ left_over 8
+            (kept_bits alphabet self.old ++ taken_bits alphabet self.old.ended piece.now)) }
+        ensures ended { OnOk result (self.new.ended ≡ (self.old.ended
+            || contains_padding piece.now)) }
         ensures refused { OnErr result ((out.new.items ≡ out.old.items) × (self.new ≡ self.old)) }
     {
         let before = out.len();
@@ -86,8 +89,11 @@ impl Held {
     ) -> Result<(), AllocError>
         requires { IsHeld alphabet self.old }
         ensures held { OnOk result (IsHeld alphabet self.new) }
-        ensures bits { OnOk result (all_bits 8 out.new.items ++ kept_bits alphabet self.new ≡ all_bits 8 out.old.items ++ (kept_bits alphabet self.old ++ taken_bits alphabet self.old.ended piece.now)) }
-        ensures ended { OnOk result (self.new.ended ≡ (self.old.ended || contains_padding piece.now)) }
+        ensures bits { OnOk result (all_bits 8 out.new.items ++ kept_bits alphabet self.new
+            ≡ all_bits 8 out.old.items ++ (kept_bits alphabet self.old
+            ++ taken_bits alphabet self.old.ended piece.now)) }
+        ensures ended { OnOk result (self.new.ended ≡ (self.old.ended
+            || contains_padding piece.now)) }
         ensures grown { IsGrown out.old.items out.new.items }
     {
         let mut rest = piece;
@@ -113,8 +119,11 @@ impl Held {
         requires held { IsHeld alphabet self.old }
         requires goes_on { self.old.ended ≡ false }
         ensures held { OnOk result (IsHeld alphabet self.new) }
-        ensures bits { IfOk result (λ rest. all_bits 8 out.new.items ++ (kept_bits alphabet self.new ++ taken_bits alphabet self.new.ended rest.now) ≡ all_bits 8 out.old.items ++ (kept_bits alphabet self.old ++ text_bits alphabet text.now)) }
-        ensures ended { IfOk result (λ rest. (self.new.ended || contains_padding rest.now) ≡ contains_padding text.now) }
+        ensures bits { IfOk result (λ rest. all_bits 8 out.new.items ++ (kept_bits alphabet self.new
+            ++ taken_bits alphabet self.new.ended rest.now) ≡ all_bits 8 out.old.items
+            ++ (kept_bits alphabet self.old ++ text_bits alphabet text.now)) }
+        ensures ended { IfOk result (λ rest. (self.new.ended || contains_padding rest.now)
+            ≡ contains_padding text.now) }
         ensures shorter { IfOk result (λ rest. length rest.now ≤ length text.now - 1) }
         ensures grown { IsGrown out.old.items out.new.items }
     {
@@ -132,10 +141,13 @@ impl Held {
     fn next_quantum<'a>(&mut self, text: &'a [u8], alphabet: Alphabet) -> &'a [u8]
         requires held { IsHeld alphabet self.old }
         requires goes_on { self.old.ended ≡ false }
-        ensures few { (length self.new.values ≡ 32) × (self.new.n ≤ quantum alphabet) × (self.old.n ≤ self.new.n) }
+        ensures few { (length self.new.values ≡ 32) × (self.new.n ≤ quantum alphabet)
+            × (self.old.n ≤ self.new.n) }
         ensures small { All (λ value. value < 2 ^ width alphabet) self.new.values }
-        ensures bits { held_bits alphabet self.new ++ taken_bits alphabet self.new.ended result.now ≡ held_bits alphabet self.old ++ text_bits alphabet text.now }
-        ensures ended { (self.new.ended || contains_padding result.now) ≡ contains_padding text.now }
+        ensures bits { held_bits alphabet self.new ++ taken_bits alphabet self.new.ended result.now
+            ≡ held_bits alphabet self.old ++ text_bits alphabet text.now }
+        ensures ended { (self.new.ended || contains_padding result.now)
+            ≡ contains_padding text.now }
         ensures shorter { length result.now ≤ length text.now - 1 }
     {
         let mut rest = text;
@@ -166,7 +178,8 @@ fn append_runs<'a>(
     alphabet: Alphabet,
     out: &mut Vec<u8>,
 ) -> Result<&'a [u8], AllocError>
-    ensures bits { IfOk result (λ rest. all_bits 8 out.new.items ++ text_bits alphabet rest.now ≡ all_bits 8 out.old.items ++ text_bits alphabet text.now) }
+    ensures bits { IfOk result (λ rest. all_bits 8 out.new.items ++ text_bits alphabet rest.now
+        ≡ all_bits 8 out.old.items ++ text_bits alphabet text.now) }
     ensures ended { IfOk result (λ rest. contains_padding rest.now ≡ contains_padding text.now) }
     ensures shorter { IfOk result (λ rest. length rest.now ≤ length text.now) }
     ensures grown { IsGrown out.old.items out.new.items }
@@ -187,7 +200,8 @@ fn append_runs<'a>(
 #[inline(always)]
 fn append_first(text: &[u8], alphabet: Alphabet, out: &mut Vec<u8>) -> Result<usize, AllocError>
     ensures within { IfOk result (λ end. end ≤ length text.now) }
-    ensures read { IfOk result (λ end. IsRead alphabet (take end text.now) out.old.items out.new.items) }
+    ensures read { IfOk result (λ end. IsRead alphabet
+        (take end text.now) out.old.items out.new.items) }
     ensures grown { IsGrown out.old.items out.new.items }
 {
     match text.first_chunk::<32>() {
@@ -215,7 +229,8 @@ fn append_block(
     out: &mut Vec<u8>,
 ) -> Result<usize, AllocError>
     ensures within { IfOk result (λ end. end ≤ 32) }
-    ensures read { IfOk result (λ end. IsRead alphabet (take end block.now) out.old.items out.new.items) }
+    ensures read { IfOk result (λ end. IsRead alphabet
+        (take end block.now) out.old.items out.new.items) }
     ensures grown { IsGrown out.old.items out.new.items }
 {
     let classes = classify(block, alphabet);
@@ -237,7 +252,8 @@ fn append_prefix(
 ) -> Result<usize, AllocError>
     requires { classes.now ≡ map (class_of alphabet) block.now }
     ensures within { IfOk result (λ end. end ≤ 32) }
-    ensures read { IfOk result (λ end. IsRead alphabet (take end block.now) out.old.items out.new.items) }
+    ensures read { IfOk result (λ end. IsRead alphabet
+        (take end block.now) out.old.items out.new.items) }
     ensures grown { IsGrown out.old.items out.new.items }
 {
     if is_worth_closing(classes, alphabet) && !has_padding(block) {
@@ -256,7 +272,8 @@ fn append_run(
 ) -> Result<usize, AllocError>
     requires { classes.now ≡ map (class_of alphabet) block.now }
     ensures within { IfOk result (λ end. end ≤ 32) }
-    ensures read { IfOk result (λ end. IsRead alphabet (take end block.now) out.old.items out.new.items) }
+    ensures read { IfOk result (λ end. IsRead alphabet
+        (take end block.now) out.old.items out.new.items) }
     ensures grown { IsGrown out.old.items out.new.items }
 {
     let run = run_len(classes);
@@ -273,7 +290,8 @@ fn append_run(
 fn end_of_strays(block: &[u8; 32], classes: &[u8; 32], start: usize) -> usize
     requires { start ≤ 32 }
     ensures within { (start ≤ result) × (result ≤ 32) }
-    ensures strays { (i : ℕ) → start ≤ i → i < result → (slice_index classes.now i ≡ stray) × (slice_index block.now i ≢ padding) }
+    ensures strays { (i : ℕ) → start ≤ i → i < result → (slice_index classes.now i ≡ stray)
+        × (slice_index block.now i ≢ padding) }
 {
     let mut end = start;
     'strays: while end < 32 && classes[end] == STRAY && block[end] != PADDING {
@@ -293,7 +311,8 @@ fn append_closed(
     requires classes { classes.now ≡ map (class_of alphabet) block.now }
     requires free { list_any (λ octet. octet == padding) block.now ≡ false }
     ensures within { IfOk result (λ end. end ≤ 32) }
-    ensures read { IfOk result (λ end. IsRead alphabet (take end block.now) out.old.items out.new.items) }
+    ensures read { IfOk result (λ end. IsRead alphabet
+        (take end block.now) out.old.items out.new.items) }
     ensures grown { IsGrown out.old.items out.new.items }
 {
     let (values, n) = close_up(classes);
@@ -332,7 +351,8 @@ fn append_values(
     requires few { n ≤ 32 }
     requires given { given ≤ n * width alphabet / 8 }
     requires small { All (λ value. value < 2 ^ width alphabet) values.now }
-    ensures bits { OnOk result (all_bits 8 out.new.items ≡ all_bits 8 out.old.items ++ drop (given * 8) (whole 8 (all_bits (width alphabet) (take n values.now)))) }
+    ensures bits { OnOk result (all_bits 8 out.new.items ≡ all_bits 8 out.old.items ++ drop
+        (given * 8) (whole 8 (all_bits (width alphabet) (take n values.now)))) }
     ensures grown { IsGrown out.old.items out.new.items }
 {
     out.extend_from_slice(&join(values, alphabet)[given..n * alphabet.width() / 8])
@@ -343,7 +363,8 @@ fn append_values(
 #[inline(always)]
 pub fn block_octets(text: &[u8], alphabet: Alphabet) -> ([u8; 32], usize)
     requires { length text.now ≤ 32 }
-    ensures bits { all_bits 8 (take result.1 result.0) ≡ whole 8 (all_bits (width alphabet) (values_of alphabet (before_padding text.now))) }
+    ensures bits { all_bits 8 (take result.1 result.0) ≡ whole 8 (all_bits (width alphabet)
+        (values_of alphabet (before_padding text.now))) }
     ensures few { result.1 ≤ 4 * width alphabet }
 {
     let block = padded(up_to_padding(text));

@@ -54,7 +54,8 @@ fn append_symbols(
     octets: &[u8; 32],
     alphabet: Alphabet,
 ) -> Result<(), AllocError>
-    ensures text { OnOk result (out.new.items ≡ out.old.items ++ encoding_of alphabet (take (4 * width alphabet) octets.now)) }
+    ensures text { OnOk result (out.new.items ≡ out.old.items ++ encoding_of alphabet
+        (take (4 * width alphabet) octets.now)) }
     ensures grown { IsGrown out.old.items out.new.items }
 {
     out.extend_from_slice(&block_symbols(octets, alphabet))

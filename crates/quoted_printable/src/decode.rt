@@ -50,7 +50,8 @@ pub(crate) fn append_decoding(text: &[u8], out: &mut Vec<u8>) -> Result<(), Allo
 // Appends what a line stands for.
 #[inline]
 fn append_line(content: &[u8], line_break: &[u8], out: &mut Vec<u8>) -> Result<(), AllocError>
-    ensures decoded { OnOk result (out.new.items ≡ out.old.items ++ decoded_line record { content = content.now; break = line_break.now }) }
+    ensures decoded { OnOk result (out.new.items ≡ out.old.items
+        ++ decoded_line record { content = content.now; break = line_break.now }) }
     ensures more { Extends out.old.items out.new.items }
 {
     let kept = trim_trailing_blanks(content);
@@ -95,7 +96,8 @@ fn append_unescaped(text: &[u8], out: &mut Vec<u8>) -> Result<(), AllocError>
 fn append_escape<'a>(text: &'a [u8], out: &mut Vec<u8>) -> Result<&'a [u8], AllocError>
     requires some { 0 < length text.now }
     requires equals { slice_index text.now 0 ≡ 61 }
-    ensures octets { IfOk result (λ rest. out.new.items ++ unescaped rest.now ≡ out.old.items ++ unescaped text.now) }
+    ensures octets { IfOk result (λ rest. out.new.items ++ unescaped rest.now ≡ out.old.items
+        ++ unescaped text.now) }
     ensures shorter { IfOk result (λ rest. length rest.now < length text.now) }
     ensures more { Extends out.old.items out.new.items }
 {

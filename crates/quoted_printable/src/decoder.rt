@@ -89,7 +89,8 @@ fn feed_held(
     out: &mut Vec<u8>,
 ) -> Result<(), AllocError>
     requires { is_held held.old.items ≡ true }
-    ensures read { OnOk result (Reads out.old.items (held.old.items ++ piece.now) out.new.items held.new.items) }
+    ensures read { OnOk result (Reads out.old.items (held.old.items
+        ++ piece.now) out.new.items held.new.items) }
     ensures held { OnOk result (is_held held.new.items ≡ true) }
     ensures begun { OnErr result (Extends held.old.items held.new.items) }
     ensures more { Extends out.old.items out.new.items }
@@ -167,7 +168,8 @@ fn release<'a>(held: &[u8], rest: &'a [u8], out: &mut Vec<u8>) -> Result<&'a [u8
     requires held { is_held held.now ≡ true }
     requires stops { Stops held.now rest.now }
     requires some { 0 < length rest.now }
-    ensures read { IfOk result (λ left. Reads out.old.items (held.now ++ rest.now) out.new.items left.now) }
+    ensures read { IfOk result (λ left. Reads out.old.items
+        (held.now ++ rest.now) out.new.items left.now) }
     ensures within { IfOk result (λ left. length left.now ≤ length rest.now) }
     ensures more { Extends out.old.items out.new.items }
 {
@@ -199,7 +201,8 @@ fn release_escape<'a>(
     requires held { is_held held.now ≡ true }
     requires digit { has_digit held.now ≡ true }
     requires some { 0 < length rest.now }
-    ensures read { IfOk result (λ left. Reads out.old.items (held.now ++ rest.now) out.new.items left.now) }
+    ensures read { IfOk result (λ left. Reads out.old.items
+        (held.now ++ rest.now) out.new.items left.now) }
     ensures within { IfOk result (λ left. length left.now ≤ length rest.now) }
     ensures more { Extends out.old.items out.new.items }
 {
@@ -219,7 +222,8 @@ fn release_line<'a>(held: &[u8], rest: &'a [u8], out: &mut Vec<u8>) -> Result<&'
     requires digit { has_digit held.now ≡ false }
     requires some { 0 < length rest.now }
     requires feed { slice_index rest.now 0 ≡ 10 }
-    ensures read { IfOk result (λ left. Reads out.old.items (held.now ++ rest.now) out.new.items left.now) }
+    ensures read { IfOk result (λ left. Reads out.old.items
+        (held.now ++ rest.now) out.new.items left.now) }
     ensures within { IfOk result (λ left. length left.now ≤ length rest.now) }
     ensures more { Extends out.old.items out.new.items }
 {
@@ -245,7 +249,8 @@ fn append_open(alloc: Global, text: &[u8], out: &mut Vec<u8>) -> Result<Vec<u8>,
 // The text up to its last LF, and what follows it.
 #[inline]
 fn after_last_break(text: &[u8]) -> (&[u8], &[u8])
-    ensures { (after : List ℕ) → decoding_of (text.now ++ after) ≡ decoding_of result.0.now ++ decoding_of (result.1.now ++ after) }
+    ensures { (after : List ℕ) → decoding_of (text.now ++ after) ≡ decoding_of result.0.now
+        ++ decoding_of (result.1.now ++ after) }
 {
     match memrchr(b'\n', text) {
         Some(place) => text.split_at(place + 1),
@@ -277,7 +282,8 @@ fn append_octets(alloc: Global, text: &[u8], out: &mut Vec<u8>) -> Result<Vec<u8
 #[inline]
 fn append_known<'a>(text: &'a [u8], out: &mut Vec<u8>) -> Result<&'a [u8], AllocError>
     ensures read { IfOk result (λ left. Reads out.old.items text.now out.new.items left.now) }
-    ensures begins { IfOk result (λ left. 0 < length left.now → begins (slice_index left.now 0) ≡ true) }
+    ensures begins { IfOk result (λ left. 0 < length left.now → begins (slice_index left.now 0)
+        ≡ true) }
     ensures within { IfOk result (λ left. length left.now ≤ length text.now) }
     ensures more { Extends out.old.items out.new.items }
 {
@@ -297,7 +303,8 @@ fn append_known<'a>(text: &'a [u8], out: &mut Vec<u8>) -> Result<&'a [u8], Alloc
 #[inline]
 fn append_plain<'a>(text: &'a [u8], out: &mut Vec<u8>) -> Result<&'a [u8], AllocError>
     ensures read { IfOk result (λ left. Reads out.old.items text.now out.new.items left.now) }
-    ensures begins { IfOk result (λ left. 0 < length left.now → begins (slice_index left.now 0) ≡ true) }
+    ensures begins { IfOk result (λ left. 0 < length left.now → begins (slice_index left.now 0)
+        ≡ true) }
     ensures within { IfOk result (λ left. length left.now ≤ length text.now) }
     ensures more { Extends out.old.items out.new.items }
 {

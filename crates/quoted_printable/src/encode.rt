@@ -49,7 +49,8 @@ pub fn encode_qp(alloc: Global, octets: &[u8]) -> Result<Vec<u8>, AllocError>
 /// Memory ran out, and then `out` is as it was.
 #[inline]
 pub fn encode_qp_line(octets: &[u8], out: &mut Vec<u8>) -> Result<usize, AllocError>
-    ensures line { OnOk result (out.new.items ≡ out.old.items ++ first_line (tokens_of octets.now)) }
+    ensures line { OnOk result (out.new.items ≡ out.old.items ++ first_line
+        (tokens_of octets.now)) }
     ensures taken { IfOk result (λ taken. taken ≡ tokens_of_line (tokens_of octets.now)) }
     ensures within { IfOk result (λ taken. taken ≤ length octets.now) }
     ensures some { IfOk result (λ taken. 0 < length octets.now → 0 < taken) }

@@ -10,7 +10,8 @@ pub fn reads_what_was_written()
 
 /// The text of octets is its first line, then the text of the octets after those that stand in it.
 pub fn text_is_its_first_line_and_the_rest()
-    ensures { (octets : List ℕ) → encoding_of octets ≡ first_line (tokens_of octets) ++ encoding_of (drop (tokens_of_line (tokens_of octets)) octets) }
+    ensures { (octets : List ℕ) → encoding_of octets ≡ first_line (tokens_of octets) ++ encoding_of
+        (drop (tokens_of_line (tokens_of octets)) octets) }
 {}
 
 /// No text stands for more octets than it has.
@@ -21,10 +22,14 @@ pub fn decoding_is_no_longer_than_the_text()
 /// Whatever pieces a text comes in, what they are read as and what the octets kept at its end stand for is what the text stands
 /// for.
 pub fn pieces_are_read_as_their_text()
-    ensures { (pieces : List (List ℕ)) (left was now : List ℕ) → HaveFed [] pieces left was now → now ++ decoding_of left ≡ was ++ decoding_of (joined pieces) }
+    ensures { (pieces : List (List ℕ)) (left was now : List ℕ) → HaveFed [] pieces left was now
+        → now ++ decoding_of left ≡ was ++ decoding_of (joined pieces) }
 {}
 
 /// No reader may append more after a piece than what is appended, or keep fewer octets than are kept.
 pub fn reads_as_much_as_any()
-    ensures { (held piece left was now : List ℕ) → HasFed held piece left was now → (more others : List ℕ) → ((after : List ℕ) → decoding_of (held ++ piece ++ after) ≡ more ++ decoding_of (others ++ after)) → (length (was ++ more) ≤ length now) × (length left ≤ length others) }
+    ensures { (held piece left was now : List ℕ) → HasFed held piece left was now
+        → (more others : List ℕ) → ((after : List ℕ) → decoding_of (held ++ piece ++ after) ≡ more
+        ++ decoding_of (others ++ after)) → (length (was ++ more) ≤ length now)
+        × (length left ≤ length others) }
 {}
