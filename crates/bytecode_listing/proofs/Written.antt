@@ -14,7 +14,8 @@ use Rattle.bytecode_listing.specs.Listing.{two_digits, is_plain, escaped_octet, 
 use Rattle.bytecode_listing.specs.Tokens.{InText, is_word_octet, tokens_from, tokens_of}
 use Rattle.bytecode_listing.specs.Labels.{◌>>=◌}
 use Rattle.bytecode_listing.specs.Items.{Tokens, word_at, text_at, left_at, octet_in, octet_at, found, operation_at}
-use Rattle.octets.specs.Escapes.{escape_at, is_hex, octet_of_digits}
+use Rattle.octets.specs.Escapes.{escape_at}
+use Rattle.octets.proofs.Digits.{both_digits}
 use Rattle.bytecode_listing.proofs.Lexing.{quote_first, said_goes_on, text_ends}
 use Rattle.bytecode_listing.proofs.Words.{Stops, IsWord, word_reads, word_then}
 
@@ -24,43 +25,18 @@ read_on r x f y e k = ap (λ r. r >>= f) e ∙ k
 
 -- ---- two hexadecimal digits
 
-glyph_reads : ℕ → Bool
-glyph_reads d = (is_word_octet (digit_glyph false d) && is_hex (digit_glyph false d)) && (digit_value (digit_glyph false d) == d)
+is_word_glyph : ℕ → Bool
+is_word_glyph d = is_word_octet (digit_glyph false d)
 
-record IsGlyph (d : ℕ) : Type 0 where
-  word : is_word_octet (digit_glyph false d) ≡ true
-  hex : is_hex (digit_glyph false d) ≡ true
-  value : digit_value (digit_glyph false d) ≡ d
-
-glyph : (d : ℕ) → d < 16 → IsGlyph d
-unfolding glyph_reads
-glyph d h =
-    let reads : glyph_reads d ≡ true = agree_below_at glyph_reads (λ _. true) 16 d refl h in
-    let outer = and_parts (is_word_octet (digit_glyph false d) && is_hex (digit_glyph false d)) (digit_value (digit_glyph false d) == d) reads in
-    let inner = and_parts (is_word_octet (digit_glyph false d)) (is_hex (digit_glyph false d)) outer.0 in
-    record { word = inner.0; hex = inner.1; value = eqb-true (digit_value (digit_glyph false d)) d outer.1 }
-
-high_digit : (octet : ℕ) → octet < 256 → IsGlyph (octet / 16)
-high_digit octet h = glyph (octet / 16) (omega arith)
-
-low_digit : (octet : ℕ) → IsGlyph (octet % 16)
-low_digit octet = glyph (octet % 16) (omega arith)
+word_glyph : (d : ℕ) → d < 16 → is_word_octet (digit_glyph false d) ≡ true
+unfolding is_word_glyph
+word_glyph d h = agree_below_at is_word_glyph (λ _. true) 16 d refl h
 
 digits_word : (octet : ℕ) → octet < 256 → IsWord (two_digits octet)
 digits_word octet h =
-    let high = (high_digit octet h).word in
-    let low = (low_digit octet).word in
+    let high = word_glyph (octet / 16) (omega arith) in
+    let low = word_glyph (octet % 16) (omega arith) in
     record { some = omega arith; octets = ap (λ b. b && (is_word_octet (digit_glyph false (octet % 16)) && true)) high ∙ ap (λ b. b && true) low }
-
--- two digits
-both_digits : (octet : ℕ) → octet < 256 → octet_of_digits (digit_glyph false (octet / 16)) (digit_glyph false (octet % 16)) ≡ Some octet
-both_digits octet h =
-    let high = high_digit octet h in
-    let low = low_digit octet in
-    let same : 16 * digit_value (digit_glyph false (octet / 16)) + digit_value (digit_glyph false (octet % 16)) ≡ octet = omega (arith, high.value, low.value) in
-    ap (λ b. if b && is_hex (digit_glyph false (octet % 16)) then Some (16 * digit_value (digit_glyph false (octet / 16)) + digit_value (digit_glyph false (octet % 16))) else None) high.hex
-    ∙ ap (λ b. if b then Some (16 * digit_value (digit_glyph false (octet / 16)) + digit_value (digit_glyph false (octet % 16))) else None) low.hex
-    ∙ ap Some same
 
 -- ---- operations
 

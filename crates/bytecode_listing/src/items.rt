@@ -10,10 +10,10 @@ ghost use Rattle.bytecode_listing.specs.Readers.{Gives, and_rest, with_rest, rea
 use crate::drafts::{Draft, Line, Target};
 use crate::error::ReadError;
 use crate::names::octet_named;
-use crate::tokens::{begins_number, begins_with, begins_word, first, left_at, text_of, word_of};
+use crate::tokens::{begins_number, begins_with, begins_word, left_at, text_of, word_of};
 use crate::wording::{COUNTS, worded_of};
 use bytecode_format::Operation;
-use octets::{Octets, octet_of_digits};
+use octets::{Octets, first, octet_of_digits};
 use std::alloc::Global;
 
 /// The most parameters, and the most keys, that c counts.

@@ -6,18 +6,8 @@ ghost use Rattle.bytecode_listing.specs.Items.{word_at, text_in, text_at, left_a
 ghost use Rattle.bytecode_listing.specs.Readers.{Fails, Gives, and_rest, IsStart, led};
 
 use crate::error::ReadError;
-use octets::{MAX_STRING, Octets, said_of};
+use octets::{MAX_STRING, Octets, first, said_of};
 use std::alloc::Global;
-
-/// The first octet, and those after it.
-pub fn first(octets: &[u8]) -> Option<(u8, &[u8])>
-    ensures { MatchOption result (octets.now ≡ []) (λ x. octets.now ≡ x.0 ∷ x.1.now) }
-{
-    match octets {
-        [octet, rest @ ..] => Some((*octet, rest)),
-        [] => None,
-    }
-}
 
 fn is_white(octet: u8) -> bool
     ensures { result ≡ is_white octet }

@@ -8,7 +8,8 @@ use Rattle.std.specs.Option.{option_map}
 use Rattle.std.proofs.lemmas.List.Concat.{flat_map-cons}
 use Rattle.std.proofs.lemmas.List.Elements.{All-append, All-cons, All-head, All-nil, All-tail}
 use Rattle.std.proofs.lemmas.Bool.{and_parts, agree_below_at}
-use Rattle.octets.specs.Escapes.{is_hex, octet_of_digits}
+use Rattle.octets.specs.Escapes.{octet_of_digits}
+use Rattle.octets.proofs.Digits.{both_digits}
 use Rattle.depot_cli.specs.Printed.{escaped, escaped_octet, is_plain, quoted}
 use Rattle.depot_cli.specs.declared.piece.Setting.TheVariants.{Quotes}
 use Rattle.depot_batch.specs.Words.{Escape, Half, IsBare, Plain, Writes, before_first, ending, is_gap, is_quote, is_quoted_after, said_before, said_from, spaced, texts_from, texts_of, with_word, word_in, words_in, words_of}
@@ -68,40 +69,16 @@ in_no_quotes (octet ∷ text) rest all =
 
 -- ---- digits
 
-glyph_reads : ℕ → Bool
-glyph_reads d = (is_hex (digit_glyph false d) && not (is_quote (digit_glyph false d))) && (digit_value (digit_glyph false d) == d)
-
-record IsGlyph (d : ℕ) : Type 0 where
-  hex : is_hex (digit_glyph false d) ≡ true
-  other : is_quote (digit_glyph false d) ≡ false
-  value : digit_value (digit_glyph false d) ≡ d
-
 denied : (b : Bool) → not b ≡ true → b ≡ false
 denied true h = absurd cc
 denied false h = refl
 
-glyph : (d : ℕ) → d < 16 → IsGlyph d
-unfolding glyph_reads
-glyph d h =
-    let reads : glyph_reads d ≡ true = agree_below_at glyph_reads (λ _. true) 16 d refl h in
-    let outer = and_parts (is_hex (digit_glyph false d) && not (is_quote (digit_glyph false d))) (digit_value (digit_glyph false d) == d) reads in
-    let inner = and_parts (is_hex (digit_glyph false d)) (not (is_quote (digit_glyph false d))) outer.0 in
-    record { hex = inner.0; other = denied (is_quote (digit_glyph false d)) inner.1; value = eqb-true (digit_value (digit_glyph false d)) d outer.1 }
+is_unquoted_glyph : ℕ → Bool
+is_unquoted_glyph d = not (is_quote (digit_glyph false d))
 
-high_digit : (octet : ℕ) → octet < 256 → IsGlyph (octet / 16)
-high_digit octet h = glyph (octet / 16) (omega arith)
-
-low_digit : (octet : ℕ) → IsGlyph (octet % 16)
-low_digit octet = glyph (octet % 16) (omega arith)
-
-both_digits : (octet : ℕ) → octet < 256 → octet_of_digits (digit_glyph false (octet / 16)) (digit_glyph false (octet % 16)) ≡ Some octet
-both_digits octet h =
-    let high = high_digit octet h in
-    let low = low_digit octet in
-    let same : 16 * digit_value (digit_glyph false (octet / 16)) + digit_value (digit_glyph false (octet % 16)) ≡ octet = omega (arith, high.value, low.value) in
-    ap (λ b. if b && is_hex (digit_glyph false (octet % 16)) then Some (16 * digit_value (digit_glyph false (octet / 16)) + digit_value (digit_glyph false (octet % 16))) else None) high.hex
-    ∙ ap (λ b. if b then Some (16 * digit_value (digit_glyph false (octet / 16)) + digit_value (digit_glyph false (octet % 16))) else None) low.hex
-    ∙ ap Some same
+unquoted_glyph : (d : ℕ) → d < 16 → is_quote (digit_glyph false d) ≡ false
+unfolding is_unquoted_glyph
+unquoted_glyph d h = denied (is_quote (digit_glyph false d)) (agree_below_at is_unquoted_glyph (λ _. true) 16 d refl h)
 
 -- ---- what is said
 
@@ -128,8 +105,8 @@ escaped_apart octet h = by_plain (is_plain Quotes octet) refl
     by_plain true e = All-cons (λ o. is_quote o ≡ false) octet [] (plain_octet octet e).0 (All-nil (λ o. is_quote o ≡ false))
     by_plain false e =
         All-cons (λ o. is_quote o ≡ false) 92 (digit_glyph false (octet / 16) ∷ digit_glyph false (octet % 16) ∷ []) refl
-        (All-cons (λ o. is_quote o ≡ false) (digit_glyph false (octet / 16)) (digit_glyph false (octet % 16) ∷ []) (high_digit octet h).other
-        (All-cons (λ o. is_quote o ≡ false) (digit_glyph false (octet % 16)) [] (low_digit octet).other (All-nil (λ o. is_quote o ≡ false))))
+        (All-cons (λ o. is_quote o ≡ false) (digit_glyph false (octet / 16)) (digit_glyph false (octet % 16) ∷ []) (unquoted_glyph (octet / 16) (omega arith))
+        (All-cons (λ o. is_quote o ≡ false) (digit_glyph false (octet % 16)) [] (unquoted_glyph (octet % 16) (omega arith)) (All-nil (λ o. is_quote o ≡ false))))
 
 all_apart : (word : List ℕ) → All (λ octet. octet < 256) word → All (λ o. is_quote o ≡ false) (escaped Quotes word)
 all_apart [] h = All-nil (λ o. is_quote o ≡ false)

@@ -1,9 +1,9 @@
 // The words of a line.
-ghost use Rattle.std.specs.Prelude.{◌≡◌, ◌∷◌, [], IfOk, length, ◌≤◌, map, option_map, MatchOption};
+ghost use Rattle.std.specs.Prelude.{◌≡◌, IfOk, length, ◌≤◌, map, option_map};
 ghost use Rattle.std.specs.List.{list_any};
 ghost use Rattle.depot_batch.specs.Words.{Plain, is_gap, is_quoted_after, parted_at, is_quote, said_from, texts_of, word_in, words_of};
 
-use octets::said_of;
+use octets::{first, said_of};
 use std::alloc::{AllocError, Global};
 
 /// The words of a line, in their order: `None` where it isn't made of words.
@@ -91,16 +91,6 @@ fn has_quote(octets: &[u8]) -> bool
     ensures { result ≡ list_any is_quote octets.now }
 {
     octets.iter().any(|octet| *octet == b'"')
-}
-
-// The first octet, and those after it.
-fn first(octets: &[u8]) -> Option<(u8, &[u8])>
-    ensures { MatchOption result (octets.now ≡ []) (λ x. octets.now ≡ x.0 ∷ x.1.now) }
-{
-    match octets {
-        [octet, rest @ ..] => Some((*octet, rest)),
-        [] => None,
-    }
 }
 
 // What is said up to the quotation mark that ends a text.

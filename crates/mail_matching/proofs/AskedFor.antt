@@ -5,11 +5,10 @@ use Rattle.std.proofs.lemmas.Bool.{cases_Bool, true≢false}
 use Rattle.std.proofs.lemmas.List.{append_assoc, append-nil}
 use Rattle.std.proofs.lemmas.List.Folds.{list_any_at}
 use Rattle.std.proofs.lemmas.Slice.Eq.{bytes_eq-Decides}
-use Rattle.octets.specs.Ascii.{lowercase_of}
+use Rattle.octets.specs.Ascii.{lowercase_of, is_word}
 use Rattle.mime_params.specs.MediaValue.{is_named, value_named}
 use Rattle.mime_params.specs.declared.params.Parameter.{Parameter}
 use Rattle.mime_params.proofs.Lists.{named_later}
-use Rattle.mime_tree.specs.PartTree.{is_word}
 use Rattle.mail_matching.specs.Headers.{HaveFirsts, is_asked, is_wanted}
 
 -- a parameter of another name makes no difference

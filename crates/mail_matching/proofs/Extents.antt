@@ -10,7 +10,7 @@ use Rattle.std.proofs.lemmas.List.Sums.{sum_by-cons, sum_by-append, sum_by-le, s
 use Rattle.octets.specs.Limits.{max_message, max_string, max_stack}
 use Rattle.header_fields.specs.Fields.{Field}
 use Rattle.header_fields.specs.Extent.{fields_extent}
-use Rattle.mime_tree.specs.PartTree.{is_word}
+use Rattle.octets.specs.Ascii.{is_word}
 use Rattle.mime_decode.specs.Mail.{Mail, Part, IsMail, parts_extent, size_of}
 use Rattle.mime_params.specs.MediaValue.{value_named}
 use Rattle.mime_params.specs.declared.params.Parameter.{Parameter}

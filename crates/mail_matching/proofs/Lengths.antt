@@ -13,7 +13,7 @@ use Rattle.mime_params.specs.Gaps.{after_gap}
 use Rattle.mime_params.specs.Words.{Word, with_octet, quoted, word, value, is_value_octet, is_token_octet}
 use Rattle.mime_params.specs.MediaValue.{◌>>=◌, ReadParam, after_octet, after_semicolon, before_others, disposition_of, is_named, media_type_of, param_at, parameters_of, params_in, params_of, token, value_named}
 use Rattle.mime_params.proofs.Gaps.{gap_shorter}
-use Rattle.mime_tree.specs.PartTree.{is_word}
+use Rattle.octets.specs.Ascii.{is_word}
 use Rattle.mime_decode.specs.Scope as scope
 use Rattle.mail_matching.specs.Headers.{AreWithin}
 

@@ -3,7 +3,7 @@ use Rattle.std.specs.Prelude.{ℕ, ◌+◌, Bool, List, flat_map, Option}
 use Rattle.std.specs.List.{list_all, list_any}
 use Rattle.glob_match.specs.declared.match_type.Match.{Match}
 use Rattle.header_fields.specs.Fields.{Field}
-use Rattle.mime_tree.specs.PartTree.{is_word}
+use Rattle.octets.specs.Ascii.{is_word}
 use Rattle.mime_decode.specs.Mail.{Mail, Part}
 use Rattle.mime_decode.specs.Scope.{Scope, Selector, parts_in_scope, selected_values}
 use Rattle.mail_matching.specs.Costs.{names_cost, values_cost}

@@ -2,7 +2,7 @@
 use Rattle.std.specs.Prelude.{◌≡◌, ℕ, ◌≤◌, ◌&&◌, Bool, false, true, is_none, All, List, length, map, flat_map, take, drop, Option}
 use Rattle.std.specs.List.{list_any}
 use Rattle.header_fields.specs.Fields.{Field}
-use Rattle.mime_tree.specs.PartTree.{is_word}
+use Rattle.octets.specs.Ascii.{is_word}
 use Rattle.mime_decode.specs.Mail.{Mail, Part}
 use Rattle.mime_params.specs.MediaValue.{value_named}
 use Rattle.mime_params.specs.declared.params.Parameter.{Parameter}

@@ -2,7 +2,7 @@
 use Rattle.std.specs.Prelude.{◌≡◌, ℕ, true, List, codes}
 use Rattle.header_fields.specs.Fields.{Field}
 use Rattle.mime_params.specs.MediaValue.{disposition_name, type_names}
-use Rattle.mime_tree.specs.PartTree.{is_word}
+use Rattle.octets.specs.Ascii.{is_word}
 
 -- it has the type, or the disposition, of the field's value, if the field is one of the two that
 -- have one; else it doesn't matter

@@ -1,12 +1,12 @@
 // The parameters that a test asks for, found in one pass over those of a value.
 ghost use Rattle.std.specs.Prelude.{◌≡◌, IfOk, MatchOption, None, Some};
 ghost use Rattle.mime_params.specs.MediaValue.{value_named};
-ghost use Rattle.mime_tree.specs.PartTree.{is_word};
+ghost use Rattle.octets.specs.Ascii.{is_word};
 ghost use Rattle.mail_matching.specs.Headers.{HaveFirsts, is_asked, is_wanted};
 
 use crate::texts::Texts;
 use mime_params::{LentParameter, LentParameters};
-use octets::{Octets, equal_ignoring_case};
+use octets::{Octets, equal_ignoring_case, is_word};
 use std::alloc::{AllocError, Global};
 
 /// The first of the parameters of each of the names, in their own order. The value is gone over once, however many names
@@ -62,13 +62,6 @@ fn is_asked<P: Texts>(names: &P, name: &[u8]) -> bool
         }
     }
     false
-}
-
-// Whether the two names are equal, but for ASCII case.
-fn is_word(name: &[u8], other: &[u8]) -> bool
-    ensures { result ≡ is_word name.now other.now }
-{
-    equal_ignoring_case(name, other)
 }
 
 // The first of the parameters that has the name.

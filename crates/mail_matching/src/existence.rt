@@ -1,7 +1,7 @@
 // The test `exists`.
 ghost use Rattle.std.specs.Prelude.{◌≡◌, ◌<◌, IfSome, length};
 ghost use Rattle.std.specs.List.{list_all};
-ghost use Rattle.mime_tree.specs.PartTree.{is_word};
+ghost use Rattle.octets.specs.Ascii.{is_word};
 ghost use Rattle.mail_matching.specs.Headers.{all_fields};
 ghost use Rattle.mail_matching.specs.HeaderTests.{exists_cost, exists_in, has_field};
 ghost use Rattle.mail_matching.specs.Selection.{scope_of};

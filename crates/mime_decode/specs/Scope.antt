@@ -6,7 +6,7 @@ use Rattle.mime_params.specs.MediaValue.{disposition_of, media_type_of, paramete
 use Rattle.mime_params.specs.declared.media.MediaType.{MediaType}
 use Rattle.mime_params.specs.declared.media.Disposition.{Disposition}
 use Rattle.mime_params.specs.declared.params.Parameter.{Parameter}
-use Rattle.mime_tree.specs.PartTree.{is_word}
+use Rattle.octets.specs.Ascii.{is_word}
 use Rattle.mime_decode.specs.Mail.{Mail, Part}
 
 -- ---- the parts in scope

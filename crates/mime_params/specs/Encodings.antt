@@ -1,7 +1,7 @@
 -- Transfer encodings (RFC 2045, section 6.1).
-use Rattle.std.specs.Prelude.{ℕ, Bool, ◌==◌, ◌||◌, not, List, bytes_eq, codes, length, if◌then◌else◌}
+use Rattle.std.specs.Prelude.{ℕ, Bool, ◌==◌, ◌||◌, not, List, codes, length, if◌then◌else◌}
 use Rattle.std.specs.List.{take_while}
-use Rattle.octets.specs.Ascii.{lowercase_of}
+use Rattle.octets.specs.Ascii.{is_word}
 use Rattle.octets.specs.Blank.{without_outer_blanks}
 use Rattle.mime_params.specs.declared.encoding.TransferEncoding.{TransferEncoding}
 use Rattle.mime_params.specs.declared.encoding.TransferEncoding.TheVariants.{SevenBit, EightBit, Binary, QuotedPrintable, Base64, Unknown}
@@ -9,10 +9,6 @@ use Rattle.mime_params.specs.declared.encoding.TransferEncoding.TheVariants.{Sev
 -- what stands before a semicolon or an opening bracket, without outer blanks
 abbrev pub encoding_name : List ℕ → List ℕ
 encoding_name text = without_outer_blanks (take_while (λ c. not ((c == 59) || (c == 40))) text)
-
--- the name is this word, but for ASCII case
-abbrev pub is_word : List ℕ → List ℕ → Bool
-is_word name word = bytes_eq (lowercase_of name) (lowercase_of word)
 
 -- the encoding of this name; an empty one is 7bit
 abbrev pub encoding_named : List ℕ → TransferEncoding

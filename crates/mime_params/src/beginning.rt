@@ -3,8 +3,9 @@ ghost use Rattle.std.specs.Prelude.{◌≡◌, IsTrue, MatchOption, None, Some};
 ghost use Rattle.mime_params.specs.MediaValue.{after_octet};
 ghost use Rattle.mime_params.specs.Reading.{GapEnds, SettlesDisposition, SettlesType, TokenEnds};
 
-use crate::gap::{after_gap, first};
+use crate::gap::after_gap;
 use crate::words::token;
+use octets::first;
 
 /// Whether a value of a Content-Type that begins so has the type and the subtype of this text, or none as it, whatever follows.
 ///

@@ -1,9 +1,9 @@
 // How a body is encoded for transfer.
 ghost use Rattle.std.specs.Prelude.{◌≡◌, ◌||◌, ◌==◌, not, length};
 ghost use Rattle.std.specs.List.{take_while};
-ghost use Rattle.mime_params.specs.Encodings.{encoding_named, encoding_of, is_word};
+ghost use Rattle.mime_params.specs.Encodings.{encoding_named, encoding_of};
 
-use octets::{equal_ignoring_case, trim_blanks};
+use octets::{is_word, trim_blanks};
 
 /// How the body of a part is encoded for transfer (RFC 2045, section 6.1).
 #[derive(Clone, Copy)]
@@ -49,13 +49,6 @@ fn encoding_named(name: &[u8]) -> TransferEncoding
     } else {
         TransferEncoding::Unknown
     }
-}
-
-// Whether the name is this word, but for ASCII case.
-fn is_word(name: &[u8], word: &[u8]) -> bool
-    ensures { result ≡ is_word name.now word.now }
-{
-    equal_ignoring_case(name, word)
 }
 
 // Where the name ends: at a semicolon or an opening bracket.

@@ -1,16 +1,8 @@
 // White space and comments.
-ghost use Rattle.std.specs.Prelude.{◌≡◌, ◌∷◌, [], MatchOption, None, Some};
+ghost use Rattle.std.specs.Prelude.{◌≡◌, MatchOption, None, Some};
 ghost use Rattle.mime_params.specs.Gaps.{after_comment, after_gap};
 
-/// The first octet and what follows it.
-pub fn first(text: &[u8]) -> Option<(u8, &[u8])>
-    ensures { MatchOption result (text.now ≡ []) (λ parts. text.now ≡ parts.0 ∷ parts.1.now) }
-{
-    match text {
-        [octet, rest @ ..] => Some((*octet, rest)),
-        [] => None,
-    }
-}
+use octets::first;
 
 /// What follows the run of SP, TAB and comments that the text begins with.
 pub fn after_gap(text: &[u8]) -> &[u8]

@@ -3,11 +3,11 @@ ghost use Rattle.std.specs.Prelude.{◌≡◌, ◌∷◌, [], MatchOption, None,
 ghost use Rattle.mime_params.specs.MediaValue.{disposition_params, param_at, parameters_of, params_in, type_params};
 
 use crate::error::ValueError;
-use crate::gap::{after_gap, first};
+use crate::gap::after_gap;
 use crate::media::{disposition_at, names_at};
 use crate::params::{is_empty_param, semicolon_at};
 use crate::words::{after_value, token, value};
-use octets::Octets;
+use octets::{Octets, first};
 use std::alloc::Global;
 use std::iter::FusedIterator;
 use std::marker::Model;

@@ -4,12 +4,12 @@ ghost use Rattle.mime_params.specs.Gaps.{after_gap};
 ghost use Rattle.mime_params.specs.MediaValue.{disposition_name, disposition_of, disposition_param, media_type_of, params_in, type_names, type_param};
 
 use crate::error::ValueError;
-use crate::gap::{after_gap, first};
+use crate::gap::after_gap;
 use crate::lent::LentParameters;
 use crate::lookup::first_named;
 use crate::params::{Params, read_params};
 use crate::words::token;
-use octets::Octets;
+use octets::{Octets, first};
 use std::alloc::Global;
 
 /// A media type with its parameters (RFC 2045, section 5.1), as it is written.
@@ -69,8 +69,12 @@ pub fn type_param(alloc: Global, text: &[u8], name: &[u8]) -> Result<Option<Octe
 pub(crate) fn names_at(text: &[u8]) -> Option<(&[u8], &[u8], &[u8])>
     ensures { MatchOption result (media_type_of text.now ≡ None)
         (λ read. media_type_of text.now
-            ≡ Some (record { main = read.0.now; sub = read.1.now; params = params_in
-            (after_gap read.2.now) })) }
+        ≡ Some (record {
+          main = read.0.now;
+          sub = read.1.now;
+          params = params_in
+              (after_gap read.2.now);
+        })) }
 {
     let (main, after) = token(after_gap(text))?;
     let Some((b'/', after)) = first(after_gap(after)) else {
@@ -123,8 +127,11 @@ pub fn disposition_param(
 #[tactic(auto, unfolding(crate::specs::MediaValue::disposition_of))]
 pub(crate) fn disposition_at(text: &[u8]) -> Option<(&[u8], &[u8])>
     ensures { MatchOption result (disposition_of text.now ≡ None)
-        (λ read. disposition_of text.now ≡ Some (record { main = read.0.now; params = params_in
-            (after_gap read.1.now) })) }
+        (λ read. disposition_of text.now ≡ Some (record {
+          main = read.0.now;
+          params = params_in
+              (after_gap read.1.now);
+        })) }
 {
     token(after_gap(text))
 }

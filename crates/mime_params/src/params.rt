@@ -5,9 +5,9 @@ ghost use Rattle.mime_params.specs.Reading.{is_empty_param};
 ghost use Rattle.mime_params.specs.MediaValue.{param_at, params_in, parameters_of, is_named, value_named};
 
 use crate::error::ValueError;
-use crate::gap::{after_gap, first};
+use crate::gap::after_gap;
 use crate::words::{token, value};
-use octets::{Octets, equal_ignoring_case};
+use octets::{Octets, equal_ignoring_case, first};
 use std::alloc::{AllocError, Global};
 use std::marker::Model;
 

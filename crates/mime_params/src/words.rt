@@ -5,8 +5,7 @@ ghost use Rattle.mime_params.specs.Reading.{GivesWord, after_word};
 ghost use Rattle.mime_params.specs.Words.{is_special, is_token_octet, is_value_octet, quoted, value, word};
 ghost use Rattle.mime_params.specs.MediaValue.{token};
 
-use crate::gap::first;
-use octets::Octets;
+use octets::{Octets, first};
 use std::alloc::{AllocError, Global};
 
 // Whether the octet is one of ()<>@,;:\"/[]?=

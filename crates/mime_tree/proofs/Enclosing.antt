@@ -9,7 +9,8 @@ use Rattle.text_lines.specs.Lines.{TextLine, lines_of, line_octets, octets_of, I
 use Rattle.text_lines.proofs.FirstLine.{only_line}
 use Rattle.text_lines.proofs.Broken.{AreLines-lines_of, lines_of-ended, lines_of-octets_of, octets_of-lines_of}
 use Rattle.header_fields.specs.Header.{is_empty, line_length, header_length, body_start_of}
-use Rattle.mime_tree.specs.PartTree.{Part, Stretch, is_word, is_plain, is_closing, is_delimiter, ends_child, first_ends_child, child_octets, child_at, further_children, multipart_children, children_between, body_stretch, children_of, default_below, part_at, parts_of}
+use Rattle.octets.specs.Ascii.{is_word}
+use Rattle.mime_tree.specs.PartTree.{Part, Stretch, is_plain, is_closing, is_delimiter, ends_child, first_ends_child, child_octets, child_at, further_children, multipart_children, children_between, body_stretch, children_of, default_below, part_at, parts_of}
 use Rattle.mime_params.specs.MediaValue.{value_named}
 use Rattle.mime_params.specs.declared.media.MediaType.{MediaType}
 use Rattle.octets.specs.Limits.{max_depth}

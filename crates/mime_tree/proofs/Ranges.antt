@@ -8,7 +8,8 @@ use Rattle.text_lines.proofs.Broken.{octets_of-lines_of}
 use Rattle.header_fields.specs.Header.{line_length}
 use Rattle.mime_params.specs.declared.media.MediaType.{MediaType}
 use Rattle.mime_params.specs.MediaValue.{value_named}
-use Rattle.mime_tree.specs.PartTree.{Part, Stretch, is_word, is_plain, is_delimiter, is_closing, ends_child, first_ends_child, child_octets, further_children, multipart_children, children_between, children_in, children_of, body_stretch}
+use Rattle.octets.specs.Ascii.{is_word}
+use Rattle.mime_tree.specs.PartTree.{Part, Stretch, is_plain, is_delimiter, is_closing, ends_child, first_ends_child, child_octets, further_children, multipart_children, children_between, children_in, children_of, body_stretch}
 use Rattle.mime_tree.proofs.Children.{closing_ends}
 
 -- a stretch within another

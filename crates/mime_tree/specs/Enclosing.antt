@@ -6,7 +6,8 @@ use Rattle.octets.specs.Blank.{without_trailing_blanks}
 use Rattle.text_lines.specs.Lines.{TextLine, line_octets, lines_of}
 use Rattle.mime_params.specs.MediaValue.{value_named}
 use Rattle.mime_params.specs.declared.media.MediaType.{MediaType}
-use Rattle.mime_tree.specs.PartTree.{Part, Stretch, is_word, is_plain, ends_child, default_below, children_of, part_at, text_plain}
+use Rattle.octets.specs.Ascii.{is_word}
+use Rattle.mime_tree.specs.PartTree.{Part, Stretch, is_plain, ends_child, default_below, children_of, part_at, text_plain}
 
 -- a part, and the boundaries of the multiparts that it is in, the innermost first
 pub record Enclosed : Type 0 where

@@ -4,7 +4,8 @@ use Rattle.octets.specs.Blank.{without_trailing_blanks}
 use Rattle.text_lines.specs.Lines.{TextLine, lines_of}
 use Rattle.mime_params.specs.MediaValue.{value_named}
 use Rattle.mime_params.specs.declared.media.MediaType.{MediaType}
-use Rattle.mime_tree.specs.PartTree.{Part, Stretch, is_word, is_plain, is_delimiter, ends_child, further_children, multipart_children, part_at, default_below, parts_of}
+use Rattle.octets.specs.Ascii.{is_word}
+use Rattle.mime_tree.specs.PartTree.{Part, Stretch, is_plain, is_delimiter, ends_child, further_children, multipart_children, part_at, default_below, parts_of}
 use Rattle.mime_tree.specs.Enclosing.{first_ends_any, octets_before}
 
 -- a part that hasn't ended: its place among the parts; how many levels may be below its children; the media type of a child

@@ -1,7 +1,7 @@
 -- The tree of a message's parts (RFC 2046, sections 5.1 and 5.2.1; RFC 2045, sections 5.2 and 6).
 use Rattle.std.specs.Prelude.{ℕ, zero, suc, ◌+◌, ◌-◌, ◌==◌, ◌&&◌, ◌||◌, Bool, true, false, List, [], ◌∷◌, ◌++◌, length, drop, flat_map, Option, None, Some, codes, bytes_eq, if◌then◌else◌}
 use Rattle.octets.specs.Limits.{max_depth}
-use Rattle.octets.specs.Ascii.{lowercase_of}
+use Rattle.octets.specs.Ascii.{is_word}
 use Rattle.octets.specs.Blank.{without_trailing_blanks}
 use Rattle.text_lines.specs.Lines.{TextLine, lines_of, line_octets}
 use Rattle.header_fields.specs.Fields.{Field}
@@ -31,10 +31,6 @@ pub record Part : Type 0 where
 -- its octets after its header
 abbrev pub body_of : Part → List ℕ
 body_of part = drop part.header.body_start part.raw
-
--- two names are equal but for ASCII case
-abbrev pub is_word : List ℕ → List ℕ → Bool
-is_word name word = bytes_eq (lowercase_of name) (lowercase_of word)
 
 -- the value of the first field of this name
 abbrev pub first_value : List ℕ → List Field → Option (List ℕ)

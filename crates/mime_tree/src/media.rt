@@ -2,7 +2,8 @@
 ghost use Rattle.std.specs.Prelude.{◌≡◌, [], IfOk, IfErr, codes};
 ghost use Rattle.std.specs.Option.{option_map};
 ghost use Rattle.std.specs.Cow.{cow_slice_items};
-ghost use Rattle.mime_tree.specs.PartTree.{first_value, is_plain, is_word, media_or, encoding_or_7bit, without_params};
+ghost use Rattle.octets.specs.Ascii.{is_word};
+ghost use Rattle.mime_tree.specs.PartTree.{first_value, is_plain, media_or, encoding_or_7bit, without_params};
 ghost use Rattle.mime_tree.specs.Reading.{default_media};
 ghost use Rattle.mime_tree.specs.declared.media.DefaultType.{DefaultType};
 ghost use Rattle.mime_params.specs.MediaValue.{value_named};
@@ -10,7 +11,7 @@ ghost use Rattle.mime_params.specs.MediaValue.{value_named};
 use crate::error::TreeError;
 use header_fields::{Field, HeaderError, name_is, unfold};
 use mime_params::{MediaType, Params, TransferEncoding, read_type, type_names, type_param};
-use octets::{Octets, equal_ignoring_case};
+use octets::{Octets, is_word};
 use std::alloc::{AllocError, Global};
 use std::borrow::CowSlice;
 
@@ -126,13 +127,6 @@ fn first_value<'a>(
         }
     }
     Ok(None)
-}
-
-/// Whether a name is this word, but for ASCII case.
-pub(crate) fn is_word(name: &[u8], word: &[u8]) -> bool
-    ensures { result ≡ is_word name.now word.now }
-{
-    equal_ignoring_case(name, word)
 }
 
 /// Whether the body stands as it is written, so that it may have parts.

@@ -8,7 +8,7 @@ ghost use Rattle.mime_tree.specs.Reading.{default_media};
 
 use crate::error::TreeError;
 use crate::media::{
-    DefaultType, encoding_of, is_plain, is_word, media_of, media_param, media_without_params,
+    DefaultType, encoding_of, is_plain, media_of, media_param, media_without_params,
 };
 use header_fields::Header;
 use mime_params::{MediaType, TransferEncoding};
@@ -83,8 +83,11 @@ impl<'a> Part<'a> {
 
     /// Ends it at a place of the message, with so many parts below it.
     pub(crate) fn end(&mut self, end: usize, below: usize)
-        ensures { self.new ≡ record self.old { below = below; raw = take
-            (end - self.old.place) self.old.raw } }
+        ensures { self.new ≡ record self.old {
+          below = below;
+          raw = take
+              (end - self.old.place) self.old.raw;
+        } }
     {
         let length = end.saturating_sub(self.place).min(self.raw.len());
         self.raw = &self.raw[..length];

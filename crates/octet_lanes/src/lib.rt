@@ -17,5 +17,6 @@ pub use alphabet::{Alphabet, PADDING, STRAY};
 pub use classes::{ascii_upper_lanes, classify, has_stray, spell};
 pub use close::close_up;
 pub use groups::{join, split};
+pub use operations::{plus, where_equal, where_from};
 pub use reader::{Held, block_octets};
 pub use text::{append_encoding, block_symbols, block_text, encode};

@@ -5,8 +5,9 @@ ghost use Rattle.octet_lanes.specs.Lanes.{added, if_below, if_equal, if_from, ta
 
 use std::simd::prelude::*;
 
+/// The sums, lane by lane, in the low 8 bits.
 #[inline(always)]
-pub(crate) fn plus(a: u8x32, b: u8x32) -> u8x32
+pub fn plus(a: u8x32, b: u8x32) -> u8x32
     ensures { result ≡ zip2 added a b }
 {
     a + b
@@ -36,9 +37,9 @@ pub(crate) fn where_below(lanes: u8x32, n: u8, numbers: u8x32) -> u8x32
         .select(numbers, u8x32::splat(0))
 }
 
-// `number` in the lanes from `n` on, and 0 in the others.
+/// `number` in the lanes from `n` on, and 0 in the others.
 #[inline(always)]
-pub(crate) fn where_from(lanes: u8x32, n: u8, number: u8) -> u8x32
+pub fn where_from(lanes: u8x32, n: u8, number: u8) -> u8x32
     ensures { result ≡ map (if_from n number) lanes }
 {
     lanes
@@ -46,9 +47,9 @@ pub(crate) fn where_from(lanes: u8x32, n: u8, number: u8) -> u8x32
         .select(u8x32::splat(number), u8x32::splat(0))
 }
 
-// `number` in the lanes that are `n`, and 0 in the others.
+/// `number` in the lanes that are `n`, and 0 in the others.
 #[inline(always)]
-pub(crate) fn where_equal(lanes: u8x32, n: u8, number: u8) -> u8x32
+pub fn where_equal(lanes: u8x32, n: u8, number: u8) -> u8x32
     ensures { result ≡ map (if_equal n number) lanes }
 {
     lanes

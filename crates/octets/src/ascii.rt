@@ -1,6 +1,6 @@
 // The case of ASCII letters.
 ghost use Rattle.std.specs.Prelude.{◌≡◌, ◌↔◌, IsTrue, IfOk};
-ghost use Rattle.octets.specs.Ascii.{uppercase_of, lowercase_of, EqualIgnoringCase};
+ghost use Rattle.octets.specs.Ascii.{uppercase_of, lowercase_of, is_word, EqualIgnoringCase};
 
 use crate::owned::Octets;
 use std::alloc::{AllocError, Global};
@@ -10,6 +10,13 @@ pub fn equal_ignoring_case(a: &[u8], b: &[u8]) -> bool
     ensures { IsTrue result ↔ EqualIgnoringCase a.now b.now }
 {
     a.eq_ignore_ascii_case(b)
+}
+
+/// Whether a name is this word, but for the case of ASCII letters.
+pub fn is_word(name: &[u8], word: &[u8]) -> bool
+    ensures { result ≡ is_word name.now word.now }
+{
+    equal_ignoring_case(name, word)
 }
 
 /// The text with `a` to `z` as `A` to `Z`.

@@ -4,6 +4,7 @@ ghost use Rattle.std.specs.Simd.Lanes.{zip2};
 ghost use Rattle.octet_lanes.specs.Lanes.{added, if_equal, if_from};
 ghost use Rattle.quoted_printable.specs.QuotedPrintable.{stands};
 
+use octet_lanes::{plus, where_equal, where_from};
 use std::simd::prelude::*;
 
 /// How many of the octets before the first one that is written with digits; SP and TAB stand, as where others follow.
@@ -29,31 +30,4 @@ fn standing_lanes(lanes: u8x32) -> u8x32
     let graphic = plus(where_from(lanes, 33, 1), where_from(lanes, 127, 255));
     let blank = plus(where_equal(lanes, b' ', 1), where_equal(lanes, b'\t', 1));
     plus(plus(graphic, where_equal(lanes, b'=', 255)), blank)
-}
-
-#[inline(always)]
-fn plus(a: u8x32, b: u8x32) -> u8x32
-    ensures { result ≡ zip2 added a b }
-{
-    a + b
-}
-
-// `number` in the lanes from `n` on, and 0 in the others.
-#[inline(always)]
-fn where_from(lanes: u8x32, n: u8, number: u8) -> u8x32
-    ensures { result ≡ map (if_from n number) lanes }
-{
-    lanes
-        .simd_ge(u8x32::splat(n))
-        .select(u8x32::splat(number), u8x32::splat(0))
-}
-
-// `number` in the lanes that are `n`, and 0 in the others.
-#[inline(always)]
-fn where_equal(lanes: u8x32, n: u8, number: u8) -> u8x32
-    ensures { result ≡ map (if_equal n number) lanes }
-{
-    lanes
-        .simd_eq(u8x32::splat(n))
-        .select(u8x32::splat(number), u8x32::splat(0))
 }

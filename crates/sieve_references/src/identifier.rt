@@ -4,7 +4,8 @@ ghost use Rattle.std.specs.List.{list_all};
 ghost use Rattle.sieve_references.specs.References.{is_identifier, is_number, value_after};
 ghost use Rattle.sieve_references.specs.Reading.{is_word_octet, is_element};
 
-use crate::octet::{first, is_letter, is_word_octet};
+use crate::octet::{is_letter, is_word_octet};
+use octets::first;
 
 /// The last capture that a reference can name.
 pub(crate) const LAST_CAPTURE: u8 = 9;

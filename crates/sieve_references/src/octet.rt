@@ -1,5 +1,5 @@
 // Octets, one by one.
-ghost use Rattle.std.specs.Prelude.{◌≡◌, ◌∷◌, [], MatchOption};
+ghost use Rattle.std.specs.Prelude.{◌≡◌};
 ghost use Rattle.sieve_references.specs.References.{is_letter};
 ghost use Rattle.sieve_references.specs.Reading.{is_word_octet};
 
@@ -15,14 +15,4 @@ pub(crate) fn is_word_octet(octet: u8) -> bool
     ensures { result ≡ is_word_octet octet }
 {
     is_letter(octet) || octet.is_ascii_digit()
-}
-
-/// The first octet and what follows it.
-pub(crate) fn first(text: &[u8]) -> Option<(u8, &[u8])>
-    ensures { MatchOption result (text.now ≡ []) (λ parts. text.now ≡ parts.0 ∷ parts.1.now) }
-{
-    match text {
-        [octet, rest @ ..] => Some((*octet, rest)),
-        [] => None,
-    }
 }

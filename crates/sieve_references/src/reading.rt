@@ -5,9 +5,9 @@ ghost use Rattle.sieve_references.specs.Reading.{elements, found_at, reference, 
 ghost use Rattle.sieve_references.specs.SegmentView.{segment_of};
 
 use crate::identifier::{LAST_CAPTURE, is_element, is_identifier, number};
-use crate::octet::first;
 use crate::run::word;
 use crate::segment::Segment;
+use octets::first;
 
 // What the one word between the braces of a reference refers to.
 fn named(word: &[u8]) -> Option<Segment<'_>>

@@ -3,7 +3,8 @@ ghost use Rattle.std.specs.Prelude.{◌≡◌, ◌∷◌, ◌++◌, length, true
 ghost use Rattle.std.specs.List.{list_all, take_while};
 ghost use Rattle.sieve_references.specs.Reading.{is_word_octet, is_not_dollar};
 
-use crate::octet::{first, is_word_octet};
+use crate::octet::is_word_octet;
+use octets::first;
 
 // How many octets stand before the first `$`.
 fn plain_len(text: &[u8]) -> usize
