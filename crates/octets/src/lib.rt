@@ -9,13 +9,13 @@
 mod ascii;
 mod blank;
 mod escape;
-mod first;
 mod limits;
+mod one_at_a_time;
 mod owned;
 
 pub use ascii::{equal_ignoring_case, is_word, to_lowercase, to_uppercase};
 pub use blank::{trim_blanks, trim_leading_blanks, trim_trailing_blanks};
 pub use escape::{octet_of_digits, said_of};
-pub use first::first;
 pub use limits::{MAX_STRING, MAX_VALUE};
+pub use one_at_a_time::first;
 pub use owned::Octets;
