@@ -4,13 +4,11 @@
 //! record of a field in `specs/Fields`, and how long fields are beside their lines in `specs/Extent` and the laws.
 #![tactic(auto)]
 
-mod error;
 mod field;
 mod field_line;
 mod header;
 pub mod laws;
 mod unfolding;
 
-pub use error::HeaderError;
 pub use field::{Field, name_is, unfold, unfold_start, unfolded_length};
 pub use header::Header;

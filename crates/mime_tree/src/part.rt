@@ -6,7 +6,7 @@ ghost use Rattle.mime_tree.specs.PartTree.{body_of, default_below, without_param
 ghost use Rattle.mime_tree.specs.OpenParts.{boundary_inside, holds_message, part_read};
 ghost use Rattle.mime_tree.specs.Reading.{default_media};
 
-use crate::error::TreeError;
+use crate::error::MessageError;
 use crate::media::{
     DefaultType, encoding_of, is_plain, media_of, media_param, media_without_params,
 };
@@ -60,11 +60,11 @@ impl<'a> Part<'a> {
         place: usize,
         rest: &'a [u8],
         header: usize,
-    ) -> Result<Part<'a>, TreeError>
+    ) -> Result<Part<'a>, MessageError>
         requires { header ≤ length rest.now }
         ensures part { IfOk result (λ part. part ≡ part_read depth
             (default_media default) place rest.now header) }
-        ensures refused { IfErr result (λ e. e ≡ TreeError.Memory) }
+        ensures refused { IfErr result (λ e. e ≡ MessageError.Memory) }
     {
         let header = Header::read(alloc, &rest[..header])?;
         let names = media_without_params(alloc, header.fields(), default)?;
