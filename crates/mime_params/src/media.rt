@@ -1,5 +1,6 @@
 // Media types and dispositions.
-ghost use Rattle.std.specs.Prelude.{◌≡◌, IfOk, MatchOption, None, Some};
+ghost use Rattle.std.specs.Prelude.{◌≡◌, ◌++◌, IfOk, MatchOption, None, OnOk, Some};
+ghost use Rattle.octets.specs.Ascii.{lowercase_of};
 ghost use Rattle.mime_params.specs.Gaps.{after_gap};
 ghost use Rattle.mime_params.specs.MediaValue.{disposition_name, disposition_of, disposition_param, media_type_of, params_in, type_names, type_param};
 
@@ -19,6 +20,32 @@ pub struct MediaType {
     /// What stands after it.
     pub sub: Octets,
     pub params: Params,
+}
+
+impl MediaType {
+    ghost use Rattle.std.specs.Prelude.{◌≡◌, ◌++◌, OnOk};
+    ghost use Rattle.mime_params.specs.MediaValue.{media_text};
+
+    /// Appends the type and the subtype in lower case, with a slash between them.
+    ///
+    /// An error comes only where memory was refused.
+    pub fn append_text(&self, text: &mut Vec<u8>) -> Result<(), AllocError>
+        ensures { OnOk result (text.new.items ≡ text.old.items ++ media_text self.now) }
+    {
+        append_lowercase(text, self.main.as_slice())?;
+        text.push(b'/')?;
+        append_lowercase(text, self.sub.as_slice())
+    }
+}
+
+// Appends a word in lower case.
+fn append_lowercase(text: &mut Vec<u8>, word: &[u8]) -> Result<(), AllocError>
+    ensures { OnOk result (text.new.items ≡ text.old.items ++ lowercase_of word.now) }
+{
+    for octet in word {
+        text.push(octet.to_ascii_lowercase())?;
+    }
+    Ok(())
 }
 
 /// A disposition with its parameters (RFC 2183, section 2), as it is written.

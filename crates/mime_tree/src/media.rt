@@ -3,13 +3,14 @@ ghost use Rattle.std.specs.Prelude.{◌≡◌, [], IfOk, IfErr, codes};
 ghost use Rattle.std.specs.Option.{option_map};
 ghost use Rattle.std.specs.Cow.{cow_slice_items};
 ghost use Rattle.octets.specs.Ascii.{is_word};
-ghost use Rattle.mime_tree.specs.PartTree.{first_value, is_plain, media_or, encoding_or_7bit, without_params};
+ghost use Rattle.header_fields.specs.Fields.{first_value};
+ghost use Rattle.mime_tree.specs.PartTree.{is_plain, media_or, encoding_or_7bit, without_params};
 ghost use Rattle.mime_tree.specs.Reading.{default_media};
 ghost use Rattle.mime_tree.specs.declared.media.DefaultType.{DefaultType};
 ghost use Rattle.mime_params.specs.MediaValue.{value_named};
 
 use crate::error::MessageError;
-use header_fields::{Field, name_is, unfold};
+use header_fields::{Field, first_named, unfold};
 use mime_params::{MediaType, Params, TransferEncoding, read_type, type_names, type_param};
 use octets::{Octets, is_word};
 use std::alloc::{AllocError, Global};
@@ -121,12 +122,10 @@ fn first_value<'a>(
     ensures { IfOk result (λ value. option_map cow_slice_items value
         ≡ first_value name.now fields.now) }
 {
-    for field in fields {
-        if name_is(field, name) {
-            return Ok(Some(unfold(alloc, field)?));
-        }
+    match first_named(fields, name) {
+        Some(field) => Ok(Some(unfold(alloc, field)?)),
+        None => Ok(None),
     }
-    Ok(None)
 }
 
 /// Whether the body stands as it is written, so that it may have parts.

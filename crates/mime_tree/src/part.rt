@@ -12,7 +12,7 @@ use crate::media::{
 };
 use header_fields::Header;
 use mime_params::{MediaType, TransferEncoding};
-use octets::{Octets, trim_trailing_blanks};
+use octets::{Octets, is_word, trim_trailing_blanks};
 use std::alloc::{AllocError, Global};
 use std::marker::Model;
 
@@ -35,7 +35,8 @@ pub(crate) struct Part<'a> {
 
 impl<'a> Model for Part<'a> {
     ghost use Rattle.std.specs.Prelude.{◌≡◌, codes};
-    ghost use Rattle.mime_tree.specs.PartTree.{Part, first_value, media_or};
+    ghost use Rattle.header_fields.specs.Fields.{first_value};
+    ghost use Rattle.mime_tree.specs.PartTree.{Part, media_or};
     ghost use Rattle.mime_tree.specs.Reading.{default_media};
 
     ghost Value = { Part };

@@ -1,6 +1,6 @@
 use Rattle.std.proofs.Common.{◌≡◌, drop}
-use Rattle.mime_tree.specs.PartTree.{first_value}
-use Rattle.depot_actions.proofs.naming.first_named.Given as goal
+use Rattle.header_fields.specs.Fields.{first_value}
+use Rattle.header_fields.proofs.lookup.first_named.Given as goal
 
 -- the fields so far have other names
 abbrev pub invariant-loop-field : goal.invariant-loop-field

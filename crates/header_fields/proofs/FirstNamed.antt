@@ -4,8 +4,7 @@ use Rattle.std.proofs.lemmas.Bool.{cases_Bool}
 use Rattle.std.proofs.lemmas.List.{drop_more}
 use Rattle.std.proofs.lemmas.Slice.Eq.{bytes_eq-Decides}
 use Rattle.octets.specs.Ascii.{lowercase_of, is_word}
-use Rattle.header_fields.specs.Fields.{Field}
-use Rattle.mime_tree.specs.PartTree.{first_value}
+use Rattle.header_fields.specs.Fields.{Field, first_value}
 
 pub first_here : (name : List ℕ) (fields : List Field) (i : ℕ) (field : Field) → i < length fields → field ≡ get_or fields i field → lowercase_of field.name ≡ lowercase_of name
     → first_value name (drop i fields) ≡ Some field.value
