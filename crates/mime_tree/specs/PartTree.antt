@@ -4,7 +4,7 @@ use Rattle.octets.specs.Limits.{max_depth}
 use Rattle.octets.specs.Ascii.{is_word}
 use Rattle.octets.specs.Blank.{without_trailing_blanks}
 use Rattle.text_lines.specs.Lines.{TextLine, lines_of, line_octets}
-use Rattle.header_fields.specs.Fields.{Field, first_value}
+use Rattle.header_fields.specs.Fields.{first_value}
 use Rattle.header_fields.specs.Header.{Header, header_of, line_length}
 use Rattle.mime_params.specs.MediaValue.{media_type_of, value_named}
 use Rattle.mime_params.specs.Encodings.{encoding_of}
