@@ -101,7 +101,7 @@ fn put_limit(
         return Ok(false);
     };
     let program = program(alloc, code, strings)?;
-    if octets as usize > MAX_MESSAGE || parts as usize > MAX_PARTS {
+    if octets > MAX_MESSAGE || parts > MAX_PARTS {
         return Ok(false);
     }
     let verified = accepted(alloc, program)?;
