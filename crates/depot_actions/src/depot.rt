@@ -16,7 +16,7 @@ ghost use Rattle.sqlite.specs.Files.{file_state, IsOpened};
 ghost use Rattle.part_store.specs.Looking.{are_tables};
 ghost use Rattle.encodings.specs.Device.{HasBegun, HasBroken, HasTaken};
 
-use crate::checking::{check_code, code_octets};
+use crate::checking::check_code;
 use crate::delivery::{actions_of, file_all};
 use crate::inspecting::look_over;
 use crate::overview::Overview;
@@ -27,6 +27,7 @@ use encodings::{Encoding, Sink, put_text};
 use mime_decode::Message;
 use part_store::{EntryRow, PartStore, Unopened};
 use refusals::Refusal;
+use sieve_engine::code_octets;
 use sqlite::{Alter, File, FileFrom, FileStore, MemStore, Start, Unknown};
 use std::alloc::Global;
 use std::marker::Model;
