@@ -57,8 +57,8 @@ pub fn code_octets(alloc: Global, script: &[u8]) -> Result<Vec<u8>, Refusal>
     ensures large { max_script < length script.now
         → IsErrAnd result (λ e. e ≡ Refusal.ScriptTooLong) }
 {
-    let program = compile_script(alloc, script)?;
-    Ok(program.write(alloc)?)
+    let code = compile_script(alloc, script)?;
+    Ok(code.write(alloc)?)
 }
 
 /// Evaluates the script that the octets are on the message that the other octets are.
