@@ -1,8 +1,7 @@
 //! The table of entries.
-ghost use Rattle.std.specs.Prelude.{◌≡◌, ◌≢◌, [], ◌∷◌, pos, None, IsTrue, IfOk, IfErr, OnOk, OnErr};
+ghost use Rattle.std.specs.Prelude.{◌≡◌, [], ◌∷◌, pos, IsTrue, IfOk, IfErr, OnOk, OnErr};
 ghost use Rattle.sqlite_value.specs.declared.value.Value.TheVariants.{Int, Text, Blob};
 ghost use Rattle.sqlite.specs.Held.{state};
-ghost use Rattle.sqlite.specs.declared.error.Error.TheVariants.{QueryReturnedNoRows};
 ghost use Rattle.sqlite.specs.State.{HasCleanDisk, KeepsCommit, Survives};
 ghost use Rattle.part_store.specs.Changes.{Steps, Reads, IsFound, IsListed, IsAdded, IsTaken, entries_tree, equals, is_entry, columns};
 ghost use Rattle.part_store.specs.Tables.{entries_table};
@@ -61,44 +60,6 @@ pub(crate) fn find<S: Alter>(
         params![user, number],
     )?;
     Ok(first_of(rows))
-}
-
-/// An entry that names a digest. The search stops at the first.
-pub(crate) fn naming<S: Alter>(
-    tx: &mut Transaction<'_, S>,
-    digest: &[u8],
-) -> Result<Option<Row>, Error>
-    ensures same_reference { tx.new.conn.ghost_name ≡ tx.old.conn.ghost_name }
-    ensures step { HasCleanDisk (state S.Store tx.new.conn.now)
-        → IfOk result (λ found. Steps
-        (Reads (λ db. IsFound entries_tree (equals 7 (Blob digest.now)) (columns (2 ∷ [])) db
-        found)) (state S.Store tx.old.conn.now) (state S.Store tx.new.conn.now)) }
-    ensures kept { HasCleanDisk (state S.Store tx.new.conn.now)
-        → OnErr result (KeepsCommit (state S.Store tx.old.conn.now)
-        (state S.Store tx.new.conn.now)) }
-    ensures fault { HasCleanDisk (state S.Store tx.new.conn.now) → IfErr result
-        (Faults (state S.Store tx.old.conn.now) (state S.Store tx.new.conn.now)) }
-    ensures survives { Survives (state S.Store tx.old.conn.now) (state S.Store tx.new.conn.now)
-        (λ _. ⊥) }
-{
-    match tx.query_row(
-        "SELECT number FROM entries WHERE digest = ?1",
-        params![digest],
-    ) {
-        Ok(row) => Ok(Some(row)),
-        Err(error) => none_or(error),
-    }
-}
-
-/// None where a query has no row, and else its error.
-fn none_or(error: Error) -> Result<Option<Row>, Error>
-    ensures none { IfOk result (λ found. (found ≡ None) × (error ≡ QueryReturnedNoRows)) }
-    ensures other { IfErr result (λ e. (e ≡ error) × (error ≢ QueryReturnedNoRows)) }
-{
-    match error {
-        Error::QueryReturnedNoRows => Ok(None),
-        other => Err(other),
-    }
 }
 
 /// Puts an entry in.

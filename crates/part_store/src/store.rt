@@ -4,8 +4,8 @@ ghost use Rattle.sqlite.specs.Held.{state};
 ghost use Rattle.sqlite.specs.State.{HasCleanDisk, KeepsCommit, Survives};
 ghost use Rattle.part_store.specs.Tables.{no_schema, store_schema};
 ghost use Rattle.part_store.specs.Entries.{AreProgramsOf, entries_of, listing_of, no_entries, with_entries, with_program, with_programs, without_entry};
-ghost use Rattle.part_store.specs.Standing.{Brings, IsStored, Makes, MayMake, Spares, Stays, Stands, HasContent, IsEntryAt, HasNone, NamesDigest, IsTidied, draft_of, listed, pair_of};
-ghost use Rattle.part_store.specs.Refusals.{refusal_of, Blames, BlamesEntries, BlamesNamed, BlamesOr, BlamesPrograms, BlamesRow, IsTableIn, WriteFaults};
+ghost use Rattle.part_store.specs.Standing.{Brings, IsStored, Makes, MayMake, Spares, Stays, Stands, HasContent, IsEntryAt, HasNone, NamesDigest, draft_of, listed, pair_of};
+ghost use Rattle.part_store.specs.Refusals.{refusal_of, Blames, BlamesEntries, BlamesNamed, BlamesOr, BlamesPrograms, BlamesRow};
 ghost use Rattle.part_store.specs.declared.error.StoreError.TheVariants.{Memory, NoSuchEntry, NumberFull, Collision, Database};
 ghost use Rattle.part_store.specs.Changes.{contents_tree, users_tree};
 ghost use Rattle.part_store.specs.Crashes.{KeepsState};
@@ -225,30 +225,6 @@ fn read_bytes<S: Alter>(
     Ok(Some(content_of(tx, &digest)?))
 }
 
-/// Takes out what is under a digest that no entry names.
-fn tidy<S: Alter>(tx: &mut Transaction<'_, S>, digest: &[u8]) -> Result<(), Error>
-    ensures same_reference { tx.new.conn.ghost_name ≡ tx.old.conn.ghost_name }
-    ensures tidied { HasCleanDisk (state S.Store tx.new.conn.now)
-        → OnOk result ((state S.Store tx.old.conn.now).now.schema ≡ store_schema
-        → IsTidied digest.now (state S.Store tx.old.conn.now) (state S.Store tx.new.conn.now)) }
-    ensures kept { HasCleanDisk (state S.Store tx.new.conn.now)
-        → (state S.Store tx.old.conn.now).now.schema ≡ store_schema
-        → KeepsCommit (state S.Store tx.old.conn.now) (state S.Store tx.new.conn.now) }
-    ensures fault { HasCleanDisk (state S.Store tx.new.conn.now)
-        → IfErr result (λ e. IsTableIn contents_tree (state S.Store tx.old.conn.now).now.trees
-        → WriteFaults (state S.Store tx.old.conn.now) (state S.Store tx.new.conn.now) e) }
-    ensures survives { Survives (state S.Store tx.old.conn.now) (state S.Store tx.new.conn.now)
-        (λ _. ⊥) }
-{
-    match entries::naming(tx, digest)? {
-        Some(_) => Ok(()),
-        None => {
-            contents::remove(tx, digest)?;
-            Ok(())
-        }
-    }
-}
-
 /// Takes a user's entry out. Answers false where he has no such entry.
 fn take_entry<S: Alter>(tx: &mut Transaction<'_, S>, user: &str, number: u32) -> Result<bool, Error>
     ensures same_reference { tx.new.conn.ghost_name ≡ tx.old.conn.ghost_name }
@@ -284,7 +260,7 @@ fn take_entry<S: Alter>(tx: &mut Transaction<'_, S>, user: &str, number: u32) ->
         return Ok(false);
     };
     entries::remove(tx, user, number)?;
-    tidy(tx, &digest)?;
+    contents::remove_unnamed(tx, &digest)?;
     Ok(true)
 }
 
