@@ -11,8 +11,8 @@ use Rattle.sqlite.specs.State.{State, FailsToQuery, IsTooLate}
 use Rattle.sqlite.specs.declared.error.Error.{Error}
 use Rattle.part_store.specs.Tables.{store_schema}
 use Rattle.part_store.specs.Refusals.{Faults}
-use Rattle.part_store.specs.Statements.{find_user_text, list_programs_text, list_users_text, find_content_text, size_content_text, list_contents_text, list_entries_text, find_entry_text, name_content_text}
-use Rattle.part_store.proofs.Meaning.{alone, find_user_query, find_user_is, list_programs_query, list_programs_is, list_users_query, list_users_is, find_content_query, find_content_is, size_content_query, size_content_is, list_contents_query, list_contents_is, list_entries_query, list_entries_is, find_entry_query, find_entry_is, name_content_query}
+use Rattle.part_store.specs.Statements.{find_user_text, list_programs_text, list_users_text, find_content_text, size_content_text, list_contents_text, list_entries_text, find_entry_text}
+use Rattle.part_store.proofs.Meaning.{alone, find_user_query, find_user_is, list_programs_query, list_programs_is, list_users_query, list_users_is, find_content_query, find_content_is, size_content_query, size_content_is, list_contents_query, list_contents_is, list_entries_query, list_entries_is, find_entry_query, find_entry_is}
 use Rattle.part_store.proofs.Faults.{IsAsked, IsAnswered, query_faults}
 
 abbrev Refused : List ℕ → Row → State → State → Error → Type 0
@@ -141,15 +141,3 @@ find_entry_answered user number limit db e has h = elim (over limit db find_entr
 
 pub find_entry_faults : (old new : State) (user : List ℕ) (number : ℕ) (e : Error) → Refused find_entry_text (Text user ∷ Int (pos number) ∷ []) old new e → Faults old new e
 find_entry_faults old new user number e = query_faults find_entry_text (Text user ∷ Int (pos number) ∷ []) find_entry_query _ find_entry_is find_entry_asked (find_entry_answered user number) old new e
-
-pub name_content_asked : IsAsked (understood store_schema name_content_text) name_content_text 1
-unfolding understood everything
-name_content_asked = (omega arith, refl)
-
-pub name_content_answered : (digest : List ℕ) → IsAnswered name_content_query (Blob digest ∷ [])
-unfolding everything
-name_content_answered digest limit db e has h = elim (over limit db name_content_query (Blob digest ∷ []) e has h) [
-  | inl untyped ↦ absurd (true≢false untyped.1)
-  | inr (inl sum) ↦ elim sum.1 [ inl none ↦ absurd none | inr more ↦ absurd more.4 ]
-  | inr (inr steps) ↦ steps.1
-]

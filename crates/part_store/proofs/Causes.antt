@@ -1,15 +1,12 @@
 -- A call that writes is refused for the cause of one of its statements.
-use Rattle.std.proofs.Common.{◌≡◌, ℕ, List, [], ◌∷◌, None, sym, ap, subst, ◌∙◌, IsTrue, arith}
-use Rattle.sqlite_value.specs.declared.value.Value.TheVariants.{Blob}
-use Rattle.std.specs.List.{AllByRecursion}
-use Rattle.sqlite_trees.specs.Tree.{Trees, rowid, IsTable}
-use Rattle.sqlite_trees.specs.View.{is_int}
+use Rattle.std.proofs.Common.{◌≡◌, ℕ, List, IsTrue}
+use Rattle.sqlite_trees.specs.Tree.{Trees}
 use Rattle.sqlite.specs.State.{State, HasCleanDisk, Survives}
 use Rattle.sqlite.specs.declared.error.Error.{Error}
 use Rattle.sqlite.proofs.StateLemmas.{survives_then}
-use Rattle.part_store.specs.Changes.{contents_tree, entries_tree, columns, equals, is_entry, IsFound, IsTaken, Reads, Steps}
+use Rattle.part_store.specs.Changes.{contents_tree, entries_tree, is_entry, IsTaken, Steps}
 use Rattle.part_store.specs.Entries.{Entries}
-use Rattle.part_store.specs.Refusals.{refusal_of, Blames, IsTableIn, IsUnnamed, IsWritable, WriteFaults}
+use Rattle.part_store.specs.Refusals.{refusal_of, Blames, IsTableIn, IsWritable, WriteFaults}
 use Rattle.part_store.specs.Standing.{IsContentRow, Stands, Stays}
 use Rattle.part_store.specs.Tables.{store_schema}
 use Rattle.part_store.proofs.Failing.{later_failed}
@@ -34,13 +31,6 @@ still_writable old new before stays inside begun stands =
 pub contents_table_in : (s : State) (before : Entries) → Stands s.now before → IsTableIn contents_tree s.now.trees
 contents_table_in s before stands = (stands.tables.contents_rise, keyed_all IsContentRow (s.now.trees contents_tree) (λ r h. rw h.3) stands.tables.contents)
 
-pub tidy_refused : (old mid new : State) (digest : List ℕ) (e : Error) → Steps (Reads (λ db. IsFound entries_tree (equals 7 (Blob digest)) (columns (2 ∷ [])) db None)) old mid → Survives old mid (λ _. ⊥)
-    → Survives mid new (λ _. ⊥) → HasCleanDisk new → (IsTableIn contents_tree mid.now.trees → IsUnnamed digest mid.now.trees → WriteFaults mid new e) → IsTableIn contents_tree old.now.trees → WriteFaults old new e
-tidy_refused old mid new digest e reads one two clean removes table is can =
-    let step = reads can.schema in
-    let none = subst (IsUnnamed digest) (sym step.change.0) step.change.1 in
-    later_failed old mid new one two clean (removes (subst (IsTableIn contents_tree) (sym step.change.0) table) none is (writable_then _ old mid reads can))
-
 -- the removal of an entry's row
 pub row_refused : (old mid new : State) (e : Error) → Stays old mid → (old.now.schema ≡ store_schema → IsTrue old.in_transaction → IsTrue mid.in_transaction) → Survives old mid (λ _. ⊥) → Survives mid new (λ _. ⊥)
     → HasCleanDisk new → WriteFaults mid new e → IsTrue old.in_transaction → Blames old new (refusal_of e)
@@ -50,12 +40,8 @@ row_refused old mid new e stays inside one two clean removes begun is before sta
 -- and then that of its octets
 pub octets_refused : (old one mid new : State) (user : List ℕ) (number : ℕ) (e : Error) → Stays old one → (old.now.schema ≡ store_schema → IsTrue old.in_transaction → IsTrue one.in_transaction)
     → Steps (IsTaken entries_tree (is_entry user number)) one mid → Survives old one (λ _. ⊥) → Survives one mid (λ _. ⊥) → Survives mid new (λ _. ⊥) → HasCleanDisk new
-    → (IsTableIn contents_tree mid.now.trees → WriteFaults mid new e) → IsTrue old.in_transaction → Blames old new (refusal_of e)
-octets_refused old one mid new user number e stays inside takes first second third clean tidies begun is before stands =
-    let early : HasCleanDisk mid = omega (arith, clean, third.clean) in
-    let same = stays stands.schema in
+    → WriteFaults mid new e → IsTrue old.in_transaction → Blames old new (refusal_of e)
+octets_refused old one mid new user number e stays inside takes first second third clean faults begun is before stands =
     let can = still_writable old one before stays inside begun stands in
-    let contents : mid.now.trees contents_tree ≡ old.now.trees contents_tree = (takes can.schema).change.others.1.0 (λ h. omega (arith, h)) ∙ ap (λ (t : Trees). t contents_tree) same.1 in
-    let table : IsTableIn contents_tree mid.now.trees = subst (λ rows. IsTable rows × AllByRecursion (λ r. IsTrue (is_int (rowid r))) rows) (sym contents) (contents_table_in old before stands) in
     let both = survives_then old one mid (λ _. ⊥) (λ _. ⊥) (λ _. ⊥) (λ _ _ h. h) (λ _ _ h. h) first second in
-    later_failed old mid new both third clean (tidies table is (writable_then _ one mid takes can))
+    later_failed old mid new both third clean (faults is (writable_then _ one mid takes can))

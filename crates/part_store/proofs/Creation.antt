@@ -1,5 +1,5 @@
 -- What the three CREATE TABLEs make.
-use Rattle.std.proofs.Common.{◌≡◌, ◌⊎◌, inl, inr, ℕ, false, List, [], None, Ok, Err, Result, sym, ap, subst, ◌∙◌}
+use Rattle.std.proofs.Common.{◌≡◌, ℕ, false, List, [], None, Ok, Result, sym, ap, subst, ◌∙◌}
 use Rattle.std.specs.List.{AllByRecursion}
 use Rattle.sqlite_catalog.specs.Change.{created, next_tree}
 use Rattle.sqlite_resolve.specs.Compile.{table_defined_by}
@@ -13,13 +13,7 @@ use Rattle.sqlite.specs.State.{State, Writes, ExecutesInside}
 use Rattle.sqlite.proofs.Callers.{statement_of, runs_as}
 use Rattle.part_store.specs.Tables.{IsMade}
 use Rattle.part_store.proofs.Meaning.{Means}
-
-went : {B E R : Type 0} {b : B} {Stops : E → Type 0} → ((stop : E) × Stops stop × (Ok b ≡ Err stop)) ⊎ R → R
-went (inl stopped) = absurd (let e = stopped.2 in cc)
-went (inr on) = on
-
-same_value : {B E : Type 0} {a b : B} → ◌≡◌ {A = Result B E} (Ok a) (Ok b) → a ≡ b
-same_value e = cc
+use Rattle.part_store.proofs.Writes.{same_value, went}
 
 module _ (text : List ℕ) (was : Schema) (table : Table) (means : Means was text CreateTable) (same : statement_of text (understood was text) ≡ text) (defined : table_defined_by text ≡ Ok table)
     (plain : lacks_sequence (created was table) ≡ false) where

@@ -5,9 +5,9 @@ use Rattle.sqlite_value.specs.Order.{Row}
 use Rattle.sqlite_sql.specs.Term.{lit, col}
 use Rattle.sqlite.specs.State.{State, ExecutesInside, Shown}
 use Rattle.part_store.specs.Tables.{entry_columns, entry_references}
-use Rattle.part_store.specs.Statements.{list_entries_text, find_entry_text, name_content_text, add_entry_text, drop_entry_text}
+use Rattle.part_store.specs.Statements.{list_entries_text, find_entry_text, add_entry_text, drop_entry_text}
 use Rattle.part_store.specs.Changes.{Steps, Reads, IsFound, IsListed, IsAdded, IsTaken, entries_tree, equals, is_entry, columns}
-use Rattle.part_store.proofs.Meaning.{is_given, list_entries_query, list_entries_is, find_entry_query, find_entry_is, name_content_query, name_content_is, add_entry_is, drop_entry_is}
+use Rattle.part_store.proofs.Meaning.{is_given, list_entries_query, list_entries_is, find_entry_query, find_entry_is, add_entry_is, drop_entry_is}
 use Rattle.part_store.proofs.Ordered.{ordered}
 use Rattle.part_store.proofs.Writes.{inserted, deleted, cast_null, cast_int}
 use Rattle.part_store.proofs.Runs.{ran_as, stepped, read, found, found_as, taken_as, and_true}
@@ -19,13 +19,6 @@ entry_found old new user number rows h =
     read find_entry_text params old new find_entry_query _ find_entry_is rows h _ (λ a.
     found_as entries_tree _ (is_entry user number) _ (columns (7 ∷ [])) old.now.trees (slice_get rows 0) (λ r. ap (λ b. equals 1 (Text user) r && b) (and_true _)) (λ r. refl)
     (found 4 (is_given 1 0 ∷ is_given 2 1 ∷ []) (col 1 7 ∷ []) [] old.now.trees params rows a))
-
-pub naming_found : (old new : State) (digest : List ℕ) (rows : List Row) → Shown name_content_text (Blob digest ∷ []) old new rows
-    → Steps (Reads (λ db. IsFound entries_tree (equals 7 (Blob digest)) (columns (2 ∷ [])) db (slice_get rows 0))) old new
-naming_found old new digest rows h =
-    read name_content_text (Blob digest ∷ []) old new name_content_query _ name_content_is rows h _ (λ a.
-    found_as entries_tree _ (equals 7 (Blob digest)) _ (columns (2 ∷ [])) old.now.trees (slice_get rows 0) (λ r. and_true _) (λ r. refl)
-    (found 4 (is_given 7 0 ∷ []) (col 1 2 ∷ []) [] old.now.trees (Blob digest ∷ []) rows a))
 
 pub entry_taken : (old new : State) (user : List ℕ) (number count : ℕ) → ExecutesInside 0 drop_entry_text (Text user ∷ Int (pos number) ∷ []) old new (Ok count)
     → Steps (IsTaken entries_tree (is_entry user number)) old new

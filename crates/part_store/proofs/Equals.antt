@@ -1,29 +1,44 @@
 -- Columns that equal a value.
-use Rattle.std.proofs.Common.{◌≡◌, ℕ, pos, Bool, true, false, List, Some, refl, ap, ◌∙◌, bytes_eq, eqb, is_eq, int_cmp, arith}
+use Rattle.std.proofs.Common.{◌≡◌, ℕ, pos, Bool, true, false, List, length, Option, None, Some, option_map, refl, ap, ◌∙◌, bytes_eq, eqb, is_eq, int_cmp, arith}
 use Rattle.std.proofs.lemmas.Bool.Decides.{nat_tests}
 use Rattle.std.proofs.lemmas.Int.{ints}
 use Rattle.std.proofs.lemmas.Map.Text.{is_eq-slice_cmp}
 use Rattle.sqlite_value.specs.declared.keys.Collation.TheVariants.{Binary}
 use Rattle.sqlite_value.specs.declared.value.Value.TheVariants.{Int, Text, Blob}
 use Rattle.sqlite_value.proofs.OrderLemmas.{value_cmp-Int, value_cmp-Text, value_cmp-Blob}
-use Rattle.sqlite_sql.specs.Ops.{binary, is_true, from_truth}
+use Rattle.sqlite_sql.specs.declared.ops.UnaryOp.TheVariants.{Length}
+use Rattle.sqlite_sql.specs.Ops.{binary, unary, is_true, from_truth}
+use Rattle.sqlite.specs.Values.{or_null}
 use Rattle.sqlite_schema.specs.Rules.{equal}
 
-told : (b : Bool) → is_true (from_truth (Some b)) ≡ b
-told true = refl
-told false = refl
+-- a truth that became a value is that truth
+pub truth_of : (b : Bool) → is_true (from_truth (Some b)) ≡ b
+truth_of true = refl
+truth_of false = refl
 
 pub equal_texts : (m n : List ℕ) → equal Binary (Text m) (Text n) ≡ bytes_eq m n
 unfolding binary
-equal_texts m n = told _ ∙ ap is_eq (value_cmp-Text m n) ∙ is_eq-slice_cmp m n
+equal_texts m n = truth_of _ ∙ ap is_eq (value_cmp-Text m n) ∙ is_eq-slice_cmp m n
 
 pub equal_blobs : (m n : List ℕ) → equal Binary (Blob m) (Blob n) ≡ bytes_eq m n
 unfolding binary
-equal_blobs m n = told _ ∙ ap is_eq (value_cmp-Blob m n) ∙ is_eq-slice_cmp m n
+equal_blobs m n = truth_of _ ∙ ap is_eq (value_cmp-Blob m n) ∙ is_eq-slice_cmp m n
 
 same_ints : (m n : ℕ) → is_eq (int_cmp (pos m) (pos n)) ≡ eqb m n
 same_ints m n = grind (arith, ints, nat_tests)
 
 pub equal_numbers : (m n : ℕ) → equal Binary (Int (pos m)) (Int (pos n)) ≡ eqb m n
 unfolding binary
-equal_numbers m n = told _ ∙ ap is_eq (value_cmp-Int (pos m) (pos n)) ∙ same_ints m n
+equal_numbers m n = truth_of _ ∙ ap is_eq (value_cmp-Int (pos m) (pos n)) ∙ same_ints m n
+
+pub same_number : (m n : ℕ) → Int (pos m) ≡ Int (pos n) → m ≡ n
+same_number m n h = cc
+
+pub blob_length : (octets : List ℕ) → unary Length (Blob octets) ≡ Int (pos (length octets))
+unfolding unary
+blob_length octets = refl
+
+-- a program that may be missing, as a value
+pub or_null_map : {A : Type 0} (items : A → List ℕ) (program : Option A) → or_null (λ v. Blob (items v)) program ≡ or_null Blob (option_map items program)
+or_null_map items None = refl
+or_null_map items (Some v) = refl

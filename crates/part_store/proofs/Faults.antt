@@ -52,11 +52,11 @@ no_statement s sql params e plain asked (inr h) =
 
 module _ (sql : List ℕ) (params : Row) (old new : State) (has : old.now.schema ≡ store_schema) (plain : IsPlain (understood store_schema sql))
     (asked : IsAsked (understood store_schema sql) sql (length params)) (e : Error) (is : refusal_of e ≡ refused) where
-  pub not_run_failed : IsNotRun old new sql params e → HasFailed old new
+  pub not_run_failed : IsNotRun old new sql params e → HasFailed old new × ((cause : Cause) × (e ≡ store_error cause))
   unfolding IsNotRun
   not_run_failed (inl h) =
       absurd (no_statement old sql params e (subst (λ s. IsPlain (understood s sql)) (sym has) plain) (subst (λ s. IsAsked (understood s sql) sql (length params)) (sym has) asked) h.0)
-  not_run_failed (inr h) = never (failed old new ⊥ e is h)
+  not_run_failed (inr h) = (never (failed old new ⊥ e is h), (h.0, h.1))
 
 -- over the three tables only a limit on steps refuses the query
 abbrev pub IsAnswered : Query → Row → Type 0
@@ -81,7 +81,7 @@ module _ (sql : List ℕ) (params : Row) (query : Query) (names : List (List ℕ
 
   pub query_faults : (old new : State) (e : Error) → FailsToQuery sql params old new e ⊎ IsTooLate sql params old new e → Faults old new e
   unfolding FailsToQuery
-  query_faults old new e (inl (inl h)) is has = not_run_failed sql params old new has means.1 asked e is h
+  query_faults old new e (inl (inl h)) is has = (not_run_failed sql params old new has means.1 asked e is h).0
   query_faults old new e (inl (inr h)) is has = not_shown old new h.0 h.1 e has h.0.returning refl h.2
   query_faults old new e (inr h) is has =
       let known = sym h.1.is ∙ ap (λ s. understood s sql) has in

@@ -3,8 +3,6 @@ use Rattle.std.proofs.Common.{◌≡◌, inl, inr, ℕ, ℤ, pos, length, true, 
 use Rattle.std.specs.List.{AllZip}
 use Rattle.std.proofs.lemmas.Bool.{true≢false, and_parts, and_from, eqb-true, eq-eqb}
 use Rattle.sqlite_value.specs.declared.value.Value.TheVariants.{Blob, Int}
-use Rattle.sqlite_sql.specs.declared.ops.UnaryOp.TheVariants.{Length}
-use Rattle.sqlite_sql.specs.Ops.{unary}
 use Rattle.sqlite_value.specs.Order.{Row, column}
 use Rattle.sqlite_trees.specs.Tree.{Trees}
 use Rattle.sqlite_rules.specs.Lists.{Has}
@@ -13,7 +11,7 @@ use Rattle.sqlite.specs.State.{State}
 use Rattle.part_store.specs.Changes.{contents_tree, entries_tree, equals, is_entry, columns, length_at, IsFound, Steps, Reads}
 use Rattle.part_store.specs.Entries.{Entry, Entries, is_at}
 use Rattle.part_store.specs.Standing.{IsEntryRow, IsContentRow, HasContent, content_row, StandsFor, Stands, IsEntryAt, HasNone, NamesDigest}
-use Rattle.part_store.proofs.Equals.{equal_texts, equal_blobs, equal_numbers}
+use Rattle.part_store.proofs.Equals.{blob_length, equal_texts, equal_blobs, equal_numbers, same_number}
 use Rattle.part_store.proofs.Programs.{same_bytes, bytes_same}
 
 pub zip_found : {X Y : Type 0} (R : X → Y → Type 0) (xs : List X) (ys : List Y) (x : X) → AllZip R xs ys → Has xs x → (y : Y) × Has ys y × R x y
@@ -74,13 +72,6 @@ content_there old new digest row octets reads shown before stands =
     let is : bytes_eq h.1 digest ≡ true = sym (content_test found.0 h.0 h.1 h.2 digest h.3) ∙ found.2 in
     let same : octets ≡ h.2 = same_blob octets h.2 (sym shown ∙ ap (λ (r : Row). column r 0) found.3 ∙ ap (λ (r : Row). column r 2) h.3) in
     (h.0, subst (Has (old.now.trees contents_tree)) (h.3 ∙ ap₂ (λ d o. content_row h.0 d o) (same_bytes h.1 digest is) (sym same)) found.1)
-
-blob_length : (octets : List ℕ) → unary Length (Blob octets) ≡ Int (pos (length octets))
-unfolding unary
-blob_length octets = refl
-
-same_number : (m n : ℕ) → Int (pos m) ≡ Int (pos n) → m ≡ n
-same_number m n h = cc
 
 -- how long what is under a digest is
 pub size_there : (old new : State) (digest : List ℕ) (row : Row) (n : ℕ) → Steps (Reads (λ db. IsFound contents_tree (equals 1 (Blob digest)) (length_at 2) db (Some row))) old new → column row 0 ≡ Int (pos n)

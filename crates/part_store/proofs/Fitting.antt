@@ -40,17 +40,17 @@ use Rattle.part_store.proofs.Inserting.{clash_free, insert_limited}
 use Rattle.part_store.proofs.Meaning.{add_user_is, add_content_is, add_entry_is}
 use Rattle.part_store.proofs.Parents.{HasParent, all_refer, refers, parent_stays, is_parent}
 use Rattle.part_store.proofs.Runs.{and_true}
-use Rattle.part_store.proofs.Stopped.{at_once, insert_writes, stopped, Stops}
+use Rattle.part_store.proofs.Stopped.{at_once, insert_writes, stopped, IsStoreFailure, Stops}
 use Rattle.part_store.proofs.Writes.{added_next, cast_null, cast_int}
 
 -- a statement that a limit on steps stops, or want of room
 limited : (params : Row) (old new : State) (at : ℕ) (from : Source) (table : Table) (values : Row) → old.now.schema ≡ store_schema
     → ((text : List ℕ) (stop : Option Error) → Does old.step_limit at_once params (record { schema = store_schema; trees = old.now.trees }) text None (Insert at from) (Err stop)
     → IsSome old.step_limit ⊎ HasNoRoom table values old.now.trees)
-    → HasFailed old new ⊎ Stops old params (Insert at from) → HasFailed old new ⊎ HasNoRoom table values old.now.trees
-limited params old new at from table values has only (inl disk) = inl disk
+    → {e : Error} → (HasFailed old new × IsStoreFailure e) ⊎ Stops old params (Insert at from) e → HasFailed old new ⊎ HasNoRoom table values old.now.trees
+limited params old new at from table values has only (inl disk) = inl disk.0
 limited params old new at from table values has only (inr stops) =
-    elim (only stops.0 stops.1 (subst (λ s. Does old.step_limit at_once params (record old.now { schema = s }) stops.0 None (Insert at from) (Err stops.1)) has stops.2)) [
+    elim (only stops.0 stops.1 (subst (λ s. Does old.step_limit at_once params (record old.now { schema = s }) stops.0 None (Insert at from) (Err stops.1)) has stops.3)) [
       | inl steps ↦ inl (inr (inr steps))
       | inr none ↦ inr none
     ]

@@ -10,7 +10,7 @@ use Rattle.sqlite_value.specs.Order.{Row}
 use Rattle.sqlite_value.proofs.OrderLemmas.{value_cmp_total}
 use Rattle.sqlite_trees.specs.Tree.{Trees, rowid, IsTable, with_tree}
 use Rattle.sqlite_trees.specs.View.{is_int}
-use Rattle.sqlite_sql.specs.Ops.{binary, fits_i64, from_truth, is_true}
+use Rattle.sqlite_sql.specs.Ops.{binary, fits_i64}
 use Rattle.sqlite_sql.specs.Term.{Term}
 use Rattle.sqlite_schema.specs.Rules.{agree, clashes, differ, passes, Keeps, Obeys, Refers, references_fit}
 use Rattle.sqlite_schema.specs.declared.schema.Among.TheVariants.{All}
@@ -41,17 +41,14 @@ use Rattle.sqlite.proofs.Callers.{one_step}
 use Rattle.part_store.specs.Refusals.{HasNoRoom}
 use Rattle.part_store.specs.Tables.{keyed, store_schema}
 use Rattle.part_store.specs.Changes.{new_row}
+use Rattle.part_store.proofs.Equals.{truth_of}
 use Rattle.part_store.proofs.Deleting.{tree_set, tree_spared, trees_apart}
 use Rattle.part_store.proofs.Stopped.{at_once, err_not_ok, stops_in, edit_stops}
 use Rattle.part_store.proofs.Writes.{no_works, put_is, same_value, went}
 
-told : (b : Bool) → is_true (from_truth (Some b)) ≡ b
-told true = refl
-told false = refl
-
 differ_itself : (id : ℤ) → differ (Int id) (Int id) ≡ false
 unfolding binary
-differ_itself id = told _ ∙ ap is_ne (tied_itself value_cmp_total (Int id))
+differ_itself id = truth_of _ ∙ ap is_ne (tied_itself value_cmp_total (Int id))
 
 -- a new row clashes with none where no other has its key
 pub clash_free : (o : Order) (places : List ℕ) (old next : List Row) (new : Row) (id : ℤ) → rowid new ≡ Int id → ((x : Row) → Has next x → (x ≡ new) ⊎ Has old x)

@@ -33,7 +33,6 @@ mod Crashed
 mod Unfinished
 mod Faults
 mod Asked
-mod FirstRow
 pub mod Failing
 mod Readable
 mod Shown

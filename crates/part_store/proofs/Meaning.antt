@@ -19,7 +19,7 @@ use Rattle.sqlite_tied.specs.Compute.{everything}
 use Rattle.sqlite.specs.Listing.{understood, reads_listing}
 use Rattle.sqlite.proofs.Callers.{IsPlain, command_of, statement_of}
 use Rattle.part_store.specs.Tables.{users, contents, entries, no_schema, with_users, with_contents, store_schema, users_text, contents_text, entries_text}
-use Rattle.part_store.specs.Statements.{find_user_text, drop_user_text, add_user_text, list_programs_text, list_users_text, find_content_text, size_content_text, list_contents_text, add_content_text, drop_content_text, list_entries_text, find_entry_text, name_content_text, add_entry_text, drop_entry_text}
+use Rattle.part_store.specs.Statements.{find_user_text, drop_user_text, add_user_text, list_programs_text, list_users_text, find_content_text, size_content_text, list_contents_text, add_content_text, drop_content_text, list_entries_text, find_entry_text, add_entry_text, drop_entry_text}
 
 -- a column of the table equals a parameter
 abbrev pub is_given : ℕ → ℕ → Term
@@ -135,13 +135,6 @@ find_entry_query = picked 4 (is_given 1 0 ∷ is_given 2 1 ∷ []) (col 1 7 ∷ 
 pub find_entry_is : Means store_schema find_entry_text (Select (alone find_entry_query) (codes "digest" ∷ []))
 unfolding understood everything
 find_entry_is = (refl, (refl, refl), refl)
-
-abbrev pub name_content_query : Query
-name_content_query = picked 4 (is_given 7 0 ∷ []) (col 1 2 ∷ []) []
-
-pub name_content_is : Means store_schema name_content_text (Select (alone name_content_query) (codes "number" ∷ []))
-unfolding understood everything
-name_content_is = (refl, (refl, refl), refl)
 
 pub add_entry_is : Means store_schema add_entry_text (Insert 2 (Values (lit Null ∷ col 0 0 ∷ col 0 1 ∷ col 0 2 ∷ col 0 3 ∷ col 0 4 ∷ col 0 5 ∷ col 0 6 ∷ []) 8))
 unfolding understood everything

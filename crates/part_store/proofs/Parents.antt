@@ -12,7 +12,7 @@ use Rattle.sqlite_schema.specs.declared.schema.Constraint.TheVariants.{ForeignKe
 use Rattle.sqlite_schema.specs.Rules.{agree, has_null, has_parent, Obeys, Refers}
 use Rattle.sqlite_rules.specs.Lists.{Has}
 use Rattle.sqlite_rules.proofs.ListLemmas.{all_has, all_from, some_has, some_from}
-use Rattle.sqlite_rules.proofs.KeyLemmas.{agree_back, agree_chain}
+use Rattle.sqlite_rules.proofs.KeyLemmas.{agree_back, agree_chain, agree_whole}
 use Rattle.part_store.specs.Tables.{entry_reference, store_schema}
 use Rattle.part_store.specs.Changes.{users_tree, contents_tree, entries_tree, equals}
 
@@ -47,3 +47,13 @@ other_content digest p r parent none = false_from_ne_true _ (λ same.
     let on : agree plain (1 ∷ []) p (0 ∷ []) (Blob digest ∷ []) ≡ true = rw same in
     let chain = agree_chain plain (7 ∷ []) (1 ∷ []) (0 ∷ []) r p (Blob digest ∷ []) back on in
     true≢false (sym (and_parts _ _ chain).0 ∙ none))
+
+-- a row that names the digest has no parent where no content has it
+pub orphan : (db : Trees) (digest : List ℕ) (r : Row) → ((p : Row) → Has (db contents_tree) p → equals 1 (Blob digest) p ≡ false) → equals 7 (Blob digest) r ≡ true → HasParent db r → ⊥
+unfolding everything binary first_key
+orphan db digest r gone names h =
+    let on : agree plain (7 ∷ []) r (0 ∷ []) (Blob digest ∷ []) ≡ true = rw names in
+    let full = agree_whole plain (7 ∷ []) (0 ∷ []) r (Blob digest ∷ []) on in
+    let p = some_has (λ p. is_parent p r) (db contents_tree) (rw full at h) in
+    let chain = agree_chain plain (1 ∷ []) (7 ∷ []) (0 ∷ []) p.0 r (Blob digest ∷ []) p.2 on in
+    true≢false (sym (and_parts _ _ chain).0 ∙ gone p.0 p.1)

@@ -2,6 +2,7 @@
 use Rattle.std.proofs.Common.{◌≡◌, ◌≢◌, inl, inr, ℕ, ◌<◌, ℤ, pos, true, false, not, List, [], ◌∷◌, length, filter, Option, Some, None, MatchOption, option_map, Result, Ok, Err, IfOk, refl, sym, ap, subst, subst₂, ◌∙◌, bytes_eq, arith}
 use Rattle.std.specs.List.{AllByRecursion, AllZip}
 use Rattle.std.proofs.lemmas.Bool.{cases_Bool, true≢false, not-true, false_from_ne_true}
+use Rattle.sqlite_value.specs.declared.value.Value.{Value}
 use Rattle.sqlite_value.specs.declared.value.Value.TheVariants.{Null, Int, Text, Blob}
 use Rattle.sqlite_value.specs.Order.{Row, column}
 use Rattle.sqlite_trees.specs.Tree.{Trees, rowid, IsTable}
@@ -13,10 +14,10 @@ use Rattle.sqlite.specs.Values.{or_null}
 use Rattle.sqlite.specs.State.{State}
 use Rattle.part_store.specs.Changes.{users_tree, contents_tree, entries_tree, equals, columns, Steps, Reads, IsFound, IsAdded, IsTaken}
 use Rattle.part_store.specs.Entries.{Entries, with_program}
-use Rattle.part_store.specs.Standing.{last_in, Brings, Stands, IsUserRow, IsContentRow, HasContent, StandsFor, IsEntryRow}
+use Rattle.part_store.specs.Standing.{last_in, Brings, Stands, IsUserRow, IsContentRow, IsNumbered, HasContent, StandsFor, IsEntryRow}
 pub use Rattle.part_store.proofs.Apart.{bytes_same, same_bytes}
 use Rattle.part_store.proofs.Apart.{apart_put}
-use Rattle.part_store.proofs.Equals.{equal_texts}
+use Rattle.part_store.proofs.Equals.{equal_texts, same_number}
 use Rattle.part_store.proofs.Gaining.{filter_rises, added_rises, added_has, has_added, added_keeps, keyed_all}
 
 pub user_key : (e : Entries) (r : Row) → IsUserRow e r → is_int (rowid r) ≡ true
@@ -25,9 +26,6 @@ user_key e r h = rw h.2
 -- the row is of the user exactly where his name is in it
 pub of_user : (e : Entries) (r : Row) (user : List ℕ) (h : IsUserRow e r) → equals 1 (Text user) r ≡ bytes_eq h.1 user
 of_user e r user h = rw h.2 (equal_texts h.1 user)
-
-same_int : (m n : ℕ) → Int (pos m) ≡ Int (pos n) → m ≡ n
-same_int m n h = cc
 
 module _ (db : Trees) (e : Entries) (stands : StandsFor db e) (user : List ℕ) where
   -- the row that was found is the user's
@@ -41,66 +39,73 @@ module _ (db : Trees) (e : Entries) (stands : StandsFor db e) (user : List ℕ) 
   last_read None n found last = last ∙ sym (stands.strangers user found).0
   last_read (Some row) n found last =
       let r = found_user found.0 found.1 found.2 in
-      same_int n (e.lasts user) (sym last ∙ ap (λ (x : Row). column x 0) found.3 ∙ ap (λ (x : Row). column x 2) r.1)
+      same_number n (e.lasts user) (sym last ∙ ap (λ (x : Row). column x 0) found.3 ∙ ap (λ (x : Row). column x 2) r.1)
 
--- the user's row is put anew, with his last number and this program
-module _ (db mid new : Trees) (e : Entries) (stands : StandsFor db e) (user program : List ℕ) (n : ℕ) (last : n ≡ e.lasts user)
-    (taken : IsTaken users_tree (equals 1 (Text user)) db mid) (added : IsAdded users_tree (Text user ∷ Int (pos n) ∷ Blob program ∷ []) mid new) where
-  abbrev after : Entries
-  after = with_program user program e
+-- The user's row is put anew, with this number and this value for his program. So a state stands there that has these of
+-- him, and of all others what there was.
+module _ (db mid new : Trees) (user : List ℕ) (n : ℕ) (value : Value) (taken : IsTaken users_tree (equals 1 (Text user)) db mid)
+    (added : IsAdded users_tree (Text user ∷ Int (pos n) ∷ value ∷ []) mid new) where
+  pub contents_stay : new contents_tree ≡ db contents_tree
+  contents_stay = added.others.1.0 (λ h. absurd (omega (arith, h))) ∙ taken.others.1.0 (λ h. absurd (omega (arith, h)))
 
-  rest : mid users_tree ≡ filter (λ r. not (equals 1 (Text user) r)) (db users_tree)
-  rest = taken.rows stands.users_rise (keyed_all (IsUserRow e) (db users_tree) (user_key e) stands.users)
+  pub entries_stay : new entries_tree ≡ db entries_tree
+  entries_stay = added.others.1.1.0 (λ h. absurd (omega (arith, h))) ∙ taken.others.1.1.0 (λ h. absurd (omega (arith, h)))
 
-  contents_same : new contents_tree ≡ db contents_tree
-  contents_same = added.others.1.0 (λ h. absurd (omega (arith, h))) ∙ taken.others.1.0 (λ h. absurd (omega (arith, h)))
+  module _ (e after : Entries) (stands : StandsFor db e) (number : n ≡ after.lasts user) (program : value ≡ or_null Blob (after.programs user))
+      (beside : (name : List ℕ) → bytes_eq name user ≡ false → (after.lasts name ≡ e.lasts name) × (after.programs name ≡ e.programs name)) where
+    rest : mid users_tree ≡ filter (λ r. not (equals 1 (Text user) r)) (db users_tree)
+    rest = taken.rows stands.users_rise (keyed_all (IsUserRow e) (db users_tree) (user_key e) stands.users)
 
-  entries_same : new entries_tree ≡ db entries_tree
-  entries_same = added.others.1.1.0 (λ h. absurd (omega (arith, h))) ∙ taken.others.1.1.0 (λ h. absurd (omega (arith, h)))
+    mid_rises : IsTable (mid users_tree)
+    mid_rises = subst IsTable (sym rest) (filter_rises _ _ (db users_tree) stands.users_rise)
 
-  mid_rises : IsTable (mid users_tree)
-  mid_rises = subst IsTable (sym rest) (filter_rises _ _ (db users_tree) stands.users_rise)
+    -- a row of another user stays
+    others_stay : (r : Row) → Has (db users_tree) r → equals 1 (Text user) r ≡ false → Has (new users_tree) r
+    others_stay r there other =
+        added_keeps users_tree _ mid new r added (subst (λ rows. Has rows r) (sym rest) (has_kept _ (db users_tree) r there (ap not other)))
 
-  -- a row of another user stays
-  others_stay : (r : Row) → Has (db users_tree) r → equals 1 (Text user) r ≡ false → Has (new users_tree) r
-  others_stay r there other =
-      added_keeps users_tree _ mid new r added (subst (λ rows. Has rows r) (sym rest) (has_kept _ (db users_tree) r there (ap not other)))
+    each_user : (r : Row) → Has (new users_tree) r → IsUserRow after r
+    each_user r there = elim (added_has users_tree _ mid new r added there) [
+      | inl is ↦ (next_rowid (mid users_tree), user, is ∙ rw (number, program))
+      | inr was ↦
+          let kept = has_filtered _ (db users_tree) r (subst (λ rows. Has rows r) rest was) in
+          let h = all_has (IsUserRow e) (db users_tree) r stands.users kept.0 in
+          let same = beside h.1 (sym (of_user e r user h) ∙ not-true _ kept.1) in
+          (h.0, h.1, h.2 ∙ rw (same.0, same.1))
+    ]
 
-  each_user : (r : Row) → Has (new users_tree) r → IsUserRow after r
-  each_user r there = elim (added_has users_tree _ mid new r added there) [
-    | inl is ↦ (next_rowid (mid users_tree), user, is ∙ rw (last, bytes_same user))
-    | inr was ↦
-        let kept = has_filtered _ (db users_tree) r (subst (λ rows. Has rows r) rest was) in
-        let h = all_has (IsUserRow e) (db users_tree) r stands.users kept.0 in
-        let other : bytes_eq h.1 user ≡ false = sym (of_user e r user h) ∙ not-true _ kept.1 in
-        (h.0, h.1, h.2 ∙ rw other)
-  ]
+    strangers_too : (name : List ℕ) → ((r : Row) → Has (new users_tree) r → equals 1 (Text name) r ≡ false) → (after.lasts name ≡ 0) × (after.programs name ≡ None)
+    strangers_too name none =
+        let here = none _ (has_added users_tree _ mid new added) in
+        let other : bytes_eq user name ≡ false = sym (equal_texts user name) ∙ here in
+        let same = beside name (false_from_ne_true _ (λ is. absurd (true≢false (sym (bytes_same user) ∙ ap (bytes_eq user) (sym (same_bytes name user is)) ∙ other)))) in
+        let was = stands.strangers name (λ r there. elim (cases_Bool (equals 1 (Text user) r)) [
+          | inl mine ↦ let r2 = found_user db e stands user r there mine in rw (r2.1) (equal_texts user name ∙ other)
+          | inr not_mine ↦ none r (others_stay r there not_mine)
+        ]) in
+        (same.0 ∙ was.0, same.1 ∙ was.1)
 
-  strangers_too : (name : List ℕ) → ((r : Row) → Has (new users_tree) r → equals 1 (Text name) r ≡ false) → (after.lasts name ≡ 0) × (after.programs name ≡ None)
-  strangers_too name none =
-      let here = none _ (has_added users_tree _ mid new added) in
-      let other : bytes_eq user name ≡ false = sym (equal_texts user name) ∙ here in
-      let other2 : bytes_eq name user ≡ false = false_from_ne_true _ (λ is. absurd (true≢false (sym (bytes_same user) ∙ ap (bytes_eq user) (sym (same_bytes name user is)) ∙ other))) in
-      let was = stands.strangers name (λ r there. elim (cases_Bool (equals 1 (Text user) r)) [
-        | inl mine ↦ let r2 = found_user db e stands user r there mine in rw (r2.1) (equal_texts user name ∙ other)
-        | inr not_mine ↦ none r (others_stay r there not_mine)
-      ]) in
-      (was.0, rw other2 was.1)
+    pub user_put : after.entries ≡ e.entries → IsNumbered after → StandsFor new after
+    user_put entries numbers = record {
+      users_rise = added_rises users_tree _ mid new added mid_rises;
+      contents_rise = subst IsTable (sym contents_stay) stands.contents_rise;
+      entries_rise = subst IsTable (sym entries_stay) stands.entries_rise;
+      users = all_from (IsUserRow after) (new users_tree) each_user;
+      apart = apart_put db mid new user _ stands.apart rest added;
+      strangers = strangers_too;
+      contents = subst (AllByRecursion IsContentRow) (sym contents_stay) stands.contents;
+      single = subst (λ rows. (digest one other : List ℕ) → HasContent rows digest one → HasContent rows digest other → one ≡ other) (sym contents_stay) stands.single;
+      entries = subst (AllZip (IsEntryRow (new contents_tree)) (new entries_tree)) (sym entries) (subst₂ (λ c rows. AllZip (IsEntryRow c) rows e.entries) (sym contents_stay) (sym entries_stay) stands.entries);
+      named = subst₂ (λ c rows. (digest octets : List ℕ) → HasContent c digest octets → (r : Row) × Has rows r × (column r 7 ≡ Blob digest)) (sym contents_stay) (sym entries_stay) stands.named;
+      numbers = numbers;
+    }
 
-  pub program_put : StandsFor new after
-  program_put = record {
-    users_rise = added_rises users_tree _ mid new added mid_rises;
-    contents_rise = subst IsTable (sym contents_same) stands.contents_rise;
-    entries_rise = subst IsTable (sym entries_same) stands.entries_rise;
-    users = all_from (IsUserRow after) (new users_tree) each_user;
-    apart = apart_put db mid new user _ stands.apart rest added;
-    strangers = strangers_too;
-    contents = subst (AllByRecursion IsContentRow) (sym contents_same) stands.contents;
-    single = subst (λ rows. (digest one other : List ℕ) → HasContent rows digest one → HasContent rows digest other → one ≡ other) (sym contents_same) stands.single;
-    entries = subst₂ (λ c rows. AllZip (IsEntryRow c) rows e.entries) (sym contents_same) (sym entries_same) stands.entries;
-    named = subst₂ (λ c rows. (digest octets : List ℕ) → HasContent c digest octets → (r : Row) × Has rows r × (column r 7 ≡ Blob digest)) (sym contents_same) (sym entries_same) stands.named;
-    numbers = record { limit = stands.numbers.limit; given = stands.numbers.given; rising = stands.numbers.rising };
-  }
+-- with his last number and another program
+program_put : (db mid new : Trees) (e : Entries) → StandsFor db e → (user program : List ℕ) (n : ℕ) → n ≡ e.lasts user → IsTaken users_tree (equals 1 (Text user)) db mid
+    → IsAdded users_tree (Text user ∷ Int (pos n) ∷ Blob program ∷ []) mid new → StandsFor new (with_program user program e)
+program_put db mid new e stands user program n last taken added =
+    user_put db mid new user n (Blob program) taken added e (with_program user program e) stands last (rw (bytes_same user)) (λ name other. (refl, rw other)) refl
+    (record { limit = stands.numbers.limit; given = stands.numbers.given; rising = stands.numbers.rising })
 
 pub program_brought : (old one two new : State) (user program : List ℕ) (n : ℕ) (found : Option Row)
     → Steps (Reads (λ db. IsFound users_tree (equals 1 (Text user)) (columns (2 ∷ 3 ∷ [])) db found)) old one → last_in found n

@@ -3,15 +3,13 @@ use Rattle.std.proofs.Common.{◌≡◌, ◌⊎◌, inl, inr, ℕ, ◌^◌, ◌<
 use Rattle.std.proofs.lemmas.Bool.{true≢false}
 use Rattle.sqlite_value.specs.declared.value.Value.TheVariants.{Null, Int, Text, Blob}
 use Rattle.sqlite_value.specs.Order.{Row, column}
-use Rattle.sqlite_sql.specs.declared.ops.UnaryOp.TheVariants.{Length}
-use Rattle.sqlite_sql.specs.Ops.{unary}
 use Rattle.sqlite_rules.proofs.ListLemmas.{all_has}
 use Rattle.sqlite.specs.State.{State}
 use Rattle.sqlite.specs.Values.{or_null}
 use Rattle.part_store.specs.Changes.{users_tree, contents_tree, entries_tree, equals, is_entry, columns, length_at, IsFound, Steps, Reads}
 use Rattle.part_store.specs.Entries.{Entries}
 use Rattle.part_store.specs.Standing.{IsContentRow, HasContent, Stands}
-use Rattle.part_store.proofs.Equals.{equal_blobs}
+use Rattle.part_store.proofs.Equals.{blob_length, equal_blobs}
 use Rattle.part_store.proofs.Finding.{zip_found}
 use Rattle.part_store.proofs.Programs.{bytes_same, found_user}
 
@@ -43,15 +41,11 @@ module _ (old new : State) (before : Entries) (stands : Stands old.now before) (
       let h = all_has IsContentRow (old.now.trees contents_tree) found.0 stands.tables.contents found.1 in
       subst (IsBlobAt 0) (sym found.3) (omega arith, (h.2, ap (λ (r : Row). column r 2) h.3))
 
-  length_shown : (octets : List ℕ) → unary Length (Blob octets) ≡ Int (pos (length octets))
-  unfolding unary
-  length_shown octets = refl
-
   pub size_readable : (digest : List ℕ) → Steps (Reads (λ db. IsFound contents_tree (equals 1 (Blob digest)) (length_at 2) db (Some row))) old new → IsNumberAt 0 row
   size_readable digest reads =
       let found = (reads stands.schema).change.1 in
       let h = all_has IsContentRow (old.now.trees contents_tree) found.0 stands.tables.contents found.1 in
-      subst (IsNumberAt 0) (sym found.3) (omega arith, (length h.2, ap (λ (r : Row). column (length_at 2 r) 0) h.3 ∙ length_shown h.2))
+      subst (IsNumberAt 0) (sym found.3) (omega arith, (length h.2, ap (λ (r : Row). column (length_at 2 r) 0) h.3 ∙ blob_length h.2))
 
   may_be : (program : Option (List ℕ)) → (or_null Blob program ≡ Null) ⊎ ((octets : List ℕ) × (or_null Blob program ≡ Blob octets))
   may_be None = inl refl

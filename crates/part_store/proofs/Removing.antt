@@ -1,14 +1,16 @@
 -- The tables without an entry.
-use Rattle.std.proofs.Common.{◌≡◌, ◌⊎◌, inl, inr, ℕ, ◌<◌, ℤ, Bool, true, false, not, List, [], ◌∷◌, filter, None, refl, sym, ap, subst, ◌∙◌, bytes_eq, arith}
+use Rattle.std.proofs.Common.{◌≡◌, ◌⊎◌, inl, inr, ℕ, ◌<◌, ℤ, Bool, true, false, not, IsTrue, List, [], ◌∷◌, filter, None, refl, sym, ap, subst, ◌∙◌, bytes_eq, arith}
 use Rattle.std.specs.List.{AllByRecursion, AllZip}
 use Rattle.std.proofs.lemmas.Bool.{cases_Bool, true≢false, and_parts, not-true, eqb-true}
 use Rattle.sqlite_value.specs.declared.keys.Collation.TheVariants.{Binary}
 use Rattle.sqlite_schema.specs.Rules.{equal}
 use Rattle.sqlite_value.specs.declared.value.Value.TheVariants.{Text, Blob}
 use Rattle.sqlite_value.specs.Order.{Row, column}
-use Rattle.sqlite_trees.specs.Tree.{Trees, IsAscending, IsTable}
+use Rattle.sqlite_trees.specs.Tree.{Trees, rowid, IsAscending, IsTable}
+use Rattle.sqlite_trees.specs.View.{is_int}
 use Rattle.sqlite_rules.specs.Lists.{Has}
 use Rattle.sqlite_rules.proofs.ListLemmas.{all_has, all_from, has_filtered, has_kept}
+use Rattle.sqlite.specs.Effect.{IsDatabase}
 use Rattle.sqlite.specs.State.{State, KeepsCommit}
 use Rattle.part_store.specs.Tables.{store_schema}
 use Rattle.part_store.specs.Changes.{users_tree, contents_tree, entries_tree, equals, is_entry, IsTaken, Steps}
@@ -20,6 +22,8 @@ use Rattle.part_store.proofs.Finding.{zip_found, row_test, content_test, same_bl
 use Rattle.part_store.proofs.Filed.{zip_weaker, entry_keys}
 use Rattle.part_store.proofs.Programs.{same_bytes, bytes_same}
 use Rattle.part_store.proofs.Stored.{still_listed}
+use Rattle.part_store.proofs.Causes.{contents_table_in}
+use Rattle.part_store.specs.Refusals.{IsTableIn}
 
 zip_filtered : {X Y : Type 0} (R : X → Y → Type 0) (p : X → Bool) (q : Y → Bool) (xs : List X) (ys : List Y) → ((x : X) (y : Y) → R x y → p x ≡ q y) → AllZip R xs ys → AllZip R (filter p xs) (filter q ys)
 zip_filtered R p q [] [] same all = tt
@@ -147,17 +151,19 @@ named_blob db e digest r stands h is =
     column_is ∙ ap Blob (same_bytes x.2.1 digest (sym (equal_blobs x.2.1 digest) ∙ ap (λ v. equal Binary v (Blob digest)) (sym column_is) ∙ is))
 
 pub entry_taken_out : (old one two new : State) (user : List ℕ) (number : ℕ) (digest : List ℕ) → ((before : Entries) → Stands old.now before → NamesDigest old.now.trees user number digest) → Stays old one
-    → (old.now.schema ≡ store_schema → KeepsCommit old one) → Steps (IsTaken entries_tree (is_entry user number)) one two → (two.now.schema ≡ store_schema → IsTidied digest two new) → Brings (without_entry user number) old new
+    → (old.now.schema ≡ store_schema → KeepsCommit old one) → Steps (IsTaken entries_tree (is_entry user number)) one two → (two.now.schema ≡ store_schema → IsDatabase two.now → IsTableIn contents_tree two.now.trees → IsTidied digest two new) → Brings (without_entry user number) old new
 entry_taken_out old one two new user number digest told stays commits takes tidies before stands =
     let same = stays stands.schema in
     let step = takes same.0 in
-    let tidied = tidies step.schema in
     let gone = subst (λ t. IsTaken entries_tree (is_entry user number) t two.now.trees) same.1 step.change in
     let names = told before stands in
+    let contents = contents_left old.now.trees two.now.trees before user number digest stands.tables names gone in
+    let listed = step.listed (still_listed old.now one.now same.0 same.1 stands) in
+    let tidied = tidies step.schema listed (subst (λ rows. IsTable rows × AllByRecursion (λ r. IsTrue (is_int (rowid r))) rows) (sym contents) (contents_table_in old before stands)) in
     let tables : StandsFor new.now.trees (without_entry user number before) = elim tidied.change [
       | inl shared ↦ subst (λ t. StandsFor t (without_entry user number before)) (sym shared.3) (shared_left old.now.trees two.now.trees before user number digest stands.tables names gone shared.0 shared.1
           (let was = has_filtered (λ r. not (is_entry user number r)) (old.now.trees entries_tree) shared.0 (subst (λ rows. Has rows shared.0) (rows_left old.now.trees two.now.trees before user number digest stands.tables names gone) shared.1) in
           named_blob old.now.trees before digest shared.0 stands.tables was.0 shared.2))
       | inr alone ↦ alone_left old.now.trees two.now.trees before user number digest stands.tables names gone new.now.trees alone.0 alone.1
     ] in
-    (record { schema = tidied.schema; listed = tidied.listed (step.listed (still_listed old.now one.now same.0 same.1 stands)); tables = tables }, tidied.committed ∙ step.committed ∙ (commits stands.schema).committed step.was_open)
+    (record { schema = tidied.schema; listed = tidied.listed listed; tables = tables }, tidied.committed ∙ step.committed ∙ (commits stands.schema).committed step.was_open)

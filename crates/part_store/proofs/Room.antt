@@ -23,6 +23,7 @@ use Rattle.part_store.specs.Standing.{last_in, IsUserRow, Stands, StandsFor}
 use Rattle.part_store.specs.declared.error.StoreError.TheVariants.{Database}
 use Rattle.part_store.proofs.Apart.{bytes_same}
 use Rattle.part_store.proofs.Causes.{stands_writable, writable_then}
+use Rattle.part_store.proofs.Equals.{or_null_map}
 use Rattle.part_store.proofs.Failing.{later_failed}
 use Rattle.part_store.proofs.Gaining.{added_has, filter_rises, keyed_all}
 use Rattle.part_store.proofs.Programs.{last_read}
@@ -84,14 +85,10 @@ pub last_shown : (old new : State) (before : Entries) (user : List ℕ) (found :
 last_shown old new before user None stands reads = tt
 last_shown old new before user (Some row) stands reads = (user_readable old new before stands row user reads).0
 
-or_null_now : {A : Type 0} (items : A → List ℕ) (program : Option A) → or_null (λ v. Blob (items v)) program ≡ or_null Blob (option_map items program)
-or_null_now items None = refl
-or_null_now items (Some v) = refl
-
 -- the row that a claim puts in, and the one with a program
 pub claimed_values : {A : Type 0} (items : A → List ℕ) (user : List ℕ) (last : ℕ) (program : Option A) (before : Entries) → option_map items program ≡ before.programs user
     → Text user ∷ Int (pos last) ∷ or_null (λ v. Blob (items v)) program ∷ [] ≡ user_values user ((with_last user last before).lasts user) ((with_last user last before).programs user)
-claimed_values items user last program before same = rw (bytes_same user) (ap (λ v. Text user ∷ Int (pos last) ∷ v ∷ []) (or_null_now items program ∙ ap (or_null Blob) same))
+claimed_values items user last program before same = rw (bytes_same user) (ap (λ v. Text user ∷ Int (pos last) ∷ v ∷ []) (or_null_map items program ∙ ap (or_null Blob) same))
 
 pub program_values : (user : List ℕ) (last : ℕ) (program : List ℕ) (before : Entries) → last ≡ before.lasts user
     → Text user ∷ Int (pos last) ∷ Blob program ∷ [] ≡ user_values user ((with_program user program before).lasts user) ((with_program user program before).programs user)

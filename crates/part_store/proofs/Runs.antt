@@ -1,5 +1,5 @@
 -- What a statement in a transaction leaves, and what it was.
-use Rattle.std.proofs.Common.{◌≡◌, ◌⊎◌, inl, inr, ℕ, Bool, true, false, ◌&&◌, List, [], ◌∷◌, Option, Some, None, Ok, Err, Result, refl, sym, ap, subst, ◌∙◌, IsTrue, slice_get, OnOk, OnErr, IfOk, IfErr, IsErrAnd, not}
+use Rattle.std.proofs.Common.{◌≡◌, ◌≢◌, ◌⊎◌, inl, inr, ℕ, Bool, true, false, ◌&&◌, List, [], ◌∷◌, Option, Some, None, Ok, Err, Result, refl, sym, ap, subst, ◌∙◌, IsTrue, slice_get, OnOk, OnErr, IfOk, IfErr, IsErrAnd, not}
 use Rattle.std.proofs.lemmas.Bool.{cases_Bool, false_from_ne_true}
 use Rattle.sqlite_trees.specs.declared.store.Store as store
 use Rattle.sqlite_trees.specs.Tree.{Trees}
@@ -86,6 +86,16 @@ module _ {S : Type 0} (g : store.Ghosts S) (old new : Held S) (sql : List ℕ) (
     | inr off ↦ absurd (let e = sym is ∙ (ended off).0 in cc)
   ]
 
+  -- what else is refused is so in a transaction
+  pub refused_inside : (e : Error) → e ≢ SqliteFailure TransactionState → r ≡ Err e → IsTrue (state g old).in_transaction
+  refused_inside e other is = elim (cases_Bool (state g old).in_transaction) [
+    | inl on ↦ on
+    | inr off ↦ absurd (other (let same = sym is ∙ (ended off).0 in cc))
+  ]
+
+  pub refused_with : (e : Error) → e ≢ SqliteFailure TransactionState → r ≡ Err e → ExecutesInside 0 sql params (state g old) (state g new) (Err e)
+  refused_with e other is = subst (ExecutesInside 0 sql params (state g old) (state g new)) is (runs clean (refused_inside e other is))
+
 -- what the command does, where the tables are those of the store
 pub ran_as : (sql : List ℕ) (params : Row) (old new : State) (command : Command) (count : ℕ) → Means store_schema sql command → ExecutesInside 0 sql params old new (Ok count) → old.now.schema ≡ store_schema
     → Runs old new None command (statement_of sql (understood store_schema sql)) params count
@@ -161,6 +171,10 @@ if_err (Err e) P Q f h = f e h
 pub ok_then : {B E : Type 0} (r : Result B E) (P : B → Type 0) (Q : Type 0) → ((b : B) → P b → Q) → IfOk r P → OnOk r Q
 ok_then (Ok b) P Q f h = f b h
 ok_then (Err e) P Q f h = tt
+
+pub on_ok_then : {B E : Type 0} (r : Result B E) (P Q : Type 0) → (P → Q) → OnOk r P → OnOk r Q
+on_ok_then (Ok b) P Q f h = f h
+on_ok_then (Err e) P Q f h = tt
 
 pub err_then : {B E : Type 0} (r : Result B E) (P Q : E → Type 0) → ((e : E) → P e → Q e) → IfErr r P → IfErr r Q
 err_then (Ok b) P Q f h = tt

@@ -1,13 +1,11 @@
 -- The rows of an answer over tables that stand for a state can be read.
-use Rattle.std.proofs.Common.{◌≡◌, ℕ, zero, suc, ◌+◌, ◌<◌, ◌≤◌, ◌^◌, pos, true, List, [], ◌∷◌, length, map, filter, take, get_or, sum_by, Option, Some, None, refl, sym, ap, subst, ◌∙◌, arith}
+use Rattle.std.proofs.Common.{◌≡◌, ℕ, zero, suc, ◌+◌, ◌<◌, ◌≤◌, ◌^◌, true, List, [], ◌∷◌, length, map, filter, take, get_or, sum_by, Option, Some, None, refl, sym, ap, subst, ◌∙◌, arith}
 use Rattle.std.specs.List.{AllByRecursion}
 use Rattle.std.proofs.lemmas.Bool.{true≢false}
 use Rattle.std.proofs.lemmas.List.Sorted.{IsPermutation-sym}
 use Rattle.std.proofs.lemmas.List.Sums.{sum_by-cons}
-use Rattle.sqlite_value.specs.declared.value.Value.TheVariants.{Int, Text, Blob}
+use Rattle.sqlite_value.specs.declared.value.Value.TheVariants.{Text, Blob}
 use Rattle.sqlite_value.specs.Order.{Row, column}
-use Rattle.sqlite_sql.specs.declared.ops.UnaryOp.TheVariants.{Length}
-use Rattle.sqlite_sql.specs.Ops.{unary}
 use Rattle.sqlite_trees.specs.Tree.{Trees}
 use Rattle.sqlite_rules.specs.Lists.{Has}
 use Rattle.sqlite_rules.proofs.ListLemmas.{all_has, all_from, has_filtered}
@@ -21,6 +19,7 @@ use Rattle.part_store.specs.Refusals.{AreNamed, IsReadable, ShowsProgram, ShowsS
 use Rattle.part_store.specs.Standing.{IsContentRow, IsUserRow, Shows, Stands, kind_number}
 use Rattle.part_store.specs.declared.entry.Kind.{Kind}
 use Rattle.part_store.specs.declared.entry.Kind.TheVariants.{Message, Part}
+use Rattle.part_store.proofs.Equals.{blob_length}
 use Rattle.part_store.proofs.Rows.{has_permuted}
 
 -- the row at a place
@@ -67,15 +66,11 @@ module _ (old new : State) (before : Entries) (stands : Stands old.now before) (
       let shown : ShowsUser row = (h.1, utf8, before.lasts h.1, short, before.programs h.1, r.3 ∙ ap (columns (1 ∷ 2 ∷ 3 ∷ [])) h.2) in
       shown)
 
-  length_shown : (octets : List ℕ) → unary Length (Blob octets) ≡ Int (pos (length octets))
-  unfolding unary
-  length_shown octets = refl
-
   pub sizes_show : Steps (Reads (IsListed contents_tree every sized rows)) old new → AllByRecursion ShowsSize rows
   sizes_show reads = all_from _ rows (λ row there.
       let r = from_table contents_tree every sized rows old.now.trees row (reads stands.schema).change.1 there in
       let h = all_has IsContentRow (old.now.trees contents_tree) r.0 stands.tables.contents r.1 in
-      let shown : ShowsSize row = (h.1, length h.2, r.3 ∙ ap sized h.3 ∙ ap (λ v. Blob h.1 ∷ v ∷ []) (length_shown h.2)) in
+      let shown : ShowsSize row = (h.1, length h.2, r.3 ∙ ap sized h.3 ∙ ap (λ v. Blob h.1 ∷ v ∷ []) (blob_length h.2)) in
       shown)
 
 small_kind : (kind : Kind) → kind_number kind < 2 ^ 32

@@ -1,6 +1,8 @@
 -- Where an INSERT or a DELETE stops.
-use Rattle.std.proofs.Common.{◌≡◌, ◌⊎◌, inl, inr, ℕ, zero, suc, false, List, [], ◌∷◌, length, append-nil, length-append, Option, Some, None, Ok, Err, Result, refl, sym, ap, subst, ◌∙◌, arith}
+use Rattle.std.proofs.Common.{◌≡◌, ◌⊎◌, inl, inr, ℕ, zero, suc, Bool, true, false, MatchBool, IfSome, List, [], ◌∷◌, length, append-nil, length-append, Option, Some, None, Ok, Err, Result, refl, sym, ap, subst, ◌∙◌, arith}
 use Rattle.sqlite_value.specs.Order.{Row}
+use Rattle.sqlite_trees.specs.declared.error.StoreError.{StoreError as Cause}
+use Rattle.sqlite_trees.specs.declared.error.StoreError.TheVariants.{OutOfMemory, Io, Corrupt, Full, Broken, Unstorable}
 use Rattle.sqlite_trees.specs.Tree.{Trees}
 use Rattle.sqlite_schema.specs.declared.schema.Keys.TheVariants.{Enforced}
 use Rattle.sqlite_schema.specs.declared.command.Source.{Source}
@@ -18,9 +20,9 @@ use Rattle.sqlite.specs.Clock.{timed}
 use Rattle.sqlite.specs.Does.{Does}
 use Rattle.sqlite.specs.Effect.{is_query}
 use Rattle.sqlite.specs.Listing.{understood}
-use Rattle.sqlite.specs.State.{State, mode_of, is_pragma, shows_rows, text_of, IsStatement, IsMisplaced, ExecutesIn, ExecutesInside, EndsScope, Escapes, RunsAlone}
+use Rattle.sqlite.specs.State.{State, mode_of, is_pragma, shows_rows, store_error, text_of, IsNotRun, IsStatement, IsUnchanged, IsMisplaced, ExecutesIn, ExecutesInside, EndsScope, Escapes, RunsAlone}
 use Rattle.sqlite.proofs.Callers.{IsPlain, command_of}
-use Rattle.part_store.specs.Refusals.{refusal_of, HasFailed}
+use Rattle.part_store.specs.Refusals.{refusal_of, still_named, HasFailed}
 use Rattle.part_store.specs.Tables.{store_schema}
 use Rattle.part_store.specs.declared.error.StoreError.TheVariants.{Database as refused}
 use Rattle.part_store.proofs.Faults.{IsAsked, failed, not_run_failed}
@@ -42,9 +44,38 @@ insert_writes at from = record { query = refl; pragma = refl; begin = λ h. cc; 
 pub delete_writes : (at : ℕ) (q : Program) → IsRowWrite (Delete at q)
 delete_writes at q = record { query = refl; pragma = refl; begin = λ h. cc; commit = λ h. cc; rollback = λ h. cc; release = λ name h. cc; back = λ name h. cc }
 
--- the rules of the tables stop the command, or a row that can't be stored
-abbrev pub Stops : State → Row → Command → Type 0
-Stops old params command = (text : List ℕ) × (stop : Option Error) × Does old.step_limit (mode_of old) params old.now text None command (Err stop)
+-- the rules of the tables stop the command, which is told, or a row that can't be stored
+abbrev pub Stops : State → Row → Command → Error → Type 0
+Stops old params command e = (text : List ℕ) × (stop : Option Error) × IfSome stop (λ x. x ≡ e) × Does old.step_limit (mode_of old) params old.now text None command (Err stop)
+
+-- the store under the database failed, which is told
+abbrev pub IsStoreFailure : Error → Type 0
+IsStoreFailure e = (cause : Cause) × (e ≡ store_error cause)
+
+-- that a row is still named is no failure of the store
+pub named_is_no_failure : IsStoreFailure still_named → ⊥
+named_is_no_failure (OutOfMemory, h) = absurd cc
+named_is_no_failure (Io, h) = absurd cc
+named_is_no_failure (Corrupt, h) = absurd cc
+named_is_no_failure (Full, h) = absurd cc
+named_is_no_failure (Broken, h) = absurd cc
+named_is_no_failure (Unstorable, h) = absurd cc
+
+either : (b : Bool) (A B : Type 0) → MatchBool b A B → A ⊎ B
+either true A B h = inl h
+either false A B h = inr h
+
+-- a statement that is refused because a row is still named leaves all as it was
+pub named_leaves : (sql : List ℕ) (params : Row) (old new : State) → ExecutesInside 0 sql params old new (Err still_named) → IsUnchanged old new
+unfolding ExecutesIn IsNotRun
+named_leaves sql params old new (inl h) = elim h.0 [
+  | inl not_run ↦ elim not_run [ inl none ↦ none.1 | inr fails ↦ absurd (named_is_no_failure (fails.0, fails.1)) ]
+  | inr runs ↦ elim (either (shows_rows false runs.0) _ _ runs.2) [
+    | inl shows ↦ shows.1
+    | inr command ↦ elim command [ inl low ↦ low.1 | inr fails ↦ absurd (named_is_no_failure (fails.0, fails.1)) ]
+  ]
+]
+named_leaves sql params old new (inr h) = h.2
 
 module _ (sql : List ℕ) (params : Row) (old new : State) (has : old.now.schema ≡ store_schema) (command : Command) (is : command_of (understood store_schema sql) ≡ command)
     (plain : IsPlain (understood store_schema sql)) (asked : IsAsked (understood store_schema sql) sql (length params)) (writes : IsRowWrite command) (e : Error) (told : refusal_of e ≡ refused) where
@@ -65,7 +96,7 @@ module _ (sql : List ℕ) (params : Row) (old new : State) (has : old.now.schema
   quiet : (c : Compiled) → c.returning ≡ None → c.command ≡ command → shows_rows false c ≡ false
   quiet c bare same = rw (same, bare, writes.query, writes.pragma)
 
-  ran : (c : Compiled) (it : IsStatement old sql params c) → RunsAlone false old new sql c (timed params c.formats it.now) (Err e) → HasFailed old new ⊎ Stops old params command
+  ran : (c : Compiled) (it : IsStatement old sql params c) → RunsAlone false old new sql c (timed params c.formats it.now) (Err e) → (HasFailed old new × IsStoreFailure e) ⊎ Stops old params command e
   ran c it h =
       let bare = subst IsPlain (sym (sym it.is ∙ ap (λ s. understood s sql) has)) plain in
       let same = command_is c it.is in
@@ -73,11 +104,11 @@ module _ (sql : List ℕ) (params : Row) (old new : State) (has : old.now.schema
       let does = λ (stop : Option Error) (d : Does old.step_limit (mode_of old) (timed params c.formats it.now) old.now (text_of sql c) c.returning c.command (Err stop)).
       subst (λ k. Does old.step_limit (mode_of old) params old.now (text_of sql c) None k (Err stop)) same (rw (bare.0, bare.1, append-nil params) at d) in
       elim runs [
-        | inl low ↦ elim low.0 [ inl misplaced ↦ absurd (placed c.command same misplaced) | inr stopped ↦ inr (text_of sql c, Some e, does (Some e) stopped.1) ]
-        | inr fails ↦ elim (failed old new _ e told fails) [ inl disk ↦ inl disk | inr big ↦ inr (text_of sql c, None, does None big) ]
+        | inl low ↦ elim low.0 [ inl misplaced ↦ absurd (placed c.command same misplaced) | inr stopped ↦ inr (text_of sql c, Some e, refl, does (Some e) stopped.1) ]
+        | inr fails ↦ elim (failed old new _ e told fails) [ inl disk ↦ inl (disk, (fails.0, fails.1)) | inr big ↦ inr (text_of sql c, None, tt, does None big) ]
       ]
 
-  pub stopped : ExecutesInside 0 sql params old new (Err e) → HasFailed old new ⊎ Stops old params command
+  pub stopped : ExecutesInside 0 sql params old new (Err e) → (HasFailed old new × IsStoreFailure e) ⊎ Stops old params command e
   unfolding ExecutesIn EndsScope
   stopped (inl h) = elim h.0 [
     | inl not_run ↦ inl (not_run_failed sql params old new has plain asked e told not_run)

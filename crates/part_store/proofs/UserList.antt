@@ -20,7 +20,7 @@ use Rattle.part_store.specs.Standing.{IsUserRow, Stands, StandsFor}
 use Rattle.part_store.specs.UserLines.{AreUsersOf, HasRow, UserLine, answer_of, line_of, user_line}
 use Rattle.part_store.specs.declared.user_row.UserRow.{UserRow}
 use Rattle.part_store.proofs.Apart.{bytes_same}
-use Rattle.part_store.proofs.Equals.{equal_texts}
+use Rattle.part_store.proofs.Equals.{equal_texts, same_number}
 use Rattle.part_store.proofs.NameOrder.{names_rise}
 use Rattle.part_store.proofs.Programs.{found_user}
 use Rattle.part_store.proofs.Rows.{has_permuted}
@@ -54,9 +54,6 @@ names_shown (p ∷ lines) (r ∷ rows) same =
 
 same_text : (m n : List ℕ) → Text m ≡ Text n → m ≡ n
 same_text m n h = cc
-
-same_number : (m n : ℕ) → Int (pos m) ≡ Int (pos n) → m ≡ n
-same_number m n h = cc
 
 same_program : (one other : Option (List ℕ)) → or_null Blob one ≡ or_null Blob other → one ≡ other
 same_program None None h = refl

@@ -4,6 +4,7 @@ pub mod Changes
 pub mod Entries
 pub mod Standing
 pub mod Refusals
+pub mod Calls
 pub mod Opening
 pub mod Crashes
 pub mod Filing

@@ -6,11 +6,12 @@ use Rattle.sqlite_value.specs.Order.{Row, column}
 use Rattle.sqlite_trees.specs.Tree.{Trees, rowid, IsTable}
 use Rattle.sqlite_trees.specs.View.{is_int}
 use Rattle.sqlite_sql.specs.Ops.{fits_i64}
+use Rattle.sqlite_schema.specs.declared.schema.Constraint.TheVariants.{ForeignKey}
 use Rattle.sqlite_schema.specs.declared.schema.Table.{Table}
 use Rattle.sqlite_rules.specs.Edit.{id_in, next_rowid, IsOversized}
 use Rattle.sqlite_rules.specs.Lists.{Has}
 use Rattle.sqlite.specs.Values.{or_null}
-use Rattle.sqlite.specs.declared.error.ErrorCode.TheVariants.{OutOfMemory}
+use Rattle.sqlite.specs.declared.error.ErrorCode.TheVariants.{OutOfMemory, ConstraintViolation}
 use Rattle.sqlite.specs.declared.error.Error.{Error}
 use Rattle.sqlite.specs.declared.error.Error.TheVariants.{SqliteFailure}
 use Rattle.sqlite.specs.Effect.{IsDatabase}
@@ -28,6 +29,10 @@ use Rattle.part_store.specs.declared.error.StoreError.TheVariants.{Memory, Datab
 abbrev pub refusal_of : Error → StoreError
 refusal_of (SqliteFailure OutOfMemory) = Memory
 refusal_of _ = Database
+
+-- the database's refusal to let a row go that another one names
+abbrev pub still_named : Error
+still_named = SqliteFailure (ConstraintViolation ForeignKey)
 
 -- the database can't work: its disk failed in the call, an earlier failure had shut it, or its
 -- statements may take only so many steps
@@ -56,10 +61,6 @@ pub record IsWritable (s : State) : Type 0 where
 -- the rows of a table have rowids, which rise
 abbrev pub IsTableIn : ℕ → Trees → Type 0
 IsTableIn tree db = IsTable (db tree) × AllByRecursion (λ r. IsTrue (is_int (rowid r))) (db tree)
-
--- no entry names the digest
-abbrev pub IsUnnamed : List ℕ → Trees → Type 0
-IsUnnamed digest db = (r : Row) → Has (db entries_tree) r → equals 7 (Blob digest) r ≡ false
 
 -- no row is the user's
 abbrev pub HasNoRow : List ℕ → Trees → Type 0

@@ -37,9 +37,6 @@ list_entries_text = codes "SELECT number, kind, folder, name, media, digest FROM
 abbrev pub find_entry_text : List ℕ
 find_entry_text = codes "SELECT digest FROM entries WHERE user = ?1 AND number = ?2"
 
-abbrev pub name_content_text : List ℕ
-name_content_text = codes "SELECT number FROM entries WHERE digest = ?1"
-
 abbrev pub add_entry_text : List ℕ
 add_entry_text = codes "INSERT INTO entries (user, number, folder, kind, name, media, digest) VALUES (?1, ?2, ?3, ?4, ?5, ?6, ?7)"
 

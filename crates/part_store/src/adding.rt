@@ -1,14 +1,12 @@
 //! How entries are added: their numbers are claimed, and then each is filed.
-ghost use Rattle.std.specs.Prelude.{◌≡◌, ◌⊎◌, ◌+◌, ◌<◌, ◌≤◌, true, false, IsTrue, length, map, option_map, IfOk, IfErr, OnOk};
+ghost use Rattle.std.specs.Prelude.{◌≡◌, ◌⊎◌, ◌+◌, ◌<◌, ◌≤◌, true, false, IsTrue, length, map, option_map};
 ghost use Rattle.octets.specs.Limits.{max_entry_number};
-ghost use Rattle.sqlite.specs.Held.{state};
-ghost use Rattle.sqlite.specs.State.{HasCleanDisk, KeepsCommit, Survives};
-ghost use Rattle.part_store.specs.Tables.{store_schema};
 ghost use Rattle.part_store.specs.Standing.{Stands, Stays, draft_of};
 ghost use Rattle.part_store.specs.Entries.{with_last};
 ghost use Rattle.part_store.specs.Refusals.{refusal_of, Blames, BlamesEntries, HasFailed, HasNoUserRoom, HaveNoRoom};
 ghost use Rattle.part_store.specs.declared.error.StoreError.TheVariants.{Database};
 ghost use Rattle.part_store.specs.Filing.{Adds, CanFile, Claims, Collides, Enters, FilesAll, IsFrom};
+ghost use Rattle.part_store.specs.Calls.{Always, AsRefusal, AsRefusalInside, CommitsNothing, IfDone, IfRefused, IsInside, KeepsStored, KeepsTables, OnDone, StaysInside, StaysShut, Tells, WasOpen};
 
 use crate::entry::NewEntry;
 use crate::filing::file_entry;
@@ -34,26 +32,16 @@ pub(crate) fn put_entries<S: Alter>(
 ) -> Result<Adding, Error>
     requires { 0 < length entries.now }
     ensures same_reference { tx.new.conn.ghost_name ≡ tx.old.conn.ghost_name }
-    ensures adds { HasCleanDisk (state S.Store tx.new.conn.now)
-        → IfOk result (Adds user.now (map draft_of entries.now) (state S.Store tx.old.conn.now)
-        (state S.Store tx.new.conn.now)) }
-    ensures open { HasCleanDisk (state S.Store tx.new.conn.now)
-        → OnOk result (IsTrue (state S.Store tx.old.conn.now).is_open) }
-    ensures shut { HasCleanDisk (state S.Store tx.new.conn.now)
-        → IsTrue (state S.Store tx.new.conn.now).is_open
-        → IsTrue (state S.Store tx.old.conn.now).is_open }
-    ensures inside { HasCleanDisk (state S.Store tx.new.conn.now)
-        → IfOk result (λ adding. IsFrom adding
-        → IsTrue (state S.Store tx.new.conn.now).in_transaction) }
-    ensures kept { HasCleanDisk (state S.Store tx.new.conn.now)
-        → (state S.Store tx.old.conn.now).now.schema ≡ store_schema
-        → KeepsCommit (state S.Store tx.old.conn.now) (state S.Store tx.new.conn.now) }
-    ensures cause { HasCleanDisk (state S.Store tx.new.conn.now)
-        → IfErr result (λ e. IsTrue (state S.Store tx.old.conn.now).in_transaction
-        → BlamesEntries user.now (map draft_of entries.now) (state S.Store tx.old.conn.now)
-        (state S.Store tx.new.conn.now) (refusal_of e)) }
-    ensures survives { Survives (state S.Store tx.old.conn.now) (state S.Store tx.new.conn.now)
-        (λ _. ⊥) }
+    ensures adds { IfDone S.Store tx.old.conn.now tx.new.conn.now result
+        (λ answer old new. Adds user.now (map draft_of entries.now) old new answer) }
+    ensures open { OnDone S.Store tx.old.conn.now tx.new.conn.now result WasOpen }
+    ensures shut { Always S.Store tx.old.conn.now tx.new.conn.now StaysShut }
+    ensures inside { IfDone S.Store tx.old.conn.now tx.new.conn.now result
+        (λ adding _ new. IsFrom adding → IsTrue new.in_transaction) }
+    ensures kept { Always S.Store tx.old.conn.now tx.new.conn.now KeepsStored }
+    ensures cause { IfRefused S.Store tx.old.conn.now tx.new.conn.now result
+        (AsRefusalInside (BlamesEntries user.now (map draft_of entries.now))) }
+    ensures survives { CommitsNothing S.Store tx.old.conn.now tx.new.conn.now }
 {
     let (last, program) = user_of(tx, user)?;
     if entries.len() > (u32::MAX - last) as usize {
@@ -78,32 +66,26 @@ fn claim_and_file<S: Alter>(
     requires some { 0 < length entries.now }
     requires room { last + length entries.now ≤ max_entry_number }
     ensures same_reference { tx.new.conn.ghost_name ≡ tx.old.conn.ghost_name }
-    ensures filed { HasCleanDisk (state S.Store tx.new.conn.now)
-        → IfOk result (λ done. done ≡ true → (before : _)
-        → Stands (state S.Store tx.old.conn.now).now before → last ≡ before.lasts user.now
+    ensures filed { IfDone S.Store tx.old.conn.now tx.new.conn.now result
+        (λ done old new. done ≡ true → (before : _) → Stands old.now before
+        → last ≡ before.lasts user.now
         → option_map (λ v. v.items) program ≡ before.programs user.now
-        → Enters user.now (map draft_of entries.now) before (state S.Store tx.old.conn.now)
-        (state S.Store tx.new.conn.now)) }
-    ensures other { HasCleanDisk (state S.Store tx.new.conn.now)
-        → IfOk result (λ done. done ≡ false → (before : _)
-        → Stands (state S.Store tx.old.conn.now).now before → last ≡ before.lasts user.now
+        → Enters user.now (map draft_of entries.now) before old new) }
+    ensures other { IfDone S.Store tx.old.conn.now tx.new.conn.now result
+        (λ done old _. done ≡ false → (before : _) → Stands old.now before
+        → last ≡ before.lasts user.now
         → option_map (λ v. v.items) program ≡ before.programs user.now
-        → Collides (state S.Store tx.old.conn.now).now.trees (map draft_of entries.now)) }
-    ensures inside { HasCleanDisk (state S.Store tx.new.conn.now)
-        → IfOk result (λ done. done ≡ true
-        → IsTrue (state S.Store tx.new.conn.now).in_transaction) }
-    ensures kept { HasCleanDisk (state S.Store tx.new.conn.now)
-        → (state S.Store tx.old.conn.now).now.schema ≡ store_schema
-        → KeepsCommit (state S.Store tx.old.conn.now) (state S.Store tx.new.conn.now) }
-    ensures cause { HasCleanDisk (state S.Store tx.new.conn.now)
-        → IfErr result (λ e. IsTrue (state S.Store tx.old.conn.now).in_transaction
-        → ((before : _) → Stands (state S.Store tx.old.conn.now).now before
+        → Collides old.now.trees (map draft_of entries.now)) }
+    ensures inside { IfDone S.Store tx.old.conn.now tx.new.conn.now result
+        (λ done _ new. done ≡ true → IsTrue new.in_transaction) }
+    ensures kept { Always S.Store tx.old.conn.now tx.new.conn.now KeepsStored }
+    ensures cause { IfRefused S.Store tx.old.conn.now tx.new.conn.now result
+        (λ old new e. IsTrue old.in_transaction
+        → ((before : _) → Stands old.now before
         → (last ≡ before.lasts user.now)
         × (option_map (λ v. v.items) program ≡ before.programs user.now))
-        → BlamesEntries user.now (map draft_of entries.now) (state S.Store tx.old.conn.now)
-        (state S.Store tx.new.conn.now) (refusal_of e)) }
-    ensures survives { Survives (state S.Store tx.old.conn.now) (state S.Store tx.new.conn.now)
-        (λ _. ⊥) }
+        → BlamesEntries user.now (map draft_of entries.now) old new (refusal_of e)) }
+    ensures survives { CommitsNothing S.Store tx.old.conn.now tx.new.conn.now }
 {
     claim(tx, user, last + entries.len() as u32, lent(&program))?;
     file_all(tx, user, last, entries)
@@ -124,27 +106,16 @@ fn user_of<S: Alter>(
     user: &str,
 ) -> Result<(u32, Option<Vec<u8>>), Error>
     ensures same_reference { tx.new.conn.ghost_name ≡ tx.old.conn.ghost_name }
-    ensures told { HasCleanDisk (state S.Store tx.new.conn.now) → IfOk result (λ found. (before : _)
-        → Stands (state S.Store tx.old.conn.now).now before → (found.0 ≡ before.lasts user.now)
+    ensures told { Tells S.Store tx.old.conn.now tx.new.conn.now result
+        (λ before found. (found.0 ≡ before.lasts user.now)
         × (option_map (λ v. v.items) found.1 ≡ before.programs user.now)) }
-    ensures open { HasCleanDisk (state S.Store tx.new.conn.now)
-        → OnOk result (IsTrue (state S.Store tx.old.conn.now).is_open) }
-    ensures shut { HasCleanDisk (state S.Store tx.new.conn.now)
-        → IsTrue (state S.Store tx.new.conn.now).is_open
-        → IsTrue (state S.Store tx.old.conn.now).is_open }
-    ensures same { HasCleanDisk (state S.Store tx.new.conn.now)
-        → OnOk result (Stays (state S.Store tx.old.conn.now) (state S.Store tx.new.conn.now)) }
-    ensures kept { HasCleanDisk (state S.Store tx.new.conn.now)
-        → (state S.Store tx.old.conn.now).now.schema ≡ store_schema
-        → KeepsCommit (state S.Store tx.old.conn.now) (state S.Store tx.new.conn.now) }
-    ensures inside { HasCleanDisk (state S.Store tx.new.conn.now)
-        → OnOk result ((state S.Store tx.old.conn.now).now.schema ≡ store_schema
-        → IsTrue (state S.Store tx.old.conn.now).in_transaction
-        → IsTrue (state S.Store tx.new.conn.now).in_transaction) }
-    ensures cause { HasCleanDisk (state S.Store tx.new.conn.now) → IfErr result (λ e.
-        Blames (state S.Store tx.old.conn.now) (state S.Store tx.new.conn.now) (refusal_of e)) }
-    ensures survives { Survives (state S.Store tx.old.conn.now) (state S.Store tx.new.conn.now)
-        (λ _. ⊥) }
+    ensures open { OnDone S.Store tx.old.conn.now tx.new.conn.now result WasOpen }
+    ensures shut { Always S.Store tx.old.conn.now tx.new.conn.now StaysShut }
+    ensures same { OnDone S.Store tx.old.conn.now tx.new.conn.now result Stays }
+    ensures kept { Always S.Store tx.old.conn.now tx.new.conn.now KeepsStored }
+    ensures inside { OnDone S.Store tx.old.conn.now tx.new.conn.now result StaysInside }
+    ensures cause { IfRefused S.Store tx.old.conn.now tx.new.conn.now result (AsRefusal Blames) }
+    ensures survives { CommitsNothing S.Store tx.old.conn.now tx.new.conn.now }
 {
     match users::find(tx, user)? {
         Some(row) => Ok((row.get(0)?, row.get(1)?)),
@@ -160,30 +131,19 @@ fn claim<S: Alter>(
     program: Option<&[u8]>,
 ) -> Result<(), Error>
     ensures same_reference { tx.new.conn.ghost_name ≡ tx.old.conn.ghost_name }
-    ensures claimed { HasCleanDisk (state S.Store tx.new.conn.now)
-        → OnOk result ((before : _) → Stands (state S.Store tx.old.conn.now).now before
+    ensures claimed { OnDone S.Store tx.old.conn.now tx.new.conn.now result
+        (λ old new. (before : _) → Stands old.now before
         → option_map (λ v. v.now) program.entry ≡ before.programs user.now
-        → before.lasts user.now ≤ last
-        → Claims user.now last before (state S.Store tx.old.conn.now)
-        (state S.Store tx.new.conn.now)) }
-    ensures inside { HasCleanDisk (state S.Store tx.new.conn.now)
-        → OnOk result (IsTrue (state S.Store tx.new.conn.now).in_transaction) }
-    ensures schema { HasCleanDisk (state S.Store tx.new.conn.now)
-        → OnOk result ((state S.Store tx.old.conn.now).now.schema ≡ store_schema
-        → (state S.Store tx.new.conn.now).now.schema ≡ store_schema) }
-    ensures kept { HasCleanDisk (state S.Store tx.new.conn.now)
-        → (state S.Store tx.old.conn.now).now.schema ≡ store_schema
-        → KeepsCommit (state S.Store tx.old.conn.now) (state S.Store tx.new.conn.now) }
-    ensures cause { HasCleanDisk (state S.Store tx.new.conn.now)
-        → IfErr result (λ e. refusal_of e ≡ Database
-        → IsTrue (state S.Store tx.old.conn.now).in_transaction → (before : _)
-        → Stands (state S.Store tx.old.conn.now).now before
-        → option_map (λ v. v.now) program.entry ≡ before.programs user.now
-        → HasFailed (state S.Store tx.old.conn.now) (state S.Store tx.new.conn.now)
-        ⊎ HasNoUserRoom user.now (with_last user.now last before)
-        (state S.Store tx.old.conn.now).now.trees) }
-    ensures survives { Survives (state S.Store tx.old.conn.now) (state S.Store tx.new.conn.now)
-        (λ _. ⊥) }
+        → before.lasts user.now ≤ last → Claims user.now last before old new) }
+    ensures inside { OnDone S.Store tx.old.conn.now tx.new.conn.now result IsInside }
+    ensures schema { OnDone S.Store tx.old.conn.now tx.new.conn.now result KeepsTables }
+    ensures kept { Always S.Store tx.old.conn.now tx.new.conn.now KeepsStored }
+    ensures cause { IfRefused S.Store tx.old.conn.now tx.new.conn.now result
+        (λ old new e. refusal_of e ≡ Database → IsTrue old.in_transaction → (before : _)
+        → Stands old.now before → option_map (λ v. v.now) program.entry ≡ before.programs user.now
+        → HasFailed old new
+        ⊎ HasNoUserRoom user.now (with_last user.now last before) old.now.trees) }
+    ensures survives { CommitsNothing S.Store tx.old.conn.now tx.new.conn.now }
 {
     users::remove(tx, user)?;
     users::add(tx, user, last, program)?;
@@ -200,36 +160,23 @@ fn file_all<S: Alter>(
     requires some { 0 < length entries.now }
     requires room { last + length entries.now ≤ max_entry_number }
     ensures same_reference { tx.new.conn.ghost_name ≡ tx.old.conn.ghost_name }
-    ensures filed { HasCleanDisk (state S.Store tx.new.conn.now)
-        → IfOk result (λ done. done ≡ true → (before : _)
-        → Stands (state S.Store tx.old.conn.now).now before
+    ensures filed { IfDone S.Store tx.old.conn.now tx.new.conn.now result
+        (λ done old new. done ≡ true → (before : _) → Stands old.now before
         → CanFile before user.now last (length entries.now)
-        → FilesAll user.now last (map draft_of entries.now) before
-        (state S.Store tx.old.conn.now) (state S.Store tx.new.conn.now)) }
-    ensures other { HasCleanDisk (state S.Store tx.new.conn.now)
-        → IfOk result (λ done. done ≡ false → (before : _)
-        → Stands (state S.Store tx.old.conn.now).now before
+        → FilesAll user.now last (map draft_of entries.now) before old new) }
+    ensures other { IfDone S.Store tx.old.conn.now tx.new.conn.now result
+        (λ done old _. done ≡ false → (before : _) → Stands old.now before
         → CanFile before user.now last (length entries.now)
-        → Collides (state S.Store tx.old.conn.now).now.trees (map draft_of entries.now)) }
-    ensures inside { HasCleanDisk (state S.Store tx.new.conn.now)
-        → IfOk result (λ done. done ≡ true
-        → IsTrue (state S.Store tx.new.conn.now).in_transaction) }
-    ensures schema { HasCleanDisk (state S.Store tx.new.conn.now)
-        → OnOk result ((state S.Store tx.old.conn.now).now.schema ≡ store_schema
-        → (state S.Store tx.new.conn.now).now.schema ≡ store_schema) }
-    ensures kept { HasCleanDisk (state S.Store tx.new.conn.now)
-        → (state S.Store tx.old.conn.now).now.schema ≡ store_schema
-        → KeepsCommit (state S.Store tx.old.conn.now) (state S.Store tx.new.conn.now) }
-    ensures cause { HasCleanDisk (state S.Store tx.new.conn.now)
-        → IfErr result (λ e. refusal_of e ≡ Database
-        → IsTrue (state S.Store tx.old.conn.now).in_transaction → (before : _)
-        → Stands (state S.Store tx.old.conn.now).now before
-        → CanFile before user.now last (length entries.now)
-        → HasFailed (state S.Store tx.old.conn.now) (state S.Store tx.new.conn.now)
-        ⊎ HaveNoRoom user.now (map draft_of entries.now)
-        (state S.Store tx.old.conn.now).now.trees) }
-    ensures survives { Survives (state S.Store tx.old.conn.now) (state S.Store tx.new.conn.now)
-        (λ _. ⊥) }
+        → Collides old.now.trees (map draft_of entries.now)) }
+    ensures inside { IfDone S.Store tx.old.conn.now tx.new.conn.now result
+        (λ done _ new. done ≡ true → IsTrue new.in_transaction) }
+    ensures schema { OnDone S.Store tx.old.conn.now tx.new.conn.now result KeepsTables }
+    ensures kept { Always S.Store tx.old.conn.now tx.new.conn.now KeepsStored }
+    ensures cause { IfRefused S.Store tx.old.conn.now tx.new.conn.now result
+        (λ old new e. refusal_of e ≡ Database → IsTrue old.in_transaction → (before : _)
+        → Stands old.now before → CanFile before user.now last (length entries.now)
+        → HasFailed old new ⊎ HaveNoRoom user.now (map draft_of entries.now) old.now.trees) }
+    ensures survives { CommitsNothing S.Store tx.old.conn.now tx.new.conn.now }
 {
     let mut number = last;
     for entry in entries {

@@ -1,14 +1,12 @@
 //! All users that a store knows.
-ghost use Rattle.std.specs.Prelude.{◌≡◌, ◌⊎◌, ◌∷◌, [], map, IsTrue, IfOk, IfErr, OnOk};
-ghost use Rattle.sqlite.specs.Held.{state};
-ghost use Rattle.sqlite.specs.State.{HasCleanDisk, KeepsCommit, Survives};
+ghost use Rattle.std.specs.Prelude.{◌≡◌, ◌⊎◌, ◌∷◌, [], map, IfOk, IfErr};
 ghost use Rattle.part_store.specs.Changes.{columns, users_tree};
-ghost use Rattle.part_store.specs.Tables.{store_schema};
 ghost use Rattle.part_store.specs.Standing.{Stands};
 ghost use Rattle.part_store.specs.UserLines.{AreUsersOf, answer_of, line_of};
 ghost use Rattle.std.specs.List.{AllByRecursion};
 ghost use Rattle.part_store.specs.Refusals.{refusal_of, BlamesNamed, ShowsUser};
 ghost use Rattle.part_store.specs.declared.error.StoreError.TheVariants.{Memory, Database};
+ghost use Rattle.part_store.specs.Calls.{Always, CommitsNothing, IfDone, IfRefused, KeepsStored, OnDone, StaysShut, WasOpen};
 
 use crate::error::StoreError;
 use crate::user_row::UserRow;
@@ -18,23 +16,15 @@ use sqlite::{Alter, Error, Row, Transaction};
 /// The users that have a row, in the order of their names.
 pub(crate) fn list_users<S: Alter>(tx: &mut Transaction<'_, S>) -> Result<Vec<UserRow>, StoreError>
     ensures same_reference { tx.new.conn.ghost_name ≡ tx.old.conn.ghost_name }
-    ensures told { HasCleanDisk (state S.Store tx.new.conn.now)
-        → IfOk result (λ users. (before : _) → Stands (state S.Store tx.old.conn.now).now before
-        → AreUsersOf ((state S.Store tx.old.conn.now).now.trees users_tree) before
-        (map line_of users.items)) }
-    ensures open { HasCleanDisk (state S.Store tx.new.conn.now)
-        → OnOk result (IsTrue (state S.Store tx.old.conn.now).is_open) }
-    ensures shut { HasCleanDisk (state S.Store tx.new.conn.now)
-        → IsTrue (state S.Store tx.new.conn.now).is_open
-        → IsTrue (state S.Store tx.old.conn.now).is_open }
-    ensures kept { HasCleanDisk (state S.Store tx.new.conn.now)
-        → (state S.Store tx.old.conn.now).now.schema ≡ store_schema
-        → KeepsCommit (state S.Store tx.old.conn.now) (state S.Store tx.new.conn.now) }
+    ensures told { IfDone S.Store tx.old.conn.now tx.new.conn.now result
+        (λ users old _. (before : _) → Stands old.now before
+        → AreUsersOf (old.now.trees users_tree) before (map line_of users.items)) }
+    ensures open { OnDone S.Store tx.old.conn.now tx.new.conn.now result WasOpen }
+    ensures shut { Always S.Store tx.old.conn.now tx.new.conn.now StaysShut }
+    ensures kept { Always S.Store tx.old.conn.now tx.new.conn.now KeepsStored }
     ensures refused { IfErr result (λ e. (e ≡ Memory) ⊎ (e ≡ Database)) }
-    ensures cause { HasCleanDisk (state S.Store tx.new.conn.now) → IfErr result
-        (BlamesNamed (state S.Store tx.old.conn.now) (state S.Store tx.new.conn.now)) }
-    ensures survives { Survives (state S.Store tx.old.conn.now) (state S.Store tx.new.conn.now)
-        (λ _. ⊥) }
+    ensures cause { IfRefused S.Store tx.old.conn.now tx.new.conn.now result BlamesNamed }
+    ensures survives { CommitsNothing S.Store tx.old.conn.now tx.new.conn.now }
 {
     let rows = users::list(tx)?;
     users_in(&rows)

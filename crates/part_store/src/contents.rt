@@ -1,14 +1,16 @@
 //! The table of contents: the octets of each digest.
-ghost use Rattle.std.specs.Prelude.{◌≡◌, [], ◌∷◌, pos, IsTrue, IfOk, IfErr, OnOk, OnErr};
+ghost use Rattle.std.specs.Prelude.{◌≡◌, ◌≢◌, [], ◌∷◌, IfErr, OnOk};
 ghost use Rattle.sqlite_value.specs.declared.value.Value.TheVariants.{Blob};
-ghost use Rattle.sqlite.specs.Held.{state};
-ghost use Rattle.sqlite.specs.State.{HasCleanDisk, KeepsCommit, Survives};
-ghost use Rattle.part_store.specs.Changes.{Steps, Reads, IsFound, IsAdded, IsTaken, contents_tree, IsListed, equals, every, columns, length_at, sized};
-ghost use Rattle.part_store.specs.Tables.{contents_table};
-ghost use Rattle.part_store.specs.Refusals.{content_values, AddFaults, Faults, HasNoContent, IsTableIn, IsUnnamed, WriteFaults};
+ghost use Rattle.sqlite.specs.Effect.{IsDatabase};
+ghost use Rattle.sqlite.specs.State.{KeepsCommit};
+ghost use Rattle.part_store.specs.Changes.{Steps, Reads, IsFound, IsAdded, contents_tree, IsListed, equals, every, columns, length_at, sized};
+ghost use Rattle.part_store.specs.Tables.{contents_table, store_schema};
+ghost use Rattle.part_store.specs.Standing.{IsTidied};
+ghost use Rattle.part_store.specs.Refusals.{content_values, AddFaults, Faults, HasNoContent, IsTableIn, WriteFaults, still_named};
+ghost use Rattle.part_store.specs.Calls.{Always, CommitsNothing, IfDone, IfRefused, IsInside, OnDone, OnRefused, WasOpen};
 
 use crate::users::first_of;
-use sqlite::{Alter, Error, Row, Transaction, params};
+use sqlite::{Alter, Constraint, Error, ErrorCode, Row, Transaction, params};
 
 /// The octets under a digest.
 pub(crate) fn find<S: Alter>(
@@ -16,17 +18,12 @@ pub(crate) fn find<S: Alter>(
     digest: &[u8],
 ) -> Result<Option<Row>, Error>
     ensures same_reference { tx.new.conn.ghost_name ≡ tx.old.conn.ghost_name }
-    ensures step { HasCleanDisk (state S.Store tx.new.conn.now)
-        → IfOk result (λ found. Steps
-        (Reads (λ db. IsFound contents_tree (equals 1 (Blob digest.now)) (columns (2 ∷ [])) db
-        found)) (state S.Store tx.old.conn.now) (state S.Store tx.new.conn.now)) }
-    ensures kept { HasCleanDisk (state S.Store tx.new.conn.now)
-        → OnErr result (KeepsCommit (state S.Store tx.old.conn.now)
-        (state S.Store tx.new.conn.now)) }
-    ensures fault { HasCleanDisk (state S.Store tx.new.conn.now) → IfErr result
-        (Faults (state S.Store tx.old.conn.now) (state S.Store tx.new.conn.now)) }
-    ensures survives { Survives (state S.Store tx.old.conn.now) (state S.Store tx.new.conn.now)
-        (λ _. ⊥) }
+    ensures step { IfDone S.Store tx.old.conn.now tx.new.conn.now result
+        (λ found. Steps (Reads
+        (λ db. IsFound contents_tree (equals 1 (Blob digest.now)) (columns (2 ∷ [])) db found))) }
+    ensures kept { OnRefused S.Store tx.old.conn.now tx.new.conn.now result KeepsCommit }
+    ensures fault { IfRefused S.Store tx.old.conn.now tx.new.conn.now result Faults }
+    ensures survives { CommitsNothing S.Store tx.old.conn.now tx.new.conn.now }
 {
     let rows = tx.query_all(
         "SELECT octets FROM contents WHERE digest = ?1",
@@ -41,17 +38,12 @@ pub(crate) fn size<S: Alter>(
     digest: &[u8],
 ) -> Result<Option<Row>, Error>
     ensures same_reference { tx.new.conn.ghost_name ≡ tx.old.conn.ghost_name }
-    ensures step { HasCleanDisk (state S.Store tx.new.conn.now)
-        → IfOk result (λ found. Steps
-        (Reads (λ db. IsFound contents_tree (equals 1 (Blob digest.now)) (length_at 2) db
-        found)) (state S.Store tx.old.conn.now) (state S.Store tx.new.conn.now)) }
-    ensures kept { HasCleanDisk (state S.Store tx.new.conn.now)
-        → OnErr result (KeepsCommit (state S.Store tx.old.conn.now)
-        (state S.Store tx.new.conn.now)) }
-    ensures fault { HasCleanDisk (state S.Store tx.new.conn.now) → IfErr result
-        (Faults (state S.Store tx.old.conn.now) (state S.Store tx.new.conn.now)) }
-    ensures survives { Survives (state S.Store tx.old.conn.now) (state S.Store tx.new.conn.now)
-        (λ _. ⊥) }
+    ensures step { IfDone S.Store tx.old.conn.now tx.new.conn.now result
+        (λ found. Steps (Reads
+        (λ db. IsFound contents_tree (equals 1 (Blob digest.now)) (length_at 2) db found))) }
+    ensures kept { OnRefused S.Store tx.old.conn.now tx.new.conn.now result KeepsCommit }
+    ensures fault { IfRefused S.Store tx.old.conn.now tx.new.conn.now result Faults }
+    ensures survives { CommitsNothing S.Store tx.old.conn.now tx.new.conn.now }
 {
     let rows = tx.query_all(
         "SELECT length(octets) FROM contents WHERE digest = ?1",
@@ -63,17 +55,12 @@ pub(crate) fn size<S: Alter>(
 /// Each digest and how many octets are under it.
 pub(crate) fn list<S: Alter>(tx: &mut Transaction<'_, S>) -> Result<Vec<Row>, Error>
     ensures same_reference { tx.new.conn.ghost_name ≡ tx.old.conn.ghost_name }
-    ensures step { HasCleanDisk (state S.Store tx.new.conn.now)
-        → IfOk result (λ found. Steps (Reads (IsListed contents_tree every sized found.items))
-        (state S.Store tx.old.conn.now) (state S.Store tx.new.conn.now)) }
-    ensures open { HasCleanDisk (state S.Store tx.new.conn.now)
-        → OnOk result (IsTrue (state S.Store tx.old.conn.now).is_open) }
-    ensures kept { HasCleanDisk (state S.Store tx.new.conn.now) → OnErr result
-        (KeepsCommit (state S.Store tx.old.conn.now) (state S.Store tx.new.conn.now)) }
-    ensures fault { HasCleanDisk (state S.Store tx.new.conn.now) → IfErr result
-        (Faults (state S.Store tx.old.conn.now) (state S.Store tx.new.conn.now)) }
-    ensures survives { Survives (state S.Store tx.old.conn.now) (state S.Store tx.new.conn.now)
-        (λ _. ⊥) }
+    ensures step { IfDone S.Store tx.old.conn.now tx.new.conn.now result
+        (λ found. Steps (Reads (IsListed contents_tree every sized found.items))) }
+    ensures open { OnDone S.Store tx.old.conn.now tx.new.conn.now result WasOpen }
+    ensures kept { OnRefused S.Store tx.old.conn.now tx.new.conn.now result KeepsCommit }
+    ensures fault { IfRefused S.Store tx.old.conn.now tx.new.conn.now result Faults }
+    ensures survives { CommitsNothing S.Store tx.old.conn.now tx.new.conn.now }
 {
     tx.query_all(
         "SELECT digest, length(octets) FROM contents ORDER BY digest",
@@ -88,21 +75,14 @@ pub(crate) fn add<S: Alter>(
     octets: &[u8],
 ) -> Result<usize, Error>
     ensures same_reference { tx.new.conn.ghost_name ≡ tx.old.conn.ghost_name }
-    ensures step { HasCleanDisk (state S.Store tx.new.conn.now)
-        → OnOk result (Steps (IsAdded contents_tree (Blob digest.now ∷ Blob octets.now ∷ []))
-        (state S.Store tx.old.conn.now) (state S.Store tx.new.conn.now)) }
-    ensures inside { HasCleanDisk (state S.Store tx.new.conn.now)
-        → OnOk result (IsTrue (state S.Store tx.new.conn.now).in_transaction) }
-    ensures kept { HasCleanDisk (state S.Store tx.new.conn.now)
-        → OnErr result (KeepsCommit (state S.Store tx.old.conn.now)
-        (state S.Store tx.new.conn.now)) }
-    ensures fault { HasCleanDisk (state S.Store tx.new.conn.now)
-        → IsTableIn contents_tree (state S.Store tx.old.conn.now).now.trees
-        → HasNoContent digest.now (state S.Store tx.old.conn.now).now.trees
-        → IfErr result (AddFaults contents_table (content_values digest.now octets.now)
-        (state S.Store tx.old.conn.now) (state S.Store tx.new.conn.now)) }
-    ensures survives { Survives (state S.Store tx.old.conn.now) (state S.Store tx.new.conn.now)
-        (λ _. ⊥) }
+    ensures step { OnDone S.Store tx.old.conn.now tx.new.conn.now result
+        (Steps (IsAdded contents_tree (Blob digest.now ∷ Blob octets.now ∷ []))) }
+    ensures inside { OnDone S.Store tx.old.conn.now tx.new.conn.now result IsInside }
+    ensures kept { OnRefused S.Store tx.old.conn.now tx.new.conn.now result KeepsCommit }
+    ensures fault { Always S.Store tx.old.conn.now tx.new.conn.now
+        (λ old new. IsTableIn contents_tree old.now.trees → HasNoContent digest.now old.now.trees
+        → IfErr result (AddFaults contents_table (content_values digest.now octets.now) old new)) }
+    ensures survives { CommitsNothing S.Store tx.old.conn.now tx.new.conn.now }
 {
     tx.execute(
         "INSERT INTO contents (digest, octets) VALUES (?1, ?2)",
@@ -110,24 +90,34 @@ pub(crate) fn add<S: Alter>(
     )
 }
 
-/// Takes out what is under a digest.
-pub(crate) fn remove<S: Alter>(tx: &mut Transaction<'_, S>, digest: &[u8]) -> Result<usize, Error>
+/// Takes out what is under a digest, unless an entry names it. The database finds that out itself, as it looks for entries whose
+/// content would be gone.
+pub(crate) fn remove_unnamed<S: Alter>(
+    tx: &mut Transaction<'_, S>,
+    digest: &[u8],
+) -> Result<(), Error>
     ensures same_reference { tx.new.conn.ghost_name ≡ tx.old.conn.ghost_name }
-    ensures step { HasCleanDisk (state S.Store tx.new.conn.now)
-        → OnOk result (Steps (IsTaken contents_tree (equals 1 (Blob digest.now)))
-        (state S.Store tx.old.conn.now) (state S.Store tx.new.conn.now)) }
-    ensures inside { HasCleanDisk (state S.Store tx.new.conn.now)
-        → OnOk result (IsTrue (state S.Store tx.new.conn.now).in_transaction) }
-    ensures kept { HasCleanDisk (state S.Store tx.new.conn.now)
-        → OnErr result (KeepsCommit (state S.Store tx.old.conn.now)
-        (state S.Store tx.new.conn.now)) }
-    ensures fault { HasCleanDisk (state S.Store tx.new.conn.now)
-        → IsTableIn contents_tree (state S.Store tx.old.conn.now).now.trees
-        → IsUnnamed digest.now (state S.Store tx.old.conn.now).now.trees
-        → IfErr result (WriteFaults (state S.Store tx.old.conn.now)
-        (state S.Store tx.new.conn.now)) }
-    ensures survives { Survives (state S.Store tx.old.conn.now) (state S.Store tx.new.conn.now)
-        (λ _. ⊥) }
+    ensures tidied { OnDone S.Store tx.old.conn.now tx.new.conn.now result
+        (λ old new. old.now.schema ≡ store_schema → IsDatabase old.now
+        → IsTableIn contents_tree old.now.trees → IsTidied digest.now old new) }
+    ensures inside { OnDone S.Store tx.old.conn.now tx.new.conn.now result IsInside }
+    ensures kept { Always S.Store tx.old.conn.now tx.new.conn.now KeepsCommit }
+    ensures fault { IfRefused S.Store tx.old.conn.now tx.new.conn.now result WriteFaults }
+    ensures survives { CommitsNothing S.Store tx.old.conn.now tx.new.conn.now }
 {
-    tx.execute("DELETE FROM contents WHERE digest = ?1", params![digest])
+    match tx.execute("DELETE FROM contents WHERE digest = ?1", params![digest]) {
+        Ok(_) => Ok(()),
+        Err(error) => unless_named(error),
+    }
+}
+
+/// Nothing where a row is refused to go because another one names it, and else the error.
+fn unless_named(error: Error) -> Result<(), Error>
+    ensures named { OnOk result (error ≡ still_named) }
+    ensures other { IfErr result (λ e. (e ≡ error) × (error ≢ still_named)) }
+{
+    match error {
+        Error::SqliteFailure(ErrorCode::ConstraintViolation(Constraint::ForeignKey)) => Ok(()),
+        other => Err(other),
+    }
 }

@@ -1,12 +1,11 @@
 //! The table of entries.
-ghost use Rattle.std.specs.Prelude.{◌≡◌, ◌≢◌, [], ◌∷◌, pos, None, IsTrue, IfOk, IfErr, OnOk, OnErr};
+ghost use Rattle.std.specs.Prelude.{◌≡◌, [], ◌∷◌, pos, IfErr};
 ghost use Rattle.sqlite_value.specs.declared.value.Value.TheVariants.{Int, Text, Blob};
-ghost use Rattle.sqlite.specs.Held.{state};
-ghost use Rattle.sqlite.specs.declared.error.Error.TheVariants.{QueryReturnedNoRows};
-ghost use Rattle.sqlite.specs.State.{HasCleanDisk, KeepsCommit, Survives};
+ghost use Rattle.sqlite.specs.State.{KeepsCommit};
 ghost use Rattle.part_store.specs.Changes.{Steps, Reads, IsFound, IsListed, IsAdded, IsTaken, entries_tree, equals, is_entry, columns};
 ghost use Rattle.part_store.specs.Tables.{entries_table};
 ghost use Rattle.part_store.specs.Refusals.{AddFaults, Faults, HasSome, IsFree, IsTableIn, WriteFaults};
+ghost use Rattle.part_store.specs.Calls.{Always, CommitsNothing, IfDone, IfRefused, IsInside, OnDone, OnRefused, WasOpen};
 
 use crate::users::first_of;
 use sqlite::{Alter, Error, Row, Transaction, params};
@@ -14,20 +13,14 @@ use sqlite::{Alter, Error, Row, Transaction, params};
 /// A user's entries by their numbers.
 pub(crate) fn list<S: Alter>(tx: &mut Transaction<'_, S>, user: &str) -> Result<Vec<Row>, Error>
     ensures same_reference { tx.new.conn.ghost_name ≡ tx.old.conn.ghost_name }
-    ensures step { HasCleanDisk (state S.Store tx.new.conn.now)
-        → IfOk result (λ found. Steps
-        (Reads (IsListed entries_tree (equals 1 (Text user.now))
-        (columns (2 ∷ 4 ∷ 3 ∷ 5 ∷ 6 ∷ 7 ∷ [])) found.items))
-        (state S.Store tx.old.conn.now) (state S.Store tx.new.conn.now)) }
-    ensures open { HasCleanDisk (state S.Store tx.new.conn.now)
-        → OnOk result (IsTrue (state S.Store tx.old.conn.now).is_open) }
-    ensures kept { HasCleanDisk (state S.Store tx.new.conn.now)
-        → OnErr result (KeepsCommit (state S.Store tx.old.conn.now)
-        (state S.Store tx.new.conn.now)) }
-    ensures fault { HasCleanDisk (state S.Store tx.new.conn.now) → IfErr result
-        (Faults (state S.Store tx.old.conn.now) (state S.Store tx.new.conn.now)) }
-    ensures survives { Survives (state S.Store tx.old.conn.now) (state S.Store tx.new.conn.now)
-        (λ _. ⊥) }
+    ensures step { IfDone S.Store tx.old.conn.now tx.new.conn.now result
+        (λ found. Steps (Reads
+        (IsListed entries_tree (equals 1 (Text user.now))
+        (columns (2 ∷ 4 ∷ 3 ∷ 5 ∷ 6 ∷ 7 ∷ [])) found.items))) }
+    ensures open { OnDone S.Store tx.old.conn.now tx.new.conn.now result WasOpen }
+    ensures kept { OnRefused S.Store tx.old.conn.now tx.new.conn.now result KeepsCommit }
+    ensures fault { IfRefused S.Store tx.old.conn.now tx.new.conn.now result Faults }
+    ensures survives { CommitsNothing S.Store tx.old.conn.now tx.new.conn.now }
 {
     tx.query_all(
         "SELECT number, kind, folder, name, media, digest FROM entries WHERE user = ?1 ORDER BY number",
@@ -42,63 +35,19 @@ pub(crate) fn find<S: Alter>(
     number: u32,
 ) -> Result<Option<Row>, Error>
     ensures same_reference { tx.new.conn.ghost_name ≡ tx.old.conn.ghost_name }
-    ensures step { HasCleanDisk (state S.Store tx.new.conn.now)
-        → IfOk result (λ found. Steps
-        (Reads (λ db. IsFound entries_tree (is_entry user.now number) (columns (7 ∷ [])) db
-        found)) (state S.Store tx.old.conn.now) (state S.Store tx.new.conn.now)) }
-    ensures open { HasCleanDisk (state S.Store tx.new.conn.now)
-        → OnOk result (IsTrue (state S.Store tx.old.conn.now).is_open) }
-    ensures kept { HasCleanDisk (state S.Store tx.new.conn.now)
-        → OnErr result (KeepsCommit (state S.Store tx.old.conn.now)
-        (state S.Store tx.new.conn.now)) }
-    ensures fault { HasCleanDisk (state S.Store tx.new.conn.now) → IfErr result
-        (Faults (state S.Store tx.old.conn.now) (state S.Store tx.new.conn.now)) }
-    ensures survives { Survives (state S.Store tx.old.conn.now) (state S.Store tx.new.conn.now)
-        (λ _. ⊥) }
+    ensures step { IfDone S.Store tx.old.conn.now tx.new.conn.now result
+        (λ found. Steps (Reads
+        (λ db. IsFound entries_tree (is_entry user.now number) (columns (7 ∷ [])) db found))) }
+    ensures open { OnDone S.Store tx.old.conn.now tx.new.conn.now result WasOpen }
+    ensures kept { OnRefused S.Store tx.old.conn.now tx.new.conn.now result KeepsCommit }
+    ensures fault { IfRefused S.Store tx.old.conn.now tx.new.conn.now result Faults }
+    ensures survives { CommitsNothing S.Store tx.old.conn.now tx.new.conn.now }
 {
     let rows = tx.query_all(
         "SELECT digest FROM entries WHERE user = ?1 AND number = ?2",
         params![user, number],
     )?;
     Ok(first_of(rows))
-}
-
-/// An entry that names a digest. The search stops at the first.
-pub(crate) fn naming<S: Alter>(
-    tx: &mut Transaction<'_, S>,
-    digest: &[u8],
-) -> Result<Option<Row>, Error>
-    ensures same_reference { tx.new.conn.ghost_name ≡ tx.old.conn.ghost_name }
-    ensures step { HasCleanDisk (state S.Store tx.new.conn.now)
-        → IfOk result (λ found. Steps
-        (Reads (λ db. IsFound entries_tree (equals 7 (Blob digest.now)) (columns (2 ∷ [])) db
-        found)) (state S.Store tx.old.conn.now) (state S.Store tx.new.conn.now)) }
-    ensures kept { HasCleanDisk (state S.Store tx.new.conn.now)
-        → OnErr result (KeepsCommit (state S.Store tx.old.conn.now)
-        (state S.Store tx.new.conn.now)) }
-    ensures fault { HasCleanDisk (state S.Store tx.new.conn.now) → IfErr result
-        (Faults (state S.Store tx.old.conn.now) (state S.Store tx.new.conn.now)) }
-    ensures survives { Survives (state S.Store tx.old.conn.now) (state S.Store tx.new.conn.now)
-        (λ _. ⊥) }
-{
-    match tx.query_row(
-        "SELECT number FROM entries WHERE digest = ?1",
-        params![digest],
-    ) {
-        Ok(row) => Ok(Some(row)),
-        Err(error) => none_or(error),
-    }
-}
-
-/// None where a query has no row, and else its error.
-fn none_or(error: Error) -> Result<Option<Row>, Error>
-    ensures none { IfOk result (λ found. (found ≡ None) × (error ≡ QueryReturnedNoRows)) }
-    ensures other { IfErr result (λ e. (e ≡ error) × (error ≢ QueryReturnedNoRows)) }
-{
-    match error {
-        Error::QueryReturnedNoRows => Ok(None),
-        other => Err(other),
-    }
 }
 
 /// Puts an entry in.
@@ -113,26 +62,19 @@ pub(crate) fn add<S: Alter>(
     digest: &[u8],
 ) -> Result<usize, Error>
     ensures same_reference { tx.new.conn.ghost_name ≡ tx.old.conn.ghost_name }
-    ensures step { HasCleanDisk (state S.Store tx.new.conn.now)
-        → OnOk result (Steps (IsAdded entries_tree
+    ensures step { OnDone S.Store tx.old.conn.now tx.new.conn.now result
+        (Steps (IsAdded entries_tree
         (Text user.now ∷ Int (pos number) ∷ Blob folder.now ∷ Int (pos kind) ∷ Blob name.now
-        ∷ Blob media.now ∷ Blob digest.now ∷ [])) (state S.Store tx.old.conn.now)
-        (state S.Store tx.new.conn.now)) }
-    ensures inside { HasCleanDisk (state S.Store tx.new.conn.now)
-        → OnOk result (IsTrue (state S.Store tx.new.conn.now).in_transaction) }
-    ensures kept { HasCleanDisk (state S.Store tx.new.conn.now)
-        → OnErr result (KeepsCommit (state S.Store tx.old.conn.now)
-        (state S.Store tx.new.conn.now)) }
-    ensures fault { HasCleanDisk (state S.Store tx.new.conn.now)
-        → IsTableIn entries_tree (state S.Store tx.old.conn.now).now.trees
-        → IsFree user.now number (state S.Store tx.old.conn.now).now.trees
-        → HasSome digest.now (state S.Store tx.old.conn.now).now.trees
+        ∷ Blob media.now ∷ Blob digest.now ∷ []))) }
+    ensures inside { OnDone S.Store tx.old.conn.now tx.new.conn.now result IsInside }
+    ensures kept { OnRefused S.Store tx.old.conn.now tx.new.conn.now result KeepsCommit }
+    ensures fault { Always S.Store tx.old.conn.now tx.new.conn.now
+        (λ old new. IsTableIn entries_tree old.now.trees → IsFree user.now number old.now.trees
+        → HasSome digest.now old.now.trees
         → IfErr result (AddFaults entries_table
         (Text user.now ∷ Int (pos number) ∷ Blob folder.now ∷ Int (pos kind) ∷ Blob name.now
-        ∷ Blob media.now ∷ Blob digest.now ∷ []) (state S.Store tx.old.conn.now)
-        (state S.Store tx.new.conn.now)) }
-    ensures survives { Survives (state S.Store tx.old.conn.now) (state S.Store tx.new.conn.now)
-        (λ _. ⊥) }
+        ∷ Blob media.now ∷ Blob digest.now ∷ []) old new)) }
+    ensures survives { CommitsNothing S.Store tx.old.conn.now tx.new.conn.now }
 {
     tx.execute(
         "INSERT INTO entries (user, number, folder, kind, name, media, digest) VALUES (?1, ?2, ?3, ?4, ?5, ?6, ?7)",
@@ -147,18 +89,12 @@ pub(crate) fn remove<S: Alter>(
     number: u32,
 ) -> Result<usize, Error>
     ensures same_reference { tx.new.conn.ghost_name ≡ tx.old.conn.ghost_name }
-    ensures step { HasCleanDisk (state S.Store tx.new.conn.now)
-        → OnOk result (Steps (IsTaken entries_tree (is_entry user.now number))
-        (state S.Store tx.old.conn.now) (state S.Store tx.new.conn.now)) }
-    ensures inside { HasCleanDisk (state S.Store tx.new.conn.now)
-        → OnOk result (IsTrue (state S.Store tx.new.conn.now).in_transaction) }
-    ensures kept { HasCleanDisk (state S.Store tx.new.conn.now)
-        → OnErr result (KeepsCommit (state S.Store tx.old.conn.now)
-        (state S.Store tx.new.conn.now)) }
-    ensures fault { HasCleanDisk (state S.Store tx.new.conn.now) → IfErr result
-        (WriteFaults (state S.Store tx.old.conn.now) (state S.Store tx.new.conn.now)) }
-    ensures survives { Survives (state S.Store tx.old.conn.now) (state S.Store tx.new.conn.now)
-        (λ _. ⊥) }
+    ensures step { OnDone S.Store tx.old.conn.now tx.new.conn.now result
+        (Steps (IsTaken entries_tree (is_entry user.now number))) }
+    ensures inside { OnDone S.Store tx.old.conn.now tx.new.conn.now result IsInside }
+    ensures kept { OnRefused S.Store tx.old.conn.now tx.new.conn.now result KeepsCommit }
+    ensures fault { IfRefused S.Store tx.old.conn.now tx.new.conn.now result WriteFaults }
+    ensures survives { CommitsNothing S.Store tx.old.conn.now tx.new.conn.now }
 {
     tx.execute(
         "DELETE FROM entries WHERE user = ?1 AND number = ?2",

@@ -1,16 +1,15 @@
 //! How entries are filed.
-ghost use Rattle.std.specs.Prelude.{◌≡◌, ◌≢◌, ◌⊎◌, ◌<◌, ℕ, List, length, map, true, false, string_bytes, IsTrue, IfOk, IfErr, OnOk};
+ghost use Rattle.std.specs.Prelude.{◌≡◌, ◌≢◌, ◌⊎◌, ◌<◌, ℕ, List, length, true, false, IsTrue, IfOk, IfErr};
 ghost use Rattle.sqlite_value.specs.declared.value.Value.TheVariants.{Blob};
 ghost use Rattle.sqlite_value.specs.Order.{column};
-ghost use Rattle.sqlite.specs.Held.{state};
-ghost use Rattle.sqlite.specs.State.{HasCleanDisk, KeepsCommit, Survives};
 ghost use Rattle.sha2.specs.Sha256.{sha256};
-ghost use Rattle.part_store.specs.Tables.{store_schema, contents_table};
+ghost use Rattle.part_store.specs.Tables.{contents_table};
 ghost use Rattle.part_store.specs.Entries.{entry_of};
 ghost use Rattle.part_store.specs.Standing.{Stands, kind_number, draft_of};
 ghost use Rattle.part_store.specs.Refusals.{content_values, refusal_of, HasFailed, HasNoRoom, LacksRoom};
 ghost use Rattle.part_store.specs.declared.error.StoreError.TheVariants.{Database};
 ghost use Rattle.part_store.specs.Filing.{Stocks, IsOther, IsNext, Files};
+ghost use Rattle.part_store.specs.Calls.{Always, CommitsNothing, IfDone, IfRefused, KeepsStored, KeepsTables, OnDone, StaysInside};
 
 use crate::entry::{Kind, NewEntry};
 use crate::{contents, entries};
@@ -35,34 +34,21 @@ fn are_these(row: &Row, octets: &[u8]) -> Result<bool, Error>
 /// Puts octets under their digest where nothing is under it yet. Answers whether they are what is under it now.
 fn stock<S: Alter>(tx: &mut Transaction<'_, S>, digest: &[u8], octets: &[u8]) -> Result<bool, Error>
     ensures same_reference { tx.new.conn.ghost_name ≡ tx.old.conn.ghost_name }
-    ensures stocked { HasCleanDisk (state S.Store tx.new.conn.now)
-        → IfOk result (λ done. done ≡ true → (before : _)
-        → Stands (state S.Store tx.old.conn.now).now before
-        → Stocks digest.now octets.now (state S.Store tx.old.conn.now)
-        (state S.Store tx.new.conn.now)) }
-    ensures other { HasCleanDisk (state S.Store tx.new.conn.now)
-        → IfOk result (λ done. done ≡ false → (before : _)
-        → Stands (state S.Store tx.old.conn.now).now before
-        → IsOther (state S.Store tx.old.conn.now).now.trees digest.now octets.now) }
-    ensures schema { HasCleanDisk (state S.Store tx.new.conn.now)
-        → OnOk result ((state S.Store tx.old.conn.now).now.schema ≡ store_schema
-        → (state S.Store tx.new.conn.now).now.schema ≡ store_schema) }
-    ensures kept { HasCleanDisk (state S.Store tx.new.conn.now)
-        → (state S.Store tx.old.conn.now).now.schema ≡ store_schema
-        → KeepsCommit (state S.Store tx.old.conn.now) (state S.Store tx.new.conn.now) }
-    ensures inside { HasCleanDisk (state S.Store tx.new.conn.now)
-        → OnOk result ((state S.Store tx.old.conn.now).now.schema ≡ store_schema
-        → IsTrue (state S.Store tx.old.conn.now).in_transaction
-        → IsTrue (state S.Store tx.new.conn.now).in_transaction) }
-    ensures cause { HasCleanDisk (state S.Store tx.new.conn.now)
-        → IfErr result (λ e. refusal_of e ≡ Database
-        → IsTrue (state S.Store tx.old.conn.now).in_transaction → (before : _)
-        → Stands (state S.Store tx.old.conn.now).now before
-        → HasFailed (state S.Store tx.old.conn.now) (state S.Store tx.new.conn.now)
-        ⊎ HasNoRoom contents_table (content_values digest.now octets.now)
-        (state S.Store tx.old.conn.now).now.trees) }
-    ensures survives { Survives (state S.Store tx.old.conn.now) (state S.Store tx.new.conn.now)
-        (λ _. ⊥) }
+    ensures stocked { IfDone S.Store tx.old.conn.now tx.new.conn.now result
+        (λ done old new. done ≡ true → (before : _) → Stands old.now before
+        → Stocks digest.now octets.now old new) }
+    ensures other { IfDone S.Store tx.old.conn.now tx.new.conn.now result
+        (λ done old _. done ≡ false → (before : _) → Stands old.now before
+        → IsOther old.now.trees digest.now octets.now) }
+    ensures schema { OnDone S.Store tx.old.conn.now tx.new.conn.now result KeepsTables }
+    ensures kept { Always S.Store tx.old.conn.now tx.new.conn.now KeepsStored }
+    ensures inside { OnDone S.Store tx.old.conn.now tx.new.conn.now result StaysInside }
+    ensures cause { IfRefused S.Store tx.old.conn.now tx.new.conn.now result
+        (λ old new e. refusal_of e ≡ Database → IsTrue old.in_transaction → (before : _)
+        → Stands old.now before
+        → HasFailed old new
+        ⊎ HasNoRoom contents_table (content_values digest.now octets.now) old.now.trees) }
+    ensures survives { CommitsNothing S.Store tx.old.conn.now tx.new.conn.now }
 {
     match contents::find(tx, digest)? {
         Some(row) => are_these(&row, octets),
@@ -90,36 +76,25 @@ pub(crate) fn file_entry<S: Alter>(
     entry: &NewEntry<'_>,
 ) -> Result<bool, Error>
     ensures same_reference { tx.new.conn.ghost_name ≡ tx.old.conn.ghost_name }
-    ensures filed { HasCleanDisk (state S.Store tx.new.conn.now)
-        → IfOk result (λ done. done ≡ true → (before : _)
-        → Stands (state S.Store tx.old.conn.now).now before
+    ensures filed { IfDone S.Store tx.old.conn.now tx.new.conn.now result
+        (λ done old new. done ≡ true → (before : _) → Stands old.now before
         → IsNext before (entry_of user.now number (draft_of entry.now))
-        → Files (entry_of user.now number (draft_of entry.now)) (sha256 entry.now.octets.now)
-        before (state S.Store tx.old.conn.now) (state S.Store tx.new.conn.now)) }
-    ensures other { HasCleanDisk (state S.Store tx.new.conn.now)
-        → IfOk result (λ done. done ≡ false → (before : _)
-        → Stands (state S.Store tx.old.conn.now).now before
-        → IsOther (state S.Store tx.old.conn.now).now.trees (sha256 entry.now.octets.now)
-        entry.now.octets.now) }
-    ensures inside { HasCleanDisk (state S.Store tx.new.conn.now)
-        → IfOk result (λ done. done ≡ true
-        → IsTrue (state S.Store tx.new.conn.now).in_transaction) }
-    ensures schema { HasCleanDisk (state S.Store tx.new.conn.now)
-        → OnOk result ((state S.Store tx.old.conn.now).now.schema ≡ store_schema
-        → (state S.Store tx.new.conn.now).now.schema ≡ store_schema) }
-    ensures kept { HasCleanDisk (state S.Store tx.new.conn.now)
-        → (state S.Store tx.old.conn.now).now.schema ≡ store_schema
-        → KeepsCommit (state S.Store tx.old.conn.now) (state S.Store tx.new.conn.now) }
-    ensures cause { HasCleanDisk (state S.Store tx.new.conn.now)
-        → IfErr result (λ e. refusal_of e ≡ Database
-        → IsTrue (state S.Store tx.old.conn.now).in_transaction → (before : _)
-        → Stands (state S.Store tx.old.conn.now).now before
-        → IsNext before (entry_of user.now number (draft_of entry.now))
-        → HasFailed (state S.Store tx.old.conn.now) (state S.Store tx.new.conn.now)
+        → Files (entry_of user.now number (draft_of entry.now))
+        (sha256 entry.now.octets.now) before old new) }
+    ensures other { IfDone S.Store tx.old.conn.now tx.new.conn.now result
+        (λ done old _. done ≡ false → (before : _) → Stands old.now before
+        → IsOther old.now.trees (sha256 entry.now.octets.now) entry.now.octets.now) }
+    ensures inside { IfDone S.Store tx.old.conn.now tx.new.conn.now result
+        (λ done _ new. done ≡ true → IsTrue new.in_transaction) }
+    ensures schema { OnDone S.Store tx.old.conn.now tx.new.conn.now result KeepsTables }
+    ensures kept { Always S.Store tx.old.conn.now tx.new.conn.now KeepsStored }
+    ensures cause { IfRefused S.Store tx.old.conn.now tx.new.conn.now result
+        (λ old new e. refusal_of e ≡ Database → IsTrue old.in_transaction → (before : _)
+        → Stands old.now before → IsNext before (entry_of user.now number (draft_of entry.now))
+        → HasFailed old new
         ⊎ LacksRoom (entry_of user.now number (draft_of entry.now))
-        (sha256 entry.now.octets.now) (state S.Store tx.old.conn.now).now.trees) }
-    ensures survives { Survives (state S.Store tx.old.conn.now) (state S.Store tx.new.conn.now)
-        (λ _. ⊥) }
+        (sha256 entry.now.octets.now) old.now.trees) }
+    ensures survives { CommitsNothing S.Store tx.old.conn.now tx.new.conn.now }
 {
     let digest = Sha256::digest(entry.octets);
     if !stock(tx, &digest, entry.octets)? {

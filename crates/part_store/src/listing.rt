@@ -1,17 +1,15 @@
 //! How a user's entries are listed.
-ghost use Rattle.std.specs.Prelude.{◌≡◌, ◌⊎◌, ◌≤◌, ℕ, pos, IsTrue, List, length, map, IfOk, IfErr, OnOk};
+ghost use Rattle.std.specs.Prelude.{◌≡◌, ◌⊎◌, ◌≤◌, ℕ, pos, List, length, map, IfOk, IfErr};
 ghost use Rattle.sqlite_value.specs.declared.value.Value.TheVariants.{Int};
 ghost use Rattle.sqlite_value.specs.Order.{column};
-ghost use Rattle.sqlite.specs.Held.{state};
-ghost use Rattle.sqlite.specs.State.{HasCleanDisk, KeepsCommit, Survives};
 ghost use Rattle.part_store.specs.Changes.{contents_tree};
-ghost use Rattle.part_store.specs.Tables.{store_schema};
 ghost use Rattle.part_store.specs.Entries.{entries_of, listing_of};
 ghost use Rattle.part_store.specs.Standing.{HasContent, IsParts, Shows, Stands, Stays, kind_number, listed};
 ghost use Rattle.part_store.specs.declared.entry.Kind.{Kind};
 ghost use Rattle.octets.specs.Limits.{max_entry_number};
 ghost use Rattle.part_store.specs.Refusals.{refusal_of, Blames, IsReadable};
 ghost use Rattle.part_store.specs.declared.error.StoreError.TheVariants.{Memory, Database};
+ghost use Rattle.part_store.specs.Calls.{Always, CommitsNothing, IfDone, IfRefused, KeepsStored, OnDone, StaysShut, Tells, WasOpen};
 
 use crate::entry::{EntryRow, Kind};
 use crate::error::StoreError;
@@ -59,23 +57,15 @@ fn kind_of(row: &Row) -> Result<Kind, Error>
 /// How many octets are under a digest that an entry names.
 fn size_of<S: Alter>(tx: &mut Transaction<'_, S>, digest: &[u8]) -> Result<u64, Error>
     ensures same_reference { tx.new.conn.ghost_name ≡ tx.old.conn.ghost_name }
-    ensures told { HasCleanDisk (state S.Store tx.new.conn.now)
-        → IfOk result (λ size. (before : _) → Stands (state S.Store tx.old.conn.now).now before
-        → (octets : List ℕ) → HasContent
-        ((state S.Store tx.old.conn.now).now.trees contents_tree) digest.now octets
-        → size ≡ length octets) }
-    ensures same { HasCleanDisk (state S.Store tx.new.conn.now)
-        → OnOk result (Stays (state S.Store tx.old.conn.now) (state S.Store tx.new.conn.now)) }
-    ensures kept { HasCleanDisk (state S.Store tx.new.conn.now)
-        → (state S.Store tx.old.conn.now).now.schema ≡ store_schema
-        → KeepsCommit (state S.Store tx.old.conn.now) (state S.Store tx.new.conn.now) }
-    ensures cause { HasCleanDisk (state S.Store tx.new.conn.now)
-        → IfErr result (λ e. (octets : List ℕ)
-        → HasContent ((state S.Store tx.old.conn.now).now.trees contents_tree) digest.now octets
-        → Blames (state S.Store tx.old.conn.now) (state S.Store tx.new.conn.now)
-        (refusal_of e)) }
-    ensures survives { Survives (state S.Store tx.old.conn.now) (state S.Store tx.new.conn.now)
-        (λ _. ⊥) }
+    ensures told { IfDone S.Store tx.old.conn.now tx.new.conn.now result
+        (λ size old _. (before : _) → Stands old.now before → (octets : List ℕ)
+        → HasContent (old.now.trees contents_tree) digest.now octets → size ≡ length octets) }
+    ensures same { OnDone S.Store tx.old.conn.now tx.new.conn.now result Stays }
+    ensures kept { Always S.Store tx.old.conn.now tx.new.conn.now KeepsStored }
+    ensures cause { IfRefused S.Store tx.old.conn.now tx.new.conn.now result
+        (λ old new e. (octets : List ℕ) → HasContent (old.now.trees contents_tree) digest.now octets
+        → Blames old new (refusal_of e)) }
+    ensures survives { CommitsNothing S.Store tx.old.conn.now tx.new.conn.now }
 {
     match contents::size(tx, digest)? {
         Some(row) => row.get(0),
@@ -86,20 +76,15 @@ fn size_of<S: Alter>(tx: &mut Transaction<'_, S>, digest: &[u8]) -> Result<u64, 
 /// The entry that a row of the answer to a listing shows.
 fn read_row<S: Alter>(tx: &mut Transaction<'_, S>, row: &Row) -> Result<EntryRow, Error>
     ensures same_reference { tx.new.conn.ghost_name ≡ tx.old.conn.ghost_name }
-    ensures told { HasCleanDisk (state S.Store tx.new.conn.now)
-        → IfOk result (λ entry. (before : _) → Stands (state S.Store tx.old.conn.now).now before
-        → (x : _) → Shows (state S.Store tx.old.conn.now).now.trees row.now x
-        → listed entry ≡ listing_of x) }
-    ensures same { HasCleanDisk (state S.Store tx.new.conn.now)
-        → OnOk result (Stays (state S.Store tx.old.conn.now) (state S.Store tx.new.conn.now)) }
-    ensures kept { HasCleanDisk (state S.Store tx.new.conn.now)
-        → (state S.Store tx.old.conn.now).now.schema ≡ store_schema
-        → KeepsCommit (state S.Store tx.old.conn.now) (state S.Store tx.new.conn.now) }
-    ensures cause { HasCleanDisk (state S.Store tx.new.conn.now) → IfErr result (λ e. (x : _)
-        → Shows (state S.Store tx.old.conn.now).now.trees row.now x → x.number ≤ max_entry_number
-        → Blames (state S.Store tx.old.conn.now) (state S.Store tx.new.conn.now) (refusal_of e)) }
-    ensures survives { Survives (state S.Store tx.old.conn.now) (state S.Store tx.new.conn.now)
-        (λ _. ⊥) }
+    ensures told { IfDone S.Store tx.old.conn.now tx.new.conn.now result
+        (λ entry old _. (before : _) → Stands old.now before → (x : _)
+        → Shows old.now.trees row.now x → listed entry ≡ listing_of x) }
+    ensures same { OnDone S.Store tx.old.conn.now tx.new.conn.now result Stays }
+    ensures kept { Always S.Store tx.old.conn.now tx.new.conn.now KeepsStored }
+    ensures cause { IfRefused S.Store tx.old.conn.now tx.new.conn.now result
+        (λ old new e. (x : _) → Shows old.now.trees row.now x → x.number ≤ max_entry_number
+        → Blames old new (refusal_of e)) }
+    ensures survives { CommitsNothing S.Store tx.old.conn.now tx.new.conn.now }
 {
     let Parts {
         number,
@@ -126,22 +111,14 @@ pub(crate) fn list_all<S: Alter>(
     user: &str,
 ) -> Result<Vec<EntryRow>, StoreError>
     ensures same_reference { tx.new.conn.ghost_name ≡ tx.old.conn.ghost_name }
-    ensures told { HasCleanDisk (state S.Store tx.new.conn.now)
-        → IfOk result (λ rows. (before : _) → Stands (state S.Store tx.old.conn.now).now before
-        → map listed rows.items ≡ map listing_of (entries_of user.now before)) }
-    ensures open { HasCleanDisk (state S.Store tx.new.conn.now)
-        → OnOk result (IsTrue (state S.Store tx.old.conn.now).is_open) }
-    ensures shut { HasCleanDisk (state S.Store tx.new.conn.now)
-        → IsTrue (state S.Store tx.new.conn.now).is_open
-        → IsTrue (state S.Store tx.old.conn.now).is_open }
-    ensures kept { HasCleanDisk (state S.Store tx.new.conn.now)
-        → (state S.Store tx.old.conn.now).now.schema ≡ store_schema
-        → KeepsCommit (state S.Store tx.old.conn.now) (state S.Store tx.new.conn.now) }
+    ensures told { Tells S.Store tx.old.conn.now tx.new.conn.now result
+        (λ before rows. map listed rows.items ≡ map listing_of (entries_of user.now before)) }
+    ensures open { OnDone S.Store tx.old.conn.now tx.new.conn.now result WasOpen }
+    ensures shut { Always S.Store tx.old.conn.now tx.new.conn.now StaysShut }
+    ensures kept { Always S.Store tx.old.conn.now tx.new.conn.now KeepsStored }
     ensures refused { IfErr result (λ e. (e ≡ Memory) ⊎ (e ≡ Database)) }
-    ensures cause { HasCleanDisk (state S.Store tx.new.conn.now) → IfErr result
-        (Blames (state S.Store tx.old.conn.now) (state S.Store tx.new.conn.now)) }
-    ensures survives { Survives (state S.Store tx.old.conn.now) (state S.Store tx.new.conn.now)
-        (λ _. ⊥) }
+    ensures cause { IfRefused S.Store tx.old.conn.now tx.new.conn.now result Blames }
+    ensures survives { CommitsNothing S.Store tx.old.conn.now tx.new.conn.now }
 {
     let rows = entries::list(tx, user)?;
     let mut listed = Vec::new(*rows.allocator());

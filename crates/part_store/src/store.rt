@@ -1,11 +1,11 @@
 //! The store and its calls.
 ghost use Rattle.std.specs.Prelude.{◌≡◌, ◌≢◌, ◌⊎◌, ◌↔◌, ◌+◌, ◌^◌, ◌<◌, ◌≤◌, length, map, true, false, IsTrue, option_map, MatchOption, Err, IfOk, IfErr, IsErrAnd, OnOk, OnErr};
 ghost use Rattle.sqlite.specs.Held.{state};
-ghost use Rattle.sqlite.specs.State.{HasCleanDisk, KeepsCommit, Survives};
+ghost use Rattle.sqlite.specs.State.{HasCleanDisk, KeepsCommit};
 ghost use Rattle.part_store.specs.Tables.{no_schema, store_schema};
 ghost use Rattle.part_store.specs.Entries.{AreProgramsOf, entries_of, listing_of, no_entries, with_entries, with_program, with_programs, without_entry};
-ghost use Rattle.part_store.specs.Standing.{Brings, IsStored, Makes, MayMake, Spares, Stays, Stands, HasContent, IsEntryAt, HasNone, NamesDigest, IsTidied, draft_of, listed, pair_of};
-ghost use Rattle.part_store.specs.Refusals.{refusal_of, Blames, BlamesEntries, BlamesNamed, BlamesOr, BlamesPrograms, BlamesRow, IsTableIn, WriteFaults};
+ghost use Rattle.part_store.specs.Standing.{Brings, IsStored, Makes, MayMake, Spares, Stays, Stands, HasContent, IsEntryAt, HasNone, NamesDigest, draft_of, listed, pair_of};
+ghost use Rattle.part_store.specs.Refusals.{refusal_of, Blames, BlamesEntries, BlamesNamed, BlamesOr, BlamesPrograms, BlamesRow};
 ghost use Rattle.part_store.specs.declared.error.StoreError.TheVariants.{Memory, NoSuchEntry, NumberFull, Collision, Database};
 ghost use Rattle.part_store.specs.Changes.{contents_tree, users_tree};
 ghost use Rattle.part_store.specs.Crashes.{KeepsState};
@@ -18,6 +18,7 @@ ghost use Rattle.part_store.specs.Filing.{Collides, HasRoom};
 ghost use Rattle.sqlite.specs.Steps.{over_memory};
 ghost use Rattle.part_store.specs.Opening.{HasCause, HasOtherTables, HoldsNoTables, HoldsStore, IsAt, IsBare, IsEmptied, IsKept, IsReady, IsReadyFrom, KeepsStore, MakesEmpty, OpensOrTells, TellsWhy};
 ghost use Rattle.sqlite.specs.WalFiles.{image_at};
+ghost use Rattle.part_store.specs.Calls.{Always, AsRefusal, AsRefusalInside, CommitsNothing, DoneWhere, IfDone, IfRefused, IsInside, KeepsStored, MayCommit, OnDone, OnRefused, RefusedWhere, Settles, StaysInside, StaysShut, Tells, WasOpen};
 
 use crate::adding::{Adding, put_entries};
 use crate::all_users::list_users;
@@ -89,15 +90,11 @@ fn begin<S: Alter>(conn: &mut Connection<S>) -> Transaction<'_, S>
 
 fn create_tables<S: Alter>(tx: &mut Transaction<'_, S>) -> Result<(), Error>
     ensures same_reference { tx.new.conn.ghost_name ≡ tx.old.conn.ghost_name }
-    ensures step { HasCleanDisk (state S.Store tx.new.conn.now)
-        → OnOk result ((state S.Store tx.old.conn.now).now.schema ≡ no_schema
-        → Stands (state S.Store tx.new.conn.now).now no_entries) }
-    ensures inside { HasCleanDisk (state S.Store tx.new.conn.now)
-        → OnOk result (IsTrue (state S.Store tx.new.conn.now).in_transaction) }
-    ensures kept { HasCleanDisk (state S.Store tx.new.conn.now)
-        → KeepsCommit (state S.Store tx.old.conn.now) (state S.Store tx.new.conn.now) }
-    ensures survives { Survives (state S.Store tx.old.conn.now) (state S.Store tx.new.conn.now)
-        (λ _. ⊥) }
+    ensures step { OnDone S.Store tx.old.conn.now tx.new.conn.now result
+        (λ old new. old.now.schema ≡ no_schema → Stands new.now no_entries) }
+    ensures inside { OnDone S.Store tx.old.conn.now tx.new.conn.now result IsInside }
+    ensures kept { Always S.Store tx.old.conn.now tx.new.conn.now KeepsCommit }
+    ensures survives { CommitsNothing S.Store tx.old.conn.now tx.new.conn.now }
 {
     tables::create_users(tx)?;
     tables::create_contents(tx)?;
@@ -107,8 +104,7 @@ fn create_tables<S: Alter>(tx: &mut Transaction<'_, S>) -> Result<(), Error>
 
 /// Makes the tables in a database that has none, and leaves another as it is.
 fn ready_tables<S: Alter>(conn: &mut Connection<S>) -> Result<(), StoreError>
-    ensures made { HasCleanDisk (state S.Store conn.new)
-        → OnOk result (IsBare (state S.Store conn.old) → IsEmptied (state S.Store conn.new)) }
+    ensures made { OnDone S.Store conn.old conn.new result (λ old new. IsBare old → IsEmptied new) }
     ensures same { OnOk result ((IsBare (state S.Store conn.old) → ⊥) → conn.new ≡ conn.old) }
     ensures settled { OnOk result ((state S.Store conn.new).in_transaction ≡ false) }
     ensures mode { (state S.Store conn.new).in_transaction
@@ -116,12 +112,10 @@ fn ready_tables<S: Alter>(conn: &mut Connection<S>) -> Result<(), StoreError>
     ensures inside { IsTrue (state S.Store conn.old).in_transaction → result ≡ Err Database }
     ensures bare { OnErr result ((state S.Store conn.old).in_transaction ≡ false
         → IsBare (state S.Store conn.old)) }
-    ensures spared { HasCleanDisk (state S.Store conn.new)
-        → OnErr result (IsTrue (state S.Store conn.new).is_open
-        → IsKept (state S.Store conn.old) (state S.Store conn.new)) }
+    ensures spared { OnRefused S.Store conn.old conn.new result
+        (λ old new. IsTrue new.is_open → IsKept old new) }
     ensures refused { IfErr result (λ e. (e ≡ Memory) ⊎ (e ≡ Database)) }
-    ensures survives { Survives (state S.Store conn.old) (state S.Store conn.new)
-        (MakesEmpty (state S.Store conn.old)) }
+    ensures survives { MayCommit S.Store conn.old conn.new MakesEmpty }
 {
     if !conn.is_autocommit() {
         return Err(StoreError::Database);
@@ -142,29 +136,17 @@ fn digest_of<S: Alter>(
     number: u32,
 ) -> Result<Option<Vec<u8>>, Error>
     ensures same_reference { tx.new.conn.ghost_name ≡ tx.old.conn.ghost_name }
-    ensures told { HasCleanDisk (state S.Store tx.new.conn.now)
-        → IfOk result (λ found. (before : _) → Stands (state S.Store tx.old.conn.now).now before
+    ensures told { IfDone S.Store tx.old.conn.now tx.new.conn.now result
+        (λ found old _. (before : _) → Stands old.now before
         → MatchOption found (HasNone before user.now number)
-        (λ digest. NamesDigest (state S.Store tx.old.conn.now).now.trees user.now number
-        digest.items)) }
-    ensures open { HasCleanDisk (state S.Store tx.new.conn.now)
-        → OnOk result (IsTrue (state S.Store tx.old.conn.now).is_open) }
-    ensures shut { HasCleanDisk (state S.Store tx.new.conn.now)
-        → IsTrue (state S.Store tx.new.conn.now).is_open
-        → IsTrue (state S.Store tx.old.conn.now).is_open }
-    ensures same { HasCleanDisk (state S.Store tx.new.conn.now)
-        → OnOk result (Stays (state S.Store tx.old.conn.now) (state S.Store tx.new.conn.now)) }
-    ensures inside { HasCleanDisk (state S.Store tx.new.conn.now)
-        → OnOk result ((state S.Store tx.old.conn.now).now.schema ≡ store_schema
-        → IsTrue (state S.Store tx.old.conn.now).in_transaction
-        → IsTrue (state S.Store tx.new.conn.now).in_transaction) }
-    ensures kept { HasCleanDisk (state S.Store tx.new.conn.now)
-        → (state S.Store tx.old.conn.now).now.schema ≡ store_schema
-        → KeepsCommit (state S.Store tx.old.conn.now) (state S.Store tx.new.conn.now) }
-    ensures cause { HasCleanDisk (state S.Store tx.new.conn.now) → IfErr result (λ e.
-        Blames (state S.Store tx.old.conn.now) (state S.Store tx.new.conn.now) (refusal_of e)) }
-    ensures survives { Survives (state S.Store tx.old.conn.now) (state S.Store tx.new.conn.now)
-        (λ _. ⊥) }
+        (λ digest. NamesDigest old.now.trees user.now number digest.items)) }
+    ensures open { OnDone S.Store tx.old.conn.now tx.new.conn.now result WasOpen }
+    ensures shut { Always S.Store tx.old.conn.now tx.new.conn.now StaysShut }
+    ensures same { OnDone S.Store tx.old.conn.now tx.new.conn.now result Stays }
+    ensures inside { OnDone S.Store tx.old.conn.now tx.new.conn.now result StaysInside }
+    ensures kept { Always S.Store tx.old.conn.now tx.new.conn.now KeepsStored }
+    ensures cause { IfRefused S.Store tx.old.conn.now tx.new.conn.now result (AsRefusal Blames) }
+    ensures survives { CommitsNothing S.Store tx.old.conn.now tx.new.conn.now }
 {
     match entries::find(tx, user, number)? {
         Some(row) => Ok(Some(row.get(0)?)),
@@ -175,20 +157,15 @@ fn digest_of<S: Alter>(
 /// The content under a digest that an entry names.
 fn content_of<S: Alter>(tx: &mut Transaction<'_, S>, digest: &[u8]) -> Result<Vec<u8>, Error>
     ensures same_reference { tx.new.conn.ghost_name ≡ tx.old.conn.ghost_name }
-    ensures told { HasCleanDisk (state S.Store tx.new.conn.now)
-        → IfOk result (λ octets. (before : _) → Stands (state S.Store tx.old.conn.now).now before
-        → HasContent ((state S.Store tx.old.conn.now).now.trees contents_tree) digest.now
-        octets.items) }
-    ensures same { HasCleanDisk (state S.Store tx.new.conn.now)
-        → OnOk result (Stays (state S.Store tx.old.conn.now) (state S.Store tx.new.conn.now)) }
-    ensures kept { HasCleanDisk (state S.Store tx.new.conn.now)
-        → (state S.Store tx.old.conn.now).now.schema ≡ store_schema
-        → KeepsCommit (state S.Store tx.old.conn.now) (state S.Store tx.new.conn.now) }
-    ensures cause { HasCleanDisk (state S.Store tx.new.conn.now) → IfErr result (λ e. (octets : _)
-        → HasContent ((state S.Store tx.old.conn.now).now.trees contents_tree) digest.now octets
-        → Blames (state S.Store tx.old.conn.now) (state S.Store tx.new.conn.now) (refusal_of e)) }
-    ensures survives { Survives (state S.Store tx.old.conn.now) (state S.Store tx.new.conn.now)
-        (λ _. ⊥) }
+    ensures told { IfDone S.Store tx.old.conn.now tx.new.conn.now result
+        (λ octets old _. (before : _) → Stands old.now before
+        → HasContent (old.now.trees contents_tree) digest.now octets.items) }
+    ensures same { OnDone S.Store tx.old.conn.now tx.new.conn.now result Stays }
+    ensures kept { Always S.Store tx.old.conn.now tx.new.conn.now KeepsStored }
+    ensures cause { IfRefused S.Store tx.old.conn.now tx.new.conn.now result
+        (λ old new e. (octets : _) → HasContent (old.now.trees contents_tree) digest.now octets
+        → Blames old new (refusal_of e)) }
+    ensures survives { CommitsNothing S.Store tx.old.conn.now tx.new.conn.now }
 {
     match contents::find(tx, digest)? {
         Some(row) => row.get(0),
@@ -202,22 +179,15 @@ fn read_bytes<S: Alter>(
     number: u32,
 ) -> Result<Option<Vec<u8>>, Error>
     ensures same_reference { tx.new.conn.ghost_name ≡ tx.old.conn.ghost_name }
-    ensures told { HasCleanDisk (state S.Store tx.new.conn.now)
-        → IfOk result (λ found. (before : _) → Stands (state S.Store tx.old.conn.now).now before
-        → MatchOption found (HasNone before user.now number)
+    ensures told { Tells S.Store tx.old.conn.now tx.new.conn.now result
+        (λ before found.
+        MatchOption found (HasNone before user.now number)
         (λ octets. (x : _) × IsEntryAt before user.now number x × (octets.items ≡ x.octets))) }
-    ensures open { HasCleanDisk (state S.Store tx.new.conn.now)
-        → OnOk result (IsTrue (state S.Store tx.old.conn.now).is_open) }
-    ensures shut { HasCleanDisk (state S.Store tx.new.conn.now)
-        → IsTrue (state S.Store tx.new.conn.now).is_open
-        → IsTrue (state S.Store tx.old.conn.now).is_open }
-    ensures kept { HasCleanDisk (state S.Store tx.new.conn.now)
-        → (state S.Store tx.old.conn.now).now.schema ≡ store_schema
-        → KeepsCommit (state S.Store tx.old.conn.now) (state S.Store tx.new.conn.now) }
-    ensures cause { HasCleanDisk (state S.Store tx.new.conn.now) → IfErr result (λ e.
-        Blames (state S.Store tx.old.conn.now) (state S.Store tx.new.conn.now) (refusal_of e)) }
-    ensures survives { Survives (state S.Store tx.old.conn.now) (state S.Store tx.new.conn.now)
-        (λ _. ⊥) }
+    ensures open { OnDone S.Store tx.old.conn.now tx.new.conn.now result WasOpen }
+    ensures shut { Always S.Store tx.old.conn.now tx.new.conn.now StaysShut }
+    ensures kept { Always S.Store tx.old.conn.now tx.new.conn.now KeepsStored }
+    ensures cause { IfRefused S.Store tx.old.conn.now tx.new.conn.now result (AsRefusal Blames) }
+    ensures survives { CommitsNothing S.Store tx.old.conn.now tx.new.conn.now }
 {
     let Some(digest) = digest_of(tx, user, number)? else {
         return Ok(None);
@@ -225,66 +195,30 @@ fn read_bytes<S: Alter>(
     Ok(Some(content_of(tx, &digest)?))
 }
 
-/// Takes out what is under a digest that no entry names.
-fn tidy<S: Alter>(tx: &mut Transaction<'_, S>, digest: &[u8]) -> Result<(), Error>
-    ensures same_reference { tx.new.conn.ghost_name ≡ tx.old.conn.ghost_name }
-    ensures tidied { HasCleanDisk (state S.Store tx.new.conn.now)
-        → OnOk result ((state S.Store tx.old.conn.now).now.schema ≡ store_schema
-        → IsTidied digest.now (state S.Store tx.old.conn.now) (state S.Store tx.new.conn.now)) }
-    ensures kept { HasCleanDisk (state S.Store tx.new.conn.now)
-        → (state S.Store tx.old.conn.now).now.schema ≡ store_schema
-        → KeepsCommit (state S.Store tx.old.conn.now) (state S.Store tx.new.conn.now) }
-    ensures fault { HasCleanDisk (state S.Store tx.new.conn.now)
-        → IfErr result (λ e. IsTableIn contents_tree (state S.Store tx.old.conn.now).now.trees
-        → WriteFaults (state S.Store tx.old.conn.now) (state S.Store tx.new.conn.now) e) }
-    ensures survives { Survives (state S.Store tx.old.conn.now) (state S.Store tx.new.conn.now)
-        (λ _. ⊥) }
-{
-    match entries::naming(tx, digest)? {
-        Some(_) => Ok(()),
-        None => {
-            contents::remove(tx, digest)?;
-            Ok(())
-        }
-    }
-}
-
 /// Takes a user's entry out. Answers false where he has no such entry.
 fn take_entry<S: Alter>(tx: &mut Transaction<'_, S>, user: &str, number: u32) -> Result<bool, Error>
     ensures same_reference { tx.new.conn.ghost_name ≡ tx.old.conn.ghost_name }
-    ensures taken { HasCleanDisk (state S.Store tx.new.conn.now)
-        → IfOk result (λ done. done ≡ true
-        → Brings (without_entry user.now number) (state S.Store tx.old.conn.now)
-        (state S.Store tx.new.conn.now)) }
-    ensures there { HasCleanDisk (state S.Store tx.new.conn.now)
-        → IfOk result (λ done. done ≡ true → (before : _)
-        → Stands (state S.Store tx.old.conn.now).now before
+    ensures taken { IfDone S.Store tx.old.conn.now tx.new.conn.now result
+        (λ done old new. done ≡ true → Brings (without_entry user.now number) old new) }
+    ensures there { IfDone S.Store tx.old.conn.now tx.new.conn.now result
+        (λ done old _. done ≡ true → (before : _) → Stands old.now before
         → (x : _) × IsEntryAt before user.now number x) }
-    ensures none { HasCleanDisk (state S.Store tx.new.conn.now)
-        → IfOk result (λ done. done ≡ false → (before : _)
-        → Stands (state S.Store tx.old.conn.now).now before → HasNone before user.now number) }
-    ensures inside { HasCleanDisk (state S.Store tx.new.conn.now)
-        → IfOk result (λ done. done ≡ true
-        → (state S.Store tx.old.conn.now).now.schema ≡ store_schema
-        → IsTrue (state S.Store tx.new.conn.now).in_transaction) }
-    ensures shut { HasCleanDisk (state S.Store tx.new.conn.now)
-        → IsTrue (state S.Store tx.new.conn.now).is_open
-        → IsTrue (state S.Store tx.old.conn.now).is_open }
-    ensures kept { HasCleanDisk (state S.Store tx.new.conn.now)
-        → (state S.Store tx.old.conn.now).now.schema ≡ store_schema
-        → KeepsCommit (state S.Store tx.old.conn.now) (state S.Store tx.new.conn.now) }
-    ensures cause { HasCleanDisk (state S.Store tx.new.conn.now)
-        → IfErr result (λ e. IsTrue (state S.Store tx.old.conn.now).in_transaction
-        → Blames (state S.Store tx.old.conn.now) (state S.Store tx.new.conn.now)
-        (refusal_of e)) }
-    ensures survives { Survives (state S.Store tx.old.conn.now) (state S.Store tx.new.conn.now)
-        (λ _. ⊥) }
+    ensures none { IfDone S.Store tx.old.conn.now tx.new.conn.now result
+        (λ done old _. done ≡ false → (before : _) → Stands old.now before
+        → HasNone before user.now number) }
+    ensures inside { IfDone S.Store tx.old.conn.now tx.new.conn.now result
+        (λ done old new. done ≡ true → old.now.schema ≡ store_schema → IsTrue new.in_transaction) }
+    ensures shut { Always S.Store tx.old.conn.now tx.new.conn.now StaysShut }
+    ensures kept { Always S.Store tx.old.conn.now tx.new.conn.now KeepsStored }
+    ensures cause { IfRefused S.Store tx.old.conn.now tx.new.conn.now result
+        (AsRefusalInside Blames) }
+    ensures survives { CommitsNothing S.Store tx.old.conn.now tx.new.conn.now }
 {
     let Some(digest) = digest_of(tx, user, number)? else {
         return Ok(false);
     };
     entries::remove(tx, user, number)?;
-    tidy(tx, &digest)?;
+    contents::remove_unnamed(tx, &digest)?;
     Ok(true)
 }
 
@@ -294,13 +228,12 @@ impl<S: Alter> PartStore<S> {
     /// `Database`, hands the connection back, with what it shows and what is committed as they were, unless a failure has shut it, and
     /// in a transaction if it was in one. One in a transaction is refused `Database`; of the others only one without tables is refused.
     pub fn adopt(conn: Connection<S>) -> Result<PartStore<S>, (StoreError, Connection<S>)>
-        ensures made { IfOk result (λ s. HasCleanDisk (state S.Store s)
-            → IsBare (state S.Store conn) → IsEmptied (state S.Store s)) }
+        ensures made { IfOk result
+            (λ s. Always S.Store conn s (λ old new. IsBare old → IsEmptied new)) }
         ensures same { IfOk result (λ s. (IsBare (state S.Store conn) → ⊥) → s ≡ conn) }
         ensures settled { IfOk result (λ s. (state S.Store s).in_transaction ≡ false) }
         ensures spared { IfErr result
-            (λ e. HasCleanDisk (state S.Store e.1) → IsTrue (state S.Store e.1).is_open
-            → IsKept (state S.Store conn) (state S.Store e.1)) }
+            (λ e. Always S.Store conn e.1 (λ old new. IsTrue new.is_open → IsKept old new)) }
         ensures mode { IfErr result
             (λ e. (state S.Store e.1).in_transaction ≡ (state S.Store conn).in_transaction) }
         ensures inside { IsTrue (state S.Store conn).in_transaction
@@ -308,12 +241,8 @@ impl<S: Alter> PartStore<S> {
         ensures bare { IfErr result
             (λ e. (state S.Store conn).in_transaction ≡ false → IsBare (state S.Store conn)) }
         ensures refused { IfErr result (λ e. (e.0 ≡ Memory) ⊎ (e.0 ≡ Database)) }
-        ensures survives { IfOk result
-            (λ s. Survives (state S.Store conn) (state S.Store s)
-            (MakesEmpty (state S.Store conn))) }
-        ensures broken { IfErr result
-            (λ e. Survives (state S.Store conn) (state S.Store e.1)
-            (MakesEmpty (state S.Store conn))) }
+        ensures survives { IfOk result (λ s. MayCommit S.Store conn s MakesEmpty) }
+        ensures broken { IfErr result (λ e. MayCommit S.Store conn e.1 MakesEmpty) }
     {
         let mut conn = conn;
         match ready_tables(&mut conn) {
@@ -353,17 +282,14 @@ impl<S: Alter> PartStore<S> {
 
     /// Stores the user's program in place of the one before. Refuses `Memory`, and `Database` also where the user's row has no room.
     pub fn set_program(&mut self, user: &str, program: &[u8]) -> Result<(), StoreError>
-        ensures made { HasCleanDisk (state S.Store self.new)
-            → OnOk result (Makes (with_program user.now program.now) (state S.Store self.old)
-            (state S.Store self.new)) }
-        ensures spared { HasCleanDisk (state S.Store self.new)
-            → OnErr result (Spares (state S.Store self.old) (state S.Store self.new)) }
+        ensures made { OnDone S.Store self.old self.new result
+            (Makes (with_program user.now program.now)) }
+        ensures spared { OnRefused S.Store self.old self.new result Spares }
         ensures refused { IfErr result (λ e. (e ≡ Memory) ⊎ (e ≡ Database)) }
-        ensures cause { HasCleanDisk (state S.Store self.new)
-            → IfErr result (BlamesRow user.now (with_program user.now program.now)
-            (state S.Store self.old) (state S.Store self.new)) }
-        ensures survives { Survives (state S.Store self.old) (state S.Store self.new)
-            (λ trees. MayMake (with_program user.now program.now) (state S.Store self.old) trees) }
+        ensures cause { IfRefused S.Store self.old self.new result
+            (BlamesRow user.now (with_program user.now program.now)) }
+        ensures survives { MayCommit S.Store self.old self.new
+            (MayMake (with_program user.now program.now)) }
     {
         let mut tx = begin(&mut self.conn);
         put_program(&mut tx, user, program)?;
@@ -373,20 +299,14 @@ impl<S: Alter> PartStore<S> {
 
     /// The user's program, or none where he has none. Refuses `Memory` and `Database`.
     pub fn program_of(&mut self, user: &str) -> Result<Option<Vec<u8>>, StoreError>
-        ensures told { HasCleanDisk (state S.Store self.new)
-            → IfOk result (λ found. (before : _) → Stands (state S.Store self.old).now before
-            → option_map (λ v. v.items) found ≡ before.programs user.now) }
-        ensures open { HasCleanDisk (state S.Store self.new)
-            → OnOk result (IsTrue (state S.Store self.old).is_open) }
-        ensures spared { HasCleanDisk (state S.Store self.new)
-            → Spares (state S.Store self.old) (state S.Store self.new) }
-        ensures settled { HasCleanDisk (state S.Store self.new)
-            → IsTrue (state S.Store self.new).is_open
-            → (state S.Store self.new).committed ≡ (state S.Store self.new).now }
+        ensures told { Tells S.Store self.old self.new result
+            (λ before found. option_map (λ v. v.items) found ≡ before.programs user.now) }
+        ensures open { OnDone S.Store self.old self.new result WasOpen }
+        ensures spared { Always S.Store self.old self.new Spares }
+        ensures settled { Always S.Store self.old self.new Settles }
         ensures refused { IfErr result (λ e. (e ≡ Memory) ⊎ (e ≡ Database)) }
-        ensures cause { HasCleanDisk (state S.Store self.new) → IfErr result
-            (Blames (state S.Store self.old) (state S.Store self.new)) }
-        ensures survives { Survives (state S.Store self.old) (state S.Store self.new) (λ _. ⊥) }
+        ensures cause { IfRefused S.Store self.old self.new result Blames }
+        ensures survives { CommitsNothing S.Store self.old self.new }
     {
         let mut tx = begin(&mut self.conn);
         Ok(read_program(&mut tx, user)?)
@@ -395,20 +315,14 @@ impl<S: Alter> PartStore<S> {
     /// The users that have a program, in the order of their names, with their programs. Refuses `Memory`, and `Database` also where
     /// a user's name in the table isn't UTF-8.
     pub fn programs(&mut self) -> Result<Vec<(String, Vec<u8>)>, StoreError>
-        ensures told { HasCleanDisk (state S.Store self.new)
-            → IfOk result (λ programs. (before : _) → Stands (state S.Store self.old).now before
-            → AreProgramsOf before (map pair_of programs.items)) }
-        ensures open { HasCleanDisk (state S.Store self.new)
-            → OnOk result (IsTrue (state S.Store self.old).is_open) }
-        ensures spared { HasCleanDisk (state S.Store self.new)
-            → Spares (state S.Store self.old) (state S.Store self.new) }
-        ensures settled { HasCleanDisk (state S.Store self.new)
-            → IsTrue (state S.Store self.new).is_open
-            → (state S.Store self.new).committed ≡ (state S.Store self.new).now }
+        ensures told { Tells S.Store self.old self.new result
+            (λ before programs. AreProgramsOf before (map pair_of programs.items)) }
+        ensures open { OnDone S.Store self.old self.new result WasOpen }
+        ensures spared { Always S.Store self.old self.new Spares }
+        ensures settled { Always S.Store self.old self.new Settles }
         ensures refused { IfErr result (λ e. (e ≡ Memory) ⊎ (e ≡ Database)) }
-        ensures cause { HasCleanDisk (state S.Store self.new) → IfErr result
-            (BlamesNamed (state S.Store self.old) (state S.Store self.new)) }
-        ensures survives { Survives (state S.Store self.old) (state S.Store self.new) (λ _. ⊥) }
+        ensures cause { IfRefused S.Store self.old self.new result BlamesNamed }
+        ensures survives { CommitsNothing S.Store self.old self.new }
     {
         let mut tx = begin(&mut self.conn);
         list_programs(&mut tx)
@@ -417,21 +331,15 @@ impl<S: Alter> PartStore<S> {
     /// All users, each with the last number and the program, in the order of their names. Refuses `Memory`, and `Database` also where
     /// a user's name in the table isn't UTF-8.
     pub fn users(&mut self) -> Result<Vec<UserRow>, StoreError>
-        ensures told { HasCleanDisk (state S.Store self.new)
-            → IfOk result (λ users. (before : _) → Stands (state S.Store self.old).now before
-            → AreUsersOf ((state S.Store self.old).now.trees users_tree) before
-            (map line_of users.items)) }
-        ensures open { HasCleanDisk (state S.Store self.new)
-            → OnOk result (IsTrue (state S.Store self.old).is_open) }
-        ensures spared { HasCleanDisk (state S.Store self.new)
-            → Spares (state S.Store self.old) (state S.Store self.new) }
-        ensures settled { HasCleanDisk (state S.Store self.new)
-            → IsTrue (state S.Store self.new).is_open
-            → (state S.Store self.new).committed ≡ (state S.Store self.new).now }
+        ensures told { IfDone S.Store self.old self.new result
+            (λ users old _. (before : _) → Stands old.now before
+            → AreUsersOf (old.now.trees users_tree) before (map line_of users.items)) }
+        ensures open { OnDone S.Store self.old self.new result WasOpen }
+        ensures spared { Always S.Store self.old self.new Spares }
+        ensures settled { Always S.Store self.old self.new Settles }
         ensures refused { IfErr result (λ e. (e ≡ Memory) ⊎ (e ≡ Database)) }
-        ensures cause { HasCleanDisk (state S.Store self.new) → IfErr result
-            (BlamesNamed (state S.Store self.old) (state S.Store self.new)) }
-        ensures survives { Survives (state S.Store self.old) (state S.Store self.new) (λ _. ⊥) }
+        ensures cause { IfRefused S.Store self.old self.new result BlamesNamed }
+        ensures survives { CommitsNothing S.Store self.old self.new }
     {
         let mut tx = begin(&mut self.conn);
         list_users(&mut tx)
@@ -440,21 +348,16 @@ impl<S: Alter> PartStore<S> {
     /// How many contents there are and how many octets they have; what several entries have is counted once. Refuses `Memory`, and
     /// `Database` also where the octets are more than 64 bits can count.
     pub fn contents(&mut self) -> Result<ContentTotal, StoreError>
-        ensures told { HasCleanDisk (state S.Store self.new)
-            → IfOk result (λ total. (before : _) → Stands (state S.Store self.old).now before
-            → IsTotalOf ((state S.Store self.old).now.trees contents_tree) total) }
-        ensures open { HasCleanDisk (state S.Store self.new)
-            → OnOk result (IsTrue (state S.Store self.old).is_open) }
-        ensures spared { HasCleanDisk (state S.Store self.new)
-            → Spares (state S.Store self.old) (state S.Store self.new) }
-        ensures settled { HasCleanDisk (state S.Store self.new)
-            → IsTrue (state S.Store self.new).is_open
-            → (state S.Store self.new).committed ≡ (state S.Store self.new).now }
+        ensures told { IfDone S.Store self.old self.new result
+            (λ total old _. (before : _) → Stands old.now before
+            → IsTotalOf (old.now.trees contents_tree) total) }
+        ensures open { OnDone S.Store self.old self.new result WasOpen }
+        ensures spared { Always S.Store self.old self.new Spares }
+        ensures settled { Always S.Store self.old self.new Settles }
         ensures refused { IfErr result (λ e. (e ≡ Memory) ⊎ (e ≡ Database)) }
-        ensures cause { HasCleanDisk (state S.Store self.new)
-            → IfErr result (BlamesOr (λ _ db. 2 ^ 64 ≤ octets_of (db contents_tree))
-            (state S.Store self.old) (state S.Store self.new)) }
-        ensures survives { Survives (state S.Store self.old) (state S.Store self.new) (λ _. ⊥) }
+        ensures cause { IfRefused S.Store self.old self.new result
+            (BlamesOr (λ _ db. 2 ^ 64 ≤ octets_of (db contents_tree))) }
+        ensures survives { CommitsNothing S.Store self.old self.new }
     {
         let mut tx = begin(&mut self.conn);
         count_contents(&mut tx)
@@ -463,18 +366,15 @@ impl<S: Alter> PartStore<S> {
     /// Replaces the programs of the listed users, and passes over those that have none. Where a user is listed twice the later
     /// program counts. No last number changes. Refuses `Memory`, and `Database` also where a user's row has no room.
     pub fn replace_programs(&mut self, programs: &[(String, Vec<u8>)]) -> Result<(), StoreError>
-        ensures made { HasCleanDisk (state S.Store self.new)
-            → OnOk result (Makes (with_programs (map pair_of programs.now)) (state S.Store self.old)
-            (state S.Store self.new)) }
-        ensures spared { HasCleanDisk (state S.Store self.new)
-            → OnErr result (Spares (state S.Store self.old) (state S.Store self.new)) }
+        ensures made { OnDone S.Store self.old self.new result
+            (Makes (with_programs (map pair_of programs.now))) }
+        ensures spared { OnRefused S.Store self.old self.new result Spares }
         ensures refused { IfErr result (λ e. (e ≡ Memory) ⊎ (e ≡ Database)) }
-        ensures cause { HasCleanDisk (state S.Store self.new)
-            → IfErr result (BlamesPrograms (map pair_of programs.now) (state S.Store self.old)
-            (state S.Store self.new)) }
-        ensures survives { Survives (state S.Store self.old) (state S.Store self.new) (λ trees.
-            (0 < length programs.now → IsTrue (state S.Store self.old).is_open)
-            × MayMake (with_programs (map pair_of programs.now)) (state S.Store self.old) trees) }
+        ensures cause { IfRefused S.Store self.old self.new result
+            (BlamesPrograms (map pair_of programs.now)) }
+        ensures survives { MayCommit S.Store self.old self.new
+            (λ old trees. (0 < length programs.now → IsTrue old.is_open)
+            × MayMake (with_programs (map pair_of programs.now)) old trees) }
     {
         let mut tx = begin(&mut self.conn);
         replace_all(&mut tx, programs)?;
@@ -490,45 +390,33 @@ impl<S: Alter> PartStore<S> {
     /// A store that a failure has shut stays shut, adds nothing, and refuses `Memory` or `Database`.
     pub fn add_entries(&mut self, user: &str, entries: &[NewEntry<'_>]) -> Result<u32, StoreError>
         requires { 0 < length entries.now }
-        ensures made { HasCleanDisk (state S.Store self.new)
-            → OnOk result (Makes (with_entries user.now (map draft_of entries.now))
-            (state S.Store self.old) (state S.Store self.new)) }
-        ensures first { HasCleanDisk (state S.Store self.new)
-            → IfOk result (λ first. (before : _) → Stands (state S.Store self.old).now before
-            → first ≡ before.lasts user.now + 1) }
-        ensures room { HasCleanDisk (state S.Store self.new)
-            → OnOk result ((before : _) → Stands (state S.Store self.old).now before
-            → HasRoom before user.now (length entries.now)) }
-        ensures apart { HasCleanDisk (state S.Store self.new)
-            → OnOk result ((before : _) → Stands (state S.Store self.old).now before
-            → Collides (state S.Store self.old).now.trees (map draft_of entries.now) → ⊥) }
-        ensures full { HasCleanDisk (state S.Store self.new)
-            → IfErr result (λ e. e ≡ NumberFull → (before : _)
-            → Stands (state S.Store self.old).now before
-            → HasRoom before user.now (length entries.now) → ⊥) }
-        ensures collision { HasCleanDisk (state S.Store self.new)
-            → IfErr result (λ e. e ≡ Collision → (before : _)
-            → Stands (state S.Store self.old).now before
+        ensures made { OnDone S.Store self.old self.new result
+            (Makes (with_entries user.now (map draft_of entries.now))) }
+        ensures first { Tells S.Store self.old self.new result
+            (λ before first. first ≡ before.lasts user.now + 1) }
+        ensures room { DoneWhere S.Store self.old self.new result
+            (λ before. HasRoom before user.now (length entries.now)) }
+        ensures apart { OnDone S.Store self.old self.new result
+            (λ old _. (before : _) → Stands old.now before
+            → Collides old.now.trees (map draft_of entries.now) → ⊥) }
+        ensures full { RefusedWhere S.Store self.old self.new result NumberFull
+            (λ before. HasRoom before user.now (length entries.now) → ⊥) }
+        ensures collision { IfRefused S.Store self.old self.new result
+            (λ old _ e. e ≡ Collision → (before : _) → Stands old.now before
             → HasRoom before user.now (length entries.now)
-            × Collides (state S.Store self.old).now.trees (map draft_of entries.now)) }
-        ensures open { HasCleanDisk (state S.Store self.new)
-            → OnOk result (IsTrue (state S.Store self.old).is_open) }
-        ensures begun { HasCleanDisk (state S.Store self.new)
-            → IfErr result (λ e. (e ≡ NumberFull) ⊎ (e ≡ Collision)
-            → IsTrue (state S.Store self.old).is_open) }
-        ensures shut { HasCleanDisk (state S.Store self.new)
-            → IsTrue (state S.Store self.new).is_open → IsTrue (state S.Store self.old).is_open }
-        ensures spared { HasCleanDisk (state S.Store self.new)
-            → OnErr result (Spares (state S.Store self.old) (state S.Store self.new)) }
+            × Collides old.now.trees (map draft_of entries.now)) }
+        ensures open { OnDone S.Store self.old self.new result WasOpen }
+        ensures begun { IfRefused S.Store self.old self.new result
+            (λ old _ e. (e ≡ NumberFull) ⊎ (e ≡ Collision) → IsTrue old.is_open) }
+        ensures shut { Always S.Store self.old self.new StaysShut }
+        ensures spared { OnRefused S.Store self.old self.new result Spares }
         ensures refused { IfErr result
             (λ e. (e ≡ Memory) ⊎ ((e ≡ NumberFull) ⊎ ((e ≡ Collision) ⊎ (e ≡ Database)))) }
-        ensures cause { HasCleanDisk (state S.Store self.new)
-            → IfErr result (BlamesEntries user.now (map draft_of entries.now)
-            (state S.Store self.old) (state S.Store self.new)) }
-        ensures survives { Survives (state S.Store self.old) (state S.Store self.new)
-            (λ trees. IsTrue (state S.Store self.old).is_open
-            × MayMake (with_entries user.now (map draft_of entries.now))
-            (state S.Store self.old) trees) }
+        ensures cause { IfRefused S.Store self.old self.new result
+            (BlamesEntries user.now (map draft_of entries.now)) }
+        ensures survives { MayCommit S.Store self.old self.new
+            (λ old trees. IsTrue old.is_open
+            × MayMake (with_entries user.now (map draft_of entries.now)) old trees) }
     {
         let mut tx = begin(&mut self.conn);
         match put_entries(&mut tx, user, entries)? {
@@ -543,20 +431,14 @@ impl<S: Alter> PartStore<S> {
 
     /// The user's entries, by their numbers. Refuses `Memory` and `Database`.
     pub fn entries_of(&mut self, user: &str) -> Result<Vec<EntryRow>, StoreError>
-        ensures told { HasCleanDisk (state S.Store self.new)
-            → IfOk result (λ rows. (before : _) → Stands (state S.Store self.old).now before
-            → map listed rows.items ≡ map listing_of (entries_of user.now before)) }
-        ensures open { HasCleanDisk (state S.Store self.new)
-            → OnOk result (IsTrue (state S.Store self.old).is_open) }
-        ensures spared { HasCleanDisk (state S.Store self.new)
-            → Spares (state S.Store self.old) (state S.Store self.new) }
-        ensures settled { HasCleanDisk (state S.Store self.new)
-            → IsTrue (state S.Store self.new).is_open
-            → (state S.Store self.new).committed ≡ (state S.Store self.new).now }
+        ensures told { Tells S.Store self.old self.new result
+            (λ before rows. map listed rows.items ≡ map listing_of (entries_of user.now before)) }
+        ensures open { OnDone S.Store self.old self.new result WasOpen }
+        ensures spared { Always S.Store self.old self.new Spares }
+        ensures settled { Always S.Store self.old self.new Settles }
         ensures refused { IfErr result (λ e. (e ≡ Memory) ⊎ (e ≡ Database)) }
-        ensures cause { HasCleanDisk (state S.Store self.new) → IfErr result
-            (Blames (state S.Store self.old) (state S.Store self.new)) }
-        ensures survives { Survives (state S.Store self.old) (state S.Store self.new) (λ _. ⊥) }
+        ensures cause { IfRefused S.Store self.old self.new result Blames }
+        ensures survives { CommitsNothing S.Store self.old self.new }
     {
         let mut tx = begin(&mut self.conn);
         list_all(&mut tx, user)
@@ -565,23 +447,17 @@ impl<S: Alter> PartStore<S> {
     /// The octets of the user's entry of that number. Refuses `Memory`, `NoSuchEntry` exactly where he has none, and
     /// `Database`.
     pub fn bytes_of(&mut self, user: &str, number: u32) -> Result<Vec<u8>, StoreError>
-        ensures told { HasCleanDisk (state S.Store self.new)
-            → IfOk result (λ octets. (before : _) → Stands (state S.Store self.old).now before
-            → (x : _) × IsEntryAt before user.now number x × (octets.items ≡ x.octets)) }
-        ensures open { HasCleanDisk (state S.Store self.new)
-            → OnOk result (IsTrue (state S.Store self.old).is_open) }
-        ensures absent { HasCleanDisk (state S.Store self.new)
-            → IfErr result (λ e. e ≡ NoSuchEntry → (before : _)
-            → Stands (state S.Store self.old).now before → HasNone before user.now number) }
-        ensures spared { HasCleanDisk (state S.Store self.new)
-            → Spares (state S.Store self.old) (state S.Store self.new) }
-        ensures settled { HasCleanDisk (state S.Store self.new)
-            → IsTrue (state S.Store self.new).is_open
-            → (state S.Store self.new).committed ≡ (state S.Store self.new).now }
+        ensures told { Tells S.Store self.old self.new result
+            (λ before octets. (x : _) × IsEntryAt before user.now number x
+            × (octets.items ≡ x.octets)) }
+        ensures open { OnDone S.Store self.old self.new result WasOpen }
+        ensures absent { RefusedWhere S.Store self.old self.new result NoSuchEntry
+            (λ before. HasNone before user.now number) }
+        ensures spared { Always S.Store self.old self.new Spares }
+        ensures settled { Always S.Store self.old self.new Settles }
         ensures refused { IfErr result (λ e. (e ≡ Memory) ⊎ ((e ≡ NoSuchEntry) ⊎ (e ≡ Database))) }
-        ensures cause { HasCleanDisk (state S.Store self.new) → IfErr result
-            (Blames (state S.Store self.old) (state S.Store self.new)) }
-        ensures survives { Survives (state S.Store self.old) (state S.Store self.new) (λ _. ⊥) }
+        ensures cause { IfRefused S.Store self.old self.new result Blames }
+        ensures survives { CommitsNothing S.Store self.old self.new }
     {
         let mut tx = begin(&mut self.conn);
         match read_bytes(&mut tx, user, number)? {
@@ -593,22 +469,17 @@ impl<S: Alter> PartStore<S> {
     /// Removes the user's entry of that number, and its octets where no other entry has them. The number isn't given
     /// again. Refuses `Memory`, `NoSuchEntry` exactly where he has none, and `Database`.
     pub fn remove_entry(&mut self, user: &str, number: u32) -> Result<(), StoreError>
-        ensures made { HasCleanDisk (state S.Store self.new)
-            → OnOk result (Makes (without_entry user.now number) (state S.Store self.old)
-            (state S.Store self.new)) }
-        ensures there { HasCleanDisk (state S.Store self.new)
-            → OnOk result ((before : _) → Stands (state S.Store self.old).now before
-            → (x : _) × IsEntryAt before user.now number x) }
-        ensures absent { HasCleanDisk (state S.Store self.new)
-            → IfErr result (λ e. e ≡ NoSuchEntry → (before : _)
-            → Stands (state S.Store self.old).now before → HasNone before user.now number) }
-        ensures spared { HasCleanDisk (state S.Store self.new)
-            → OnErr result (Spares (state S.Store self.old) (state S.Store self.new)) }
+        ensures made { OnDone S.Store self.old self.new result
+            (Makes (without_entry user.now number)) }
+        ensures there { DoneWhere S.Store self.old self.new result
+            (λ before. (x : _) × IsEntryAt before user.now number x) }
+        ensures absent { RefusedWhere S.Store self.old self.new result NoSuchEntry
+            (λ before. HasNone before user.now number) }
+        ensures spared { OnRefused S.Store self.old self.new result Spares }
         ensures refused { IfErr result (λ e. (e ≡ Memory) ⊎ ((e ≡ NoSuchEntry) ⊎ (e ≡ Database))) }
-        ensures cause { HasCleanDisk (state S.Store self.new) → IfErr result
-            (Blames (state S.Store self.old) (state S.Store self.new)) }
-        ensures survives { Survives (state S.Store self.old) (state S.Store self.new)
-            (λ trees. (before : _) → Stands (state S.Store self.old).now before
+        ensures cause { IfRefused S.Store self.old self.new result Blames }
+        ensures survives { MayCommit S.Store self.old self.new
+            (λ old trees. (before : _) → Stands old.now before
             → ((x : _) × IsEntryAt before user.now number x)
             × IsStored trees (without_entry user.now number before)) }
     {

@@ -1,7 +1,5 @@
 //! The users' programs.
-ghost use Rattle.std.specs.Prelude.{◌≡◌, ◌⊎◌, ◌∷◌, ◌<◌, [], length, map, IsTrue, option_map, IfOk, IfErr, OnOk};
-ghost use Rattle.sqlite.specs.Held.{state};
-ghost use Rattle.sqlite.specs.State.{HasCleanDisk, KeepsCommit, Survives};
+ghost use Rattle.std.specs.Prelude.{◌≡◌, ◌⊎◌, ◌∷◌, ◌<◌, [], length, map, IsTrue, option_map, IfOk, IfErr};
 ghost use Rattle.part_store.specs.Changes.{columns, users_tree};
 ghost use Rattle.part_store.specs.Tables.{store_schema};
 ghost use Rattle.part_store.specs.Entries.{AreProgramsOf, with_program, with_programs};
@@ -9,6 +7,7 @@ ghost use Rattle.part_store.specs.Standing.{Brings, Stands, Stays, last_in, pair
 ghost use Rattle.std.specs.List.{AllByRecursion};
 ghost use Rattle.part_store.specs.Refusals.{refusal_of, Blames, BlamesNamed, BlamesPrograms, BlamesRow, RisesFrom, ShowsLast, ShowsProgram};
 ghost use Rattle.part_store.specs.declared.error.StoreError.TheVariants.{Memory, Database};
+ghost use Rattle.part_store.specs.Calls.{Always, AsRefusal, AsRefusalInside, CommitsNothing, IfRefused, IsInside, KeepsStored, KeepsTables, OnDone, StaysInside, StaysShut, Tells, WasOpen};
 
 use crate::error::StoreError;
 use crate::users;
@@ -32,30 +31,18 @@ pub(crate) fn put_program<S: Alter>(
     program: &[u8],
 ) -> Result<(), Error>
     ensures same_reference { tx.new.conn.ghost_name ≡ tx.old.conn.ghost_name }
-    ensures step { HasCleanDisk (state S.Store tx.new.conn.now)
-        → OnOk result (Brings (with_program user.now program.now) (state S.Store tx.old.conn.now)
-        (state S.Store tx.new.conn.now)) }
-    ensures inside { HasCleanDisk (state S.Store tx.new.conn.now)
-        → OnOk result (IsTrue (state S.Store tx.new.conn.now).in_transaction) }
-    ensures schema { HasCleanDisk (state S.Store tx.new.conn.now)
-        → OnOk result ((state S.Store tx.old.conn.now).now.schema ≡ store_schema
-        → (state S.Store tx.new.conn.now).now.schema ≡ store_schema) }
-    ensures shut { HasCleanDisk (state S.Store tx.new.conn.now)
-        → IsTrue (state S.Store tx.new.conn.now).is_open
-        → IsTrue (state S.Store tx.old.conn.now).is_open }
-    ensures kept { HasCleanDisk (state S.Store tx.new.conn.now)
-        → (state S.Store tx.old.conn.now).now.schema ≡ store_schema
-        → KeepsCommit (state S.Store tx.old.conn.now) (state S.Store tx.new.conn.now) }
-    ensures cause { HasCleanDisk (state S.Store tx.new.conn.now)
-        → IfErr result (λ e. IsTrue (state S.Store tx.old.conn.now).in_transaction
-        → BlamesRow user.now (with_program user.now program.now) (state S.Store tx.old.conn.now)
-        (state S.Store tx.new.conn.now) (refusal_of e)) }
-    ensures rowids { HasCleanDisk (state S.Store tx.new.conn.now)
-        → OnOk result ((before : _) → Stands (state S.Store tx.old.conn.now).now before
-        → RisesFrom 1 ((state S.Store tx.old.conn.now).now.trees users_tree)
-        ((state S.Store tx.new.conn.now).now.trees users_tree)) }
-    ensures survives { Survives (state S.Store tx.old.conn.now) (state S.Store tx.new.conn.now)
-        (λ _. ⊥) }
+    ensures step { OnDone S.Store tx.old.conn.now tx.new.conn.now result
+        (Brings (with_program user.now program.now)) }
+    ensures inside { OnDone S.Store tx.old.conn.now tx.new.conn.now result IsInside }
+    ensures schema { OnDone S.Store tx.old.conn.now tx.new.conn.now result KeepsTables }
+    ensures shut { Always S.Store tx.old.conn.now tx.new.conn.now StaysShut }
+    ensures kept { Always S.Store tx.old.conn.now tx.new.conn.now KeepsStored }
+    ensures cause { IfRefused S.Store tx.old.conn.now tx.new.conn.now result
+        (AsRefusalInside (BlamesRow user.now (with_program user.now program.now))) }
+    ensures rowids { OnDone S.Store tx.old.conn.now tx.new.conn.now result
+        (λ old new. (before : _) → Stands old.now before
+        → RisesFrom 1 (old.now.trees users_tree) (new.now.trees users_tree)) }
+    ensures survives { CommitsNothing S.Store tx.old.conn.now tx.new.conn.now }
 {
     let found = users::find(tx, user)?;
     let last = last_in(&found)?;
@@ -70,30 +57,17 @@ pub(crate) fn read_program<S: Alter>(
     user: &str,
 ) -> Result<Option<Vec<u8>>, Error>
     ensures same_reference { tx.new.conn.ghost_name ≡ tx.old.conn.ghost_name }
-    ensures told { HasCleanDisk (state S.Store tx.new.conn.now)
-        → IfOk result (λ found. (before : _) → Stands (state S.Store tx.old.conn.now).now before
-        → option_map (λ v. v.items) found ≡ before.programs user.now) }
-    ensures open { HasCleanDisk (state S.Store tx.new.conn.now)
-        → OnOk result (IsTrue (state S.Store tx.old.conn.now).is_open) }
-    ensures same { HasCleanDisk (state S.Store tx.new.conn.now)
-        → OnOk result (Stays (state S.Store tx.old.conn.now) (state S.Store tx.new.conn.now)) }
-    ensures still { HasCleanDisk (state S.Store tx.new.conn.now)
-        → OnOk result ((state S.Store tx.old.conn.now).now.schema ≡ store_schema
-        → IsTrue (state S.Store tx.new.conn.now).is_open) }
-    ensures inside { HasCleanDisk (state S.Store tx.new.conn.now)
-        → OnOk result ((state S.Store tx.old.conn.now).now.schema ≡ store_schema
-        → IsTrue (state S.Store tx.old.conn.now).in_transaction
-        → IsTrue (state S.Store tx.new.conn.now).in_transaction) }
-    ensures shut { HasCleanDisk (state S.Store tx.new.conn.now)
-        → IsTrue (state S.Store tx.new.conn.now).is_open
-        → IsTrue (state S.Store tx.old.conn.now).is_open }
-    ensures kept { HasCleanDisk (state S.Store tx.new.conn.now)
-        → (state S.Store tx.old.conn.now).now.schema ≡ store_schema
-        → KeepsCommit (state S.Store tx.old.conn.now) (state S.Store tx.new.conn.now) }
-    ensures cause { HasCleanDisk (state S.Store tx.new.conn.now) → IfErr result (λ e.
-        Blames (state S.Store tx.old.conn.now) (state S.Store tx.new.conn.now) (refusal_of e)) }
-    ensures survives { Survives (state S.Store tx.old.conn.now) (state S.Store tx.new.conn.now)
-        (λ _. ⊥) }
+    ensures told { Tells S.Store tx.old.conn.now tx.new.conn.now result
+        (λ before found. option_map (λ v. v.items) found ≡ before.programs user.now) }
+    ensures open { OnDone S.Store tx.old.conn.now tx.new.conn.now result WasOpen }
+    ensures same { OnDone S.Store tx.old.conn.now tx.new.conn.now result Stays }
+    ensures still { OnDone S.Store tx.old.conn.now tx.new.conn.now result
+        (λ old new. old.now.schema ≡ store_schema → IsTrue new.is_open) }
+    ensures inside { OnDone S.Store tx.old.conn.now tx.new.conn.now result StaysInside }
+    ensures shut { Always S.Store tx.old.conn.now tx.new.conn.now StaysShut }
+    ensures kept { Always S.Store tx.old.conn.now tx.new.conn.now KeepsStored }
+    ensures cause { IfRefused S.Store tx.old.conn.now tx.new.conn.now result (AsRefusal Blames) }
+    ensures survives { CommitsNothing S.Store tx.old.conn.now tx.new.conn.now }
 {
     match users::find(tx, user)? {
         Some(row) => row.get(1),
@@ -106,22 +80,14 @@ pub(crate) fn list_programs<S: Alter>(
     tx: &mut Transaction<'_, S>,
 ) -> Result<Vec<(String, Vec<u8>)>, StoreError>
     ensures same_reference { tx.new.conn.ghost_name ≡ tx.old.conn.ghost_name }
-    ensures told { HasCleanDisk (state S.Store tx.new.conn.now)
-        → IfOk result (λ programs. (before : _) → Stands (state S.Store tx.old.conn.now).now before
-        → AreProgramsOf before (map pair_of programs.items)) }
-    ensures open { HasCleanDisk (state S.Store tx.new.conn.now)
-        → OnOk result (IsTrue (state S.Store tx.old.conn.now).is_open) }
-    ensures shut { HasCleanDisk (state S.Store tx.new.conn.now)
-        → IsTrue (state S.Store tx.new.conn.now).is_open
-        → IsTrue (state S.Store tx.old.conn.now).is_open }
-    ensures kept { HasCleanDisk (state S.Store tx.new.conn.now)
-        → (state S.Store tx.old.conn.now).now.schema ≡ store_schema
-        → KeepsCommit (state S.Store tx.old.conn.now) (state S.Store tx.new.conn.now) }
+    ensures told { Tells S.Store tx.old.conn.now tx.new.conn.now result
+        (λ before programs. AreProgramsOf before (map pair_of programs.items)) }
+    ensures open { OnDone S.Store tx.old.conn.now tx.new.conn.now result WasOpen }
+    ensures shut { Always S.Store tx.old.conn.now tx.new.conn.now StaysShut }
+    ensures kept { Always S.Store tx.old.conn.now tx.new.conn.now KeepsStored }
     ensures refused { IfErr result (λ e. (e ≡ Memory) ⊎ (e ≡ Database)) }
-    ensures cause { HasCleanDisk (state S.Store tx.new.conn.now) → IfErr result
-        (BlamesNamed (state S.Store tx.old.conn.now) (state S.Store tx.new.conn.now)) }
-    ensures survives { Survives (state S.Store tx.old.conn.now) (state S.Store tx.new.conn.now)
-        (λ _. ⊥) }
+    ensures cause { IfRefused S.Store tx.old.conn.now tx.new.conn.now result BlamesNamed }
+    ensures survives { CommitsNothing S.Store tx.old.conn.now tx.new.conn.now }
 {
     let rows = users::list_programs(tx)?;
     programs_in(&rows)
@@ -149,34 +115,19 @@ fn replace_program<S: Alter>(
     program: &[u8],
 ) -> Result<(), Error>
     ensures same_reference { tx.new.conn.ghost_name ≡ tx.old.conn.ghost_name }
-    ensures step { HasCleanDisk (state S.Store tx.new.conn.now)
-        → OnOk result (Brings (with_programs ((user.now, program.now) ∷ []))
-        (state S.Store tx.old.conn.now) (state S.Store tx.new.conn.now)) }
-    ensures open { HasCleanDisk (state S.Store tx.new.conn.now)
-        → OnOk result (IsTrue (state S.Store tx.old.conn.now).is_open) }
-    ensures inside { HasCleanDisk (state S.Store tx.new.conn.now)
-        → OnOk result ((state S.Store tx.old.conn.now).now.schema ≡ store_schema
-        → IsTrue (state S.Store tx.old.conn.now).in_transaction
-        → IsTrue (state S.Store tx.new.conn.now).in_transaction) }
-    ensures schema { HasCleanDisk (state S.Store tx.new.conn.now)
-        → OnOk result ((state S.Store tx.old.conn.now).now.schema ≡ store_schema
-        → (state S.Store tx.new.conn.now).now.schema ≡ store_schema) }
-    ensures shut { HasCleanDisk (state S.Store tx.new.conn.now)
-        → IsTrue (state S.Store tx.new.conn.now).is_open
-        → IsTrue (state S.Store tx.old.conn.now).is_open }
-    ensures kept { HasCleanDisk (state S.Store tx.new.conn.now)
-        → (state S.Store tx.old.conn.now).now.schema ≡ store_schema
-        → KeepsCommit (state S.Store tx.old.conn.now) (state S.Store tx.new.conn.now) }
-    ensures rowids { HasCleanDisk (state S.Store tx.new.conn.now)
-        → OnOk result ((before : _) → Stands (state S.Store tx.old.conn.now).now before
-        → RisesFrom 1 ((state S.Store tx.old.conn.now).now.trees users_tree)
-        ((state S.Store tx.new.conn.now).now.trees users_tree)) }
-    ensures cause { HasCleanDisk (state S.Store tx.new.conn.now)
-        → IfErr result (λ e. IsTrue (state S.Store tx.old.conn.now).in_transaction
-        → BlamesPrograms ((user.now, program.now) ∷ []) (state S.Store tx.old.conn.now)
-        (state S.Store tx.new.conn.now) (refusal_of e)) }
-    ensures survives { Survives (state S.Store tx.old.conn.now) (state S.Store tx.new.conn.now)
-        (λ _. ⊥) }
+    ensures step { OnDone S.Store tx.old.conn.now tx.new.conn.now result
+        (Brings (with_programs ((user.now, program.now) ∷ []))) }
+    ensures open { OnDone S.Store tx.old.conn.now tx.new.conn.now result WasOpen }
+    ensures inside { OnDone S.Store tx.old.conn.now tx.new.conn.now result StaysInside }
+    ensures schema { OnDone S.Store tx.old.conn.now tx.new.conn.now result KeepsTables }
+    ensures shut { Always S.Store tx.old.conn.now tx.new.conn.now StaysShut }
+    ensures kept { Always S.Store tx.old.conn.now tx.new.conn.now KeepsStored }
+    ensures rowids { OnDone S.Store tx.old.conn.now tx.new.conn.now result
+        (λ old new. (before : _) → Stands old.now before
+        → RisesFrom 1 (old.now.trees users_tree) (new.now.trees users_tree)) }
+    ensures cause { IfRefused S.Store tx.old.conn.now tx.new.conn.now result
+        (AsRefusalInside (BlamesPrograms ((user.now, program.now) ∷ []))) }
+    ensures survives { CommitsNothing S.Store tx.old.conn.now tx.new.conn.now }
 {
     let Some(_before) = read_program(tx, user)? else {
         return Ok(());
@@ -190,27 +141,16 @@ pub(crate) fn replace_all<S: Alter>(
     programs: &[(String, Vec<u8>)],
 ) -> Result<(), Error>
     ensures same_reference { tx.new.conn.ghost_name ≡ tx.old.conn.ghost_name }
-    ensures step { HasCleanDisk (state S.Store tx.new.conn.now)
-        → OnOk result (Brings (with_programs (map pair_of programs.now))
-        (state S.Store tx.old.conn.now) (state S.Store tx.new.conn.now)) }
-    ensures open { HasCleanDisk (state S.Store tx.new.conn.now) → OnOk result
-        (0 < length programs.now → IsTrue (state S.Store tx.old.conn.now).is_open) }
-    ensures inside { HasCleanDisk (state S.Store tx.new.conn.now)
-        → OnOk result ((state S.Store tx.old.conn.now).now.schema ≡ store_schema
-        → IsTrue (state S.Store tx.old.conn.now).in_transaction
-        → IsTrue (state S.Store tx.new.conn.now).in_transaction) }
-    ensures shut { HasCleanDisk (state S.Store tx.new.conn.now)
-        → IsTrue (state S.Store tx.new.conn.now).is_open
-        → IsTrue (state S.Store tx.old.conn.now).is_open }
-    ensures kept { HasCleanDisk (state S.Store tx.new.conn.now)
-        → (state S.Store tx.old.conn.now).now.schema ≡ store_schema
-        → KeepsCommit (state S.Store tx.old.conn.now) (state S.Store tx.new.conn.now) }
-    ensures cause { HasCleanDisk (state S.Store tx.new.conn.now)
-        → IfErr result (λ e. IsTrue (state S.Store tx.old.conn.now).in_transaction
-        → BlamesPrograms (map pair_of programs.now) (state S.Store tx.old.conn.now)
-        (state S.Store tx.new.conn.now) (refusal_of e)) }
-    ensures survives { Survives (state S.Store tx.old.conn.now) (state S.Store tx.new.conn.now)
-        (λ _. ⊥) }
+    ensures step { OnDone S.Store tx.old.conn.now tx.new.conn.now result
+        (Brings (with_programs (map pair_of programs.now))) }
+    ensures open { OnDone S.Store tx.old.conn.now tx.new.conn.now result
+        (λ old _. 0 < length programs.now → IsTrue old.is_open) }
+    ensures inside { OnDone S.Store tx.old.conn.now tx.new.conn.now result StaysInside }
+    ensures shut { Always S.Store tx.old.conn.now tx.new.conn.now StaysShut }
+    ensures kept { Always S.Store tx.old.conn.now tx.new.conn.now KeepsStored }
+    ensures cause { IfRefused S.Store tx.old.conn.now tx.new.conn.now result
+        (AsRefusalInside (BlamesPrograms (map pair_of programs.now))) }
+    ensures survives { CommitsNothing S.Store tx.old.conn.now tx.new.conn.now }
 {
     for (user, program) in programs {
         replace_program(tx, user, program)?;

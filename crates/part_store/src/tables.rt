@@ -1,24 +1,20 @@
 //! The three tables and how they are made.
-ghost use Rattle.std.specs.Prelude.{◌≡◌, [], IsTrue, OnOk, OnErr};
-ghost use Rattle.sqlite.specs.Held.{state};
-ghost use Rattle.sqlite.specs.State.{HasCleanDisk, KeepsCommit, Survives};
+ghost use Rattle.std.specs.Prelude.{◌≡◌, []};
+ghost use Rattle.sqlite.specs.State.{KeepsCommit};
 ghost use Rattle.part_store.specs.Changes.{users_tree, contents_tree, entries_tree};
 ghost use Rattle.part_store.specs.Tables.{no_schema, with_users, with_contents, store_schema, IsMade};
+ghost use Rattle.part_store.specs.Calls.{Always, CommitsNothing, IsInside, OnDone};
 
 use sqlite::{Alter, Error, Transaction};
 
 /// Makes the table of users in a database without tables.
 pub(crate) fn create_users<S: Alter>(tx: &mut Transaction<'_, S>) -> Result<usize, Error>
     ensures same_reference { tx.new.conn.ghost_name ≡ tx.old.conn.ghost_name }
-    ensures step { HasCleanDisk (state S.Store tx.new.conn.now)
-        → OnOk result (IsMade no_schema with_users users_tree (state S.Store tx.old.conn.now).now
-        (state S.Store tx.new.conn.now).now) }
-    ensures inside { HasCleanDisk (state S.Store tx.new.conn.now)
-        → OnOk result (IsTrue (state S.Store tx.new.conn.now).in_transaction) }
-    ensures kept { HasCleanDisk (state S.Store tx.new.conn.now)
-        → KeepsCommit (state S.Store tx.old.conn.now) (state S.Store tx.new.conn.now) }
-    ensures survives { Survives (state S.Store tx.old.conn.now) (state S.Store tx.new.conn.now)
-        (λ _. ⊥) }
+    ensures step { OnDone S.Store tx.old.conn.now tx.new.conn.now result
+        (λ old new. IsMade no_schema with_users users_tree old.now new.now) }
+    ensures inside { OnDone S.Store tx.old.conn.now tx.new.conn.now result IsInside }
+    ensures kept { Always S.Store tx.old.conn.now tx.new.conn.now KeepsCommit }
+    ensures survives { CommitsNothing S.Store tx.old.conn.now tx.new.conn.now }
 {
     tx.execute(
         "CREATE TABLE users (user TEXT PRIMARY KEY, last INTEGER NOT NULL, program BLOB) STRICT",
@@ -29,15 +25,11 @@ pub(crate) fn create_users<S: Alter>(tx: &mut Transaction<'_, S>) -> Result<usiz
 /// Makes the table of contents after that of users.
 pub(crate) fn create_contents<S: Alter>(tx: &mut Transaction<'_, S>) -> Result<usize, Error>
     ensures same_reference { tx.new.conn.ghost_name ≡ tx.old.conn.ghost_name }
-    ensures step { HasCleanDisk (state S.Store tx.new.conn.now)
-        → OnOk result (IsMade with_users with_contents contents_tree
-        (state S.Store tx.old.conn.now).now (state S.Store tx.new.conn.now).now) }
-    ensures inside { HasCleanDisk (state S.Store tx.new.conn.now)
-        → OnOk result (IsTrue (state S.Store tx.new.conn.now).in_transaction) }
-    ensures kept { HasCleanDisk (state S.Store tx.new.conn.now)
-        → KeepsCommit (state S.Store tx.old.conn.now) (state S.Store tx.new.conn.now) }
-    ensures survives { Survives (state S.Store tx.old.conn.now) (state S.Store tx.new.conn.now)
-        (λ _. ⊥) }
+    ensures step { OnDone S.Store tx.old.conn.now tx.new.conn.now result
+        (λ old new. IsMade with_users with_contents contents_tree old.now new.now) }
+    ensures inside { OnDone S.Store tx.old.conn.now tx.new.conn.now result IsInside }
+    ensures kept { Always S.Store tx.old.conn.now tx.new.conn.now KeepsCommit }
+    ensures survives { CommitsNothing S.Store tx.old.conn.now tx.new.conn.now }
 {
     tx.execute(
         "CREATE TABLE contents (digest BLOB PRIMARY KEY, octets BLOB NOT NULL) STRICT",
@@ -48,15 +40,11 @@ pub(crate) fn create_contents<S: Alter>(tx: &mut Transaction<'_, S>) -> Result<u
 /// Makes the table of entries after the other two.
 pub(crate) fn create_entries<S: Alter>(tx: &mut Transaction<'_, S>) -> Result<usize, Error>
     ensures same_reference { tx.new.conn.ghost_name ≡ tx.old.conn.ghost_name }
-    ensures step { HasCleanDisk (state S.Store tx.new.conn.now)
-        → OnOk result (IsMade with_contents store_schema entries_tree
-        (state S.Store tx.old.conn.now).now (state S.Store tx.new.conn.now).now) }
-    ensures inside { HasCleanDisk (state S.Store tx.new.conn.now)
-        → OnOk result (IsTrue (state S.Store tx.new.conn.now).in_transaction) }
-    ensures kept { HasCleanDisk (state S.Store tx.new.conn.now)
-        → KeepsCommit (state S.Store tx.old.conn.now) (state S.Store tx.new.conn.now) }
-    ensures survives { Survives (state S.Store tx.old.conn.now) (state S.Store tx.new.conn.now)
-        (λ _. ⊥) }
+    ensures step { OnDone S.Store tx.old.conn.now tx.new.conn.now result
+        (λ old new. IsMade with_contents store_schema entries_tree old.now new.now) }
+    ensures inside { OnDone S.Store tx.old.conn.now tx.new.conn.now result IsInside }
+    ensures kept { Always S.Store tx.old.conn.now tx.new.conn.now KeepsCommit }
+    ensures survives { CommitsNothing S.Store tx.old.conn.now tx.new.conn.now }
 {
     tx.execute(
         "CREATE TABLE entries (user TEXT NOT NULL, number INTEGER NOT NULL, folder BLOB NOT NULL, kind INTEGER NOT NULL, name BLOB NOT NULL, media BLOB NOT NULL, digest BLOB NOT NULL REFERENCES contents, PRIMARY KEY (user, number)) STRICT",

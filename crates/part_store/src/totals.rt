@@ -1,15 +1,13 @@
 //! How much a store holds.
-ghost use Rattle.std.specs.Prelude.{◌≡◌, ◌⊎◌, ◌+◌, ◌^◌, ◌≤◌, length, IsTrue, IfOk, IfErr, OnOk};
+ghost use Rattle.std.specs.Prelude.{◌≡◌, ◌⊎◌, ◌+◌, ◌^◌, ◌≤◌, length, IfOk, IfErr};
 ghost use Rattle.std.specs.List.{AllByRecursion, sum_by};
 ghost use Rattle.sqlite_value.specs.Order.{column};
-ghost use Rattle.sqlite.specs.Held.{state};
-ghost use Rattle.sqlite.specs.State.{HasCleanDisk, KeepsCommit, Survives};
 ghost use Rattle.part_store.specs.Changes.{contents_tree};
-ghost use Rattle.part_store.specs.Tables.{store_schema};
 ghost use Rattle.part_store.specs.Standing.{Stands};
 ghost use Rattle.part_store.specs.Totals.{IsTotalOf, number_of, octets_of};
 ghost use Rattle.part_store.specs.Refusals.{BlamesOr, ShowsSize};
 ghost use Rattle.part_store.specs.declared.error.StoreError.TheVariants.{Memory, Database};
+ghost use Rattle.part_store.specs.Calls.{Always, CommitsNothing, IfDone, IfRefused, KeepsStored, OnDone, StaysShut, WasOpen};
 
 use crate::contents;
 use crate::error::StoreError;
@@ -29,23 +27,16 @@ pub(crate) fn count_contents<S: Alter>(
     tx: &mut Transaction<'_, S>,
 ) -> Result<ContentTotal, StoreError>
     ensures same_reference { tx.new.conn.ghost_name ≡ tx.old.conn.ghost_name }
-    ensures told { HasCleanDisk (state S.Store tx.new.conn.now)
-        → IfOk result (λ total. (before : _) → Stands (state S.Store tx.old.conn.now).now before
-        → IsTotalOf ((state S.Store tx.old.conn.now).now.trees contents_tree) total) }
-    ensures open { HasCleanDisk (state S.Store tx.new.conn.now)
-        → OnOk result (IsTrue (state S.Store tx.old.conn.now).is_open) }
-    ensures shut { HasCleanDisk (state S.Store tx.new.conn.now)
-        → IsTrue (state S.Store tx.new.conn.now).is_open
-        → IsTrue (state S.Store tx.old.conn.now).is_open }
-    ensures kept { HasCleanDisk (state S.Store tx.new.conn.now)
-        → (state S.Store tx.old.conn.now).now.schema ≡ store_schema
-        → KeepsCommit (state S.Store tx.old.conn.now) (state S.Store tx.new.conn.now) }
+    ensures told { IfDone S.Store tx.old.conn.now tx.new.conn.now result
+        (λ total old _. (before : _) → Stands old.now before
+        → IsTotalOf (old.now.trees contents_tree) total) }
+    ensures open { OnDone S.Store tx.old.conn.now tx.new.conn.now result WasOpen }
+    ensures shut { Always S.Store tx.old.conn.now tx.new.conn.now StaysShut }
+    ensures kept { Always S.Store tx.old.conn.now tx.new.conn.now KeepsStored }
     ensures refused { IfErr result (λ e. (e ≡ Memory) ⊎ (e ≡ Database)) }
-    ensures cause { HasCleanDisk (state S.Store tx.new.conn.now)
-        → IfErr result (BlamesOr (λ _ db. 2 ^ 64 ≤ octets_of (db contents_tree))
-        (state S.Store tx.old.conn.now) (state S.Store tx.new.conn.now)) }
-    ensures survives { Survives (state S.Store tx.old.conn.now) (state S.Store tx.new.conn.now)
-        (λ _. ⊥) }
+    ensures cause { IfRefused S.Store tx.old.conn.now tx.new.conn.now result
+        (BlamesOr (λ _ db. 2 ^ 64 ≤ octets_of (db contents_tree))) }
+    ensures survives { CommitsNothing S.Store tx.old.conn.now tx.new.conn.now }
 {
     let rows = contents::list(tx)?;
     total_of(&rows)

@@ -12,19 +12,19 @@ returns-clause-taken g c clean _ =
     let old = state g.S.Store c.args.tx.now.conn.now in
     let one = state g.S.Store c.digest_of.new.tx.conn.now in
     let two = state g.S.Store c.remove.new.tx.conn.now in
-    let new = state g.S.Store c.tidy.new.tx.conn.now in
-    let late : HasCleanDisk two = omega (arith, c.tidy.ensures.survives.clean) in
+    let new = state g.S.Store c.remove_unnamed.new.tx.conn.now in
+    let late : HasCleanDisk two = omega (arith, c.remove_unnamed.ensures.survives.clean) in
     let early : HasCleanDisk one = omega (arith, late, c.remove.ensures.survives.clean) in
     let told = rw c.in-Some.is at (c.in_ok-digest.ensures.told early) in
     entry_taken_out old one two new c.args.user.now c.args.number c.in-Some.digest.items told (c.in_ok-digest.ensures.same early) (c.digest_of.ensures.kept early) (c.in_ok-remove.ensures.step late)
-    (rw c.deref.ensures.value at (c.in_ok-tidy.ensures.tidied clean))
+    (rw c.deref.ensures.value at (c.in_ok-remove_unnamed.ensures.tidied clean))
 
 pub returns-clause-there : goal.returns-clause-there
 returns-clause-there g c clean _ before stands =
     let old = state g.S.Store c.args.tx.now.conn.now in
     let one = state g.S.Store c.digest_of.new.tx.conn.now in
     let two = state g.S.Store c.remove.new.tx.conn.now in
-    let late : HasCleanDisk two = omega (arith, c.tidy.ensures.survives.clean) in
+    let late : HasCleanDisk two = omega (arith, c.remove_unnamed.ensures.survives.clean) in
     let early : HasCleanDisk one = omega (arith, late, c.remove.ensures.survives.clean) in
     let told = rw c.in-Some.is at (c.in_ok-digest.ensures.told early) in
     let x = entry_there old.now.trees before c.args.user.now c.args.number c.in-Some.digest.items stands.tables (told before stands) in
@@ -39,14 +39,14 @@ returns-in_err-remove-clause-cause g c clean =
     passed c.from_residual-in_err-remove.result _ _ c.from_residual-in_err-remove.ensures.1
     (row_refused old one two _ (c.in_ok-digest.ensures.same early) (c.in_ok-digest.ensures.inside early) c.digest_of.ensures.survives c.remove.ensures.survives clean (c.in_err-remove.ensures.fault clean))
 
-pub returns-in_err-tidy-clause-cause : goal.returns-in_err-tidy-clause-cause
-returns-in_err-tidy-clause-cause g c clean =
+pub returns-in_err-remove_unnamed-clause-cause : goal.returns-in_err-remove_unnamed-clause-cause
+returns-in_err-remove_unnamed-clause-cause g c clean =
     let old = state g.S.Store c.args.tx.now.conn.now in
     let one = state g.S.Store c.digest_of.new.tx.conn.now in
     let two = state g.S.Store c.remove.new.tx.conn.now in
-    let new = state g.S.Store c.tidy.new.tx.conn.now in
-    let late : HasCleanDisk two = omega (arith, clean, c.tidy.ensures.survives.clean) in
+    let new = state g.S.Store c.remove_unnamed.new.tx.conn.now in
+    let late : HasCleanDisk two = omega (arith, clean, c.remove_unnamed.ensures.survives.clean) in
     let early : HasCleanDisk one = omega (arith, late, c.remove.ensures.survives.clean) in
-    passed c.from_residual-in_err-tidy.result _ _ c.from_residual-in_err-tidy.ensures.1
+    passed c.from_residual-in_err-remove_unnamed.result _ _ c.from_residual-in_err-remove_unnamed.ensures.1
     (octets_refused old one two new c.args.user.now c.args.number _ (c.in_ok-digest.ensures.same early) (c.in_ok-digest.ensures.inside early) (c.in_ok-remove.ensures.step late) c.digest_of.ensures.survives
-    c.remove.ensures.survives c.tidy.ensures.survives clean (c.in_err-tidy.ensures.fault clean))
+    c.remove.ensures.survives c.remove_unnamed.ensures.survives clean (c.in_err-remove_unnamed.ensures.fault clean))

@@ -6,7 +6,7 @@ use Rattle.part_store.specs.Entries.{Entries, with_entries}
 use Rattle.part_store.specs.Filing.{Adds, Collides, HasRoom}
 use Rattle.part_store.specs.Refusals.{refusal_of, BlamesEntries, HasNoUserRoom, HaveNoRoom}
 use Rattle.part_store.specs.Standing.{MayMake, Stands, draft_of}
-use Rattle.part_store.specs.declared.adding.Adding.TheVariants.{Collision, From}
+use Rattle.part_store.specs.declared.adding.Adding.TheVariants.{Collision, From, NumberFull}
 use Rattle.part_store.proofs.Failing.{dropped}
 use Rattle.part_store.proofs.Runs.{passed}
 use Rattle.part_store.proofs.Stored.{committed_entries}
@@ -24,6 +24,40 @@ returns-in_err-commit-in-From-clause-survives g c =
     (committed_entries g.S.Store c.self.inside.conn mid new user drafts c.in-From.first (subst (λ h. Survives (state g.S.Store h) mid (λ _. ⊥)) begun c.put_entries.ensures.survives)
     (λ clean. subst (λ h. IsTrue (state g.S.Store h).is_open) begun (c.in_ok-first.ensures.open clean))
     (λ clean. subst (λ h. Adds user drafts (state g.S.Store h) mid (From c.in-From.first)) begun (rw c.in-From.is at (c.in_ok-first.ensures.adds clean))) c.commit.ensures.survives)
+
+pub returns-clause-room : goal.returns-clause-room
+returns-clause-room g c clean =
+    let mid = state g.S.Store c.put_entries.new.tx.conn.now in
+    let user = c.args.user.now in
+    let entries = c.args.entries.now in
+    let drafts = map draft_of entries in
+    elim c.match-branch-2.branch [
+      | in-From+in_ok-commit-in-From w ↦
+          let last = rw w.self-inside-is at clean in
+          let early : HasCleanDisk mid = omega (arith, last, w.commit.ensures.survives.clean) in
+          let adds = subst (λ h. Adds user drafts (state g.S.Store h) mid (From w.in-From.first)) c.begin-tx.ensures.begun (rw w.in-From.is at (c.in_ok-first.ensures.adds early)) in
+          rw w.result-is (subst (λ h. (before : Entries) → Stands (state g.S.Store h).now before → HasRoom before user (length entries)) c.self.view_is
+          (λ before stands. subst (HasRoom before user) (length-map entries draft_of) (adds before stands).0))
+      | in-NumberFull w ↦ search rules
+      | in-Collision w ↦ search rules
+    ]
+
+pub returns-clause-full : goal.returns-clause-full
+returns-clause-full g c clean =
+    let mid = state g.S.Store c.put_entries.new.tx.conn.now in
+    let user = c.args.user.now in
+    let entries = c.args.entries.now in
+    let drafts = map draft_of entries in
+    elim c.match-branch-2.branch [
+      | in-From+in_ok-commit-in-From w ↦ search rules
+      | in-NumberFull w ↦
+          let last = rw w.self-inside-is at clean in
+          let early : HasCleanDisk mid = omega arith in
+          let adds = subst (λ h. Adds user drafts (state g.S.Store h) mid NumberFull) c.begin-tx.ensures.begun (rw w.in-NumberFull.is at (c.in_ok-first.ensures.adds early)) in
+          rw w.result-is (λ _. subst (λ h. (before : Entries) → Stands (state g.S.Store h).now before → HasRoom before user (length entries) → ⊥) c.self.view_is
+          (λ before stands room. let over = adds before stands in let same = length-map entries draft_of in omega (arith, over, room, same)))
+      | in-Collision w ↦ search rules
+    ]
 
 pub returns-clause-collision : goal.returns-clause-collision
 returns-clause-collision g c clean =
