@@ -111,4 +111,4 @@ pub has_field_left : (headers : List (List Field)) (place : ℕ) (fields : List 
     → has_field (all_fields (drop place headers)) name ≡ (has_field fields name || has_field (all_fields (drop (place + 1) headers)) name)
 has_field_left headers place fields name lt is =
     ap (λ hs. has_field (all_fields hs) name) (drop_more headers place [] lt ∙ ap (λ f. f ∷ drop (place + 1) headers) (sym is))
-    ∙ list_any-append (λ (field : Field). tree.is_word field.name name) fields (all_fields (drop (place + 1) headers))
+    ∙ list_any-append (λ (field : Field). is_word field.name name) fields (all_fields (drop (place + 1) headers))
