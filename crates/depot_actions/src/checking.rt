@@ -2,29 +2,13 @@
 ghost use Rattle.std.specs.Prelude.{◌≡◌, ◌⊎◌, IfErr, IfOk, OnOk, Some};
 ghost use Rattle.refusals.specs.declared.refusal.Refusal.TheVariants.{Memory, Database};
 ghost use Rattle.bytecode_format.specs.Code.{Code};
-ghost use Rattle.bytecode_format.specs.Spelling.{spelling};
 ghost use Rattle.depot_actions.specs.Causes.{IsSpoilt};
-ghost use Rattle.sieve_engine.specs.Evaluation.{IsCompiled, IsScriptRefusal};
 ghost use Rattle.sieve_engine.specs.Execution.{IsChecked, IsProgramRefusal};
 
 use bytecode_verifier::Verified;
 use refusals::Refusal;
-use sieve_engine::{check_program, compile_script};
+use sieve_engine::check_program;
 use std::alloc::Global;
-
-/// The octets of a script's code.
-///
-/// # Errors
-///
-/// What the script is refused for. `Memory` where an allocation was refused.
-pub(crate) fn code_octets(alloc: Global, script: &[u8]) -> Result<Vec<u8>, Refusal>
-    ensures compiled { IfOk result
-        (λ octets. (code : Code) × IsCompiled script.now code × (octets.items ≡ spelling code)) }
-    ensures refused { IfErr result (λ e. IsScriptRefusal script.now e) }
-{
-    let program = compile_script(alloc, script)?;
-    Ok(program.write(alloc)?)
-}
 
 /// Checks that octets spell an accepted program.
 ///

@@ -15,7 +15,7 @@ ghost use Rattle.refusals.specs.Causes.{of_verifier};
 ghost use Rattle.refusals.specs.declared.refusal.Refusal.TheVariants.{Listing, Memory, ScriptTooLong, Spelling};
 ghost use Rattle.sieve_engine.specs.Execution.{IsChecked, IsProgramRefusal};
 ghost use Rattle.depot_cli.specs.Host.{HasMade, HasNotMade};
-ghost use Rattle.depot_actions.specs.Device.{HasBroken, HasTaken};
+ghost use Rattle.encodings.specs.Device.{HasBroken, HasTaken};
 ghost use Rattle.depot_cli.specs.Jobs.{HasAnswered, HasFound, HasLongProgram, HasLongScript, HasRefused, HasStopped, HasTold, IsJobRefusal, IsListing, IsShown, IsUnspelled, commented, world};
 ghost use Rattle.depot_cli.specs.Pieces.{lines_text, refusal_in, verdict_line};
 ghost use Rattle.depot_cli.specs.Printed.{line, ok_text, refusal_line, wrote_text};
@@ -27,9 +27,9 @@ use crate::printing::{put_line, put_refusal, put_report, put_wrote};
 use bytecode_format::Program;
 use bytecode_listing::{ListingError, assemble, disassemble_accepted, disassemble_refused};
 use bytecode_verifier::{Refusal as BrokenRule, Verified, verify};
-use depot_actions::{DeviceFailed, Encoding, Sink, decode, encode, put};
+use encodings::{DeviceFailed, Encoding, Sink, decode, encode, put};
 use refusals::Refusal;
-use sieve_engine::{Report, check_program, check_script, compile_script, evaluate, execute};
+use sieve_engine::{Report, check_program, check_script, code_octets, evaluate, execute};
 use sieve_explain::{explanation, listing_explanation};
 use std::alloc::Global;
 
@@ -224,7 +224,7 @@ fn carry_out<H: Host>(alloc: Global, job: Job<'_>, host: &mut H) -> Result<Lines
         }
         Job::Explain { script, name } => explain_script(alloc, script, name),
         Job::Compile { script, name, out } => {
-            let program = program_octets(alloc, script)?;
+            let program = code_octets(alloc, script)?;
             make_file(alloc, host, out, name, &program)?;
             Ok(Lines::Wrote(program.len()))
         }
@@ -255,17 +255,6 @@ fn explain_script(alloc: Global, script: &[u8], name: &str) -> Result<Lines, Ref
             Ok(Lines::Fault(text, refusal))
         }
     }
-}
-
-// The octets of a script's program.
-fn program_octets(alloc: Global, script: &[u8]) -> Result<Vec<u8>, Refusal>
-    ensures compiled { IfOk result (λ octets. (code : Code) × IsCompiled script.now code
-        × (octets.items ≡ spelling code)) }
-    ensures refused { IfErr result (λ refusal. IsScriptRefusal script.now refusal) }
-    ensures large { max_script < length script.now → IsErrAnd result (λ e. e ≡ ScriptTooLong) }
-{
-    let program = compile_script(alloc, script)?;
-    Ok(program.write(alloc)?)
 }
 
 // The text of an accepted program's budget.

@@ -1,6 +1,8 @@
 // Running scripts, by way of their code.
 ghost use Rattle.std.specs.Prelude.{◌≡◌, ◌<◌, length, IfOk, IfErr, IsErrAnd};
 ghost use Rattle.octets.specs.Limits.{max_script};
+ghost use Rattle.bytecode_format.specs.Code.{Code};
+ghost use Rattle.bytecode_format.specs.Spelling.{spelling};
 ghost use Rattle.sieve_engine.specs.Evaluation.{IsCompiled, IsEvaluation, IsEvaluationRefusal, IsScript, IsScriptRefusal};
 ghost use Rattle.sieve_check.specs.TypedView.{commands_form};
 ghost use Rattle.sieve_parser.specs.Scripts.{IsParsed};
@@ -43,6 +45,20 @@ pub fn compile_script(alloc: Global, script: &[u8]) -> Result<Program, Refusal>
 {
     let checked = check_script(alloc, script)?;
     Ok(compile(alloc, &checked)?)
+}
+
+/// The octets that spell the program of the script that the octets are, which is [`compile_script`]'s.
+///
+/// Else the first refusal of the script, as [`check_script`] gives it.
+pub fn code_octets(alloc: Global, script: &[u8]) -> Result<Vec<u8>, Refusal>
+    ensures compiled { IfOk result (λ octets. (code : Code) × IsCompiled script.now code
+        × (octets.items ≡ spelling code)) }
+    ensures refused { IfErr result (λ e. IsScriptRefusal script.now e) }
+    ensures large { max_script < length script.now
+        → IsErrAnd result (λ e. e ≡ Refusal.ScriptTooLong) }
+{
+    let code = compile_script(alloc, script)?;
+    Ok(code.write(alloc)?)
 }
 
 /// Evaluates the script that the octets are on the message that the other octets are.

@@ -18,6 +18,6 @@ mod evaluation;
 mod execution;
 pub mod laws;
 
-pub use evaluation::{check_script, compile_script, evaluate};
+pub use evaluation::{check_script, code_octets, compile_script, evaluate};
 pub use execution::{Report, check_program, execute};
 pub use refusals::Refusal;

@@ -8,7 +8,7 @@ use bytecode_format::{Scope, Selector};
 use glob_match::{Captures, Comparator, MAX_CAPTURES, Match, MatchType, contains, is, matches};
 use mail_matching::{Answer, HeaderTest, Outcome, Reach, body, digest, exists, header};
 use mime_decode::{MAX_MESSAGE, Message, digest_of};
-use octets::Octets;
+use octets::{MAX_STRING, Octets};
 use std::alloc::{AllocError, Global};
 use std::borrow::CowSlice;
 use std::mem;
@@ -165,7 +165,7 @@ fn print_last(
 fn are_texts(texts: &Vec<Octets>) -> bool
     ensures { result ≡ true → AreTexts texts.now.items }
 {
-    texts.len() <= 1024 && texts.iter().all(|text| text.len() <= 16_384)
+    texts.len() <= 1024 && texts.iter().all(|text| text.len() <= MAX_STRING)
 }
 
 // The texts of arguments.
