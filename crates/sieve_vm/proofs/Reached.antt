@@ -16,7 +16,7 @@ use Rattle.bytecode_verifier.specs.declared.shape.Entry.TheVariants.{Truth, Text
 use Rattle.std.specs.Option.{option_and_then, option_map, option_map_or}
 use Rattle.bytecode_format.specs.declared.selection.Scope.{Scope}
 use Rattle.bytecode_format.specs.declared.selection.FieldTest.{FieldTest}
-use Rattle.bytecode_format.specs.Selection.{match_numbered, scope_numbered, field_test_numbered, keys_in, params_in}
+use Rattle.bytecode_format.specs.Selection.{match_numbered, keys_in, params_in}
 use Rattle.bytecode_verifier.specs.Rows.{row_in_version, is_well_formed, is_jump, needs_part}
 use Rattle.bytecode_verifier.specs.Shape.{Entries, Texts, Lists as ListBounds, is_empty, has_truth, with_entry, with_string, with_joined, without_truth, take_texts, take_lists, shape_at}
 use Rattle.bytecode_verifier.specs.Places.{holds_at}

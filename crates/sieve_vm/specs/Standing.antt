@@ -1,5 +1,5 @@
 -- How the machine's fields stand for a state of a run.
-use Rattle.std.specs.Prelude.{◌≡◌, ◌<◌, ◌+◌, ℕ, true, Option, List, [], map, reverse}
+use Rattle.std.specs.Prelude.{◌≡◌, ◌<◌, ◌+◌, ℕ, true, List, [], map, reverse}
 use Rattle.bytecode_format.specs.Actions.{first_occurrences}
 use Rattle.bytecode_format.specs.Code.{Code}
 use Rattle.mail_matching.specs.FirstMatch.{no_captures}
@@ -13,9 +13,7 @@ use Rattle.sieve_vm.specs.declared.machine.Flow.TheVariants.{On, To, Ends}
 use Rattle.sieve_vm.specs.declared.machine.Machine.{Machine}
 use Rattle.sieve_vm.specs.declared.workspace.Pushed.{Pushed}
 use Rattle.sieve_vm.specs.declared.workspace.Workspace.{Workspace}
-use Rattle.mail_matching.specs.HeaderTests.{header_match}
-use Rattle.sieve_vm.specs.Stack.{Lists}
-use Rattle.sieve_vm.specs.State.{Value, truth, text, State, current_part, start}
+use Rattle.sieve_vm.specs.State.{Value, truth, text, State, start}
 use Rattle.sieve_vm.specs.Machine.{Effect, on, jumps, halts}
 use Rattle.sieve_vm.specs.Runs.{Run, RunEnds}
 
