@@ -25,8 +25,8 @@ use Rattle.mail_matching.specs.Headers.{AreWithin, headers_in_scope, selected_am
 use Rattle.mail_matching.specs.HeaderTests.{fields_in_scope}
 use Rattle.mail_matching.specs.PartTests.{body_cost, digest_cost}
 use Rattle.mail_matching.specs.Selection.{selector_of, values_of_a_field}
-use Rattle.mail_matching.specs.declared.selection.Selector as declared
-use Rattle.mail_matching.specs.declared.selection.Selector.TheVariants as variants
+use Rattle.bytecode_format.specs.declared.selection.Selector as declared
+use Rattle.bytecode_format.specs.declared.selection.Selector.TheVariants as variants
 use Rattle.mail_matching.specs.Texts.{AreTexts}
 use Rattle.mail_matching.proofs.Lengths.{given_in, reading_in}
 

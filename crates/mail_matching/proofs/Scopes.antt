@@ -7,6 +7,7 @@ use Rattle.std.proofs.lemmas.List.Folds.{flat_map-map, list_any-append}
 use Rattle.std.proofs.lemmas.List.Sums.{sum_by-cons, sum_by-take-le}
 use Rattle.std.proofs.lemmas.Option.{get_or_from_slice_get}
 use Rattle.octets.specs.Limits.{max_message}
+use Rattle.octets.specs.Ascii.{is_word}
 use Rattle.header_fields.specs.Fields.{Field}
 use Rattle.header_fields.specs.Extent.{fields_extent}
 use Rattle.mime_tree.specs.PartTree as tree
@@ -111,4 +112,4 @@ pub has_field_left : (headers : List (List Field)) (place : ℕ) (fields : List 
     → has_field (all_fields (drop place headers)) name ≡ (has_field fields name || has_field (all_fields (drop (place + 1) headers)) name)
 has_field_left headers place fields name lt is =
     ap (λ hs. has_field (all_fields hs) name) (drop_more headers place [] lt ∙ ap (λ f. f ∷ drop (place + 1) headers) (sym is))
-    ∙ list_any-append (λ (field : Field). tree.is_word field.name name) fields (all_fields (drop (place + 1) headers))
+    ∙ list_any-append (λ (field : Field). is_word field.name name) fields (all_fields (drop (place + 1) headers))

@@ -1,15 +1,15 @@
--- What the code's scopes and selectors stand for.
+-- What scopes and selectors stand for.
 use Rattle.std.specs.Prelude.{ℕ, List, max, length}
 use Rattle.mime_decode.specs.Scope as scope
-use Rattle.mail_matching.specs.declared.selection.Scope.{Scope}
-use Rattle.mail_matching.specs.declared.selection.Scope.TheVariants.{Root, Current, CurrentAndBelow}
-use Rattle.mail_matching.specs.declared.selection.Selector.{Selector}
-use Rattle.mail_matching.specs.declared.selection.Selector.TheVariants.{Value, Main, Sub, ContentType, Param}
+use Rattle.bytecode_format.specs.declared.selection.Scope.{Scope}
+use Rattle.bytecode_format.specs.declared.selection.Scope.TheVariants.{Message, Part, PartAndBelow}
+use Rattle.bytecode_format.specs.declared.selection.Selector.{Selector}
+use Rattle.bytecode_format.specs.declared.selection.Selector.TheVariants.{Value, Main, Sub, ContentType, Param}
 
 abbrev pub scope_of : Scope → scope.Scope
-scope_of Root = scope.Root
-scope_of Current = scope.Current
-scope_of CurrentAndBelow = scope.CurrentAndBelow
+scope_of Message = scope.Root
+scope_of Part = scope.Current
+scope_of PartAndBelow = scope.CurrentAndBelow
 
 -- the selector, with the names of the parameters, of which the others select nothing
 abbrev pub selector_of : Selector → List (List ℕ) → scope.Selector

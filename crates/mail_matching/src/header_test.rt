@@ -6,7 +6,7 @@ ghost use Rattle.mail_matching.specs.Outcomes.{GoesOn, after};
 ghost use Rattle.mail_matching.specs.Selection.{scope_of, selector_of};
 ghost use Rattle.mail_matching.specs.Texts.{AreTexts};
 ghost use Rattle.mail_matching.specs.declared.outcome.Outcome.TheVariants.{Fails};
-ghost use Rattle.mail_matching.specs.declared.selection.Selector.TheVariants.{Value};
+ghost use Rattle.bytecode_format.specs.declared.selection.Selector.TheVariants.{Value};
 
 use crate::cost::{extent_of, names_cost, product};
 use crate::headers::{Headers, fields_number};
@@ -23,7 +23,7 @@ use std::alloc::{AllocError, Global};
 /// value the keys in order. A value is unfolded at most once for each name that selects it, and none after the one that matches,
 /// but where its type or its parameters have to be read: of a type's value 1,024 octets at first, and all where these don't
 /// settle it. The parameters of a value are gone over once, however many are asked for. `params` are the names of the
-/// parameters, which [`Selector::Param`](crate::Selector::Param) asks for. The cost of 1,024 names, 1,024 parameters and 1,024
+/// parameters, which [`Selector::Param`](bytecode_format::Selector::Param) asks for. The cost of 1,024 names, 1,024 parameters and 1,024
 /// keys of 16,384 octets in the largest message is below 2^71.
 ///
 /// # Errors

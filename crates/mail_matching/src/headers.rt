@@ -7,7 +7,8 @@ ghost use Rattle.mime_decode.specs.Scope.{parts_in_scope};
 ghost use Rattle.mail_matching.specs.Headers.{all_fields, headers_in_scope};
 ghost use Rattle.mail_matching.specs.Selection.{scope_of};
 
-use crate::selection::{Reach, Scope};
+use crate::selection::Reach;
+use bytecode_format::Scope;
 use header_fields::Field;
 use mime_decode::Message;
 use std::marker::Model;
@@ -79,9 +80,9 @@ fn numbers_in_scope(message: &Message, reach: Reach) -> (usize, usize)
     let current = reach.current.unwrap_or(0);
     prove!(current < parts);
     match reach.scope {
-        Scope::Root => (0, 1),
-        Scope::Current => (current, 1),
-        Scope::CurrentAndBelow => (current, 1 + message.tree().below(current)),
+        Scope::Message => (0, 1),
+        Scope::Part => (current, 1),
+        Scope::PartAndBelow => (current, 1 + message.tree().below(current)),
     }
 }
 

@@ -27,6 +27,6 @@ pub use existence::exists;
 pub use header_test::header;
 pub use outcome::{Answer, Captured, Outcome};
 pub use part_tests::{body, digest};
-pub use selection::{HeaderTest, Reach, Scope, Selector};
+pub use selection::{HeaderTest, Reach};
 pub use string_test::string;
 pub use texts::Texts;

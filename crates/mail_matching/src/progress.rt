@@ -9,15 +9,15 @@ ghost use Rattle.mail_matching.specs.Headers.{AreUnfolded, IsUnfolded, selected_
 ghost use Rattle.mail_matching.specs.Outcomes.{GoesOn};
 ghost use Rattle.mail_matching.specs.Selection.{selector_of};
 ghost use Rattle.mail_matching.specs.Texts.{AreTexts};
-ghost use Rattle.mail_matching.specs.declared.selection.Selector.TheVariants.{Value};
+ghost use Rattle.bytecode_format.specs.declared.selection.Selector.TheVariants.{Value};
 
 use crate::asked::{asked_params, asked_value};
 use crate::comparing::{first_key, first_key_of_lent};
 use crate::existence::is_named;
 use crate::outcome::Outcome;
 use crate::reading::{content_type_of, main_of, params_in, sub_of, type_text};
-use crate::selection::Selector;
 use crate::texts::Texts;
+use bytecode_format::Selector;
 use glob_match::Match;
 use header_fields::{Field, unfold, unfolded_length};
 use octets::Octets;

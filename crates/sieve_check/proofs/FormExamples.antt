@@ -8,7 +8,7 @@ use Rattle.sieve_parser.specs.Tree.{ArgumentTree, text, text_list, amount, label
 use Rattle.sieve_check.specs.declared.names.CommandName.TheVariants.{Set}
 use Rattle.sieve_check.specs.declared.names.TestName.TheVariants.{Header}
 use Rattle.sieve_check.specs.declared.typed.Order.TheVariants.{Over}
-use Rattle.sieve_check.specs.declared.typed.Scope.TheVariants.{Message, Part, PartAndBelow}
+use Rattle.bytecode_format.specs.declared.selection.Scope.TheVariants.{Message, Part, PartAndBelow}
 use Rattle.sieve_check.specs.declared.typed.Segment.TheVariants.{Text, Variable, Capture}
 use Rattle.sieve_check.specs.FormOf.{IsFormOf, form_of, template_of, test_form_of}
 use Rattle.sieve_check.specs.Rules.{names_mentioned, test_mentions}

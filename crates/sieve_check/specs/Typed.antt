@@ -2,8 +2,10 @@
 use Rattle.std.specs.Prelude.{ℕ, Bool, List, []}
 use Rattle.glob_match.specs.declared.match_type.Match.{Match}
 use Rattle.bytecode_format.specs.declared.modifiers.Modifiers.{Modifiers}
+use Rattle.bytecode_format.specs.declared.selection.Scope.{Scope}
+use Rattle.bytecode_format.specs.declared.selection.Selector.{Selector}
+use Rattle.bytecode_format.specs.declared.selection.Selector.TheVariants.{Value, Main, Sub, ContentType, Param}
 use Rattle.sieve_check.specs.declared.typed.Order.{Order}
-use Rattle.sieve_check.specs.declared.typed.Scope.{Scope}
 use Rattle.sieve_check.specs.declared.typed.Segment.{Segment}
 
 -- a string as it is meant: stretches of text and references, which are put in their places one after the other
@@ -17,6 +19,14 @@ pub data Selected : Type 0 where
   sub : Selected
   content_type : Selected
   params : List Template → Selected
+
+-- the same, without names
+abbrev pub selector_of : Selected → Selector
+selector_of whole = Value
+selector_of main = Main
+selector_of sub = Sub
+selector_of content_type = ContentType
+selector_of (params names) = Param
 
 -- the names of the parameters
 abbrev pub params_of : Selected → List Template

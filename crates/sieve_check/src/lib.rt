@@ -48,5 +48,5 @@ pub use signature::{
 };
 pub use string_faults::{MAX_TEST_STRINGS, StringFault, has_many_strings};
 pub use surroundings::{Surroundings, head_in};
-pub use typed::{Branch, Command, Order, Scope, Segment, Selection, Test};
+pub use typed::{Branch, Command, Order, Segment, Selection, Test};
 pub use variable_names::MAX_VARIABLES;

@@ -1,5 +1,5 @@
 // Scripts that were checked, in typed form: what they mean, without how they are written.
-use bytecode_format::Modifiers;
+use bytecode_format::{Modifiers, Scope, Selector};
 use glob_match::Match;
 use octets::Octets;
 
@@ -10,17 +10,6 @@ pub enum Order {
     Over,
     /// Fewer octets than the number.
     Under,
-}
-
-/// Which parts' headers a test looks at (RFC 5703, section 4.1).
-#[derive(Clone, Copy)]
-pub enum Scope {
-    /// That of the message itself.
-    Message,
-    /// `:mime`: that of the current part, or of the message itself outside all loops.
-    Part,
-    /// `:mime` and `:anychild`: that one, and those of all parts below it.
-    PartAndBelow,
 }
 
 /// A piece of a string: text as it stands, or a reference (RFC 5229, section 3).
@@ -34,7 +23,7 @@ pub enum Segment {
     Capture(u8),
 }
 
-/// What a test takes of a field (RFC 5703, section 4.2).
+/// What a test takes of a field, with the names of the parameters (RFC 5703, section 4.2).
 #[derive(Drop)]
 pub enum Selection {
     /// Its value.
@@ -51,8 +40,21 @@ pub enum Selection {
 
 impl Selection {
     ghost use Rattle.std.specs.Prelude.{◌≡◌};
-    ghost use Rattle.sieve_check.specs.Typed.{params_of};
+    ghost use Rattle.sieve_check.specs.Typed.{params_of, selector_of};
     ghost use Rattle.sieve_check.specs.TypedView.{selected_form, templates_of};
+
+    /// What it takes, without names.
+    pub fn selector(&self) -> Selector
+        ensures { result ≡ selector_of (selected_form self.now) }
+    {
+        match self {
+            Selection::Value => Selector::Value,
+            Selection::Main => Selector::Main,
+            Selection::Sub => Selector::Sub,
+            Selection::ContentType => Selector::ContentType,
+            Selection::Params(_) => Selector::Param,
+        }
+    }
 
     /// The names of the parameters that it takes; none, where it takes something else.
     pub fn params(&self) -> &[Vec<Segment>]

@@ -18,9 +18,9 @@ use Rattle.sieve_check.specs.declared.typed.Order.{Order}
 use Rattle.sieve_check.specs.declared.typed.Order.TheVariants.{Over, Under}
 use Rattle.sieve_check.specs.declared.typed.Segment.{Segment}
 use Rattle.sieve_check.specs.declared.typed.Segment.TheVariants.{Text, Variable, Capture}
-use Rattle.sieve_compiler.proofs.Selecting as selecting
-use Rattle.sieve_check.specs.declared.typed.Scope.{Scope}
-use Rattle.sieve_check.specs.Typed.{Template, Selected, params_of, TestForm, constant, negation, all_of, any_of, size, header, exists, string, part_size, part_body, part_digest, TestForms, no_test, test, CommandForm, keep, discard, file_into, set, take_first, store, for_every_part, leave, stop, choice, CommandForms, no_command, command, BranchForms, no_branch, otherwise, branch}
+use Rattle.bytecode_format.proofs.SelectionLemmas as selecting
+use Rattle.bytecode_format.specs.declared.selection.Scope.{Scope}
+use Rattle.sieve_check.specs.Typed.{Template, Selected, selector_of, params_of, TestForm, constant, negation, all_of, any_of, size, header, exists, string, part_size, part_body, part_digest, TestForms, no_test, test, CommandForm, keep, discard, file_into, set, take_first, store, for_every_part, leave, stop, choice, CommandForms, no_command, command, BranchForms, no_branch, otherwise, branch}
 use Rattle.glob_match.specs.declared.match_type.Match.{Match}
 use Rattle.octets.specs.Once.{each_once}
 use Rattle.octets.specs.Limits.{max_segments, max_string, max_value, max_variables}
@@ -442,7 +442,7 @@ fits_take tables most name few small = record { op = omega arith; a = omega arit
 fits_fields : (how : Match) (scope : Scope) (selected : Selected) (names keys : List Template) → IsBoundedHeader selected names keys → Fits (match_fields how scope selected (length names) (length keys))
 fits_fields how scope selected names keys b = record {
   op = omega arith;
-  a = omega (arith, selecting.match_small how, selecting.scope_small scope, selecting.selector_small selected);
+  a = selecting.field_test_small (record { how = how; scope = scope; selector = selector_of selected });
   b = omega (arith, b.few);
   c = omega (arith, b.few);
 }

@@ -35,14 +35,14 @@ use Rattle.sieve_check.specs.declared.typed.Order.{Order}
 use Rattle.sieve_check.specs.declared.typed.Order.TheVariants.{Over, Under}
 use Rattle.sieve_check.specs.declared.typed.Segment.{Segment}
 use Rattle.sieve_check.specs.declared.typed.Segment.TheVariants.{Text, Variable, Capture}
-use Rattle.sieve_check.specs.declared.typed.Scope.{Scope}
-use Rattle.sieve_check.specs.declared.typed.Scope.TheVariants.{Message, Part, PartAndBelow}
+use Rattle.bytecode_format.specs.declared.selection.Scope.{Scope}
+use Rattle.bytecode_format.specs.declared.selection.Scope.TheVariants.{Message, Part, PartAndBelow}
 use Rattle.sieve_check.specs.Typed.{Template, Selected, whole, main, sub, content_type, params, params_of, TestForm, constant, negation, all_of, any_of, size, header, exists, string, part_size, part_body, part_digest, TestForms, no_test, test, CommandForm, keep, discard, file_into, set, take_first, store, for_every_part, leave, stop, choice, CommandForms, no_command, command, BranchForms, no_branch, otherwise, branch}
 use Rattle.sieve_check.specs.Variables.{string_variables, commands_variables}
-use Rattle.sieve_meaning.specs.Meaning.{scope_of, selector_of, Effects, no_effects, value_of, expanded, all_expanded, with_taken, with_value, Verdict, verdict, matched, Ending, normal, stopped, broken, effects_of, followed_by, left, after_turn, turns, is_size, current, of_part, stored, test_does, all_do, any_do, command_does, commands_do, choice_does, meaning}
+use Rattle.mail_matching.specs.Selection.{scope_of}
+use Rattle.sieve_meaning.specs.Meaning.{selector_of, Effects, no_effects, value_of, expanded, all_expanded, with_taken, with_value, Verdict, verdict, matched, Ending, normal, stopped, broken, effects_of, followed_by, left, after_turn, turns, is_size, current, of_part, stored, test_does, all_do, any_do, command_does, commands_do, choice_does, meaning}
 use Rattle.sieve_vm.specs.State.{Value, truth, text, Frame, State, current_part, Turn, goes, ends, start}
 use Rattle.sieve_vm.specs.Machine.{Effect, is_sound_jump, with_number, with_texts, with_part, test_body, test_digest, store_part, set_content, tested, are_partners, open_loop, turn, step, turn_at}
-use Rattle.sieve_vm.specs.MatchNumbers.{match_numbered, scope_numbered, selector_numbered}
 use Rattle.sieve_vm.specs.Stack.{OnTop, with_last, texts_on_top, lists_on_top}
 use Rattle.sieve_vm.specs.Charge.{charge_of}
 use Rattle.sieve_vm.specs.Runs.{Run}
@@ -52,13 +52,14 @@ use Rattle.sieve_compiler.specs.Growing.{Uses, uses_with, joined, segment_uses, 
 use Rattle.sieve_compiler.specs.Tables.{Tables, tables_of, place_of_number, place_of_string, place_of_variable}
 use Rattle.sieve_compiler.specs.Lengths.{string_length, strings_length, test_length, tests_length, leave_length, command_length, commands_length, branches_length}
 use Rattle.sieve_compiler.specs.Strings.{segment_strings, string_strings}
-use Rattle.sieve_compiler.specs.Coding.{plain, instruction, jump_if, push_bool, push_size, push_part_size, push_text, push_segment, join_texts, string_code, strings_code, set_variable, kind_number, comparator_number, match_number, scope_number, selector_number, match_fields, match_body, match_digest, match_texts, find_fields, asked_of, aim_of, test_code, tests_code, leave_code, command_code, commands_code, branches_code, code_of, take_octets, written_version}
+use Rattle.sieve_compiler.specs.Coding.{plain, instruction, jump_if, push_bool, push_size, push_part_size, push_text, push_segment, join_texts, string_code, strings_code, set_variable, match_fields, match_body, match_digest, match_texts, find_fields, asked_of, aim_of, test_code, tests_code, leave_code, command_code, commands_code, branches_code, code_of, take_octets, written_version}
 use Rattle.sieve_compiler.proofs.Standing.{Stands, stands_first, stands_next, stands_left, stands_right}
 use Rattle.sieve_compiler.proofs.CodeLengths.{length_two, string_code_length, strings_code_length, test_code_length, command_code_length}
 use Rattle.sieve_compiler.proofs.BranchParts.{branch_parts_of}
 use Rattle.sieve_compiler.proofs.Bracketed.{next_stands, block_stands, block_ends, commands_balanced}
 use Rattle.sieve_compiler.proofs.Known.{Has, has_left, has_right, found, found_string, found_variable, tables_have}
-use Rattle.sieve_compiler.proofs.Selecting.{match_fits, match_is, scope_is, selector_is, scope_fits, selection_fits, counts_fit, keys_are, params_are}
+use Rattle.bytecode_format.proofs.SelectionLemmas.{match_again, scope_again, field_test_again}
+use Rattle.sieve_compiler.proofs.Selecting.{field_test, match_fits, scope_fits, selection_fits, counts_fit, keys_are, params_are}
 use Rattle.sieve_compiler.proofs.Accepted.{halt_at, jump_kept}
 use Rattle.sieve_compiler.proofs.Values.{AreShort, capture_short, none_short, test_short, command_short, commands_short, variable_set, all_empty, name_itself}
 
@@ -116,19 +117,6 @@ lists_again n k names keys e f = rw (on_top k keys (onto names []) f, on_top n n
 three_again : (n m k : ℕ) (names given keys : List (List ℕ)) → length names ≡ n → length given ≡ m → length keys ≡ k → lists_on_top n m k (onto keys (onto given (onto names []))) ≡ Some (record { names = names; params = given; keys = keys; below = [] })
 three_again n m k names given keys e g f = rw (on_top k keys (onto given (onto names [])) f, on_top m given (onto names []) g, on_top n names [] e) refl
 
--- where a test looks, and what it takes, by their numbers
-scope_again : (scope : Scope) → scope_numbered (scope_number scope) ≡ scope_of scope
-scope_again Message = refl
-scope_again Part = refl
-scope_again PartAndBelow = refl
-
-selector_again : (e : Effects) (selected : Selected) → selector_numbered (selector_number selected) (all_expanded e (params_of selected)) ≡ selector_of e selected
-selector_again e whole = refl
-selector_again e main = refl
-selector_again e sub = refl
-selector_again e content_type = refl
-selector_again e (params names) = refl
-
 -- ---- strings as they are expanded
 
 joined_texts : (e : Effects) (segments : List Segment) → concat (map (value_of e) segments) ≡ flat_map (value_of e) segments
@@ -148,17 +136,6 @@ no_value : (e : Effects) → [] ≡ expanded e []
 no_value e = sym (take_all max_string [] (omega arith))
 
 -- ---- matches
-
-match_again : (kind : MatchType) (comparator : Comparator) → match_numbered (kind_number kind + comparator_number comparator) ≡ record { kind = kind; comparator = comparator }
-match_again Is Casemap = refl
-match_again Is Octet = refl
-match_again Contains Casemap = refl
-match_again Contains Octet = refl
-match_again Matches Casemap = refl
-match_again Matches Octet = refl
-
-how_again : (how : Match) → match_numbered (match_number how) ≡ how
-how_again how = match_again how.kind how.comparator
 
 turned : (b asked : Bool) (target following : ℕ) → lands b (not asked) target following ≡ lands (not b) asked target following
 turned true true target following = refl
@@ -450,12 +427,7 @@ module _ (script : CommandForms) (mail : Mail) (jumps_kept : (p : ℕ) (i : Inst
           keys_are (length (params_of selected)) (length keys) (omega (arith, b.few)),
           params_are (length (params_of selected)) (length keys) (omega (arith, b.few)),
           all_again e names (params_of selected) keys,
-          match_is how scope selected,
-          scope_is how scope selected,
-          selector_is how scope selected,
-          scope_again scope,
-          selector_again e selected,
-          how_again how,
+          field_test_again (field_test how scope selected),
         )
         (tested_turn o (three e names (params_of selected) keys) p c (1 + header_cost (scope_of scope) part (selector_of e selected) (all_expanded e names) (all_expanded e keys) mail) e))
 
@@ -469,7 +441,7 @@ module _ (script : CommandForms) (mail : Mail) (jumps_kept : (p : ℕ) (i : Inst
         let i = match_texts how (length sources) (length keys) in
         let o = first_match how (all_expanded e sources) (all_expanded e keys) e.captures in
         step_at s i _ here
-        (rw (match_fits how.kind how.comparator, le-leb 1 (length sources) b.some_first, le-leb (length sources) 512 (omega (arith, b.few)), le-leb 1 (length keys) b.some_second, le-leb (length keys) 512 (omega (arith, b.few)), both_again e sources keys, how_again how)
+        (rw (match_fits how, le-leb 1 (length sources) b.some_first, le-leb (length sources) 512 (omega (arith, b.few)), le-leb 1 (length keys) b.some_second, le-leb (length keys) 512 (omega (arith, b.few)), both_again e sources keys, match_again how)
         (tested_turn o (both e sources keys) p c (1 + values_cost (all_expanded e sources) (all_expanded e keys)) e))
 
     abbrev names_charge : Scope → List Template → ℕ → Effects → ℕ → ℕ
@@ -529,12 +501,12 @@ module _ (script : CommandForms) (mail : Mail) (jumps_kept : (p : ℕ) (i : Inst
         let i = match_body how (length keys) in
         let cost : ℕ = body_charge how keys p e c in
         let is = of_part_is mail part (λ q. matched (body_match how q (all_expanded e keys) e.captures) e) e on in
-        let goes_on : (d : ℕ) → turn d (with_texts (test_body (match_number how) on.found) s (texts_on_top (length keys) (onto (all_expanded e keys) []))) ≡ goes (holding (matched (body_match how on.found (all_expanded e keys) e.captures) e).value (suc p) (matched (body_match how on.found (all_expanded e keys) e.captures) e).effects (c + d)) =
-        λ d. rw (on_top (length keys) (all_expanded e keys) [] (length-map keys (expanded e)), how_again how) (tested_turn (body_match how on.found (all_expanded e keys) e.captures) (onto (all_expanded e keys) []) p c d e) in
+        let goes_on : (d : ℕ) → turn d (with_texts (test_body how on.found) s (texts_on_top (length keys) (onto (all_expanded e keys) []))) ≡ goes (holding (matched (body_match how on.found (all_expanded e keys) e.captures) e).value (suc p) (matched (body_match how on.found (all_expanded e keys) e.captures) e).effects (c + d)) =
+        λ d. rw (on_top (length keys) (all_expanded e keys) [] (length-map keys (expanded e))) (tested_turn (body_match how on.found (all_expanded e keys) e.captures) (onto (all_expanded e keys) []) p c d e) in
         subst (λ (v : Verdict). Goes s (holding v.value (suc p) v.effects (c + cost))) (sym is)
         (step_at s i _ here
-        (rw (match_fits how.kind how.comparator, le-leb 1 (length keys) b.some, le-leb (length keys) 512 (omega (arith, b.few)))
-        (ap (turn cost) (with_part_is (λ number q t. with_texts (test_body i.a q) t (texts_on_top i.c t.stack)) mail s frames on) ∙ goes_on cost)))
+        (rw (match_fits how, le-leb 1 (length keys) b.some, le-leb (length keys) 512 (omega (arith, b.few)), match_again how)
+        (ap (turn cost) (with_part_is (λ number q t. with_texts (test_body how q) t (texts_on_top i.c t.stack)) mail s frames on) ∙ goes_on cost)))
 
     abbrev digest_charge : List Template → ℕ → Effects → ℕ → ℕ
     digest_charge keys p e c = charge_of code mail PartDigest (match_digest (length keys)) (with_stack (onto (all_expanded e keys) []) p e c)

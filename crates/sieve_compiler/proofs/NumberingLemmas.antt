@@ -18,7 +18,7 @@ use Rattle.bytecode_format.specs.declared.modifiers.Modifiers.{Modifiers}
 use Rattle.octets.specs.declared.owned.Octets.{Octets}
 use Rattle.sieve_check.specs.Variables.{string_variables}
 use Rattle.sieve_compiler.specs.Strings.{string_strings}
-use Rattle.sieve_check.specs.declared.typed.Scope.{Scope}
+use Rattle.bytecode_format.specs.declared.selection.Scope.{Scope}
 use Rattle.sieve_check.specs.declared.typed.Selection.{Selection}
 use Rattle.sieve_check.specs.declared.typed.Segment.{Segment}
 use Rattle.sieve_check.specs.Typed.{Template, params_of, TestForm, CommandForm, set, BranchForms}

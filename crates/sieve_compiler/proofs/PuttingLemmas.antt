@@ -5,7 +5,7 @@ use Rattle.std.proofs.lemmas.List.{length-append, length-map, append_assoc}
 use Rattle.bytecode_format.specs.declared.instruction.Instruction.{Instruction}
 use Rattle.sieve_check.specs.declared.typed.Test.{Test}
 use Rattle.glob_match.specs.declared.match_type.Match.{Match}
-use Rattle.sieve_check.specs.declared.typed.Scope.{Scope}
+use Rattle.bytecode_format.specs.declared.selection.Scope.{Scope}
 use Rattle.sieve_check.specs.declared.typed.Segment.{Segment}
 use Rattle.sieve_check.specs.Typed.{Selected, params_of, TestForm, all_of, any_of, header, TestForms}
 use Rattle.sieve_check.specs.TypedView.{templates_of, test_form, tests_of}

@@ -26,7 +26,7 @@ use Rattle.sieve_check.specs.declared.typed.Order.TheVariants.{Over, Under}
 use Rattle.sieve_check.specs.declared.typed.Segment.{Segment}
 use Rattle.sieve_check.specs.declared.typed.Segment.TheVariants.{Text as Stretch, Variable, Capture}
 use Rattle.sieve_check.specs.Variables.{segment_variables, string_variables}
-use Rattle.sieve_check.specs.declared.typed.Scope.{Scope}
+use Rattle.bytecode_format.specs.declared.selection.Scope.{Scope}
 use Rattle.sieve_check.specs.Typed.{Template, Selected, params_of, TestForm, constant, negation, all_of, any_of, size, header, exists, string, part_size, part_body, part_digest, TestForms, no_test, test, CommandForm, keep, discard, file_into, set, take_first, store, for_every_part, leave, stop, choice, CommandForms, no_command, command, BranchForms, no_branch, otherwise, branch}
 use Rattle.sieve_compiler.specs.Tables.{Tables, place_of_number, place_of_string, place_of_variable}
 use Rattle.sieve_compiler.specs.Lengths.{string_length, strings_length, test_length, tests_length, leave_length, command_length, commands_length, branches_length}
@@ -410,7 +410,7 @@ module _ (all : List Instruction) (tables : Tables) (last : ℕ) where
   texts_sound place how sources keys b h = record {
     form =
         rw (
-          match_fits how.kind how.comparator,
+          match_fits how,
           le-leb 1 (length sources) b.some_first,
           le-leb (length sources) 512 (omega (arith, b.few)),
           le-leb 1 (length keys) b.some_second,
@@ -434,7 +434,7 @@ module _ (all : List Instruction) (tables : Tables) (last : ℕ) where
 
   body_sound : (place : ℕ) (how : Match) (keys : List Template) → IsBoundedList keys → standing tables all place ≡ pushed (map bound_of keys) [] → 0 < length (inside all place) → IsSound all tables last place (match_body how (length keys))
   body_sound place how keys b h deep = record {
-    form = rw (match_fits how.kind how.comparator, le-leb 1 (length keys) b.some, le-leb (length keys) 512 (omega (arith, b.few))) refl;
+    form = rw (match_fits how, le-leb 1 (length keys) b.some, le-leb (length keys) 512 (omega (arith, b.few))) refl;
     loops = deep;
     index = tt;
     jump = λ e. absurd (cc);

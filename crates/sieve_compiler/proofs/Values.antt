@@ -25,7 +25,8 @@ use Rattle.mime_decode.specs.Mail.{Mail, Part as MailPart}
 use Rattle.mime_decode.specs.Scope.{selected_values, visited}
 use Rattle.sieve_check.specs.Bounded.{IsBoundedCommand, AreBoundedCommands, AreBoundedBranches}
 use Rattle.sieve_check.specs.Typed.{TestForm, constant, negation, all_of, any_of, size, header, exists, string, part_size, part_body, part_digest, TestForms, no_test, test, CommandForm, keep, discard, file_into, set, take_first, store, for_every_part, leave, stop, choice, CommandForms, no_command, command, BranchForms, no_branch, otherwise, branch}
-use Rattle.sieve_meaning.specs.Meaning.{scope_of, selector_of, Effects, no_effects, all_expanded, expanded, with_taken, with_value, Verdict, verdict, matched, and_then, or_else, Ending, normal, stopped, broken, effects_of, followed_by, left, after_turn, turns, is_size, current, of_part, test_does, all_do, any_do, command_does, commands_do, choice_does}
+use Rattle.mail_matching.specs.Selection.{scope_of}
+use Rattle.sieve_meaning.specs.Meaning.{selector_of, Effects, no_effects, all_expanded, expanded, with_taken, with_value, Verdict, verdict, matched, and_then, or_else, Ending, normal, stopped, broken, effects_of, followed_by, left, after_turn, turns, is_size, current, of_part, test_does, all_do, any_do, command_does, commands_do, choice_does}
 
 -- ---- short values
 

@@ -1,24 +1,20 @@
 -- The code of a script: of each piece the instructions, from the place on where the piece begins.
-use Rattle.std.specs.Prelude.{ℕ, ◌+◌, ◌*◌, Bool, true, false, not, List, [], ◌∷◌, ◌++◌, flat_map, length, map}
+use Rattle.std.specs.Prelude.{ℕ, ◌+◌, Bool, true, false, not, List, [], ◌∷◌, ◌++◌, flat_map, length, map}
 use Rattle.bytecode_format.specs.declared.instruction.Instruction.{Instruction}
 use Rattle.bytecode_format.specs.declared.operation.Operation.{Operation}
 use Rattle.bytecode_format.specs.declared.operation.Operation.TheVariants.{Halt, Literal, Variable as VariableOp, Capture as CaptureOp, Join, Set, String, Bool as BoolOp, Jump, JumpIfTrue, JumpIfFalse, Header, Exists, Size, PartSize, PartBody, PartDigest, Keep, Discard, File, Store, Each, Next, Break, Take}
 use Rattle.bytecode_format.specs.declared.modifiers.Modifiers.{Modifiers}
 use Rattle.bytecode_format.specs.Modifiers.{modifiers_number}
+use Rattle.bytecode_format.specs.Selection.{match_number, scope_number, field_test_number, counts_number}
 use Rattle.bytecode_format.specs.Operations.{octet_of}
 use Rattle.bytecode_format.specs.Code.{Code}
-use Rattle.glob_match.specs.declared.comparator.Comparator.{Comparator}
-use Rattle.glob_match.specs.declared.comparator.Comparator.TheVariants.{Octet, Casemap}
 use Rattle.glob_match.specs.declared.match_type.Match.{Match}
-use Rattle.glob_match.specs.declared.match_type.MatchType.{MatchType}
-use Rattle.glob_match.specs.declared.match_type.MatchType.TheVariants.{Is, Contains, Matches}
 use Rattle.sieve_check.specs.declared.typed.Order.{Order}
 use Rattle.sieve_check.specs.declared.typed.Order.TheVariants.{Over, Under}
 use Rattle.sieve_check.specs.declared.typed.Segment.{Segment}
 use Rattle.sieve_check.specs.declared.typed.Segment.TheVariants.{Text, Variable, Capture}
-use Rattle.sieve_check.specs.declared.typed.Scope.{Scope}
-use Rattle.sieve_check.specs.declared.typed.Scope.TheVariants.{Message, Part, PartAndBelow}
-use Rattle.sieve_check.specs.Typed.{Template, Selected, whole, main, sub, content_type, params, params_of, TestForm, constant, negation, all_of, any_of, size, header, exists, string, part_size, part_body, part_digest, TestForms, no_test, test, CommandForm, keep, discard, file_into, set, take_first, store, for_every_part, leave, stop, choice, CommandForms, no_command, command, BranchForms, no_branch, otherwise, branch}
+use Rattle.bytecode_format.specs.declared.selection.Scope.{Scope}
+use Rattle.sieve_check.specs.Typed.{Template, Selected, selector_of, params_of, TestForm, constant, negation, all_of, any_of, size, header, exists, string, part_size, part_body, part_digest, TestForms, no_test, test, CommandForm, keep, discard, file_into, set, take_first, store, for_every_part, leave, stop, choice, CommandForms, no_command, command, BranchForms, no_branch, otherwise, branch}
 use Rattle.sieve_compiler.specs.Lengths.{test_length, tests_length, commands_length, command_length, leave_length, branches_length}
 use Rattle.sieve_compiler.specs.Tables.{Tables, tables_of, place_of_number, place_of_string, place_of_variable}
 
@@ -83,40 +79,13 @@ set_variable tables modifiers name = instruction Set (modifiers_number modifiers
 abbrev pub take_octets : ℕ → ℕ → Instruction
 take_octets most place = record { op = octet_of Take; a = 0; b = most; c = place }
 
--- the number of a match: what it asks in bits 0 and 1, and the comparator in bit 2
-abbrev pub kind_number : MatchType → ℕ
-kind_number Is = 0
-kind_number Contains = 1
-kind_number Matches = 2
-
-abbrev pub comparator_number : Comparator → ℕ
-comparator_number Casemap = 0
-comparator_number Octet = 4
-
-abbrev pub match_number : Match → ℕ
-match_number how = kind_number how.kind + comparator_number how.comparator
-
--- where a test looks, as a number
-abbrev pub scope_number : Scope → ℕ
-scope_number Message = 0
-scope_number Part = 1
-scope_number PartAndBelow = 2
-
--- what it takes of a field, as a number
-abbrev pub selector_number : Selected → ℕ
-selector_number whole = 0
-selector_number main = 1
-selector_number sub = 2
-selector_number content_type = 3
-selector_number (params names) = 4
-
 -- what is selected of the fields of so many names in scope, against so many keys
 abbrev pub match_fields : Match → Scope → Selected → ℕ → ℕ → Instruction
 match_fields how scope selected names keys = record {
   op = octet_of Header;
-  a = match_number how + 8 * scope_number scope + 32 * selector_number selected;
+  a = field_test_number (record { how = how; scope = scope; selector = selector_of selected });
   b = names;
-  c = 65536 * length (params_of selected) + keys;
+  c = counts_number (record { params = length (params_of selected); keys = keys });
 }
 
 -- so many sources against so many keys

@@ -8,9 +8,9 @@ use crate::instructions::{
 };
 use crate::lengths::{command_length, commands_length, is_left, test_length, tests_length};
 use crate::tables::Tables;
-use bytecode_format::{Instruction, Operation};
+use bytecode_format::{Instruction, Operation, Scope};
 use glob_match::Match;
-use sieve_check::{Branch, Command, Scope, Segment, Selection, Test};
+use sieve_check::{Branch, Command, Segment, Selection, Test};
 use std::alloc::{AllocError, Global};
 
 /// The code so far, and the tables of the whole script.

@@ -3,12 +3,12 @@ ghost use Rattle.std.specs.Prelude.{◌≡◌, ◌≤◌, length};
 ghost use Rattle.octets.specs.Limits.{max_test_strings};
 ghost use Rattle.sieve_check.specs.Typed.{params_of};
 ghost use Rattle.sieve_check.specs.TypedView.{selected_form};
-ghost use Rattle.sieve_compiler.specs.Coding.{comparator_number, find_fields, instruction, jump_if, kind_number, match_body, match_digest, match_fields, join_texts, match_texts, match_number, push_bool, push_part_size, push_size, scope_number, selector_number, take_octets};
+ghost use Rattle.sieve_compiler.specs.Coding.{find_fields, instruction, jump_if, match_body, match_digest, match_fields, join_texts, match_texts, push_bool, push_part_size, push_size, take_octets};
 
 use crate::exits::Exit;
-use bytecode_format::{Instruction, Operation};
-use glob_match::{Comparator, Match, MatchType};
-use sieve_check::{Order, Scope, Selection};
+use bytecode_format::{FieldTest, Instruction, Operation, Scope, TestCounts, match_number};
+use glob_match::Match;
+use sieve_check::{Order, Selection};
 
 /// An instruction with its fields a and c.
 pub fn instruction(operation: Operation, a: u8, c: u32) -> Instruction
@@ -73,11 +73,21 @@ pub fn match_fields(
     requires keys { keys ≤ max_test_strings }
     ensures { result ≡ match_fields how scope (selected_form selection.now) names keys }
 {
+    let selector = selection.selector();
+    let test = FieldTest {
+        how,
+        scope,
+        selector,
+    };
+    let counts = TestCounts {
+        params: selection.params().len() as u16,
+        keys: keys as u16,
+    };
     Instruction {
         op: Operation::Header.octet(),
-        a: match_number(how) + 8 * scope_number(scope) + 32 * selector_number(selection),
+        a: test.number(),
         b: names,
-        c: 65_536 * selection.params().len() as u32 + keys,
+        c: counts.number(),
     }
 }
 
@@ -137,63 +147,8 @@ pub fn find_fields(scope: Scope, names: u16) -> Instruction
 {
     Instruction {
         op: Operation::Exists.octet(),
-        a: scope_number(scope),
+        a: scope.number(),
         b: names,
         c: 0,
-    }
-}
-
-// Where a test looks, in bits 3 and 4.
-fn scope_number(scope: Scope) -> u8
-    ensures number { result ≡ scope_number scope }
-    ensures bound { result ≤ 2 }
-{
-    match scope {
-        Scope::Message => 0,
-        Scope::Part => 1,
-        Scope::PartAndBelow => 2,
-    }
-}
-
-// What it takes of a field, in the bits above.
-fn selector_number(selection: &Selection) -> u8
-    ensures number { result ≡ selector_number (selected_form selection.now) }
-    ensures bound { result ≤ 4 }
-{
-    match selection {
-        Selection::Value => 0,
-        Selection::Main => 1,
-        Selection::Sub => 2,
-        Selection::ContentType => 3,
-        Selection::Params(_) => 4,
-    }
-}
-
-// The number of a match.
-fn match_number(how: Match) -> u8
-    ensures number { result ≡ match_number how }
-    ensures bound { result ≤ 6 }
-{
-    kind_number(how.kind) + comparator_number(how.comparator)
-}
-
-// What it asks, in bits 0 and 1.
-fn kind_number(kind: MatchType) -> u8
-    ensures { result ≡ kind_number kind }
-{
-    match kind {
-        MatchType::Is => 0,
-        MatchType::Contains => 1,
-        MatchType::Matches => 2,
-    }
-}
-
-// The comparator, in bit 2.
-fn comparator_number(comparator: Comparator) -> u8
-    ensures { result ≡ comparator_number comparator }
-{
-    match comparator {
-        Comparator::Casemap => 0,
-        Comparator::Octet => 4,
     }
 }

@@ -4,7 +4,7 @@ use Rattle.std.specs.Global.{Vec}
 use Rattle.octets.specs.declared.owned.Octets.{Octets}
 use Rattle.glob_match.specs.declared.match_type.Match.{Match}
 use Rattle.bytecode_format.specs.declared.modifiers.Modifiers.{Modifiers}
-use Rattle.sieve_check.specs.declared.typed.Scope.{Scope}
+use Rattle.bytecode_format.specs.declared.selection.Scope.{Scope}
 use Rattle.sieve_check.specs.declared.typed.Selection.{Selection}
 use Rattle.sieve_check.specs.declared.typed.Segment.{Segment}
 use Rattle.sieve_check.specs.declared.typed.Command.{Command}

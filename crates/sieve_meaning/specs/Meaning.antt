@@ -8,16 +8,17 @@ use Rattle.bytecode_format.specs.Modifiers.{modified}
 use Rattle.mail_matching.specs.FirstMatch.{first_match, no_captures}
 use Rattle.mail_matching.specs.HeaderTests.{exists_in, header_match}
 use Rattle.mail_matching.specs.PartTests.{body_match, digest_match}
+use Rattle.mail_matching.specs.Selection as selection
+use Rattle.mail_matching.specs.Selection.{scope_of}
 use Rattle.mime_decode.specs.Mail.{Mail, Part as MailPart, size_of}
 use Rattle.mime_decode.specs.Scope as scopes
 use Rattle.mime_decode.specs.Scope.{visited}
 use Rattle.sieve_check.specs.declared.typed.Order.{Order}
 use Rattle.sieve_check.specs.declared.typed.Order.TheVariants.{Over, Under}
-use Rattle.sieve_check.specs.declared.typed.Scope.{Scope}
-use Rattle.sieve_check.specs.declared.typed.Scope.TheVariants.{Message, Part, PartAndBelow}
 use Rattle.sieve_check.specs.declared.typed.Segment.{Segment}
 use Rattle.sieve_check.specs.declared.typed.Segment.TheVariants.{Text, Variable, Capture}
-use Rattle.sieve_check.specs.Typed.{Template, Selected, whole, main, sub, content_type, params, TestForm, constant, negation, all_of, any_of, header, exists, size, string, part_size, part_body, part_digest, TestForms, no_test, test, CommandForm, keep, discard, file_into, set, take_first, store, for_every_part, leave, stop, choice, CommandForms, no_command, command, BranchForms, no_branch, otherwise, branch}
+use Rattle.sieve_check.specs.Typed as typed
+use Rattle.sieve_check.specs.Typed.{Template, Selected, params_of, TestForm, constant, negation, all_of, any_of, header, exists, size, string, part_size, part_body, part_digest, TestForms, no_test, test, CommandForm, keep, discard, file_into, set, take_first, store, for_every_part, leave, stop, choice, CommandForms, no_command, command, BranchForms, no_branch, otherwise, branch}
 
 -- what a script has done so far: the values of variables by their names in lower case, the captures
 -- of the last match that set them, the actions, and whether the implicit keep stands
@@ -45,19 +46,10 @@ expanded effects template = take max_string (flat_map (value_of effects) templat
 abbrev pub all_expanded : Effects → List Template → List (List ℕ)
 all_expanded effects templates = map (expanded effects) templates
 
--- where a test looks (RFC 5703, section 4.1)
-abbrev pub scope_of : Scope → scopes.Scope
-scope_of Message = scopes.Root
-scope_of Part = scopes.Current
-scope_of PartAndBelow = scopes.CurrentAndBelow
-
--- what it takes of a field, its parameters by their names (RFC 5703, section 4.2)
+-- what a test takes of a field, its parameters by their names (RFC 5703, section 4.2)
 abbrev pub selector_of : Effects → Selected → scopes.Selector
-selector_of effects whole = scopes.Value
-selector_of effects main = scopes.Main
-selector_of effects sub = scopes.Sub
-selector_of effects content_type = scopes.ContentType
-selector_of effects (params names) = scopes.Param (all_expanded effects names)
+selector_of effects selected =
+    selection.selector_of (typed.selector_of selected) (all_expanded effects (params_of selected))
 
 -- the values of variables, of which one is new
 abbrev pub with_value : List ℕ → List ℕ → (List ℕ → List ℕ) → List ℕ → List ℕ

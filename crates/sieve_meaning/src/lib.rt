@@ -7,7 +7,6 @@
 mod evaluator;
 mod expansion;
 mod part_tests;
-mod selection;
 mod subject;
 mod tests_hold;
 mod variables;

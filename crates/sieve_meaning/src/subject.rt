@@ -6,6 +6,8 @@ ghost use Rattle.octets.specs.Limits.{max_message};
 ghost use Rattle.mime_decode.specs.Scope.{numbers_from, visited};
 ghost use Rattle.sieve_meaning.specs.Meaning.{current};
 
+use bytecode_format::Scope;
+use mail_matching::Reach;
 use mime_decode::Message;
 use std::alloc::{AllocError, Global};
 use std::borrow::CowSlice;
@@ -40,6 +42,16 @@ impl<'a, 'm> Subject<'a, 'm> {
         Subject {
             message: self.message,
             part: Some(part),
+        }
+    }
+
+    /// Where a test of this scope looks.
+    pub fn reach(self, scope: Scope) -> Reach
+        ensures { result ≡ record { scope = scope; current = self.entry.part } }
+    {
+        Reach {
+            scope,
+            current: self.part,
         }
     }
 

@@ -3,7 +3,6 @@ ghost use Rattle.std.specs.Prelude.{◌≡◌};
 ghost use Rattle.sieve_meaning.specs.Meaning.{is_size};
 
 use crate::evaluator::Evaluator;
-use crate::selection::{reach_of, selector_of};
 use crate::subject::Subject;
 use glob_match::Match;
 use mail_matching::{Answer, HeaderTest, Outcome, exists, header, string};
@@ -61,15 +60,15 @@ impl<'s, 'm> Evaluator<'s, 'm> {
                 keys,
             } => {
                 let test = HeaderTest {
-                    reach: reach_of(*scope, subject.part),
-                    selector: selector_of(selection),
+                    reach: subject.reach(*scope),
+                    selector: selection.selector(),
                     how: *matching,
                 };
                 self.matches(alloc, test, names, selection.params(), keys, subject)
             }
             Test::Exists(scope, names) => {
                 let names = self.all_expanded(alloc, names)?;
-                Ok(exists(subject.message, reach_of(*scope, subject.part), &names).0)
+                Ok(exists(subject.message, subject.reach(*scope), &names).0)
             }
             Test::Size(order, number) => Ok(is_size(
                 *order,

@@ -1,5 +1,5 @@
 -- What an instruction charges is within its cap.
-use Rattle.std.proofs.Common.{◌≡◌, ℕ, zero, suc, ◌+◌, ◌*◌, ◌≤◌, max, min, slice_get, List, [], ◌∷◌, Option, Some, None, length, refl, arith}
+use Rattle.std.proofs.Common.{◌≡◌, ℕ, ◌+◌, ◌*◌, ◌≤◌, max, min, slice_get, List, [], ◌∷◌, Option, Some, None, length, refl, arith}
 use Rattle.std.proofs.Math.Nat.{mul-le-mul}
 use Rattle.std.specs.Option.{option_and_then, option_map, option_map_or}
 use Rattle.bytecode_format.specs.declared.instruction.Instruction.{Instruction}
@@ -11,13 +11,16 @@ use Rattle.bytecode_verifier.specs.Shape.{Entries, Texts, Lists as ListBounds, w
 use Rattle.bytecode_verifier.specs.declared.cap.Cap.{Cap}
 use Rattle.bytecode_verifier.specs.Budget.{one_more_each, one_charge, cap_of_octets, cap_of_names, cap_of_matching, cap_of_comparing, cap_of_body, cap_of_digest, cap_of}
 use Rattle.bytecode_verifier.proofs.Consequences.{left_by}
-use Rattle.bytecode_verifier.specs.Rows.{keys_in, params_in, scope_in, selector_in}
+use Rattle.bytecode_format.specs.declared.selection.Scope.{Scope}
+use Rattle.bytecode_format.specs.declared.selection.FieldTest.{FieldTest}
+use Rattle.bytecode_format.specs.declared.selection.Selector as field
+use Rattle.bytecode_format.specs.declared.selection.Selector.TheVariants as selectors
+use Rattle.bytecode_format.specs.Selection.{scope_numbered, field_test_numbered, keys_in, params_in}
 use Rattle.mime_decode.specs.Mail.{Mail, Part, IsMail, size_of}
 use Rattle.mail_matching.specs.PartTests.{body_cost, digest_cost}
-use Rattle.mail_matching.specs.Selection.{values_of_a_field}
+use Rattle.mail_matching.specs.Selection.{scope_of, selector_of, values_of_a_field}
 use Rattle.mail_matching.specs.Costs.{extent_of}
 use Rattle.mail_matching.proofs.Extents.{names_cost-within, values_cost-within, values_cost-product, body_cost-within, digest_cost-is}
-use Rattle.sieve_vm.specs.MatchNumbers.{scope_numbered, selector_numbered}
 use Rattle.sieve_vm.specs.State.{Value, truth, text, State, current_part}
 use Rattle.sieve_vm.specs.Stack.{OnTop, texts_on_top, lists_on_top, length_on_top}
 use Rattle.sieve_vm.specs.Charge.{cost_of_names, cost_of_matching, cost_of_comparing, cost_with_part, octets_on_top, octets_taken, charge_of}
@@ -40,12 +43,12 @@ names_within n extent bounds cost most less =
     omega arith
 
 -- what is selected of a field for each name and key
-values_few : (number : ℕ) (params : List (List ℕ)) (most : ℕ) → length params ≡ most → values_of_a_field (selector_numbered number params) ≤ max most 1
-values_few zero params most same = omega arith
-values_few (suc zero) params most same = omega arith
-values_few (suc (suc zero)) params most same = omega arith
-values_few (suc (suc (suc zero))) params most same = omega arith
-values_few (suc (suc (suc (suc n)))) params most same = omega (arith, same)
+values_few : (selector : field.Selector) (params : List (List ℕ)) (most : ℕ) → length params ≡ most → values_of_a_field (selector_of selector params) ≤ max most 1
+values_few selectors.Value params most same = omega arith
+values_few selectors.Main params most same = omega arith
+values_few selectors.Sub params most same = omega arith
+values_few selectors.ContentType params most same = omega arith
+values_few selectors.Param params most same = omega (arith, same)
 
 -- what names and keys cost, with so many values of a field
 matching_within : (n names keys number values names_bounds keys_bounds number_bounds values_bounds named compared : ℕ) → named ≤ (n + 1) * names → compared ≤ number * values * n * keys → names ≤ names_bounds → keys ≤ keys_bounds → number ≡ number_bounds → values ≤ values_bounds
@@ -71,40 +74,60 @@ module _ (code : Code) (mail : Mail) (known : IsMail mail) (i : Instruction) (s 
       go (Text bound ∷ es) (truth b ∷ vs) h f = absurd h
       go (Text bound ∷ es) (text folder ∷ vs) h f = let short = h.0 in record { some = omega arith; most = omega arith }
 
-  names_fit : (after : Entries) → option_and_then (λ (names : Texts). with_entry Truth names.rest) (take_texts i.b entries) ≡ Some after
-      → IsWithinCap mail (1 + option_map_or (cost_of_names i.a (current_part s.frames) mail) (texts_on_top i.b s.stack) 0) (option_map_or cap_of_names (take_texts i.b entries) one_charge)
-  names_fit after e = go (take_texts i.b entries) refl e
+  names_fit : (scope : Scope) (after : Entries) → option_and_then (λ (names : Texts). with_entry Truth names.rest) (take_texts i.b entries) ≡ Some after
+      → IsWithinCap mail (1 + option_map_or (cost_of_names scope (current_part s.frames) mail) (texts_on_top i.b s.stack) 0) (option_map_or cap_of_names (take_texts i.b entries) one_charge)
+  names_fit scope after e = go (take_texts i.b entries) refl e
     where
       go : (o : Option Texts) → take_texts i.b entries ≡ o → option_and_then (λ (names : Texts). with_entry Truth names.rest) o ≡ Some after
-          → IsWithinCap mail (1 + option_map_or (cost_of_names i.a (current_part s.frames) mail) (texts_on_top i.b s.stack) 0) (option_map_or cap_of_names o one_charge)
+          → IsWithinCap mail (1 + option_map_or (cost_of_names scope (current_part s.frames) mail) (texts_on_top i.b s.stack) 0) (option_map_or cap_of_names o one_charge)
       go None h f = absurd cc
       go (Some bounds) h f =
           let names = on_top i.b entries bounds s.stack h d in
-          let cost = names_cost-within mail known (scope_numbered i.a) (current_part s.frames) names.top.texts in
+          let cost = names_cost-within mail known (scope_of scope) (current_part s.frames) names.top.texts in
           rw names.is (record {
             some = omega arith;
-            most = names_within (size_of mail) (extent_of names.top.texts) (one_more_each bounds.bounds) (cost_of_names i.a (current_part s.frames) mail names.top) cost names.extent;
+            most = names_within (size_of mail) (extent_of names.top.texts) (one_more_each bounds.bounds) (cost_of_names scope (current_part s.frames) mail names.top) cost names.extent;
           })
 
-  lists_fit : (after : Entries) → option_and_then (λ (lists : ListBounds). with_entry Truth lists.rest) (take_lists i.b (params_in i.c) (keys_in i.c) entries) ≡ Some after
-      → IsWithinCap mail (1 + option_map_or (cost_of_matching i.a (current_part s.frames) mail) (lists_on_top i.b (params_in i.c) (keys_in i.c) s.stack) 0) (option_map_or cap_of_matching (take_lists i.b (params_in i.c) (keys_in i.c) entries) one_charge)
-  lists_fit after e = go (take_lists i.b (params_in i.c) (keys_in i.c) entries) refl e
+  -- a number that says no scope costs nothing
+  exists_fits : (meant : Option Scope) (after : Entries) → option_and_then (λ (names : Texts). with_entry Truth names.rest) (take_texts i.b entries) ≡ Some after
+      → IsWithinCap mail (1 + option_map_or (λ scope. option_map_or (cost_of_names scope (current_part s.frames) mail) (texts_on_top i.b s.stack) 0) meant 0) (option_map_or cap_of_names (take_texts i.b entries) one_charge)
+  exists_fits None after e = least (take_texts i.b entries)
+    where
+      least : (o : Option Texts) → IsWithinCap mail 1 (option_map_or cap_of_names o one_charge)
+      least None = one mail
+      least (Some bounds) = record { some = omega arith; most = omega arith }
+  exists_fits (Some scope) after e = names_fit scope after e
+
+  lists_fit : (test : FieldTest) (after : Entries) → option_and_then (λ (lists : ListBounds). with_entry Truth lists.rest) (take_lists i.b (params_in i.c) (keys_in i.c) entries) ≡ Some after
+      → IsWithinCap mail (1 + option_map_or (cost_of_matching test (current_part s.frames) mail) (lists_on_top i.b (params_in i.c) (keys_in i.c) s.stack) 0) (option_map_or cap_of_matching (take_lists i.b (params_in i.c) (keys_in i.c) entries) one_charge)
+  lists_fit test after e = go (take_lists i.b (params_in i.c) (keys_in i.c) entries) refl e
     where
       go : (o : Option ListBounds) → take_lists i.b (params_in i.c) (keys_in i.c) entries ≡ o → option_and_then (λ (lists : ListBounds). with_entry Truth lists.rest) o ≡ Some after
-          → IsWithinCap mail (1 + option_map_or (cost_of_matching i.a (current_part s.frames) mail) (lists_on_top i.b (params_in i.c) (keys_in i.c) s.stack) 0) (option_map_or cap_of_matching o one_charge)
+          → IsWithinCap mail (1 + option_map_or (cost_of_matching test (current_part s.frames) mail) (lists_on_top i.b (params_in i.c) (keys_in i.c) s.stack) 0) (option_map_or cap_of_matching o one_charge)
       go None h f = absurd cc
       go (Some bounds) h f =
           let lists = lists_are_on_top i.b (params_in i.c) (keys_in i.c) entries bounds s.stack h d in
-          let scope = scope_numbered (scope_in i.a) in
+          let scope = scope_of test.scope in
           let current = current_part s.frames in
-          let selector = selector_numbered (selector_in i.a) lists.top.params in
+          let selector = selector_of test.selector lists.top.params in
           let named = names_cost-within mail known scope current lists.top.names in
           let compared = values_cost-within mail known scope current selector lists.top.names lists.top.keys in
-          let few = values_few (selector_in i.a) lists.top.params (length bounds.params) lists.params_number in
+          let few = values_few test.selector lists.top.params (length bounds.params) lists.params_number in
           rw lists.is (record {
             some = omega arith;
             most = matching_within (size_of mail) (extent_of lists.top.names) (extent_of lists.top.keys) (length lists.top.names) (values_of_a_field selector) (one_more_each bounds.names) (one_more_each bounds.keys) (length bounds.names) (max (length bounds.params) 1) _ _ named compared lists.names_extent lists.keys_extent lists.names_number few;
           })
+
+  -- a number that says no test of fields costs nothing
+  header_fits : (meant : Option FieldTest) (after : Entries) → option_and_then (λ (lists : ListBounds). with_entry Truth lists.rest) (take_lists i.b (params_in i.c) (keys_in i.c) entries) ≡ Some after
+      → IsWithinCap mail (1 + option_map_or (λ test. option_map_or (cost_of_matching test (current_part s.frames) mail) (lists_on_top i.b (params_in i.c) (keys_in i.c) s.stack) 0) meant 0) (option_map_or cap_of_matching (take_lists i.b (params_in i.c) (keys_in i.c) entries) one_charge)
+  header_fits None after e = least (take_lists i.b (params_in i.c) (keys_in i.c) entries)
+    where
+      least : (o : Option ListBounds) → IsWithinCap mail 1 (option_map_or cap_of_matching o one_charge)
+      least None = one mail
+      least (Some bounds) = record { some = omega arith; most = omega arith }
+  header_fits (Some test) after e = lists_fit test after e
 
   -- the texts of a test of the current part
   keys_fit : (cost : Part → List (List ℕ) → ℕ) (cap : Texts → Cap) → ((place : ℕ) (part : Part) (bounds : Texts) (keys : List (List ℕ)) → slice_get mail.parts place ≡ Some part → extent_of keys ≤ one_more_each bounds.bounds → 1 + cost part keys ≤ cap_value mail (cap bounds))
@@ -168,8 +191,8 @@ taken_fits mail most (Some current) = go (slice_get mail.parts current)
 -- the charge of an instruction that the shape goes over
 pub charge_fits : (code : Code) (mail : Mail) → IsMail mail → (o : Operation) (i : Instruction) (s : State) (entries : Entries) → Describes entries s.stack → (after : Entries) → left_by code (Some o) i entries ≡ Some after
     → IsWithinCap mail (charge_of code mail o i s) (cap_of (Some o) i entries)
-charge_fits code mail known Header i s entries d after e = lists_fit code mail known i s entries d after e
-charge_fits code mail known Exists i s entries d after e = names_fit code mail known i s entries d after e
+charge_fits code mail known Header i s entries d after e = header_fits code mail known i s entries d (field_test_numbered i.a) after e
+charge_fits code mail known Exists i s entries d after e = exists_fits code mail known i s entries d (scope_numbered i.a) after e
 charge_fits code mail known File i s entries d after e = file_fits code mail known i s entries d after e
 charge_fits code mail known Store i s entries d after e = file_fits code mail known i s entries d after e
 charge_fits code mail known PartBody i s entries d after e = keys_fit code mail known i s entries d body_cost cap_of_body (body_fits code mail known i s entries d) (λ bounds. omega arith) after e

@@ -6,12 +6,9 @@ use Rattle.bytecode_format.specs.declared.operation.Operation.{Operation}
 use Rattle.bytecode_format.specs.declared.operation.Operation.TheVariants.{Literal, Variable, Capture, Join, Set, Header, Exists, String, File}
 use Rattle.bytecode_format.specs.Operations.{octet_of}
 use Rattle.bytecode_format.specs.Code.{Code}
-use Rattle.glob_match.specs.declared.comparator.Comparator.TheVariants.{Octet, Casemap}
-use Rattle.glob_match.specs.declared.match_type.MatchType.TheVariants.{Is, Contains, Matches}
 use Rattle.mime_decode.specs.Mail.{Part, Mail}
 use Rattle.sieve_vm.specs.State.{Value, truth, text, State, start}
 use Rattle.sieve_vm.specs.Stack.{texts_on_top, lists_on_top}
-use Rattle.sieve_vm.specs.MatchNumbers.{match_numbered}
 use Rattle.sieve_vm.specs.Charge.{charge_of}
 use Rattle.sieve_vm.specs.Machine.{on, fails, effect}
 
@@ -23,15 +20,6 @@ two_variables : (start (record { version = 1; variables = 2; numbers = []; strin
 two_variables = refl
 
 -- ---- texts
-
-is_ignoring_case : match_numbered 0 ≡ record { kind = Is; comparator = Casemap }
-is_ignoring_case = refl
-
-contains_octets : match_numbered 5 ≡ record { kind = Contains; comparator = Octet }
-contains_octets = refl
-
-matches_octets : match_numbered 6 ≡ record { kind = Matches; comparator = Octet }
-matches_octets = refl
 
 -- the text on top was pushed last
 abbrev pushed : List Value

@@ -14,14 +14,17 @@ use Rattle.bytecode_format.specs.Code.{Code}
 use Rattle.bytecode_verifier.specs.declared.shape.Entry.{Entry}
 use Rattle.bytecode_verifier.specs.declared.shape.Entry.TheVariants.{Truth, Text}
 use Rattle.std.specs.Option.{option_and_then, option_map, option_map_or}
-use Rattle.bytecode_verifier.specs.Rows.{row_in_version, is_well_formed, is_jump, needs_part, keys_in, params_in, match_in, scope_in, selector_in}
+use Rattle.bytecode_format.specs.declared.selection.Scope.{Scope}
+use Rattle.bytecode_format.specs.declared.selection.FieldTest.{FieldTest}
+use Rattle.bytecode_format.specs.Selection.{match_numbered, keys_in, params_in}
+use Rattle.bytecode_verifier.specs.Rows.{row_in_version, is_well_formed, is_jump, needs_part}
 use Rattle.bytecode_verifier.specs.Shape.{Entries, Texts, Lists as ListBounds, is_empty, has_truth, with_entry, with_string, with_joined, without_truth, take_texts, take_lists, shape_at}
 use Rattle.bytecode_verifier.specs.Places.{holds_at}
 use Rattle.bytecode_verifier.specs.Loops.{Loop, opens, closes, open_loops}
 use Rattle.bytecode_verifier.specs.Rules.{row_in, is_halt}
 use Rattle.bytecode_verifier.specs.Acceptance.{IsAccepted}
 use Rattle.bytecode_verifier.proofs.Tests.{same_place}
-use Rattle.bytecode_verifier.proofs.Consequences.{left_by, well_formed, number_known, part_number_known, break_known, string_known, variable_known, set_known, take_version, take_variable_known, take_known, modifiers_known, not_last, jump_forward, jump_within, jump_same_loops, jump_target, shape_known, shape_next, target_empty}
+use Rattle.bytecode_verifier.proofs.Consequences.{left_by, well_formed, number_known, part_number_known, break_known, string_known, variable_known, set_known, take_version, take_variable_known, take_known, modifiers_known, header_known, exists_known, sources_known, part_body_known, known as meant_by, not_last, jump_forward, jump_within, jump_same_loops, jump_target, shape_known, shape_next, target_empty}
 use Rattle.bytecode_verifier.proofs.Nesting.{Nesting}
 use Rattle.bytecode_format.specs.declared.action.Action.TheVariants as action
 use Rattle.mime_decode.specs.Content.{digest_of}
@@ -29,10 +32,10 @@ use Rattle.mime_decode.specs.Mail.{Mail, Part, IsMail, size_of}
 use Rattle.sieve_vm.specs.State.{Value, truth, text, Frame, State, current_part, Turn, goes, ends, traps, start}
 use Rattle.sieve_vm.specs.Runs.{Run}
 use Rattle.sieve_vm.specs.Charge.{charge_of}
-use Rattle.sieve_vm.specs.Stack.{OnTop, Lists, texts_on_top}
+use Rattle.sieve_vm.specs.Stack.{OnTop, Lists, texts_on_top, lists_on_top}
 use Rattle.sieve_vm.specs.Stores.{NamesPart}
 use Rattle.sieve_vm.specs.Machine as machine
-use Rattle.sieve_vm.specs.Machine.{Effect, on, jumps, halts, fails, push, branch, with_truth, with_text, with_texts, with_lists, with_number, file, test_names, tested, test_values, test_sources, with_part, store_part, test_body, test_digest, are_partners, open_loop, next_part, next, close, is_sound_jump, compares, effect, turn, turn_of, turn_at, step}
+use Rattle.sieve_vm.specs.Machine.{Effect, on, jumps, halts, fails, push, branch, with_truth, with_text, with_texts, with_lists, with_number, with_meant, file, test_names, tested, test_values, test_sources, with_part, store_part, test_body, test_digest, are_partners, open_loop, next_part, next, close, is_sound_jump, compares, effect, turn, turn_of, turn_at, step}
 use Rattle.sieve_vm.specs.Potential.{potential_from, potential}
 use Rattle.bytecode_verifier.specs.Budget.{cap_of, cap_at}
 use Rattle.mime_decode.specs.Scope.{selected_values, visited}
@@ -43,9 +46,9 @@ use Rattle.mail_matching.proofs.TenCaptures.{stay_ten, stay_short}
 use Rattle.octets.specs.Limits.{max_string, max_value}
 use Rattle.bytecode_format.specs.declared.modifiers.Modifiers.{Modifiers}
 use Rattle.bytecode_format.specs.Modifiers.{modified, modifiers_numbered}
-use Rattle.sieve_vm.specs.MatchNumbers.{match_numbered, scope_numbered, selector_numbered}
 use Rattle.mail_matching.specs.PartTests.{exactly}
 use Rattle.mail_matching.specs.HeaderTests.{exists_in}
+use Rattle.mail_matching.specs.Selection.{scope_of, selector_of}
 use Rattle.bytecode_verifier.proofs.Nesting.{nesting}
 use Rattle.sieve_vm.proofs.Charges.{charge_fits}
 use Rattle.sieve_vm.proofs.Falls.{depth_at, cap_there, end_of, potential-forward, potential-enter, potential-again, potential-leave, potential-break}
@@ -438,14 +441,18 @@ module _ (code : Code) (mail : Mail) (is : IsAccepted code) (known : IsMail mail
         (pushes Literal s (text octets) (Text (length octets)) entries a.0 e refl a.1 room refl refl refl held from.stores d (omega arith, d))
 
     leads_exists : operation_of i.op ≡ Some Exists → Leads code mail s (effect code mail Exists i s)
-    leads_exists e = let a = after_of (Some Exists) e in go a.0 a.1 (take_texts i.b entries) refl a.1
+    leads_exists e =
+        let a = after_of (Some Exists) e in
+        let says = exists_known code is s.place i here e in
+        subst (λ (o : Option Scope). Leads code mail s (with_meant (λ scope. with_texts (test_names mail scope) s (texts_on_top i.b s.stack)) o)) (sym says.1.0)
+        (go says.0 a.0 a.1 (take_texts i.b entries) refl a.1)
       where
-        go : (after : Entries) → LeavesBy Exists after → (o : Option Texts) → take_texts i.b entries ≡ o → option_and_then (λ (names : Texts). with_entry Truth names.rest) o ≡ Some after → Leads code mail s (effect code mail Exists i s)
-        go after leaves None h f = absurd cc
-        go after leaves (Some bounds) h f =
+        go : (scope : Scope) (after : Entries) → LeavesBy Exists after → (o : Option Texts) → take_texts i.b entries ≡ o → option_and_then (λ (names : Texts). with_entry Truth names.rest) o ≡ Some after → Leads code mail s (with_texts (test_names mail scope) s (texts_on_top i.b s.stack))
+        go scope after leaves None h f = absurd cc
+        go scope after leaves (Some bounds) h f =
             let names = on_top i.b entries bounds s.stack h d in
-            subst (λ (o : Option OnTop). Leads code mail s (with_texts (test_names mail i.a) s o)) (sym names.is)
-            (pushes Exists (record s { stack = names.top.below }) (truth (exists_in (scope_numbered i.a) (current_part s.frames) names.top.texts mail)) Truth bounds.rest after e refl leaves f refl refl refl held from.stores names.below names.below)
+            subst (λ (o : Option OnTop). Leads code mail s (with_texts (test_names mail scope) s o)) (sym names.is)
+            (pushes Exists (record s { stack = names.top.below }) (truth (exists_in (scope_of scope) (current_part s.frames) names.top.texts mail)) Truth bounds.rest after e refl leaves f refl refl refl held from.stores names.below names.below)
 
     -- a test's captures change neither the place nor the stack
     leads_tested : (operation : Operation) (t : State) (below after : Entries) (how : Match) (values keys : List (List ℕ)) → operation_of i.op ≡ Some operation → is_plain (Some operation) ≡ true → LeavesBy operation after → with_entry Truth below ≡ Some after
@@ -458,24 +465,32 @@ module _ (code : Code) (mail : Mail) (is : IsAccepted code) (known : IsMail mail
             pushes operation (record t { captures = captures }) (truth true) Truth below after e goes_on leaves room place charge outside (captured_by code.variables t.variables t.captures captures how values keys texts found) stores there there
 
     leads_header : operation_of i.op ≡ Some Header → Leads code mail s (effect code mail Header i s)
-    leads_header e = let a = after_of (Some Header) e in go a.0 a.1 (take_lists i.b (params_in i.c) (keys_in i.c) entries) refl a.1
+    leads_header e =
+        let a = after_of (Some Header) e in
+        let fields = header_known code is s.place i here e in
+        subst (λ (o : Option FieldTest). Leads code mail s (with_meant (λ test. with_lists (test_values mail test) s (lists_on_top i.b (params_in i.c) (keys_in i.c) s.stack)) o)) (sym fields.says)
+        (go fields.test a.0 a.1 (take_lists i.b (params_in i.c) (keys_in i.c) entries) refl a.1)
       where
-        go : (after : Entries) → LeavesBy Header after → (o : Option ListBounds) → take_lists i.b (params_in i.c) (keys_in i.c) entries ≡ o → option_and_then (λ (lists : ListBounds). with_entry Truth lists.rest) o ≡ Some after → Leads code mail s (effect code mail Header i s)
-        go after leaves None h f = absurd cc
-        go after leaves (Some bounds) h f =
+        go : (test : FieldTest) (after : Entries) → LeavesBy Header after → (o : Option ListBounds) → take_lists i.b (params_in i.c) (keys_in i.c) entries ≡ o → option_and_then (λ (lists : ListBounds). with_entry Truth lists.rest) o ≡ Some after → Leads code mail s (with_lists (test_values mail test) s (lists_on_top i.b (params_in i.c) (keys_in i.c) s.stack))
+        go test after leaves None h f = absurd cc
+        go test after leaves (Some bounds) h f =
             let lists = lists_are_on_top i.b (params_in i.c) (keys_in i.c) entries bounds s.stack h d in
-            subst (λ (o : Option Lists). Leads code mail s (with_lists (test_values mail i.a) s o)) (sym lists.is)
-            (leads_tested Header (record s { stack = lists.top.below }) bounds.rest after (match_numbered (match_in i.a)) (selected_values (scope_numbered (scope_in i.a)) (current_part s.frames) (selector_numbered (selector_in i.a) lists.top.params) lists.top.names mail) lists.top.keys e refl leaves f refl refl refl held from.stores lists.below)
+            subst (λ (o : Option Lists). Leads code mail s (with_lists (test_values mail test) s o)) (sym lists.is)
+            (leads_tested Header (record s { stack = lists.top.below }) bounds.rest after test.how (selected_values (scope_of test.scope) (current_part s.frames) (selector_of test.selector lists.top.params) lists.top.names mail) lists.top.keys e refl leaves f refl refl refl held from.stores lists.below)
 
     leads_string : operation_of i.op ≡ Some String → Leads code mail s (effect code mail String i s)
-    leads_string e = let a = after_of (Some String) e in go a.0 a.1 (take_lists i.b 0 i.c entries) refl a.1
+    leads_string e =
+        let a = after_of (Some String) e in
+        let says = meant_by (match_numbered i.a) (sources_known code is s.place i here e) in
+        subst (λ (o : Option Match). Leads code mail s (with_meant (λ how. with_lists (test_sources how) s (lists_on_top i.b 0 i.c s.stack)) o)) (sym says.1)
+        (go says.0 a.0 a.1 (take_lists i.b 0 i.c entries) refl a.1)
       where
-        go : (after : Entries) → LeavesBy String after → (o : Option ListBounds) → take_lists i.b 0 i.c entries ≡ o → option_and_then (λ (lists : ListBounds). with_entry Truth lists.rest) o ≡ Some after → Leads code mail s (effect code mail String i s)
-        go after leaves None h f = absurd cc
-        go after leaves (Some bounds) h f =
+        go : (how : Match) (after : Entries) → LeavesBy String after → (o : Option ListBounds) → take_lists i.b 0 i.c entries ≡ o → option_and_then (λ (lists : ListBounds). with_entry Truth lists.rest) o ≡ Some after → Leads code mail s (with_lists (test_sources how) s (lists_on_top i.b 0 i.c s.stack))
+        go how after leaves None h f = absurd cc
+        go how after leaves (Some bounds) h f =
             let lists = lists_are_on_top i.b 0 i.c entries bounds s.stack h d in
-            subst (λ (o : Option Lists). Leads code mail s (with_lists (test_sources i.a) s o)) (sym lists.is)
-            (leads_tested String (record s { stack = lists.top.below }) bounds.rest after (match_numbered i.a) lists.top.names lists.top.keys e refl leaves f refl refl refl held from.stores lists.below)
+            subst (λ (o : Option Lists). Leads code mail s (with_lists (test_sources how) s o)) (sym lists.is)
+            (leads_tested String (record s { stack = lists.top.below }) bounds.rest after how lists.top.names lists.top.keys e refl leaves f refl refl refl held from.stores lists.below)
 
     leads_variable : operation_of i.op ≡ Some Variable → Leads code mail s (effect code mail Variable i s)
     leads_variable e =
@@ -628,7 +643,9 @@ module _ (code : Code) (mail : Mail) (is : IsAccepted code) (known : IsMail mail
     leads_part_body : operation_of i.op ≡ Some PartBody → Leads code mail s (effect code mail PartBody i s)
     leads_part_body e =
         let p = has_part PartBody e refl in
-        in_part (λ number part t. with_texts (test_body i.a part) t (texts_on_top i.c t.stack)) p (leads_keys PartBody (match_numbered i.a) p.part.content e refl (λ es. refl))
+        let says = meant_by (match_numbered i.a) (part_body_known code is s.place i here e).0 in
+        subst (λ (o : Option Match). Leads code mail s (with_meant (λ how. with_part (λ number part t. with_texts (test_body how part) t (texts_on_top i.c t.stack)) mail s s.frames) o)) (sym says.1)
+        (in_part (λ number part t. with_texts (test_body says.0 part) t (texts_on_top i.c t.stack)) p (leads_keys PartBody says.0 p.part.content e refl (λ es. refl)))
 
     leads_part_digest : operation_of i.op ≡ Some PartDigest → Leads code mail s (effect code mail PartDigest i s)
     leads_part_digest e =

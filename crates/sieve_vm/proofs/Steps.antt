@@ -16,16 +16,20 @@ use Rattle.bytecode_verifier.specs.Loops.{open_loops}
 use Rattle.bytecode_verifier.specs.declared.shape.Entry.TheVariants.{Truth}
 use Rattle.glob_match.specs.declared.match_type.Match.{Match}
 use Rattle.mime_decode.specs.Content.{digest_of}
-use Rattle.bytecode_verifier.specs.Rows.{row_in_version, is_well_formed, is_jump, needs_part, keys_in, params_in}
+use Rattle.bytecode_format.specs.declared.selection.Scope.{Scope}
+use Rattle.bytecode_format.specs.declared.selection.FieldTest.{FieldTest}
+use Rattle.bytecode_format.specs.Selection.{match_numbered, scope_numbered, field_test_numbered, keys_in, params_in}
+use Rattle.bytecode_verifier.specs.Rows.{row_in_version, is_well_formed, is_jump, needs_part}
 use Rattle.bytecode_verifier.specs.Rules.{row_in}
 use Rattle.bytecode_verifier.specs.Shape.{Entries, Texts, take_texts, with_entry, without_truth}
 use Rattle.bytecode_verifier.specs.Acceptance.{IsAccepted}
-use Rattle.bytecode_verifier.proofs.Consequences.{left_by, well_formed, break_known, part_number_known, number_known, string_known, variable_known, set_known, take_variable_known, modifiers_known}
+use Rattle.bytecode_verifier.proofs.Consequences.{left_by, well_formed, break_known, part_number_known, number_known, string_known, variable_known, set_known, take_variable_known, modifiers_known, header_known, exists_known, sources_known, part_body_known, known as meant_by}
 use Rattle.bytecode_format.specs.Spelling.{IsProgram}
 use Rattle.bytecode_verifier.proofs.Budgets.{budget_small}
 use Rattle.bytecode_verifier.proofs.Short.{shape_small}
 use Rattle.mime_decode.specs.Scope.{visited}
 use Rattle.mail_matching.specs.HeaderTests.{exists_in}
+use Rattle.mail_matching.specs.Selection.{scope_of}
 use Rattle.mail_matching.specs.PartTests.{exactly, body_cost, body_match, digest_cost, digest_match}
 use Rattle.mail_matching.specs.Texts.{AreTexts}
 use Rattle.mime_decode.specs.Mail.{Mail, Part, IsMail, size_of}
@@ -35,11 +39,10 @@ use Rattle.sieve_vm.specs.declared.machine.Flow.{Flow}
 use Rattle.sieve_vm.specs.declared.machine.Flow.TheVariants.{On, To, Ends}
 use Rattle.sieve_vm.specs.State.{Value, truth, text, Frame, State, current_part, goes, ends, traps, start}
 use Rattle.sieve_vm.specs.Stack.{OnTop, texts_on_top, Lists, lists_on_top, length_on_top}
-use Rattle.sieve_vm.specs.MatchNumbers.{match_numbered, scope_numbered}
 use Rattle.sieve_vm.specs.Visits.{Visits, part_in}
 use Rattle.sieve_vm.specs.Charge.{cost_of_names, cost_of_matching, cost_of_comparing, cost_with_part, octets_on_top, octets_taken, charge_of}
-use Rattle.sieve_vm.specs.Machine.{Effect, on, jumps, halts, fails, push, branch, with_truth, with_texts, with_lists, with_number, with_string, join, test_names, tested, test_values, test_sources, with_part, set_content, with_text, store, store_part, open_loop, next_part, next, close, is_sound_jump, compares, effect, turn, turn_of, turn_at, step}
-use Rattle.sieve_vm.specs.Standing.{held_of, found_in, once, StandsFor, IsIn, IsRunning, GoesFrom, HasHad, StepsOn, IsOver}
+use Rattle.sieve_vm.specs.Machine.{Effect, on, jumps, halts, fails, push, branch, with_truth, with_texts, with_lists, with_number, with_string, with_meant, join, test_names, tested, test_values, test_sources, test_body, found_in, with_part, set_content, with_text, store, store_part, open_loop, next_part, next, close, is_sound_jump, compares, effect, turn, turn_of, turn_at, step}
+use Rattle.sieve_vm.specs.Standing.{held_of, once, StandsFor, IsIn, IsRunning, GoesFrom, HasHad, StepsOn, IsOver}
 use Rattle.mail_matching.specs.FirstMatch.{first_match}
 use Rattle.std.specs.List.{concat}
 use Rattle.octets.specs.Limits.{max_string, max_value}
@@ -282,15 +285,19 @@ module _ (code : Code) (mail : Mail) (is : IsAccepted code) (known : IsMail mail
     pub names_some : IsProgram code → operation_of i.op ≡ Some Exists → HasNames
     names_some fits e = let n = names_top e in (mail, (s, (n.0, (at.stands, n.1, texts_are i.b s.stack n.0 (few fits) (short fits) n.1))))
 
-    pub had_exists : operation_of i.op ≡ Some Exists → (done : Done) (m' : Machine)
+    pub scope_some : operation_of i.op ≡ Some Exists → IsSome (scope_numbered i.a)
+    scope_some e = rw (exists_known code is s.place i here_is e).1.0 refl
+
+    pub had_exists : operation_of i.op ≡ Some Exists → (scope : Scope) → scope_numbered i.a ≡ Some scope → (done : Done) (m' : Machine)
         → ((t : State) (top : OnTop) → StandsFor mail t m → texts_on_top i.b t.stack ≡ Some top
-        → (done ≡ charged_at (cost_of_names i.a (current_part t.frames) mail top)) × StandsFor mail (record t { stack = truth (exists_in (scope_numbered i.a) (current_part t.frames) top.texts mail) ∷ top.below }) m')
+        → (done ≡ charged_at (cost_of_names scope (current_part t.frames) mail top)) × StandsFor mail (record t { stack = truth (exists_in (scope_of scope) (current_part t.frames) top.texts mail) ∷ top.below }) m')
         → HasHad mail (effect code mail Exists i s) (charge_of code mail Exists i s) done m'
-    had_exists e done m' tests =
+    had_exists e scope says done m' tests =
         let n = names_top e in
         let tested_now = tests s n.0 at.stands n.1 in
-        let fits : Leads code mail s (test_names mail i.a n.0.texts (record s { stack = n.0.below })) = subst (λ (o : Option OnTop). Leads code mail s (with_texts (test_names mail i.a) s o)) n.1 (fine Exists e) in
-        rw (n.1, pushed code mail s (truth (exists_in (scope_numbered i.a) (current_part s.frames) n.0.texts mail)) (record s { stack = n.0.below }) fits, tested_now.0) (tested_now.1, refl)
+        let meant : Leads code mail s (with_texts (test_names mail scope) s (texts_on_top i.b s.stack)) = subst (λ (o : Option Scope). Leads code mail s (with_meant (λ x. with_texts (test_names mail x) s (texts_on_top i.b s.stack)) o)) says (fine Exists e) in
+        let fits : Leads code mail s (test_names mail scope n.0.texts (record s { stack = n.0.below })) = subst (λ (o : Option OnTop). Leads code mail s (with_texts (test_names mail scope) s o)) n.1 meant in
+        rw (says, n.1, pushed code mail s (truth (exists_in (scope_of scope) (current_part s.frames) n.0.texts mail)) (record s { stack = n.0.below }) fits, tested_now.0) (tested_now.1, refl)
 
     -- names, parameters and keys are on top of a state that the machine stands for
     abbrev HasLists : Type 0
@@ -310,15 +317,19 @@ module _ (code : Code) (mail : Mail) (is : IsAccepted code) (known : IsMail mail
     had_tested t None cost done m' fits e stands = rw (pushed code mail s (truth false) t fits, e) (stands, refl)
     had_tested t (Some captures) cost done m' fits e stands = rw (pushed code mail s (truth true) (record t { captures = captures }) fits, e) (stands, refl)
 
-    pub had_header : operation_of i.op ≡ Some Header → (done : Done) (m' : Machine)
+    pub field_test_some : operation_of i.op ≡ Some Header → IsSome (field_test_numbered i.a)
+    field_test_some e = let fields = header_known code is s.place i here_is e in rw fields.says refl
+
+    pub had_header : operation_of i.op ≡ Some Header → (test : FieldTest) → field_test_numbered i.a ≡ Some test → (done : Done) (m' : Machine)
         → ((t : State) (top : Lists) → StandsFor mail t m → lists_on_top i.b (params_in i.c) (keys_in i.c) t.stack ≡ Some top
-        → (done ≡ charged_at (cost_of_matching i.a (current_part t.frames) mail top)) × StandsFor mail (record t { stack = truth (is_some (found_in mail i.a top t)) ∷ top.below; captures = unwrap_or (found_in mail i.a top t) t.captures }) m')
+        → (done ≡ charged_at (cost_of_matching test (current_part t.frames) mail top)) × StandsFor mail (record t { stack = truth (is_some (found_in mail test top t)) ∷ top.below; captures = unwrap_or (found_in mail test top t) t.captures }) m')
         → HasHad mail (effect code mail Header i s) (charge_of code mail Header i s) done m'
-    had_header e done m' tests =
+    had_header e test says done m' tests =
         let l = lists_top e in
         let tested_now = tests s l.0 at.stands l.1 in
-        let fits : Leads code mail s (tested (record s { stack = l.0.below }) (found_in mail i.a l.0 s)) = subst (λ (o : Option Lists). Leads code mail s (with_lists (test_values mail i.a) s o)) l.1 (fine Header e) in
-        rw l.1 (had_tested (record s { stack = l.0.below }) (found_in mail i.a l.0 s) (cost_of_matching i.a (current_part s.frames) mail l.0) done m' fits tested_now.0 tested_now.1)
+        let meant : Leads code mail s (with_lists (test_values mail test) s (lists_on_top i.b (params_in i.c) (keys_in i.c) s.stack)) = subst (λ (o : Option FieldTest). Leads code mail s (with_meant (λ x. with_lists (test_values mail x) s (lists_on_top i.b (params_in i.c) (keys_in i.c) s.stack)) o)) says (fine Header e) in
+        let fits : Leads code mail s (tested (record s { stack = l.0.below }) (found_in mail test l.0 s)) = subst (λ (o : Option Lists). Leads code mail s (with_lists (test_values mail test) s o)) l.1 meant in
+        rw (says, l.1) (had_tested (record s { stack = l.0.below }) (found_in mail test l.0 s) (cost_of_matching test (current_part s.frames) mail l.0) done m' fits tested_now.0 tested_now.1)
 
     -- sources and keys are on top of a state that the machine stands for
     sources_top : operation_of i.op ≡ Some String → (top : Lists) × (lists_on_top i.b 0 i.c s.stack ≡ Some top)
@@ -331,18 +342,22 @@ module _ (code : Code) (mail : Mail) (is : IsAccepted code) (known : IsMail mail
         (mail, (s, (l.0, (at.stands, l.1, are.names, are.keys))))
 
     -- what a test of sources finds
-    abbrev matched_by : Lists → State → Option (List (List ℕ))
-    matched_by top t = first_match (match_numbered i.a) top.names top.keys t.captures
+    abbrev matched_by : Match → Lists → State → Option (List (List ℕ))
+    matched_by how top t = first_match how top.names top.keys t.captures
 
-    pub had_string : operation_of i.op ≡ Some String → (done : Done) (m' : Machine)
+    pub sources_match_some : operation_of i.op ≡ Some String → IsSome (match_numbered i.a)
+    sources_match_some e = rw (meant_by (match_numbered i.a) (sources_known code is s.place i here_is e)).1 refl
+
+    pub had_string : operation_of i.op ≡ Some String → (how : Match) → match_numbered i.a ≡ Some how → (done : Done) (m' : Machine)
         → ((t : State) (top : Lists) → StandsFor mail t m → lists_on_top i.b 0 i.c t.stack ≡ Some top
-        → (done ≡ charged_at (cost_of_comparing top)) × StandsFor mail (record t { stack = truth (is_some (matched_by top t)) ∷ top.below; captures = unwrap_or (matched_by top t) t.captures }) m')
+        → (done ≡ charged_at (cost_of_comparing top)) × StandsFor mail (record t { stack = truth (is_some (matched_by how top t)) ∷ top.below; captures = unwrap_or (matched_by how top t) t.captures }) m')
         → HasHad mail (effect code mail String i s) (charge_of code mail String i s) done m'
-    had_string e done m' tests =
+    had_string e how says done m' tests =
         let l = sources_top e in
         let tested_now = tests s l.0 at.stands l.1 in
-        let fits : Leads code mail s (tested (record s { stack = l.0.below }) (matched_by l.0 s)) = subst (λ (o : Option Lists). Leads code mail s (with_lists (test_sources i.a) s o)) l.1 (fine String e) in
-        rw l.1 (had_tested (record s { stack = l.0.below }) (matched_by l.0 s) (cost_of_comparing l.0) done m' fits tested_now.0 tested_now.1)
+        let meant : Leads code mail s (with_lists (test_sources how) s (lists_on_top i.b 0 i.c s.stack)) = subst (λ (o : Option Match). Leads code mail s (with_meant (λ x. with_lists (test_sources x) s (lists_on_top i.b 0 i.c s.stack)) o)) says (fine String e) in
+        let fits : Leads code mail s (tested (record s { stack = l.0.below }) (matched_by how l.0 s)) = subst (λ (o : Option Lists). Leads code mail s (with_lists (test_sources how) s o)) l.1 meant in
+        rw (says, l.1) (had_tested (record s { stack = l.0.below }) (matched_by how l.0 s) (cost_of_comparing l.0) done m' fits tested_now.0 tested_now.1)
 
     -- ---- the operations on the current part
 
@@ -424,12 +439,18 @@ module _ (code : Code) (mail : Mail) (is : IsAccepted code) (known : IsMail mail
         let fits : Leads code mail s (push (truth (compares i number (length p.part.content))) s) = subst (Leads code mail s) same (fine PartSize e) in
         rw (same, pushed code mail s (truth (compares i number (length p.part.content))) s fits, now.0) (now.1, refl)
 
-    pub had_part_body : (e : operation_of i.op ≡ Some PartBody) (done : Done) (m' : Machine)
+    pub body_match_some : operation_of i.op ≡ Some PartBody → IsSome (match_numbered i.a)
+    body_match_some e = rw (meant_by (match_numbered i.a) (part_body_known code is s.place i here_is e).0).1 refl
+
+    pub had_part_body : (e : operation_of i.op ≡ Some PartBody) (how : Match) → match_numbered i.a ≡ Some how → (done : Done) (m' : Machine)
         → ((t : State) (top : OnTop) (part : Part) → StandsFor mail t m → texts_on_top i.c t.stack ≡ Some top → part_in m.loops ≡ Some part
         → (done ≡ charged_at (body_cost part top.texts))
-        × StandsFor mail (record t { stack = truth (is_some (body_match (match_numbered i.a) part top.texts t.captures)) ∷ top.below; captures = unwrap_or (body_match (match_numbered i.a) part top.texts t.captures) t.captures }) m')
+        × StandsFor mail (record t { stack = truth (is_some (body_match how part top.texts t.captures)) ∷ top.below; captures = unwrap_or (body_match how part top.texts t.captures) t.captures }) m')
         → HasHad mail (effect code mail PartBody i s) (charge_of code mail PartBody i s) done m'
-    had_part_body e done m' tests = had_keys PartBody e refl (λ es. refl) (match_numbered i.a) (λ part. part.content) body_cost refl refl done m' tests
+    had_part_body e how says done m' tests =
+        had_keys PartBody e refl (λ es. refl) how (λ part. part.content) body_cost
+        (ap (with_meant (λ x. with_part (λ number part t. with_texts (test_body x part) t (texts_on_top i.c t.stack)) mail s s.frames)) says)
+        refl done m' tests
 
     pub had_part_digest : (e : operation_of i.op ≡ Some PartDigest) (done : Done) (m' : Machine)
         → ((t : State) (top : OnTop) (part : Part) → StandsFor mail t m → texts_on_top i.c t.stack ≡ Some top → part_in m.loops ≡ Some part

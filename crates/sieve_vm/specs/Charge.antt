@@ -5,24 +5,25 @@ use Rattle.bytecode_format.specs.declared.instruction.Instruction.{Instruction}
 use Rattle.bytecode_format.specs.declared.operation.Operation.{Operation}
 use Rattle.bytecode_format.specs.declared.operation.Operation.TheVariants.{Halt, Literal, Variable, Capture, Join, Set, Bool as BoolOp, Not, Jump, JumpIfTrue, JumpIfFalse, Header, Exists, String, Size, PartSize, PartBody, PartDigest, Keep, Discard, File, Store, Each, Next, Break, Take}
 use Rattle.bytecode_format.specs.Code.{Code}
-use Rattle.bytecode_verifier.specs.Rows.{keys_in, params_in, scope_in, selector_in}
+use Rattle.bytecode_format.specs.declared.selection.Scope.{Scope}
+use Rattle.bytecode_format.specs.declared.selection.FieldTest.{FieldTest}
+use Rattle.bytecode_format.specs.Selection.{scope_numbered, field_test_numbered, keys_in, params_in}
 use Rattle.mime_decode.specs.Mail.{Mail, Part}
 use Rattle.mail_matching.specs.Costs.{values_cost}
 use Rattle.mail_matching.specs.HeaderTests.{exists_cost, header_cost}
 use Rattle.mail_matching.specs.PartTests.{body_cost, digest_cost}
-use Rattle.sieve_vm.specs.MatchNumbers.{scope_numbered, selector_numbered}
+use Rattle.mail_matching.specs.Selection.{scope_of, selector_of}
 use Rattle.sieve_vm.specs.State.{State, current_part}
 use Rattle.sieve_vm.specs.Stack.{OnTop, Lists, texts_on_top, lists_on_top, length_on_top}
 
--- looking for the fields of these names in the scope that a says, as it is seen from the current part
-abbrev pub cost_of_names : ℕ → Option ℕ → Mail → OnTop → ℕ
-cost_of_names a current mail names = exists_cost (scope_numbered a) current names.texts mail
+-- looking for the fields of these names in a scope, as it is seen from the current part
+abbrev pub cost_of_names : Scope → Option ℕ → Mail → OnTop → ℕ
+cost_of_names scope current mail names = exists_cost (scope_of scope) current names.texts mail
 
 -- the same, and comparing each value that is selected with each key
-abbrev pub cost_of_matching : ℕ → Option ℕ → Mail → Lists → ℕ
-cost_of_matching a current mail lists =
-    header_cost (scope_numbered (scope_in a)) current
-    (selector_numbered (selector_in a) lists.params) lists.names lists.keys mail
+abbrev pub cost_of_matching : FieldTest → Option ℕ → Mail → Lists → ℕ
+cost_of_matching test current mail lists =
+    header_cost (scope_of test.scope) current (selector_of test.selector lists.params) lists.names lists.keys mail
 
 -- comparing each source with each key
 abbrev pub cost_of_comparing : Lists → ℕ
@@ -57,10 +58,13 @@ charge_of code mail Not i state = 1
 charge_of code mail Jump i state = 1
 charge_of code mail JumpIfTrue i state = 1
 charge_of code mail JumpIfFalse i state = 1
-charge_of code mail Header i state = 1 + option_map_or (cost_of_matching i.a (current_part state.frames) mail)
-    (lists_on_top i.b (params_in i.c) (keys_in i.c) state.stack) 0
-charge_of code mail Exists i state = 1 + option_map_or (cost_of_names i.a (current_part state.frames) mail)
-    (texts_on_top i.b state.stack) 0
+charge_of code mail Header i state = 1 + option_map_or
+    (λ test. option_map_or (cost_of_matching test (current_part state.frames) mail)
+    (lists_on_top i.b (params_in i.c) (keys_in i.c) state.stack) 0)
+    (field_test_numbered i.a) 0
+charge_of code mail Exists i state = 1 + option_map_or
+    (λ scope. option_map_or (cost_of_names scope (current_part state.frames) mail) (texts_on_top i.b state.stack) 0)
+    (scope_numbered i.a) 0
 charge_of code mail String i state = 1 + option_map_or cost_of_comparing (lists_on_top i.b 0 i.c state.stack) 0
 charge_of code mail Size i state = 1
 charge_of code mail PartSize i state = 1

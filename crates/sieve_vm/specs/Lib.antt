@@ -1,6 +1,5 @@
 pub mod State
 pub mod Stack
-pub mod MatchNumbers
 pub mod Machine
 pub mod Charge
 pub mod Runs

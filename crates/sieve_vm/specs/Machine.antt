@@ -11,18 +11,22 @@ use Rattle.bytecode_format.specs.Operations.{operation_of}
 use Rattle.bytecode_format.specs.Code.{Code}
 use Rattle.bytecode_format.specs.declared.modifiers.Modifiers.{Modifiers}
 use Rattle.bytecode_format.specs.Modifiers.{modified, modifiers_numbered}
-use Rattle.bytecode_verifier.specs.Rows.{is_well_formed, keys_in, params_in, match_in, scope_in, selector_in}
+use Rattle.bytecode_format.specs.declared.selection.Scope.{Scope}
+use Rattle.bytecode_format.specs.declared.selection.FieldTest.{FieldTest}
+use Rattle.bytecode_format.specs.Selection.{match_numbered, scope_numbered, field_test_numbered, keys_in, params_in}
+use Rattle.bytecode_verifier.specs.Rows.{is_well_formed}
 use Rattle.bytecode_verifier.specs.Rules.{row_in}
 use Rattle.bytecode_verifier.specs.Places.{holds_at}
 use Rattle.bytecode_verifier.specs.Loops.{opens, closes, same_loops}
+use Rattle.glob_match.specs.declared.match_type.Match.{Match}
 use Rattle.mime_decode.specs.Mail.{Mail, Part, size_of}
 use Rattle.mime_decode.specs.Scope.{visited}
 use Rattle.mail_matching.specs.FirstMatch.{first_match}
 use Rattle.mail_matching.specs.HeaderTests.{exists_in, header_match}
 use Rattle.mail_matching.specs.PartTests.{body_match, digest_match}
+use Rattle.mail_matching.specs.Selection.{scope_of, selector_of}
 use Rattle.sieve_vm.specs.State.{Value, truth, text, Frame, State, current_part, Turn, goes, ends, traps}
 use Rattle.sieve_vm.specs.Stack.{OnTop, Lists, texts_on_top, lists_on_top}
-use Rattle.sieve_vm.specs.MatchNumbers.{match_numbered, scope_numbered, selector_numbered}
 use Rattle.sieve_vm.specs.Charge.{charge_of}
 
 -- what an operation does: the state that it leaves, still at its own place and without its charge,
@@ -108,30 +112,38 @@ store number folder state = on (record state { actions = state.actions ++ action
 abbrev pub store_part : ℕ → Part → State → Effect
 store_part number part state = with_text (store number) state state.stack
 
+-- with what a number stands for
+abbrev pub with_meant : {A : Type 0} → (A → Effect) → Option A → Effect
+with_meant go None = fails
+with_meant go (Some meant) = go meant
+
 -- whether the parts in scope have a field of each name
-abbrev pub test_names : Mail → ℕ → List (List ℕ) → State → Effect
-test_names mail a names state = push (truth (exists_in (scope_numbered a) (current_part state.frames) names mail)) state
+abbrev pub test_names : Mail → Scope → List (List ℕ) → State → Effect
+test_names mail scope names state = push
+    (truth (exists_in (scope_of scope) (current_part state.frames) names mail)) state
 
 -- whether a test has matched, with the captures after it; one that hasn't leaves them
 abbrev pub tested : State → Option (List (List ℕ)) → Effect
 tested state None = push (truth false) state
 tested state (Some captures) = push (truth true) (record state { captures = captures })
 
+-- what a test of fields finds: the captures after the first value that is selected and matches a key
+abbrev pub found_in : Mail → FieldTest → Lists → State → Option (List (List ℕ))
+found_in mail test lists state =
+    header_match test.how (scope_of test.scope) (current_part state.frames)
+    (selector_of test.selector lists.params) lists.names lists.keys mail state.captures
+
 -- whether a value that is selected matches a key
-abbrev pub test_values : Mail → ℕ → Lists → State → Effect
-test_values mail a lists state =
-    tested state
-    (header_match (match_numbered (match_in a)) (scope_numbered (scope_in a)) (current_part state.frames)
-    (selector_numbered (selector_in a) lists.params) lists.names lists.keys mail state.captures)
+abbrev pub test_values : Mail → FieldTest → Lists → State → Effect
+test_values mail test lists state = tested state (found_in mail test lists state)
 
 -- whether a source matches a key
-abbrev pub test_sources : ℕ → Lists → State → Effect
-test_sources number lists state = tested state
-    (first_match (match_numbered number) lists.names lists.keys state.captures)
+abbrev pub test_sources : Match → Lists → State → Effect
+test_sources how lists state = tested state (first_match how lists.names lists.keys state.captures)
 
 -- whether the current part's content matches a key
-abbrev pub test_body : ℕ → Part → List (List ℕ) → State → Effect
-test_body number part keys state = tested state (body_match (match_numbered number) part keys state.captures)
+abbrev pub test_body : Match → Part → List (List ℕ) → State → Effect
+test_body how part keys state = tested state (body_match how part keys state.captures)
 
 -- whether its digest equals a key
 abbrev pub test_digest : Part → List (List ℕ) → State → Effect
@@ -189,15 +201,20 @@ effect code mail Not i state = with_truth (λ b s. on (record s { stack = truth 
 effect code mail Jump i state = if is_sound_jump code state i then jumps i.c state else fails
 effect code mail JumpIfTrue i state = if is_sound_jump code state i then with_truth (branch i.c true) state state.stack else fails
 effect code mail JumpIfFalse i state = if is_sound_jump code state i then with_truth (branch i.c false) state state.stack else fails
-effect code mail Header i state = with_lists (test_values mail i.a) state
-    (lists_on_top i.b (params_in i.c) (keys_in i.c) state.stack)
-effect code mail Exists i state = with_texts (test_names mail i.a) state (texts_on_top i.b state.stack)
-effect code mail String i state = with_lists (test_sources i.a) state (lists_on_top i.b 0 i.c state.stack)
+effect code mail Header i state = with_meant
+    (λ test. with_lists (test_values mail test) state (lists_on_top i.b (params_in i.c) (keys_in i.c) state.stack))
+    (field_test_numbered i.a)
+effect code mail Exists i state = with_meant
+    (λ scope. with_texts (test_names mail scope) state (texts_on_top i.b state.stack)) (scope_numbered i.a)
+effect code mail String i state = with_meant
+    (λ how. with_lists (test_sources how) state (lists_on_top i.b 0 i.c state.stack)) (match_numbered i.a)
 effect code mail Size i state = with_number i (size_of mail) state (slice_get code.numbers i.c)
 effect code mail PartSize i state = with_part
     (λ number part s. with_number i (length part.content) s (slice_get code.numbers i.c)) mail state state.frames
-effect code mail PartBody i state = with_part
-    (λ number part s. with_texts (test_body i.a part) s (texts_on_top i.c s.stack)) mail state state.frames
+effect code mail PartBody i state = with_meant
+    (λ how. with_part
+    (λ number part s. with_texts (test_body how part) s (texts_on_top i.c s.stack)) mail state state.frames)
+    (match_numbered i.a)
 effect code mail PartDigest i state = with_part
     (λ number part s. with_texts (test_digest part) s (texts_on_top i.c s.stack)) mail state state.frames
 effect code mail Keep i state = on (record state { actions = state.actions ++ action.Keep ∷ []; implicit_keep = false })

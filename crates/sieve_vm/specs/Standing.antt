@@ -1,5 +1,5 @@
 -- How the machine's fields stand for a state of a run.
-use Rattle.std.specs.Prelude.{◌≡◌, ◌<◌, ◌+◌, ℕ, true, Option, List, [], map, reverse}
+use Rattle.std.specs.Prelude.{◌≡◌, ◌<◌, ◌+◌, ℕ, true, List, [], map, reverse}
 use Rattle.bytecode_format.specs.Actions.{first_occurrences}
 use Rattle.bytecode_format.specs.Code.{Code}
 use Rattle.mail_matching.specs.FirstMatch.{no_captures}
@@ -13,11 +13,7 @@ use Rattle.sieve_vm.specs.declared.machine.Flow.TheVariants.{On, To, Ends}
 use Rattle.sieve_vm.specs.declared.machine.Machine.{Machine}
 use Rattle.sieve_vm.specs.declared.workspace.Pushed.{Pushed}
 use Rattle.sieve_vm.specs.declared.workspace.Workspace.{Workspace}
-use Rattle.bytecode_verifier.specs.Rows.{match_in, scope_in, selector_in}
-use Rattle.mail_matching.specs.HeaderTests.{header_match}
-use Rattle.sieve_vm.specs.MatchNumbers.{match_numbered, scope_numbered, selector_numbered}
-use Rattle.sieve_vm.specs.Stack.{Lists}
-use Rattle.sieve_vm.specs.State.{Value, truth, text, State, current_part, start}
+use Rattle.sieve_vm.specs.State.{Value, truth, text, State, start}
 use Rattle.sieve_vm.specs.Machine.{Effect, on, jumps, halts}
 use Rattle.sieve_vm.specs.Runs.{Run, RunEnds}
 
@@ -100,12 +96,6 @@ GoesFrom mail _ _ machine = ⊥
 -- the same, and it answers what that is charged beyond one
 abbrev pub HasHad : Mail → Effect → ℕ → Done → Machine → Type 0
 HasHad mail effect charge done machine = GoesFrom mail effect done.flow machine × (1 + done.cost ≡ charge)
-
--- what a test of fields finds
-abbrev pub found_in : Mail → ℕ → Lists → State → Option (List (List ℕ))
-found_in mail a lists state =
-    header_match (match_numbered (match_in a)) (scope_numbered (scope_in a)) (current_part state.frames)
-    (selector_numbered (selector_in a) lists.params) lists.names lists.keys mail state.captures
 
 -- the machine goes from one state of the run to a later one
 pub record StepsOn (code : Code) (mail : Mail) (before after : Machine) : Type 0 where

@@ -4,6 +4,7 @@ ghost use Rattle.sieve_vm.specs.Standing.{once};
 
 use crate::entry::Entry;
 use crate::loops::Loops;
+use crate::numbers::{field_test_in, match_in, scope_in};
 use crate::shared_text::SharedText;
 use crate::testing::compares;
 use crate::workspace::Workspace;
@@ -149,9 +150,11 @@ impl<'p, 's, 'm> Machine<'p, 's, 'm> {
             Operation::Jump => Ok(once(Flow::To(instruction.c as usize))),
             Operation::JumpIfTrue => Ok(self.branch(instruction.c, true)),
             Operation::JumpIfFalse => Ok(self.branch(instruction.c, false)),
-            Operation::Header => self.header(alloc, message, instruction),
-            Operation::Exists => self.exists(message, instruction),
-            Operation::String => self.string(alloc, instruction),
+            Operation::Header => {
+                self.header(alloc, message, instruction, field_test_in(instruction))
+            }
+            Operation::Exists => self.exists(message, instruction, scope_in(instruction)),
+            Operation::String => self.string(alloc, instruction, match_in(instruction)),
             Operation::Size => {
                 let number = program.numbers()[instruction.c as usize];
                 self.push(compares(instruction, number, message.size() as u64))
@@ -160,7 +163,7 @@ impl<'p, 's, 'm> Machine<'p, 's, 'm> {
                 let number = program.numbers()[instruction.c as usize];
                 self.part_size(alloc, instruction, number)
             }
-            Operation::PartBody => self.part_body(alloc, instruction),
+            Operation::PartBody => self.part_body(alloc, instruction, match_in(instruction)),
             Operation::PartDigest => self.part_digest(alloc, instruction.c as usize),
             Operation::Keep => self.keep(),
             Operation::Discard => Ok(self.discard()),

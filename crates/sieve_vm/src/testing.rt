@@ -5,8 +5,9 @@ ghost use Rattle.sieve_vm.specs.Standing.{once};
 
 use crate::entry::Entry;
 use crate::machine::{Done, Flow, Machine, once};
-use crate::numbers::{header_counts, header_test, match_numbered, scope_numbered, string_counts};
-use bytecode_format::Instruction;
+use crate::numbers::{header_counts, header_test, string_counts};
+use bytecode_format::{FieldTest, Instruction, Scope};
+use glob_match::Match;
 use mail_matching::{Answer, Reach, body, digest, exists, header, string};
 use mime_decode::Message;
 use std::alloc::{AllocError, Global};
@@ -19,21 +20,23 @@ impl<'p, 's, 'm> Machine<'p, 's, 'm> {
     ghost use Rattle.mime_decode.specs.Mail.{Mail, Part};
     ghost use Rattle.mail_matching.specs.HeaderTests.{exists_in};
     ghost use Rattle.mail_matching.specs.PartTests.{body_cost, body_match, digest_cost, digest_match};
-    ghost use Rattle.bytecode_verifier.specs.Rows.{keys_in, params_in};
-    ghost use Rattle.sieve_vm.specs.MatchNumbers.{match_numbered, scope_numbered};
+    ghost use Rattle.mail_matching.specs.Selection.{scope_of};
+    ghost use Rattle.bytecode_format.specs.Selection.{keys_in, params_in};
     ghost use Rattle.sieve_vm.specs.Visits.{holding, part_in};
     ghost use Rattle.mail_matching.specs.Outcomes.{after};
     ghost use Rattle.mail_matching.specs.Texts.{AreTexts};
     ghost use Rattle.sieve_vm.specs.State.{State, truth, current_part};
     ghost use Rattle.sieve_vm.specs.Stack.{OnTop, Lists, texts_on_top, lists_on_top};
     ghost use Rattle.sieve_vm.specs.Charge.{cost_of_names, cost_of_matching, cost_of_comparing};
-    ghost use Rattle.sieve_vm.specs.Standing.{found_in, StandsFor};
+    ghost use Rattle.sieve_vm.specs.Machine.{found_in};
+    ghost use Rattle.sieve_vm.specs.Standing.{StandsFor};
 
     /// Takes names, and pushes whether the parts in scope have a field of each.
     pub fn exists(
         &mut self,
         message: &Message<'m>,
         instruction: &Instruction,
+        scope: Scope,
     ) -> Result<Done, AllocError>
         requires current { IfSome (current_part self.old.loops.frames)
             (λ part. part < length message.now.parts) }
@@ -46,18 +49,17 @@ impl<'p, 's, 'm> Machine<'p, 's, 'm> {
             → texts_on_top instruction.now.b s.stack ≡ Some top
             → (done ≡ record {
               flow = Flow.On;
-              cost = cost_of_names instruction.now.a
-                  (current_part s.frames) message.now top;
+              cost = cost_of_names scope (current_part s.frames) message.now top;
             })
             × StandsFor message.now (record
             s {
-              stack = truth (exists_in (scope_numbered instruction.now.a)
+              stack = truth (exists_in (scope_of scope)
                   (current_part s.frames) top.texts message.now) ∷ top.below;
             }) self.new) }
     {
         let number = instruction.b as usize;
         let reach = Reach {
-            scope: scope_numbered(instruction.a),
+            scope,
             current: self.loops.current(),
         };
         let names = self.work.texts(number);
@@ -77,6 +79,7 @@ impl<'p, 's, 'm> Machine<'p, 's, 'm> {
         alloc: Global,
         message: &Message<'m>,
         instruction: &Instruction,
+        test: FieldTest,
     ) -> Result<Done, AllocError>
         requires current { IfSome (current_part self.old.loops.frames)
             (λ part. part < length message.now.parts) }
@@ -91,19 +94,17 @@ impl<'p, 's, 'm> Machine<'p, 's, 'm> {
             (keys_in instruction.now.c) s.stack ≡ Some top
             → (done ≡ record {
               flow = Flow.On;
-              cost = cost_of_matching instruction.now.a
-                  (current_part s.frames) message.now top;
+              cost = cost_of_matching test (current_part s.frames) message.now top;
             })
             × StandsFor message.now (record
             s {
-              stack = truth (is_some (found_in message.now instruction.now.a top s))
+              stack = truth (is_some (found_in message.now test top s))
                   ∷ top.below;
-              captures = unwrap_or
-                  (found_in message.now instruction.now.a top s) s.captures;
+              captures = unwrap_or (found_in message.now test top s) s.captures;
             }) self.new) }
     {
         let counts = header_counts(instruction);
-        let test = header_test(instruction.a, self.loops.current());
+        let test = header_test(test, self.loops.current());
         let lists = self.work.lists(counts);
         let answer = header(
             alloc,
@@ -118,7 +119,12 @@ impl<'p, 's, 'm> Machine<'p, 's, 'm> {
     }
 
     /// Takes sources and the keys above them, and pushes whether a source matches a key.
-    pub fn string(&mut self, alloc: Global, instruction: &Instruction) -> Result<Done, AllocError>
+    pub fn string(
+        &mut self,
+        alloc: Global,
+        instruction: &Instruction,
+        how: Match,
+    ) -> Result<Done, AllocError>
         requires { (mail : Mail) × ((s : State)
             × ((top : Lists) × (StandsFor mail s self.old
             × (lists_on_top instruction.now.b 0 instruction.now.c s.stack ≡ Some top)
@@ -129,21 +135,14 @@ impl<'p, 's, 'm> Machine<'p, 's, 'm> {
             → (done ≡ record { flow = Flow.On; cost = cost_of_comparing top })
             × StandsFor mail (record s {
               stack = truth
-                  (is_some (first_match (match_numbered instruction.now.a) top.names top.keys
-                  s.captures)) ∷ top.below;
-              captures = unwrap_or
-                  (first_match (match_numbered instruction.now.a) top.names top.keys
-                  s.captures) s.captures;
+                  (is_some (first_match how top.names top.keys s.captures)) ∷ top.below;
+              captures = unwrap_or (first_match how top.names top.keys s.captures)
+                  s.captures;
             }) self.new) }
     {
         let counts = string_counts(instruction);
         let lists = self.work.lists(counts);
-        let answer = string(
-            alloc,
-            &lists.names,
-            &lists.keys,
-            match_numbered(instruction.a),
-        )?;
+        let answer = string(alloc, &lists.names, &lists.keys, how)?;
         self.work.drop_lists(counts);
         self.settle(answer)
     }
@@ -173,6 +172,7 @@ impl<'p, 's, 'm> Machine<'p, 's, 'm> {
         &mut self,
         alloc: Global,
         instruction: &Instruction,
+        how: Match,
     ) -> Result<Done, AllocError>
         requires part { (part : Part)
             × ((part_in self.old.loops ≡ Some part) × (length part.content ≤ max_message)) }
@@ -187,10 +187,8 @@ impl<'p, 's, 'm> Machine<'p, 's, 'm> {
             → (done ≡ record { flow = Flow.On; cost = body_cost part top.texts })
             × StandsFor mail (record s {
               stack = truth
-                  (is_some (body_match (match_numbered instruction.now.a) part top.texts
-                  s.captures)) ∷ top.below;
-              captures = unwrap_or
-                  (body_match (match_numbered instruction.now.a) part top.texts s.captures)
+                  (is_some (body_match how part top.texts s.captures)) ∷ top.below;
+              captures = unwrap_or (body_match how part top.texts s.captures)
                   s.captures;
             }) self.new) }
         ensures held { OnOk result (self.new.loops ≡ holding self.old.loops) }
@@ -199,7 +197,7 @@ impl<'p, 's, 'm> Machine<'p, 's, 'm> {
         self.loops.fetch(alloc)?;
         let content = self.loops.content();
         let keys = self.work.texts(number);
-        let answer = body(alloc, content, &keys, match_numbered(instruction.a))?;
+        let answer = body(alloc, content, &keys, how)?;
         self.work.drop_texts(number);
         self.settle(answer)
     }

@@ -4,10 +4,9 @@ ghost use Rattle.mail_matching.specs.Texts.{AreTexts};
 
 use crate::numbers::{number_of, print_size};
 use crate::printed::Printed;
+use bytecode_format::{Scope, Selector};
 use glob_match::{Captures, Comparator, MAX_CAPTURES, Match, MatchType, contains, is, matches};
-use mail_matching::{
-    Answer, HeaderTest, Outcome, Reach, Scope, Selector, body, digest, exists, header,
-};
+use mail_matching::{Answer, HeaderTest, Outcome, Reach, body, digest, exists, header};
 use mime_decode::{MAX_MESSAGE, Message, digest_of};
 use octets::{MAX_STRING, Octets};
 use std::alloc::{AllocError, Global};
@@ -212,7 +211,7 @@ fn existence(
         return Ok(false);
     }
     let reach = Reach {
-        scope: Scope::Root,
+        scope: Scope::Message,
         current: None,
     };
     let (holds, cost) = exists(&message, reach, &names);
@@ -226,12 +225,12 @@ fn existence(
 fn reach_of(word: &[u8]) -> Option<Reach> {
     if word == b"root".as_slice() {
         return Some(Reach {
-            scope: Scope::Root,
+            scope: Scope::Message,
             current: None,
         });
     }
     Some(Reach {
-        scope: Scope::CurrentAndBelow,
+        scope: Scope::PartAndBelow,
         current: Some(number_of(word)?),
     })
 }

@@ -1,9 +1,9 @@
 // The typed forms of scripts.
 use crate::printed::Printed;
-use bytecode_format::{Case, Modifiers};
+use bytecode_format::{Case, Modifiers, Scope};
 use glob_match::{Comparator, Match, MatchType};
 use refusals::Refusal;
-use sieve_check::{Branch, Command, Order, Scope, Segment, Selection, Test};
+use sieve_check::{Branch, Command, Order, Segment, Selection, Test};
 use sieve_engine::check_script;
 use std::alloc::{AllocError, Global};
 

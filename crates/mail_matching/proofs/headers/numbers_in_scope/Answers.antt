@@ -16,8 +16,8 @@ overflow_add-result c =
     let at = at_part mail c.tree.ensures.mail (λ (p : Part). below ≡ p.below) current lt (λ d. rw c.tree.ensures.tree at (c.below.ensures d)) in
     omega (arith, below_within mail c.parts-parts.ensures.mail current below lt at, c.parts-parts.ensures.mail.few_parts)
 
-pub returns-in-CurrentAndBelow-clause-parts : goal.returns-in-CurrentAndBelow-clause-parts
-returns-in-CurrentAndBelow-clause-parts c =
+pub returns-in-PartAndBelow-clause-parts : goal.returns-in-PartAndBelow-clause-parts
+returns-in-PartAndBelow-clause-parts c =
     let mail = c.args.message.now in
     let current = c.unwrap_or-current.result in
     let below = c.below.result in
@@ -25,10 +25,10 @@ returns-in-CurrentAndBelow-clause-parts c =
     let at = at_part mail c.tree.ensures.mail (λ (p : Part). below ≡ p.below) current lt (λ d. rw c.tree.ensures.tree at (c.below.ensures d)) in
     let whole = first_below mail.parts current below lt at in
     let place : current ≡ current_or_root c.args.reach.current = c.unwrap_or-current.ensures ∙ current_is c.args.reach.current in
-    rw c.in-CurrentAndBelow.is (whole ∙ ap (λ n. first_and_below (drop n mail.parts)) place)
+    rw c.in-PartAndBelow.is (whole ∙ ap (λ n. first_and_below (drop n mail.parts)) place)
 
-pub returns-in-CurrentAndBelow-clause-within : goal.returns-in-CurrentAndBelow-clause-within
-returns-in-CurrentAndBelow-clause-within c =
+pub returns-in-PartAndBelow-clause-within : goal.returns-in-PartAndBelow-clause-within
+returns-in-PartAndBelow-clause-within c =
     let mail = c.args.message.now in
     let current = c.unwrap_or-current.result in
     let below = c.below.result in

@@ -1,9 +1,9 @@
 use Rattle.std.proofs.Common.{◌≡◌, ◌∙◌, ap, sym, subst, IfOk}
+use Rattle.mail_matching.specs.declared.selection.Reach.{Reach}
 use Rattle.sieve_check.specs.Typed.{header}
 use Rattle.sieve_check.specs.TypedView.{selected_form, templates_of, test_form}
 use Rattle.sieve_meaning.specs.Evaluation.{Gives}
 use Rattle.sieve_meaning.specs.Meaning.{test_does}
-use Rattle.mail_matching.specs.Selection.{scope_of as place_of, selector_of as code_selector_of}
 use Rattle.sieve_meaning.proofs.HeaderAgain.{header_again}
 use Rattle.sieve_meaning.proofs.Shapes.{form_header}
 use Rattle.sieve_meaning.proofs.MeaningLemmas.{all_on, any_on, tests_bounded}
@@ -41,5 +41,5 @@ is_true-returns-in-Header t c = λ e stands.
     let names_are = ap (λ ss. header how scope selected (templates_of ss) (templates_of c.in-Header.keys.items)) (sym c.deref-in-Header.ensures.value) in
     let keys_are = ap (λ ss. header how scope selected names (templates_of ss)) (sym c.deref-in-Header-2.ensures.value) in
     let same =
-    header_again mail part e how scope selected names keys (templates_of c.params.result.now) (place_of c.reach_of.result.scope) (λ given. code_selector_of c.selector_of.result given) c.reach_of.ensures.scope c.params.ensures (c.selector_of.ensures e) in
+    header_again mail part e how scope c.reach.result.scope selected names keys (templates_of c.params.result.now) c.selector.result (ap (λ (r : Reach). r.scope) c.reach.ensures) c.selector.ensures c.params.ensures in
     subst (λ v. IfOk c.matches.result (λ value. Gives v value c.matches.new.self)) (same ∙ sym (ap (λ f. test_does mail part f e) (form ∙ names_are ∙ keys_are))) (c.matches.ensures e stands)

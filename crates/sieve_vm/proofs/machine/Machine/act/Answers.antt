@@ -5,7 +5,7 @@ use Rattle.std.proofs.lemmas.Result.{IfOk-weaker}
 use Rattle.bytecode_format.specs.declared.operation.Operation.TheVariants.{JumpIfTrue, JumpIfFalse, PartSize, PartBody, PartDigest, Store, Take}
 use Rattle.sieve_vm.specs.Machine.{compares}
 use Rattle.sieve_vm.proofs.Reached.{take_needs_part}
-use Rattle.sieve_vm.proofs.Steps.{not_some, if_true_some, if_false_some, folder_some, names_some, lists_some, parts_some, sources_some, modifiers_some, value_some, had_variable, had_capture, had_join, had_set, had_string, had_bool, had_not, had_size, had_literal, had_branch, had_file, had_exists, had_header, had_part_size, had_part_body, had_part_digest, had_store, had_take, had_each, had_next, had_break, current_there, current_in_loops, part_some, part_small, keys_some, current_some, store_some, take_some, room_there, next_some, break_some, break_there}
+use Rattle.sieve_vm.proofs.Steps.{not_some, if_true_some, if_false_some, folder_some, names_some, lists_some, parts_some, sources_some, modifiers_some, field_test_some, scope_some, sources_match_some, body_match_some, value_some, had_variable, had_capture, had_join, had_set, had_string, had_bool, had_not, had_size, had_literal, had_branch, had_file, had_exists, had_header, had_part_size, had_part_body, had_part_digest, had_store, had_take, had_each, had_next, had_break, current_there, current_in_loops, part_some, part_small, keys_some, current_some, store_some, take_some, room_there, next_some, break_some, break_there}
 use Rattle.sieve_vm.proofs.machine.Machine.act.Goals as goal
 
 pub take-value-requires : goal.take-value-requires
@@ -94,15 +94,15 @@ returns-in-Store c =
 
 pub returns-in-Exists : goal.returns-in-Exists
 returns-in-Exists c =
-    rw c.in-Exists.is (IfOk-weaker c.exists.result _ _ (λ done h s at. had_exists c.args.program.now c.args.message.now c.requires.accepted c.requires.mail c.args.self.now s at c.args.instruction.now c.requires.here (c.requires.named ∙ ap (λ o. Some o) c.in-Exists.is) done c.exists.new.self h) c.exists.ensures)
+    rw c.in-Exists.is (IfOk-weaker c.exists.result _ _ (λ done h s at. had_exists c.args.program.now c.args.message.now c.requires.accepted c.requires.mail c.args.self.now s at c.args.instruction.now c.requires.here (c.requires.named ∙ ap (λ o. Some o) c.in-Exists.is) c.scope_in.result c.scope_in.ensures done c.exists.new.self h) c.exists.ensures)
 
 pub returns-in-Header : goal.returns-in-Header
 returns-in-Header c =
-    rw c.in-Header.is (IfOk-weaker c.header.result _ _ (λ done h s at. had_header c.args.program.now c.args.message.now c.requires.accepted c.requires.mail c.args.self.now s at c.args.instruction.now c.requires.here (c.requires.named ∙ ap (λ o. Some o) c.in-Header.is) done c.header.new.self h) c.header.ensures)
+    rw c.in-Header.is (IfOk-weaker c.header.result _ _ (λ done h s at. had_header c.args.program.now c.args.message.now c.requires.accepted c.requires.mail c.args.self.now s at c.args.instruction.now c.requires.here (c.requires.named ∙ ap (λ o. Some o) c.in-Header.is) c.field_test_in.result c.field_test_in.ensures done c.header.new.self h) c.header.ensures)
 
 pub returns-in-PartBody : goal.returns-in-PartBody
 returns-in-PartBody c =
-    rw c.in-PartBody.is (IfOk-weaker c.part_body.result _ _ (λ done h s at. had_part_body c.args.program.now c.args.message.now c.requires.accepted c.requires.mail c.args.self.now s at c.args.instruction.now c.requires.here (c.requires.named ∙ ap (λ o. Some o) c.in-PartBody.is) done c.part_body.new.self (h c.args.message.now)) c.part_body.ensures.done)
+    rw c.in-PartBody.is (IfOk-weaker c.part_body.result _ _ (λ done h s at. had_part_body c.args.program.now c.args.message.now c.requires.accepted c.requires.mail c.args.self.now s at c.args.instruction.now c.requires.here (c.requires.named ∙ ap (λ o. Some o) c.in-PartBody.is) c.match_in-in-PartBody.result c.match_in-in-PartBody.ensures done c.part_body.new.self (h c.args.message.now)) c.part_body.ensures.done)
 
 pub returns-in-PartDigest : goal.returns-in-PartDigest
 returns-in-PartDigest c =
@@ -126,7 +126,7 @@ returns-in-Set c =
 
 pub returns-in-String : goal.returns-in-String
 returns-in-String c =
-    rw c.in-String.is (IfOk-weaker c.string.result _ _ (λ done h s at. had_string c.args.program.now c.args.message.now c.requires.accepted c.requires.mail c.args.self.now s at c.args.instruction.now c.requires.here (c.requires.named ∙ ap (λ o. Some o) c.in-String.is) done c.string.new.self (h c.args.message.now)) c.string.ensures)
+    rw c.in-String.is (IfOk-weaker c.string.result _ _ (λ done h s at. had_string c.args.program.now c.args.message.now c.requires.accepted c.requires.mail c.args.self.now s at c.args.instruction.now c.requires.here (c.requires.named ∙ ap (λ o. Some o) c.in-String.is) c.match_in.result c.match_in.ensures done c.string.new.self (h c.args.message.now)) c.string.ensures)
 
 pub header-requires-clause-current : goal.header-requires-clause-current
 header-requires-clause-current c = current_there c.args.program.now c.args.message.now c.requires.accepted c.requires.mail c.args.self.now c.requires.running.0 c.requires.running.1 c.args.instruction.now c.requires.here
@@ -188,3 +188,19 @@ set_content-requires-clause-variable c = take_some c.args.program.now c.args.mes
 pub returns-in-Take : goal.returns-in-Take
 returns-in-Take c =
     rw c.in-Take.is (IfOk-weaker c.set_content.result _ _ (λ done h s at. had_take c.args.program.now c.args.message.now c.requires.accepted c.requires.mail c.args.self.now s at c.args.instruction.now c.requires.here (c.requires.named ∙ ap (λ o. Some o) c.in-Take.is) done c.set_content.new.self (h c.args.message.now)) c.set_content.ensures)
+
+pub field_test_in-requires : goal.field_test_in-requires
+field_test_in-requires c =
+    field_test_some c.args.program.now c.args.message.now c.requires.accepted c.requires.mail c.args.self.now c.requires.running.0 c.requires.running.1 c.args.instruction.now c.requires.here (c.requires.named ∙ ap (λ o. Some o) c.in-Header.is)
+
+pub scope_in-requires : goal.scope_in-requires
+scope_in-requires c =
+    scope_some c.args.program.now c.args.message.now c.requires.accepted c.requires.mail c.args.self.now c.requires.running.0 c.requires.running.1 c.args.instruction.now c.requires.here (c.requires.named ∙ ap (λ o. Some o) c.in-Exists.is)
+
+pub match_in-requires : goal.match_in-requires
+match_in-requires c =
+    sources_match_some c.args.program.now c.args.message.now c.requires.accepted c.requires.mail c.args.self.now c.requires.running.0 c.requires.running.1 c.args.instruction.now c.requires.here (c.requires.named ∙ ap (λ o. Some o) c.in-String.is)
+
+pub match_in-requires-in-PartBody : goal.match_in-requires-in-PartBody
+match_in-requires-in-PartBody c =
+    body_match_some c.args.program.now c.args.message.now c.requires.accepted c.requires.mail c.args.self.now c.requires.running.0 c.requires.running.1 c.args.instruction.now c.requires.here (c.requires.named ∙ ap (λ o. Some o) c.in-PartBody.is)

@@ -1,12 +1,13 @@
 use Rattle.std.proofs.Common.{◌≡◌, Some, ap, ◌∙◌}
 use Rattle.std.proofs.lemmas.Result.{IfOk-weaker}
-use Rattle.bytecode_verifier.specs.Rows.{keys_in, params_in, match_in, scope_in, selector_in}
+use Rattle.bytecode_format.specs.Selection.{keys_in, params_in}
 use Rattle.mail_matching.specs.HeaderTests.{header_match, header_cost}
 use Rattle.mail_matching.specs.Outcomes.{after}
 use Rattle.mail_matching.specs.Selection.{scope_of, selector_of}
 use Rattle.sieve_vm.specs.declared.workspace.Counts.{Counts}
-use Rattle.sieve_vm.specs.Standing.{found_in, held_of, texts_of}
-use Rattle.sieve_vm.specs.MatchNumbers.{match_numbered, scope_numbered, selector_numbered}
+use Rattle.sieve_vm.specs.Standing.{held_of, texts_of}
+use Rattle.mail_matching.specs.declared.selection.HeaderTest.{HeaderTest}
+use Rattle.sieve_vm.specs.Machine.{found_in}
 use Rattle.sieve_vm.specs.Stack.{lists_on_top}
 use Rattle.sieve_vm.specs.State.{current_part}
 use Rattle.sieve_vm.specs.Charge.{cost_of_matching}
@@ -23,29 +24,27 @@ returns c =
     let there : lists_on_top c.header_counts-counts.result.names c.header_counts-counts.result.params c.header_counts-counts.result.keys (held_of work).stack ≡ Some top =
     ap (λ (k : Counts). lists_on_top k.names k.params k.keys (held_of work).stack) c.header_counts-counts.ensures ∙ lists_there mail s c.args.self.now stands i.b (params_in i.c) (keys_in i.c) top e in
     let lists = c.lists-lists.result in
-    let test = c.header_test-test.result in
+    let test = c.args.test in
     let tested = c.header_test-test.ensures in
     let names = c.lists-lists.ensures.names top there in
     let params = c.lists-lists.ensures.params top there in
     let keys = c.lists-lists.ensures.keys top there in
     let answer = c.in_ok-answer.answer in
-    let current = tested.current ∙ c.current.ensures ∙ ap current_part stands.frames in
-    let selector : selector_of test.selector (texts_of lists.params) ≡ selector_numbered (selector_in i.a) top.params = tested.selector (texts_of lists.params) ∙ ap (selector_numbered (selector_in i.a)) params in
-    let right : after answer.outcome s.captures ≡ found_in mail i.a top s =
+    let current = c.current.ensures ∙ ap current_part stands.frames in
+    let right : after answer.outcome s.captures ≡ found_in mail test top s =
     c.in_ok-answer.ensures.outcome s.captures
-    ∙ ap (λ m. header_match m (scope_of test.reach.scope) test.reach.current (selector_of test.selector (texts_of lists.params)) (texts_of lists.names) (texts_of lists.keys) mail s.captures) tested.how
-    ∙ ap (λ x. header_match (match_numbered (match_in i.a)) x test.reach.current (selector_of test.selector (texts_of lists.params)) (texts_of lists.names) (texts_of lists.keys) mail s.captures) tested.scope
-    ∙ ap (λ x. header_match (match_numbered (match_in i.a)) (scope_numbered (scope_in i.a)) x (selector_of test.selector (texts_of lists.params)) (texts_of lists.names) (texts_of lists.keys) mail s.captures) current
-    ∙ ap (λ x. header_match (match_numbered (match_in i.a)) (scope_numbered (scope_in i.a)) (current_part s.frames) x (texts_of lists.names) (texts_of lists.keys) mail s.captures) selector
-    ∙ ap (λ ts. header_match (match_numbered (match_in i.a)) (scope_numbered (scope_in i.a)) (current_part s.frames) (selector_numbered (selector_in i.a) top.params) ts (texts_of lists.keys) mail s.captures) names
-    ∙ ap (λ ts. header_match (match_numbered (match_in i.a)) (scope_numbered (scope_in i.a)) (current_part s.frames) (selector_numbered (selector_in i.a) top.params) top.names ts mail s.captures) keys in
-    let spent : answer.cost ≡ cost_of_matching i.a (current_part s.frames) mail top =
+    ∙ ap (λ (h : HeaderTest). header_match h.how (scope_of h.reach.scope) h.reach.current (selector_of h.selector (texts_of lists.params)) (texts_of lists.names) (texts_of lists.keys) mail s.captures) tested
+    ∙ ap (λ x. header_match test.how (scope_of test.scope) x (selector_of test.selector (texts_of lists.params)) (texts_of lists.names) (texts_of lists.keys) mail s.captures) current
+    ∙ ap (λ ts. header_match test.how (scope_of test.scope) (current_part s.frames) (selector_of test.selector ts) (texts_of lists.names) (texts_of lists.keys) mail s.captures) params
+    ∙ ap (λ ts. header_match test.how (scope_of test.scope) (current_part s.frames) (selector_of test.selector top.params) ts (texts_of lists.keys) mail s.captures) names
+    ∙ ap (λ ts. header_match test.how (scope_of test.scope) (current_part s.frames) (selector_of test.selector top.params) top.names ts mail s.captures) keys in
+    let spent : answer.cost ≡ cost_of_matching test (current_part s.frames) mail top =
     c.in_ok-answer.ensures.cost
-    ∙ ap (λ x. header_cost x test.reach.current (selector_of test.selector (texts_of lists.params)) (texts_of lists.names) (texts_of lists.keys) mail) tested.scope
-    ∙ ap (λ x. header_cost (scope_numbered (scope_in i.a)) x (selector_of test.selector (texts_of lists.params)) (texts_of lists.names) (texts_of lists.keys) mail) current
-    ∙ ap (λ x. header_cost (scope_numbered (scope_in i.a)) (current_part s.frames) x (texts_of lists.names) (texts_of lists.keys) mail) selector
-    ∙ ap (λ ts. header_cost (scope_numbered (scope_in i.a)) (current_part s.frames) (selector_numbered (selector_in i.a) top.params) ts (texts_of lists.keys) mail) names
-    ∙ ap (λ ts. header_cost (scope_numbered (scope_in i.a)) (current_part s.frames) (selector_numbered (selector_in i.a) top.params) top.names ts mail) keys in
-    settled mail s c.args.self.now stands top.below c.drop_lists.new.self answer.outcome answer.cost (cost_of_matching i.a (current_part s.frames) mail top) (found_in mail i.a top s) done c.settle.new.self
+    ∙ ap (λ (h : HeaderTest). header_cost (scope_of h.reach.scope) h.reach.current (selector_of h.selector (texts_of lists.params)) (texts_of lists.names) (texts_of lists.keys) mail) tested
+    ∙ ap (λ x. header_cost (scope_of test.scope) x (selector_of test.selector (texts_of lists.params)) (texts_of lists.names) (texts_of lists.keys) mail) current
+    ∙ ap (λ ts. header_cost (scope_of test.scope) (current_part s.frames) (selector_of test.selector ts) (texts_of lists.names) (texts_of lists.keys) mail) params
+    ∙ ap (λ ts. header_cost (scope_of test.scope) (current_part s.frames) (selector_of test.selector top.params) ts (texts_of lists.keys) mail) names
+    ∙ ap (λ ts. header_cost (scope_of test.scope) (current_part s.frames) (selector_of test.selector top.params) top.names ts mail) keys in
+    settled mail s c.args.self.now stands top.below c.drop_lists.new.self answer.outcome answer.cost (cost_of_matching test (current_part s.frames) mail top) (found_in mail test top s) done c.settle.new.self
     (c.drop_lists.ensures top there) right spent h)
     c.settle.ensures.done

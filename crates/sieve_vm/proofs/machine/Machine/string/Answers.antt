@@ -6,7 +6,6 @@ use Rattle.mail_matching.specs.Outcomes.{after}
 use Rattle.sieve_vm.specs.declared.workspace.Counts.{Counts}
 use Rattle.sieve_vm.specs.Stack.{lists_on_top}
 use Rattle.sieve_vm.specs.Standing.{held_of, texts_of}
-use Rattle.sieve_vm.specs.MatchNumbers.{match_numbered}
 use Rattle.sieve_vm.specs.Charge.{cost_of_comparing}
 use Rattle.sieve_vm.proofs.Tests.{lists_there, settled}
 use Rattle.sieve_vm.proofs.machine.Machine.string.Goals as goal
@@ -22,12 +21,12 @@ returns c =
     let sources = c.lists-lists.ensures.names top there in
     let keys = c.lists-lists.ensures.keys top there in
     let answer = c.in_ok-answer.answer in
-    let how = c.match_numbered.ensures in
+    let how = c.args.how in
     let first : List (List ℕ) = texts_of c.lists-lists.result.names in
     let second : List (List ℕ) = texts_of c.lists-lists.result.keys in
-    let right : after answer.outcome s.captures ≡ first_match (match_numbered i.a) top.names top.keys s.captures =
-    c.in_ok-answer.ensures.outcome s.captures ∙ ap (λ m. first_match m first second s.captures) how ∙ ap (λ ts. first_match (match_numbered i.a) ts second s.captures) sources ∙ ap (λ ts. first_match (match_numbered i.a) top.names ts s.captures) keys in
+    let right : after answer.outcome s.captures ≡ first_match how top.names top.keys s.captures =
+    c.in_ok-answer.ensures.outcome s.captures ∙ ap (λ ts. first_match how ts second s.captures) sources ∙ ap (λ ts. first_match how top.names ts s.captures) keys in
     let spent : answer.cost ≡ cost_of_comparing top = c.in_ok-answer.ensures.cost ∙ ap (λ ts. values_cost ts second) sources ∙ ap (λ ts. values_cost top.names ts) keys in
-    settled mail s c.args.self.now stands top.below c.drop_lists.new.self answer.outcome answer.cost (cost_of_comparing top) (first_match (match_numbered i.a) top.names top.keys s.captures) done c.settle.new.self
+    settled mail s c.args.self.now stands top.below c.drop_lists.new.self answer.outcome answer.cost (cost_of_comparing top) (first_match how top.names top.keys s.captures) done c.settle.new.self
     (c.drop_lists.ensures top there) right spent h)
     c.settle.ensures.done
