@@ -113,6 +113,10 @@ HasCause Database command state = IsNamed command × IsSound command
 HasCause Write command state = IsNamed command × IsExport command
 HasCause refusal command state = IsNamed command × IsUnsound command refusal
 
+-- the same, of the state before a call and the one after it
+abbrev pub IsCause : Command → State → State → Refusal → Type 0
+IsCause command old new refusal = HasCause refusal command old
+
 -- why files that held the image aren't opened as a depot, where that is refused `Database`
 abbrev pub HasOpenCause : {D : Type 0} {g : Ghosts D} → Image → Result (Held (FileStore D g)) Refusal → Type 0
 HasOpenCause image (Ok depot) = ⊤

@@ -1,9 +1,7 @@
 // What a delivery files, and how.
-ghost use Rattle.std.specs.Prelude.{◌≡◌, ◌<◌, ◌⊎◌, [], ◌∷◌, All, IfErr, IfOk, IsTrue, OnErr, length, map, option_map};
+ghost use Rattle.std.specs.Prelude.{◌≡◌, ◌<◌, ◌⊎◌, [], ◌∷◌, All, IfErr, IfOk, IsTrue, length, map, option_map};
 ghost use Rattle.bytecode_format.specs.declared.action.Action.TheVariants.{Keep};
 ghost use Rattle.sieve_vm.specs.Stores.{NamesPart};
-ghost use Rattle.sqlite.specs.Held.{state};
-ghost use Rattle.sqlite.specs.State.{HasCleanDisk, Survives};
 ghost use Rattle.part_store.specs.Entries.{Entries};
 ghost use Rattle.part_store.specs.Standing.{Spares, Stands, draft_of, listed};
 ghost use Rattle.refusals.specs.declared.refusal.Refusal.TheVariants.{Memory, Database};
@@ -11,6 +9,7 @@ ghost use Rattle.depot_actions.specs.Causes.{IsSpoilt, IsStoreFault, LackRoom};
 ghost use Rattle.depot_actions.specs.DepotState.{AreActions};
 ghost use Rattle.depot_actions.specs.Drafts.{drafts_of};
 ghost use Rattle.depot_actions.specs.Filing.{Adds, IsUnfiled, MayFile, MayUnfile};
+ghost use Rattle.part_store.specs.Calls.{Always, IfDone, IfRefused, MayCommit, OnRefused, StaysShut};
 
 use crate::checking::check_stored;
 use crate::entries::new_entries;
@@ -76,24 +75,19 @@ pub(crate) fn file_all<S: Alter>(
     requires some { 0 < length actions.now }
     requires parts { All (NamesPart message.now) actions.now }
     requires octets { message.now.octets ≡ octets.now }
-    ensures added { HasCleanDisk (state S.Store store.new)
-        → IfOk result (λ rows. IsTrue (state S.Store store.old).is_open
-        × ((before : Entries) → Stands (state S.Store store.old).now before
-        → Adds user.now (drafts_of message.now actions.now) (map listed rows.items)
-        (state S.Store store.old) (state S.Store store.new) before)) }
-    ensures shut { HasCleanDisk (state S.Store store.new) → IsTrue (state S.Store store.new).is_open
-        → IsTrue (state S.Store store.old).is_open }
-    ensures spared { HasCleanDisk (state S.Store store.new)
-        → OnErr result (Spares (state S.Store store.old) (state S.Store store.new)) }
+    ensures added { IfDone S.Store store.old store.new result (λ rows old new. IsTrue old.is_open
+        × ((before : Entries) → Stands old.now before
+        → Adds user.now (drafts_of message.now actions.now)
+        (map listed rows.items) old new before)) }
+    ensures shut { Always S.Store store.old store.new StaysShut }
+    ensures spared { OnRefused S.Store store.old store.new result Spares }
     ensures which { IfErr result MayUnfile }
-    ensures refused { HasCleanDisk (state S.Store store.new)
-        → IfErr result (λ e. IsUnfiled e user.now (drafts_of message.now actions.now)
-        (state S.Store store.old)) }
-    ensures cause { HasCleanDisk (state S.Store store.new)
-        → IfErr result (IsStoreFault (LackRoom user.now (drafts_of message.now actions.now))
-        (state S.Store store.old) (state S.Store store.new)) }
-    ensures survives { Survives (state S.Store store.old) (state S.Store store.new)
-        (MayFile user.now (drafts_of message.now actions.now) (state S.Store store.old)) }
+    ensures refused { IfRefused S.Store store.old store.new result (λ old _ e. IsUnfiled e user.now
+        (drafts_of message.now actions.now) old) }
+    ensures cause { IfRefused S.Store store.old store.new result
+        (IsStoreFault (LackRoom user.now (drafts_of message.now actions.now))) }
+    ensures survives { MayCommit S.Store store.old store.new
+        (MayFile user.now (drafts_of message.now actions.now)) }
 {
     let kept = kept_parts(alloc, message, actions)?;
     let entries = new_entries(alloc, octets, &kept, actions)?;
@@ -108,24 +102,18 @@ fn add_all<S: Alter>(
     entries: &[NewEntry<'_>],
 ) -> Result<Vec<EntryRow>, Refusal>
     requires some { 0 < length entries.now }
-    ensures added { HasCleanDisk (state S.Store store.new)
-        → IfOk result (λ rows. IsTrue (state S.Store store.old).is_open
-        × ((before : Entries) → Stands (state S.Store store.old).now before
-        → Adds user.now (map draft_of entries.now) (map listed rows.items)
-        (state S.Store store.old) (state S.Store store.new) before)) }
-    ensures shut { HasCleanDisk (state S.Store store.new) → IsTrue (state S.Store store.new).is_open
-        → IsTrue (state S.Store store.old).is_open }
-    ensures spared { HasCleanDisk (state S.Store store.new)
-        → OnErr result (Spares (state S.Store store.old) (state S.Store store.new)) }
+    ensures added { IfDone S.Store store.old store.new result (λ rows old new. IsTrue old.is_open
+        × ((before : Entries) → Stands old.now before → Adds user.now (map draft_of entries.now)
+        (map listed rows.items) old new before)) }
+    ensures shut { Always S.Store store.old store.new StaysShut }
+    ensures spared { OnRefused S.Store store.old store.new result Spares }
     ensures which { IfErr result MayUnfile }
-    ensures refused { HasCleanDisk (state S.Store store.new)
-        → IfErr result (λ e. IsUnfiled e user.now (map draft_of entries.now)
-        (state S.Store store.old)) }
-    ensures cause { HasCleanDisk (state S.Store store.new)
-        → IfErr result (IsStoreFault (LackRoom user.now (map draft_of entries.now))
-        (state S.Store store.old) (state S.Store store.new)) }
-    ensures survives { Survives (state S.Store store.old) (state S.Store store.new)
-        (MayFile user.now (map draft_of entries.now) (state S.Store store.old)) }
+    ensures refused { IfRefused S.Store store.old store.new result (λ old _ e. IsUnfiled e user.now
+        (map draft_of entries.now) old) }
+    ensures cause { IfRefused S.Store store.old store.new result
+        (IsStoreFault (LackRoom user.now (map draft_of entries.now))) }
+    ensures survives { MayCommit S.Store store.old store.new
+        (MayFile user.now (map draft_of entries.now)) }
 {
     let mut rows = unnumbered_rows(alloc, entries)?;
     let first = store.add_entries(user, entries).map_err(refused)?;

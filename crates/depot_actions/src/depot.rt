@@ -1,7 +1,7 @@
 //! The depot and its calls.
-ghost use Rattle.std.specs.Prelude.{◌≡◌, ◌≢◌, ◌⊎◌, IsTrue, List, ℕ, map, option_map, IfOk, IfErr, OnOk, OnErr, true, false};
+ghost use Rattle.std.specs.Prelude.{◌≡◌, ◌≢◌, ◌⊎◌, IsTrue, List, ℕ, map, option_map, IfOk, IfErr, OnOk, true, false};
 ghost use Rattle.sqlite.specs.Held.{state};
-ghost use Rattle.sqlite.specs.State.{HasCleanDisk, Survives};
+ghost use Rattle.sqlite.specs.State.{HasCleanDisk};
 ghost use Rattle.sqlite.specs.Steps.{over_memory};
 ghost use Rattle.part_store.specs.Entries.{Entries, no_entries};
 ghost use Rattle.part_store.specs.Opening.{HoldsNoTables, HoldsStore, IsAt, IsReady, IsReadyFrom, TellsWhy};
@@ -9,12 +9,13 @@ ghost use Rattle.sqlite.specs.WalFiles.{image_at};
 ghost use Rattle.part_store.specs.Refusals.{AreNamed};
 ghost use Rattle.part_store.specs.Standing.{Spares, Stands, listed};
 ghost use Rattle.refusals.specs.declared.refusal.Refusal.TheVariants.{Memory, Database, Write};
-ghost use Rattle.depot_actions.specs.Causes.{HasCause, HasOpenCause, IsFault, IsStoreFault, IsUncounted, MayRefuse};
+ghost use Rattle.depot_actions.specs.Causes.{HasOpenCause, IsCause, IsFault, IsStoreFault, IsUncounted, MayRefuse};
 ghost use Rattle.depot_actions.specs.DepotState.{Deliver, Does, Done, Export, ListAll, Listed, MayLeave, Migrate, Migrated, Program, ProgramOf, Remove, SetCode, SetScript, Text};
 ghost use Rattle.depot_actions.specs.Overviews.{IsOverview};
 ghost use Rattle.sqlite.specs.Files.{file_state, IsOpened};
 ghost use Rattle.part_store.specs.Looking.{are_tables};
 ghost use Rattle.encodings.specs.Device.{HasBegun, HasBroken, HasTaken};
+ghost use Rattle.part_store.specs.Calls.{Always, CommitsNothing, IfDone, IfRefused, MayCommit, OnDone, OnRefused};
 
 use crate::checking::check_code;
 use crate::delivery::{actions_of, file_all};
@@ -79,20 +80,16 @@ impl<S: Alter> Depot<S> {
     /// `UserName`; then what the script is refused for; then `Database`, also where its code has no room. `Memory` where an allocation was
     /// refused.
     pub fn set_script(&mut self, alloc: Global, user: &str, script: &[u8]) -> Result<(), Refusal>
-        ensures done { HasCleanDisk (state S.Store self.new)
-            → OnOk result (Does (SetScript user.now script.now) Done (state S.Store self.old)
-            (state S.Store self.new)) }
-        ensures spared { HasCleanDisk (state S.Store self.new)
-            → OnErr result (Spares (state S.Store self.old) (state S.Store self.new)) }
+        ensures done { OnDone S.Store self.old self.new result
+            (Does (SetScript user.now script.now) Done) }
+        ensures spared { OnRefused S.Store self.old self.new result Spares }
         ensures which { IfErr result (MayRefuse (SetScript user.now script.now)) }
-        ensures refused { HasCleanDisk (state S.Store self.new)
-            → IfErr result (λ e. HasCause e (SetScript user.now script.now)
-            (state S.Store self.old)) }
-        ensures cause { HasCleanDisk (state S.Store self.new)
-            → IfErr result (IsFault (SetScript user.now script.now) (state S.Store self.old)
-            (state S.Store self.new)) }
-        ensures survives { Survives (state S.Store self.old) (state S.Store self.new)
-            (MayLeave (SetScript user.now script.now) (state S.Store self.old)) }
+        ensures refused { IfRefused S.Store self.old self.new result
+            (IsCause (SetScript user.now script.now)) }
+        ensures cause { IfRefused S.Store self.old self.new result
+            (IsFault (SetScript user.now script.now)) }
+        ensures survives { MayCommit S.Store self.old self.new
+            (MayLeave (SetScript user.now script.now)) }
     {
         if !is_user_name(user) {
             return Err(Refusal::UserName);
@@ -108,20 +105,16 @@ impl<S: Alter> Depot<S> {
     /// `UserName`; then what the program is refused for; then `Database`, also where it has no room. `Memory` where an allocation was
     /// refused.
     pub fn set_code(&mut self, alloc: Global, user: &str, program: &[u8]) -> Result<(), Refusal>
-        ensures done { HasCleanDisk (state S.Store self.new)
-            → OnOk result (Does (SetCode user.now program.now) Done (state S.Store self.old)
-            (state S.Store self.new)) }
-        ensures spared { HasCleanDisk (state S.Store self.new)
-            → OnErr result (Spares (state S.Store self.old) (state S.Store self.new)) }
+        ensures done { OnDone S.Store self.old self.new result
+            (Does (SetCode user.now program.now) Done) }
+        ensures spared { OnRefused S.Store self.old self.new result Spares }
         ensures which { IfErr result (MayRefuse (SetCode user.now program.now)) }
-        ensures refused { HasCleanDisk (state S.Store self.new)
-            → IfErr result (λ e. HasCause e (SetCode user.now program.now)
-            (state S.Store self.old)) }
-        ensures cause { HasCleanDisk (state S.Store self.new)
-            → IfErr result (IsFault (SetCode user.now program.now) (state S.Store self.old)
-            (state S.Store self.new)) }
-        ensures survives { Survives (state S.Store self.old) (state S.Store self.new)
-            (MayLeave (SetCode user.now program.now) (state S.Store self.old)) }
+        ensures refused { IfRefused S.Store self.old self.new result
+            (IsCause (SetCode user.now program.now)) }
+        ensures cause { IfRefused S.Store self.old self.new result
+            (IsFault (SetCode user.now program.now)) }
+        ensures survives { MayCommit S.Store self.old self.new
+            (MayLeave (SetCode user.now program.now)) }
     {
         if !is_user_name(user) {
             return Err(Refusal::UserName);
@@ -144,21 +137,16 @@ impl<S: Alter> Depot<S> {
         user: &str,
         message: &[u8],
     ) -> Result<Vec<EntryRow>, Refusal>
-        ensures done { HasCleanDisk (state S.Store self.new)
-            → IfOk result (λ rows. Does (Deliver user.now message.now)
-            (Listed (map listed rows.items)) (state S.Store self.old)
-            (state S.Store self.new)) }
-        ensures spared { HasCleanDisk (state S.Store self.new)
-            → OnErr result (Spares (state S.Store self.old) (state S.Store self.new)) }
+        ensures done { IfDone S.Store self.old self.new result
+            (λ rows. Does (Deliver user.now message.now) (Listed (map listed rows.items))) }
+        ensures spared { OnRefused S.Store self.old self.new result Spares }
         ensures which { IfErr result (MayRefuse (Deliver user.now message.now)) }
-        ensures refused { HasCleanDisk (state S.Store self.new)
-            → IfErr result (λ e. HasCause e (Deliver user.now message.now)
-            (state S.Store self.old)) }
-        ensures cause { HasCleanDisk (state S.Store self.new)
-            → IfErr result (IsFault (Deliver user.now message.now) (state S.Store self.old)
-            (state S.Store self.new)) }
-        ensures survives { Survives (state S.Store self.old) (state S.Store self.new)
-            (MayLeave (Deliver user.now message.now) (state S.Store self.old)) }
+        ensures refused { IfRefused S.Store self.old self.new result
+            (IsCause (Deliver user.now message.now)) }
+        ensures cause { IfRefused S.Store self.old self.new result
+            (IsFault (Deliver user.now message.now)) }
+        ensures survives { MayCommit S.Store self.old self.new
+            (MayLeave (Deliver user.now message.now)) }
     {
         if !is_user_name(user) {
             return Err(Refusal::UserName);
@@ -178,18 +166,13 @@ impl<S: Alter> Depot<S> {
     ///
     /// `UserName`, then `Database`. `Memory` where an allocation was refused.
     pub fn list(&mut self, user: &str) -> Result<Vec<EntryRow>, Refusal>
-        ensures done { HasCleanDisk (state S.Store self.new)
-            → IfOk result (λ rows. Does (ListAll user.now) (Listed (map listed rows.items))
-            (state S.Store self.old) (state S.Store self.new)) }
-        ensures spared { HasCleanDisk (state S.Store self.new)
-            → Spares (state S.Store self.old) (state S.Store self.new) }
+        ensures done { IfDone S.Store self.old self.new result (λ rows. Does (ListAll user.now)
+            (Listed (map listed rows.items))) }
+        ensures spared { Always S.Store self.old self.new Spares }
         ensures which { IfErr result (MayRefuse (ListAll user.now)) }
-        ensures refused { HasCleanDisk (state S.Store self.new)
-            → IfErr result (λ e. HasCause e (ListAll user.now) (state S.Store self.old)) }
-        ensures cause { HasCleanDisk (state S.Store self.new)
-            → IfErr result (IsFault (ListAll user.now) (state S.Store self.old)
-            (state S.Store self.new)) }
-        ensures survives { Survives (state S.Store self.old) (state S.Store self.new) (λ _. ⊥) }
+        ensures refused { IfRefused S.Store self.old self.new result (IsCause (ListAll user.now)) }
+        ensures cause { IfRefused S.Store self.old self.new result (IsFault (ListAll user.now)) }
+        ensures survives { CommitsNothing S.Store self.old self.new }
     {
         if !is_user_name(user) {
             return Err(Refusal::UserName);
@@ -203,19 +186,14 @@ impl<S: Alter> Depot<S> {
     ///
     /// `UserName`, then `Database`. `Memory` where an allocation was refused.
     pub fn program_of(&mut self, user: &str) -> Result<Option<Vec<u8>>, Refusal>
-        ensures done { HasCleanDisk (state S.Store self.new)
-            → IfOk result (λ found. Does (ProgramOf user.now)
-            (Program (option_map (λ v. v.items) found)) (state S.Store self.old)
-            (state S.Store self.new)) }
-        ensures spared { HasCleanDisk (state S.Store self.new)
-            → Spares (state S.Store self.old) (state S.Store self.new) }
+        ensures done { IfDone S.Store self.old self.new result (λ found. Does (ProgramOf user.now)
+            (Program (option_map (λ v. v.items) found))) }
+        ensures spared { Always S.Store self.old self.new Spares }
         ensures which { IfErr result (MayRefuse (ProgramOf user.now)) }
-        ensures refused { HasCleanDisk (state S.Store self.new)
-            → IfErr result (λ e. HasCause e (ProgramOf user.now) (state S.Store self.old)) }
-        ensures cause { HasCleanDisk (state S.Store self.new)
-            → IfErr result (IsFault (ProgramOf user.now) (state S.Store self.old)
-            (state S.Store self.new)) }
-        ensures survives { Survives (state S.Store self.old) (state S.Store self.new) (λ _. ⊥) }
+        ensures refused { IfRefused S.Store self.old self.new result
+            (IsCause (ProgramOf user.now)) }
+        ensures cause { IfRefused S.Store self.old self.new result (IsFault (ProgramOf user.now)) }
+        ensures survives { CommitsNothing S.Store self.old self.new }
     {
         if !is_user_name(user) {
             return Err(Refusal::UserName);
@@ -238,35 +216,27 @@ impl<S: Alter> Depot<S> {
         encoding: Encoding,
         writer: &mut W,
     ) -> Result<(), Refusal>
-        ensures done { OnOk result ((text : List ℕ)
-            × HasTaken text (W.output writer.old) (W.output writer.new)
-            × (HasCleanDisk (state S.Store self.new)
-            → Does (Export user.now number encoding) (Text text) (state S.Store self.old)
-            (state S.Store self.new))) }
-        ensures stopped { IfErr result
-            (λ e. e ≡ Write → (text : List ℕ)
+        ensures done { OnOk result ((text : List ℕ) × HasTaken text (W.output writer.old)
+            (W.output writer.new)
+            × (Always S.Store self.old self.new (Does (Export user.now number encoding)
+            (Text text)))) }
+        ensures stopped { IfErr result (λ e. e ≡ Write → (text : List ℕ)
             × HasBroken text (W.output writer.old) (W.output writer.new)
-            × (HasCleanDisk (state S.Store self.new)
-            → Does (Export user.now number encoding) (Text text) (state S.Store self.old)
-            (state S.Store self.new))) }
-        ensures begun { IfErr result
-            (λ e. e ≡ Memory → (W.output writer.new ≡ W.output writer.old)
+            × (Always S.Store self.old self.new (Does (Export user.now number encoding)
+            (Text text)))) }
+        ensures begun { IfErr result (λ e. e ≡ Memory → (W.output writer.new ≡ W.output writer.old)
             ⊎ ((text : List ℕ) × HasBegun text (W.output writer.old) (W.output writer.new)
-            × (HasCleanDisk (state S.Store self.new)
-            → Does (Export user.now number encoding) (Text text)
-            (state S.Store self.old) (state S.Store self.new)))) }
+            × (Always S.Store self.old self.new (Does (Export user.now number encoding)
+            (Text text))))) }
         ensures unwritten { IfErr result
             (λ e. e ≢ Write → e ≢ Memory → W.output writer.new ≡ W.output writer.old) }
-        ensures spared { HasCleanDisk (state S.Store self.new)
-            → Spares (state S.Store self.old) (state S.Store self.new) }
+        ensures spared { Always S.Store self.old self.new Spares }
         ensures which { IfErr result (MayRefuse (Export user.now number encoding)) }
-        ensures refused { HasCleanDisk (state S.Store self.new)
-            → IfErr result (λ e. HasCause e (Export user.now number encoding)
-            (state S.Store self.old)) }
-        ensures cause { HasCleanDisk (state S.Store self.new)
-            → IfErr result (IsFault (Export user.now number encoding) (state S.Store self.old)
-            (state S.Store self.new)) }
-        ensures survives { Survives (state S.Store self.old) (state S.Store self.new) (λ _. ⊥) }
+        ensures refused { IfRefused S.Store self.old self.new result
+            (IsCause (Export user.now number encoding)) }
+        ensures cause { IfRefused S.Store self.old self.new result
+            (IsFault (Export user.now number encoding)) }
+        ensures survives { CommitsNothing S.Store self.old self.new }
     {
         if !is_user_name(user) {
             return Err(Refusal::UserName);
@@ -281,19 +251,15 @@ impl<S: Alter> Depot<S> {
     ///
     /// `UserName`, then `NoSuchEntry` where he has none of that number, and `Database`. `Memory` where an allocation was refused.
     pub fn remove(&mut self, user: &str, number: u32) -> Result<(), Refusal>
-        ensures done { HasCleanDisk (state S.Store self.new)
-            → OnOk result (Does (Remove user.now number) Done (state S.Store self.old)
-            (state S.Store self.new)) }
-        ensures spared { HasCleanDisk (state S.Store self.new)
-            → OnErr result (Spares (state S.Store self.old) (state S.Store self.new)) }
+        ensures done { OnDone S.Store self.old self.new result
+            (Does (Remove user.now number) Done) }
+        ensures spared { OnRefused S.Store self.old self.new result Spares }
         ensures which { IfErr result (MayRefuse (Remove user.now number)) }
-        ensures refused { HasCleanDisk (state S.Store self.new)
-            → IfErr result (λ e. HasCause e (Remove user.now number) (state S.Store self.old)) }
-        ensures cause { HasCleanDisk (state S.Store self.new)
-            → IfErr result (IsFault (Remove user.now number) (state S.Store self.old)
-            (state S.Store self.new)) }
-        ensures survives { Survives (state S.Store self.old) (state S.Store self.new)
-            (MayLeave (Remove user.now number) (state S.Store self.old)) }
+        ensures refused { IfRefused S.Store self.old self.new result
+            (IsCause (Remove user.now number)) }
+        ensures cause { IfRefused S.Store self.old self.new result
+            (IsFault (Remove user.now number)) }
+        ensures survives { MayCommit S.Store self.old self.new (MayLeave (Remove user.now number)) }
     {
         if !is_user_name(user) {
             return Err(Refusal::UserName);
@@ -309,18 +275,14 @@ impl<S: Alter> Depot<S> {
     /// `Database`, also where a stored program, whatever its version, no longer reads and verifies, a user's name isn't UTF-8 or a new
     /// program has no room. `Memory` where an allocation was refused.
     pub fn migrate(&mut self, alloc: Global) -> Result<usize, Refusal>
-        ensures done { HasCleanDisk (state S.Store self.new) → IfOk result (λ number.
-            Does Migrate (Migrated number) (state S.Store self.old) (state S.Store self.new)) }
-        ensures spared { HasCleanDisk (state S.Store self.new)
-            → OnErr result (Spares (state S.Store self.old) (state S.Store self.new)) }
+        ensures done { IfDone S.Store self.old self.new result (λ number. Does Migrate
+            (Migrated number)) }
+        ensures spared { OnRefused S.Store self.old self.new result Spares }
         ensures which { IfErr result (MayRefuse Migrate) }
-        ensures refused { HasCleanDisk (state S.Store self.new)
-            → IfErr result (λ e. HasCause e Migrate (state S.Store self.old)) }
-        ensures cause { HasCleanDisk (state S.Store self.new)
-            → AreNamed (state S.Store self.old).now.trees
-            → IfErr result (IsFault Migrate (state S.Store self.old) (state S.Store self.new)) }
-        ensures survives { Survives (state S.Store self.old) (state S.Store self.new)
-            (MayLeave Migrate (state S.Store self.old)) }
+        ensures refused { IfRefused S.Store self.old self.new result (IsCause Migrate) }
+        ensures cause { Always S.Store self.old self.new (λ old new. AreNamed old.now.trees
+            → IfErr result (IsFault Migrate old new)) }
+        ensures survives { MayCommit S.Store self.old self.new (MayLeave Migrate) }
     {
         let stored = self.store.programs().map_err(refused)?;
         let renewed = renewed_programs(alloc, &stored)?;
@@ -338,18 +300,13 @@ impl<S: Alter> Depot<S> {
     ///
     /// `Database`, also where octets are more than 64 bits can count or a user's name isn't UTF-8. `Memory` where an allocation was refused.
     pub fn inspect(&mut self, alloc: Global) -> Result<Overview, Refusal>
-        ensures told { HasCleanDisk (state S.Store self.new)
-            → IfOk result (λ x. IsTrue (state S.Store self.old).is_open
-            × ((before : Entries) → Stands (state S.Store self.old).now before
-            → IsOverview (state S.Store self.old).now.trees before x)) }
-        ensures spared { HasCleanDisk (state S.Store self.new)
-            → Spares (state S.Store self.old) (state S.Store self.new) }
+        ensures told { IfDone S.Store self.old self.new result (λ x old _. IsTrue old.is_open
+            × ((before : Entries) → Stands old.now before → IsOverview old.now.trees before x)) }
+        ensures spared { Always S.Store self.old self.new Spares }
         ensures refused { IfErr result (λ e. (e ≡ Memory) ⊎ (e ≡ Database)) }
-        ensures cause { HasCleanDisk (state S.Store self.new)
-            → AreNamed (state S.Store self.old).now.trees
-            → IfErr result (IsStoreFault IsUncounted (state S.Store self.old)
-            (state S.Store self.new)) }
-        ensures survives { Survives (state S.Store self.old) (state S.Store self.new) (λ _. ⊥) }
+        ensures cause { Always S.Store self.old self.new (λ old new. AreNamed old.now.trees
+            → IfErr result (IsStoreFault IsUncounted old new)) }
+        ensures survives { CommitsNothing S.Store self.old self.new }
     {
         look_over(&mut self.store, alloc)
     }

@@ -1,8 +1,7 @@
 // How a depot is looked over, user by user.
-ghost use Rattle.std.specs.Prelude.{◌≡◌, ◌⊎◌, ◌^◌, ◌≤◌, IfErr, IfOk, IsTrue, OnOk, map, option_map, string_bytes};
+ghost use Rattle.std.specs.Prelude.{◌≡◌, ◌⊎◌, ◌^◌, ◌≤◌, IfErr, IfOk, IsTrue, map, option_map, string_bytes};
 ghost use Rattle.std.specs.List.{sum_by};
 ghost use Rattle.sqlite.specs.Held.{state};
-ghost use Rattle.sqlite.specs.State.{HasCleanDisk, Survives};
 ghost use Rattle.part_store.specs.Changes.{contents_tree, users_tree};
 ghost use Rattle.part_store.specs.Entries.{Entries, Listing, entries_of, listing_of};
 ghost use Rattle.part_store.specs.Standing.{Spares, Stands, listed};
@@ -13,6 +12,7 @@ ghost use Rattle.refusals.specs.declared.refusal.Refusal.TheVariants.{Memory, Da
 ghost use Rattle.part_store.specs.Refusals.{AreNamed};
 ghost use Rattle.depot_actions.specs.Causes.{IsStoreFault, IsUncounted};
 ghost use Rattle.depot_actions.specs.Overviews.{AreSummaries, IsJudged, IsOverview, IsStateOf, Summarises};
+ghost use Rattle.part_store.specs.Calls.{Always, CommitsNothing, IfDone, IfRefused, OnDone, Tells, WasOpen};
 
 use crate::overview::{Overview, ProgramState, UserOverview};
 use crate::refusing::refused;
@@ -31,18 +31,13 @@ pub(crate) fn look_over<S: Alter>(
     store: &mut PartStore<S>,
     alloc: Global,
 ) -> Result<Overview, Refusal>
-    ensures told { HasCleanDisk (state S.Store store.new)
-        → IfOk result (λ x. IsTrue (state S.Store store.old).is_open
-        × ((before : Entries) → Stands (state S.Store store.old).now before
-        → IsOverview (state S.Store store.old).now.trees before x)) }
-    ensures spared { HasCleanDisk (state S.Store store.new)
-        → Spares (state S.Store store.old) (state S.Store store.new) }
+    ensures told { IfDone S.Store store.old store.new result (λ x old _. IsTrue old.is_open
+        × ((before : Entries) → Stands old.now before → IsOverview old.now.trees before x)) }
+    ensures spared { Always S.Store store.old store.new Spares }
     ensures refused { IfErr result (λ e. (e ≡ Memory) ⊎ (e ≡ Database)) }
-    ensures cause { HasCleanDisk (state S.Store store.new)
-        → AreNamed (state S.Store store.old).now.trees
-        → IfErr result (IsStoreFault IsUncounted (state S.Store store.old)
-        (state S.Store store.new)) }
-    ensures survives { Survives (state S.Store store.old) (state S.Store store.new) (λ _. ⊥) }
+    ensures cause { Always S.Store store.old store.new (λ old new. AreNamed old.now.trees
+        → IfErr result (IsStoreFault IsUncounted old new)) }
+    ensures survives { CommitsNothing S.Store store.old store.new }
 {
     let rows = rows_of(store)?;
     let users = summaries(store, alloc, &rows)?;
@@ -52,37 +47,28 @@ pub(crate) fn look_over<S: Alter>(
 
 // The users that have a row.
 fn rows_of<S: Alter>(store: &mut PartStore<S>) -> Result<Vec<UserRow>, Refusal>
-    ensures told { HasCleanDisk (state S.Store store.new)
-        → IfOk result (λ rows. (before : Entries) → Stands (state S.Store store.old).now before
-        → AreUsersOf ((state S.Store store.old).now.trees users_tree) before
+    ensures told { IfDone S.Store store.old store.new result (λ rows old _. (before : Entries)
+        → Stands old.now before → AreUsersOf (old.now.trees users_tree) before
         (map line_of rows.items)) }
-    ensures open { HasCleanDisk (state S.Store store.new)
-        → OnOk result (IsTrue (state S.Store store.old).is_open) }
-    ensures spared { HasCleanDisk (state S.Store store.new)
-        → Spares (state S.Store store.old) (state S.Store store.new) }
+    ensures open { OnDone S.Store store.old store.new result WasOpen }
+    ensures spared { Always S.Store store.old store.new Spares }
     ensures refused { IfErr result (λ e. (e ≡ Memory) ⊎ (e ≡ Database)) }
-    ensures cause { HasCleanDisk (state S.Store store.new)
-        → AreNamed (state S.Store store.old).now.trees
-        → IfErr result (IsStoreFault IsUncounted (state S.Store store.old)
-        (state S.Store store.new)) }
-    ensures survives { Survives (state S.Store store.old) (state S.Store store.new) (λ _. ⊥) }
+    ensures cause { Always S.Store store.old store.new (λ old new. AreNamed old.now.trees
+        → IfErr result (IsStoreFault IsUncounted old new)) }
+    ensures survives { CommitsNothing S.Store store.old store.new }
 {
     store.users().map_err(refused)
 }
 
 // How many contents there are, and their octets.
 fn total_of<S: Alter>(store: &mut PartStore<S>) -> Result<ContentTotal, Refusal>
-    ensures told { HasCleanDisk (state S.Store store.new)
-        → IfOk result (λ total. (before : Entries) → Stands (state S.Store store.old).now before
-        → IsTotalOf ((state S.Store store.old).now.trees contents_tree) total) }
-    ensures open { HasCleanDisk (state S.Store store.new)
-        → OnOk result (IsTrue (state S.Store store.old).is_open) }
-    ensures spared { HasCleanDisk (state S.Store store.new)
-        → Spares (state S.Store store.old) (state S.Store store.new) }
+    ensures told { IfDone S.Store store.old store.new result (λ total old _. (before : Entries)
+        → Stands old.now before → IsTotalOf (old.now.trees contents_tree) total) }
+    ensures open { OnDone S.Store store.old store.new result WasOpen }
+    ensures spared { Always S.Store store.old store.new Spares }
     ensures refused { IfErr result (λ e. (e ≡ Memory) ⊎ (e ≡ Database)) }
-    ensures cause { HasCleanDisk (state S.Store store.new) → IfErr result
-        (IsStoreFault IsUncounted (state S.Store store.old) (state S.Store store.new)) }
-    ensures survives { Survives (state S.Store store.old) (state S.Store store.new) (λ _. ⊥) }
+    ensures cause { IfRefused S.Store store.old store.new result (IsStoreFault IsUncounted) }
+    ensures survives { CommitsNothing S.Store store.old store.new }
 {
     store.contents().map_err(refused)
 }
@@ -93,15 +79,12 @@ fn summaries<S: Alter>(
     alloc: Global,
     rows: &[UserRow],
 ) -> Result<Vec<UserOverview>, Refusal>
-    ensures told { HasCleanDisk (state S.Store store.new)
-        → IfOk result (λ users. (before : Entries) → Stands (state S.Store store.old).now before
-        → AreSummaries before (map line_of rows.now) users.items) }
-    ensures spared { HasCleanDisk (state S.Store store.new)
-        → Spares (state S.Store store.old) (state S.Store store.new) }
+    ensures told { Tells S.Store store.old store.new result (λ before users. AreSummaries before
+        (map line_of rows.now) users.items) }
+    ensures spared { Always S.Store store.old store.new Spares }
     ensures refused { IfErr result (λ e. (e ≡ Memory) ⊎ (e ≡ Database)) }
-    ensures cause { HasCleanDisk (state S.Store store.new) → IfErr result
-        (IsStoreFault IsUncounted (state S.Store store.old) (state S.Store store.new)) }
-    ensures survives { Survives (state S.Store store.old) (state S.Store store.new) (λ _. ⊥) }
+    ensures cause { IfRefused S.Store store.old store.new result (IsStoreFault IsUncounted) }
+    ensures survives { CommitsNothing S.Store store.old store.new }
 {
     let mut users = Vec::new(alloc);
     for row in rows {
@@ -117,18 +100,13 @@ fn summary<S: Alter>(
     alloc: Global,
     row: &UserRow,
 ) -> Result<UserOverview, Refusal>
-    ensures told { HasCleanDisk (state S.Store store.new)
-        → IfOk result (λ x. (before : Entries) → Stands (state S.Store store.old).now before
-        → Summarises (line_of row.now)
-        (map listing_of (entries_of (string_bytes row.now.user) before)) x) }
-    ensures open { HasCleanDisk (state S.Store store.new)
-        → OnOk result (IsTrue (state S.Store store.old).is_open) }
-    ensures spared { HasCleanDisk (state S.Store store.new)
-        → Spares (state S.Store store.old) (state S.Store store.new) }
+    ensures told { Tells S.Store store.old store.new result (λ before x. Summarises
+        (line_of row.now) (map listing_of (entries_of (string_bytes row.now.user) before)) x) }
+    ensures open { OnDone S.Store store.old store.new result WasOpen }
+    ensures spared { Always S.Store store.old store.new Spares }
     ensures refused { IfErr result (λ e. (e ≡ Memory) ⊎ (e ≡ Database)) }
-    ensures cause { HasCleanDisk (state S.Store store.new) → IfErr result
-        (IsStoreFault IsUncounted (state S.Store store.old) (state S.Store store.new)) }
-    ensures survives { Survives (state S.Store store.old) (state S.Store store.new) (λ _. ⊥) }
+    ensures cause { IfRefused S.Store store.old store.new result (IsStoreFault IsUncounted) }
+    ensures survives { CommitsNothing S.Store store.old store.new }
 {
     let entries = entries_in(store, row.user.as_str())?;
     summary_of(alloc, row, &entries)
@@ -136,17 +114,13 @@ fn summary<S: Alter>(
 
 // The entries of a user, who may have any name that is stored.
 fn entries_in<S: Alter>(store: &mut PartStore<S>, user: &str) -> Result<Vec<EntryRow>, Refusal>
-    ensures told { HasCleanDisk (state S.Store store.new)
-        → IfOk result (λ rows. (before : Entries) → Stands (state S.Store store.old).now before
-        → map listed rows.items ≡ map listing_of (entries_of user.now before)) }
-    ensures open { HasCleanDisk (state S.Store store.new)
-        → OnOk result (IsTrue (state S.Store store.old).is_open) }
-    ensures spared { HasCleanDisk (state S.Store store.new)
-        → Spares (state S.Store store.old) (state S.Store store.new) }
+    ensures told { Tells S.Store store.old store.new result (λ before rows. map listed rows.items
+        ≡ map listing_of (entries_of user.now before)) }
+    ensures open { OnDone S.Store store.old store.new result WasOpen }
+    ensures spared { Always S.Store store.old store.new Spares }
     ensures refused { IfErr result (λ e. (e ≡ Memory) ⊎ (e ≡ Database)) }
-    ensures cause { HasCleanDisk (state S.Store store.new) → IfErr result
-        (IsStoreFault IsUncounted (state S.Store store.old) (state S.Store store.new)) }
-    ensures survives { Survives (state S.Store store.old) (state S.Store store.new) (λ _. ⊥) }
+    ensures cause { IfRefused S.Store store.old store.new result (IsStoreFault IsUncounted) }
+    ensures survives { CommitsNothing S.Store store.old store.new }
 {
     store.entries_of(user).map_err(refused)
 }
