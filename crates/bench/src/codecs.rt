@@ -1,6 +1,6 @@
 // Octets to texts and back.
 use crate::checksum::{REFUSED, told};
-use depot_actions::{Encoding, decode, encode};
+use encodings::{Encoding, decode, encode};
 use lanes_base64_mime::Decoder;
 use std::alloc::Global;
 

@@ -1,6 +1,7 @@
 // A depot in memory.
 use crate::checksum::REFUSED;
-use depot_actions::{Depot, Encoding, OfWrite};
+use depot_actions::Depot;
+use encodings::{Encoding, OfWrite};
 use part_store::EntryRow;
 use sqlite::MemStore;
 use std::alloc::Global;

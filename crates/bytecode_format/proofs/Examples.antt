@@ -1,4 +1,4 @@
--- Modifiers and their numbers, versions and operations, by computation.
+-- Modifiers and their numbers, versions, operations and the numbers of tests, by computation.
 use Rattle.std.proofs.Common.{◌≡◌, ℕ, true, false, [], ◌∷◌, ◌++◌, length, Some, None, codes, decimal, lit<, refl}
 use Rattle.std.proofs.lemmas.Fmt.{decimal-digits_of}
 use Rattle.bytecode_format.specs.declared.modifiers.Case.TheVariants.{Lower, Upper}
@@ -8,6 +8,11 @@ use Rattle.bytecode_format.specs.Operations.{operation_of, octet_of}
 use Rattle.bytecode_format.specs.Code.{Code}
 use Rattle.bytecode_format.specs.Spelling.{is_version, spelling}
 use Rattle.bytecode_format.specs.Readers.{version_at}
+use Rattle.glob_match.specs.declared.comparator.Comparator.TheVariants.{Octet, Casemap}
+use Rattle.glob_match.specs.declared.match_type.MatchType.TheVariants.{Is, Contains, Matches}
+use Rattle.bytecode_format.specs.declared.selection.Scope.TheVariants.{PartAndBelow}
+use Rattle.bytecode_format.specs.declared.selection.Selector.TheVariants.{Param}
+use Rattle.bytecode_format.specs.Selection.{match_numbered, field_test_numbered}
 use Rattle.bytecode_format.specs.Modifiers.{modified, no_modifiers, modifiers_number, modifiers_numbered}
 
 none_leaves_the_text : modified no_modifiers (codes "juMBlEd lETteRS") ≡ codes "juMBlEd lETteRS"
@@ -74,3 +79,26 @@ keeping_spelled = refl
 
 keeping_length : length (spelling (keeping 1)) ≡ 31
 keeping_length = refl
+
+-- ways to match, by numbers
+is_ignoring_case : match_numbered 0 ≡ Some (record { kind = Is; comparator = Casemap })
+is_ignoring_case = refl
+
+contains_octets : match_numbered 5 ≡ Some (record { kind = Contains; comparator = Octet })
+contains_octets = refl
+
+no_fourth_way : match_numbered 7 ≡ None
+no_fourth_way = refl
+
+no_third_comparator : match_numbered 8 ≡ None
+no_third_comparator = refl
+
+-- the parameters, in all parts from the current one on, that fit patterns octet by octet
+last_field_test : field_test_numbered 150 ≡ Some (record { how = record { kind = Matches; comparator = Octet }; scope = PartAndBelow; selector = Param })
+last_field_test = refl
+
+no_fourth_scope : field_test_numbered 24 ≡ None
+no_fourth_scope = refl
+
+no_sixth_selector : field_test_numbered 160 ≡ None
+no_sixth_selector = refl

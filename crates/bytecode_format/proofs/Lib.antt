@@ -4,5 +4,6 @@ pub mod FormatLemmas
 pub mod Lengths
 pub mod ActionLemmas
 pub mod ModifierLemmas
+pub mod SelectionLemmas
 pub mod Examples
 pub mod Versions

@@ -1,11 +1,16 @@
-//! Laws of the format, of modifiers and of final actions, over their definitions alone.
+//! Laws of the format, of modifiers, of the numbers of tests and of final actions, over their definitions alone.
 ghost use Rattle.std.specs.Prelude.{◌≡◌, ◌<◌, ℕ, Some, List, [], ◌∷◌, ◌++◌};
 ghost use Rattle.bytecode_format.specs.declared.action.Action.{Action};
 ghost use Rattle.bytecode_format.specs.declared.modifiers.Modifiers.{Modifiers};
+ghost use Rattle.bytecode_format.specs.declared.selection.Scope.{Scope};
+ghost use Rattle.bytecode_format.specs.declared.selection.FieldTest.{FieldTest};
+ghost use Rattle.bytecode_format.specs.declared.selection.TestCounts.{TestCounts};
+ghost use Rattle.glob_match.specs.declared.match_type.Match.{Match};
 ghost use Rattle.bytecode_format.specs.Code.{Code};
 ghost use Rattle.bytecode_format.specs.Spelling.{IsProgram, spelling};
 ghost use Rattle.bytecode_format.specs.Actions.{first_occurrences, with_action};
 ghost use Rattle.bytecode_format.specs.Modifiers.{modifiers_number, modifiers_numbered};
+ghost use Rattle.bytecode_format.specs.Selection.{counts_number, counts_numbered, field_test_number, field_test_numbered, key_numbers, match_number, match_numbered, scope_number, scope_numbered};
 
 /// Octets spell at most one program.
 pub fn one_program_for_octets()
@@ -30,4 +35,32 @@ pub fn one_number_for_modifiers()
     ensures small { (m : Modifiers) → modifiers_number m < 64 }
     ensures only { (n : ℕ) (m : Modifiers) → modifiers_numbered n ≡ Some m
         → modifiers_number m ≡ n }
+{}
+
+/// How values are matched is known by its number, and no other number stands for it.
+pub fn one_number_for_matches()
+    ensures number { (how : Match) → match_numbered (match_number how) ≡ Some how }
+    ensures only { (n : ℕ) (how : Match) → match_numbered n ≡ Some how → match_number how ≡ n }
+{}
+
+/// A scope is known by its number, and no other number stands for it.
+pub fn one_number_for_scopes()
+    ensures number { (scope : Scope) → scope_numbered (scope_number scope) ≡ Some scope }
+    ensures only { (n : ℕ) (scope : Scope) → scope_numbered n ≡ Some scope
+        → scope_number scope ≡ n }
+{}
+
+/// A test of fields is known by its number, which is an octet, and no other number stands for it.
+pub fn one_number_for_field_tests()
+    ensures number { (t : FieldTest) → field_test_numbered (field_test_number t) ≡ Some t }
+    ensures small { (t : FieldTest) → field_test_number t < 256 }
+    ensures only { (n : ℕ) (t : FieldTest) → field_test_numbered n ≡ Some t
+        → field_test_number t ≡ n }
+{}
+
+/// Counts are known by their number, and each number stands for some.
+pub fn one_number_for_counts()
+    ensures number { (counts : TestCounts) → counts.keys < key_numbers
+        → counts_numbered (counts_number counts) ≡ counts }
+    ensures only { (n : ℕ) → counts_number (counts_numbered n) ≡ n }
 {}

@@ -3,7 +3,8 @@
 //! A [`Program`] is read from octets exactly where they are the spelling of a program
 //! (`specs/Spelling`), and written as that spelling; octets spell at most one program.
 //! [`ActionList`] keeps the actions of a run, and makes them final (`specs/Actions`). [`Modifiers`] are
-//! what is done to a text before it becomes a variable's value (`specs/Modifiers`).
+//! what is done to a text before it becomes a variable's value (`specs/Modifiers`). [`FieldTest`] and [`TestCounts`] are what an
+//! instruction says of a test, each under its number (`specs/Selection`).
 #![tactic(auto)]
 
 mod action;
@@ -16,6 +17,7 @@ mod modifiers;
 mod operation;
 mod program;
 mod reading;
+mod selection;
 mod writing;
 
 pub use action::Action;
@@ -25,3 +27,4 @@ pub use instruction::Instruction;
 pub use modifiers::{Case, Modifiers};
 pub use operation::Operation;
 pub use program::Program;
+pub use selection::{FieldTest, Scope, Selector, TestCounts, match_number, match_of};

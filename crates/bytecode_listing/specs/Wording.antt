@@ -4,6 +4,7 @@ use Rattle.std.specs.List.{position}
 use Rattle.std.specs.Fmt.{decimal}
 use Rattle.bytecode_format.specs.declared.operation.Operation.{Operation}
 use Rattle.bytecode_format.specs.declared.operation.Operation.TheVariants.{Header, Exists, String, PartBody}
+use Rattle.bytecode_format.specs.Selection.{keys_in, params_in}
 use Rattle.bytecode_listing.specs.declared.wording.Facet.{Facet}
 use Rattle.bytecode_listing.specs.declared.wording.Facet.TheVariants.{Match, Comparator, Scope, Selector}
 
@@ -51,7 +52,7 @@ a_words _ a = None
 
 -- the counts of HEADER: of parameters, and of keys
 abbrev pub counts_words : ℕ → List ℕ
-counts_words c = codes " c " ++ decimal (c / 65536) ++ codes " params " ++ decimal (c % 65536) ++ codes " keys"
+counts_words c = codes " c " ++ decimal (params_in c) ++ codes " params " ++ decimal (keys_in c) ++ codes " keys"
 
 -- the field with its words
 abbrev pub said_a : List ℕ → List ℕ

@@ -5,9 +5,9 @@ ghost use Rattle.bytecode_listing.specs.Listing.{comment, entry_text, meant, sho
 ghost use Rattle.bytecode_listing.specs.declared.wording.Facet.TheVariants.{Scope};
 ghost use Rattle.bytecode_listing.specs.Wording.{counts_words, match_words, said_a, scope_words, selection_words, word_of};
 
-use crate::wording::{COUNTS, Facet, word_of};
+use crate::wording::{Facet, word_of};
 use crate::writing::{put_number, put_quoted};
-use bytecode_format::{Instruction, Operation, Program};
+use bytecode_format::{Instruction, Operation, Program, TestCounts};
 use std::alloc::AllocError;
 
 /// The most octets of a string that a comment has.
@@ -118,8 +118,9 @@ fn put_both(out: &mut Vec<u8>, first: &str, second: &str) -> Result<(), AllocErr
 fn put_counts(out: &mut Vec<u8>, counts: u32) -> Result<(), AllocError>
     ensures { OnOk result (out.new.items ≡ out.old.items ++ counts_words counts) }
 {
-    put_counted(out, b" c ", u64::from(counts / COUNTS))?;
-    put_counted(out, b" params ", u64::from(counts % COUNTS))?;
+    let counts = TestCounts::of(counts);
+    put_counted(out, b" c ", u64::from(counts.params))?;
+    put_counted(out, b" params ", u64::from(counts.keys))?;
     out.extend_from_slice(b" keys")
 }
 

@@ -16,7 +16,7 @@ use Rattle.bytecode_cost.specs.Sums.{IsBudget, budget_at}
 use Rattle.bytecode_cost.proofs.Powers.{budget_bound}
 use Rattle.bytecode_verifier.specs.Places.{sum_below}
 use Rattle.bytecode_verifier.specs.Loops.{open_loops}
-use Rattle.bytecode_verifier.specs.Rows.{keys_in, params_in}
+use Rattle.bytecode_format.specs.Selection.{keys_in, params_in}
 use Rattle.bytecode_verifier.specs.Shape.{Entries, Texts, Lists, take_texts, take_lists, shape_at}
 use Rattle.bytecode_verifier.specs.declared.cap.Cap.{Cap}
 use Rattle.bytecode_verifier.specs.Budget.{one_more_each, cap_of_octets, cap_of_names, cap_of_matching, cap_of_comparing, cap_of_body, cap_of_digest, one_charge, cap_of, cap_found, cap_at, sum_inside, sums_inside, budget_of}

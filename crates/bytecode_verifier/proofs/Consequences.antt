@@ -5,16 +5,19 @@ use Rattle.std.proofs.lemmas.Option.{slice_get_within}
 use Rattle.std.proofs.lemmas.Map.Keys.{any_passes_from_place}
 use Rattle.octets.specs.Limits.{max_test_strings, max_loops, max_value}
 use Rattle.bytecode_format.specs.declared.instruction.Instruction.{Instruction}
-use Rattle.bytecode_format.specs.declared.operation.Operation.TheVariants.{Literal, Variable, Set, Size, Header, Exists, PartSize, PartBody, PartDigest, Break, Take}
+use Rattle.bytecode_format.specs.declared.operation.Operation.TheVariants.{Literal, Variable, Set, Size, Header, Exists, String, PartSize, PartBody, PartDigest, Break, Take}
 use Rattle.bytecode_format.specs.Operations.{operation_of}
 use Rattle.bytecode_format.specs.Code.{Code}
 use Rattle.bytecode_format.specs.declared.modifiers.Modifiers.{Modifiers}
 use Rattle.bytecode_format.specs.Modifiers.{modifiers_numbered}
+use Rattle.bytecode_format.specs.declared.selection.Scope.{Scope}
+use Rattle.bytecode_format.specs.declared.selection.FieldTest.{FieldTest}
+use Rattle.bytecode_format.specs.Selection.{match_numbered, scope_numbered, field_test_numbered, keys_in, params_in}
 use Rattle.bytecode_verifier.specs.Loops.{open_loops, same_loops}
 use Rattle.std.specs.Option.{option_and_then}
 use Rattle.bytecode_format.specs.declared.operation.Operation.{Operation}
 use Rattle.bytecode_verifier.specs.declared.row.Row.{Row}
-use Rattle.bytecode_verifier.specs.Rows.{row_of, row_in_version, scopes, selectors, is_match_number, match_in, scope_in, selector_in, keys_in, params_in, is_selection, selects_params, is_list, are_counts, is_well_formed, is_jump, needs_part}
+use Rattle.bytecode_verifier.specs.Rows.{row_of, row_in_version, selects_params, is_list, are_counts, is_well_formed, is_jump, needs_part}
 use Rattle.bytecode_verifier.specs.Shape.{Entries, is_empty, is_target, entries_after, shape_after, shape_at}
 use Rattle.bytecode_verifier.specs.Rules.{row_in, misses_index, is_halt, breaks_form}
 use Rattle.bytecode_verifier.specs.Acceptance.{IsAccepted}
@@ -44,9 +47,9 @@ empty_from : (entries : Entries) → not (is_empty entries) ≡ false → entrie
 empty_from [] h = refl
 empty_from (entry ∷ entries) h = absurd (cc)
 
-some_modifiers : (o : Option Modifiers) → is_some o ≡ true → (modifiers : Modifiers) × (o ≡ Some modifiers)
-some_modifiers None h = absurd (cc)
-some_modifiers (Some modifiers) h = (modifiers, refl)
+pub known : {A : Type 0} (o : Option A) → is_some o ≡ true → (x : A) × (o ≡ Some x)
+known None h = absurd (cc)
+known (Some x) h = (x, refl)
 
 first_of_three : (a b c : Bool) → (a && b && c) ≡ true → a ≡ true
 first_of_three true b c h = refl
@@ -77,9 +80,8 @@ in_two row i false h = absurd cc
 
 -- what the fields of a test of fields say
 pub record IsFieldTest (i : Instruction) : Type 0 where
-  pub matching : is_match_number (match_in i.a) ≡ true
-  pub scope : scope_in i.a < scopes
-  pub selector : selector_in i.a < selectors
+  pub test : FieldTest
+  pub says : field_test_numbered i.a ≡ Some test
   pub names : (1 ≤ i.b) × (i.b ≤ max_test_strings)
   pub keys : (1 ≤ keys_in i.c) × (keys_in i.c ≤ max_test_strings)
   pub params : selects_params i.a ≡ true → (1 ≤ params_in i.c) × (params_in i.c ≤ max_test_strings)
@@ -133,13 +135,12 @@ module _ (code : Code) (is : IsAccepted code) where
     -- the fields of a test of fields are in their ranges
     pub header_known : operation_of i.op ≡ Some Header → IsFieldTest i
     header_known header =
-        let parts = all_three (is_selection i.a) (is_list i.b) (are_counts i.a i.c) (formed_as Header header) in
-        let selection = all_three (is_match_number (match_in i.a)) (nat_lt (scope_in i.a) scopes) (nat_lt (selector_in i.a) selectors) parts.0 in
+        let parts = all_three (is_some (field_test_numbered i.a)) (is_list i.b) (are_counts i.a i.c) (formed_as Header header) in
+        let says = known (field_test_numbered i.a) parts.0 in
         let counts = counts_of (selects_params i.a) (is_list (keys_in i.c)) (is_list (params_in i.c)) (params_in i.c == 0) parts.2 in
         record {
-          matching = selection.0;
-          scope = ltb-true (scope_in i.a) scopes selection.1;
-          selector = ltb-true (selector_in i.a) selectors selection.2;
+          test = says.0;
+          says = says.1;
           names = list_size i.b parts.1;
           keys = list_size (keys_in i.c) counts.0;
           params = λ selected. list_size (params_in i.c) (counts.1 selected);
@@ -147,20 +148,25 @@ module _ (code : Code) (is : IsAccepted code) where
         }
 
     -- the scope of a test that fields exist, and how many names it has
-    pub exists_known : operation_of i.op ≡ Some Exists → (i.a < scopes) × (1 ≤ i.b) × (i.b ≤ max_test_strings)
+    pub exists_known : operation_of i.op ≡ Some Exists → (scope : Scope) × ((scope_numbered i.a ≡ Some scope) × (1 ≤ i.b) × (i.b ≤ max_test_strings))
     exists_known exists =
-        let parts = all_three (nat_lt i.a scopes) (is_list i.b) (i.c == 0) (formed_as Exists exists) in
+        let parts = all_three (is_some (scope_numbered i.a)) (is_list i.b) (i.c == 0) (formed_as Exists exists) in
         let names = list_size i.b parts.1 in
-        (ltb-true i.a scopes parts.0, names.0, names.1)
+        let scope = known (scope_numbered i.a) parts.0 in
+        (scope.0, (scope.1, names.0, names.1))
+
+    -- how sources are matched
+    pub sources_known : operation_of i.op ≡ Some String → is_some (match_numbered i.a) ≡ true
+    sources_known string = (all_three (is_some (match_numbered i.a)) (is_list i.b) (is_list i.c) (formed_as String string)).0
 
     -- how the current part's size is compared
     pub part_size_known : operation_of i.op ≡ Some PartSize → i.a < 2
     part_size_known size = ltb-true i.a 2 (all_three (nat_lt i.a 2) (i.b == 0) true (formed_as PartSize size)).0
 
     -- how the current part's content is matched, and with how many keys
-    pub part_body_known : operation_of i.op ≡ Some PartBody → (is_match_number i.a ≡ true) × (1 ≤ i.c) × (i.c ≤ max_test_strings)
+    pub part_body_known : operation_of i.op ≡ Some PartBody → (is_some (match_numbered i.a) ≡ true) × (1 ≤ i.c) × (i.c ≤ max_test_strings)
     part_body_known body =
-        let parts = all_three (is_match_number i.a) (i.b == 0) (is_list i.c) (formed_as PartBody body) in
+        let parts = all_three (is_some (match_numbered i.a)) (i.b == 0) (is_list i.c) (formed_as PartBody body) in
         let keys = list_size i.c parts.2 in
         (parts.0, keys.0, keys.1)
 
@@ -185,7 +191,7 @@ module _ (code : Code) (is : IsAccepted code) where
     pub modifiers_known : operation_of i.op ≡ Some Set → (modifiers : Modifiers) × (modifiers_numbered i.a ≡ Some modifiers)
     modifiers_known set =
         let formed : is_well_formed (row_in_version code.version Set) i ≡ true = ap (λ o. is_well_formed (option_and_then (row_in_version code.version) o) i) (sym set) ∙ well_formed in
-        some_modifiers (modifiers_numbered i.a) (first_of_three _ _ _ formed)
+        known (modifiers_numbered i.a) (first_of_three _ _ _ formed)
 
     -- a Take stands in programs of version 2 alone
     pub take_version : operation_of i.op ≡ Some Take → code.version ≡ 2

@@ -13,7 +13,7 @@ use Rattle.bytecode_format.specs.Code.{Code}
 use Rattle.bytecode_format.specs.Spelling.{Fits, IsProgram}
 use Rattle.bytecode_verifier.specs.declared.shape.Entry.{Entry}
 use Rattle.bytecode_verifier.specs.declared.shape.Entry.TheVariants.{Truth, Text}
-use Rattle.bytecode_verifier.specs.Rows.{keys_in, params_in}
+use Rattle.bytecode_format.specs.Selection.{keys_in, params_in}
 use Rattle.bytecode_verifier.specs.Shape.{Entries, Texts, Lists, with_entry, is_empty, has_truth, without_truth, take_texts, take_lists, with_string, with_joined, entries_after, shape_after, is_target, shape_at}
 use Rattle.bytecode_verifier.specs.Pass.{AreShort, IsSmall}
 use Rattle.bytecode_verifier.proofs.Taking.{taken, taken_lists}

@@ -1,5 +1,5 @@
 -- What the verifier knows of each operation before it looks at what the operation does: one row each.
-use Rattle.std.specs.Prelude.{ℕ, ◌/◌, ◌%◌, Bool, true, false, ◌&&◌, not, Option, Some, None, nat_lt, nat_le, ◌==◌, is_some, if◌then◌else◌}
+use Rattle.std.specs.Prelude.{ℕ, Bool, true, false, ◌&&◌, not, Option, Some, None, nat_lt, nat_le, ◌==◌, is_some, if◌then◌else◌}
 use Rattle.std.specs.Option.{option_and_then, option_map_or}
 use Rattle.octets.specs.Limits.{max_loops, max_segments, max_test_strings, max_value}
 use Rattle.bytecode_format.specs.declared.instruction.Instruction.{Instruction}
@@ -7,22 +7,18 @@ use Rattle.bytecode_format.specs.declared.operation.Operation.{Operation}
 use Rattle.bytecode_format.specs.declared.operation.Operation.TheVariants.{Halt, Literal, Variable, Capture, Join, Set, Bool as BoolOp, Not, Jump, JumpIfTrue, JumpIfFalse, Header, Exists, String, Size, PartSize, PartBody, PartDigest, Keep, Discard, File, Store, Each, Next, Break, Take}
 use Rattle.bytecode_format.specs.Operations.{operation_of}
 use Rattle.bytecode_format.specs.Modifiers.{modifiers_numbered}
+use Rattle.bytecode_format.specs.declared.selection.FieldTest as field
+use Rattle.bytecode_format.specs.declared.selection.Selector.{Selector}
+use Rattle.bytecode_format.specs.declared.selection.Selector.TheVariants.{Param}
+use Rattle.bytecode_format.specs.Selection.{match_numbered, scope_numbered, field_test_numbered, keys_in, params_in}
 use Rattle.bytecode_verifier.specs.declared.row.Range.{Range}
-use Rattle.bytecode_verifier.specs.declared.row.Range.TheVariants.{Unnamed, Below, Between, Match, Selection, Counts, Modifiers, Any}
+use Rattle.bytecode_verifier.specs.declared.row.Range.TheVariants.{Unnamed, Below, Between, Match, Scope, FieldTest, Counts, Modifiers, Any}
 use Rattle.bytecode_verifier.specs.declared.row.Table.TheVariants.{Variables, Numbers, Strings}
 use Rattle.bytecode_verifier.specs.declared.row.Row.{Row}
 
 -- how many captures there are: the whole value, and what nine wildcards stand for
 abbrev pub captures : ℕ
 captures = 10
-
--- how many scopes there are: the root, the current part, and that with all below
-abbrev pub scopes : ℕ
-scopes = 3
-
--- how many selectors: a field's value, its type, its subtype, both, and its parameters
-abbrev pub selectors : ℕ
-selectors = 5
 
 -- an operation that names no field
 abbrev pub plain : Row
@@ -45,8 +41,8 @@ row_of Not = plain
 row_of Jump = jump
 row_of JumpIfTrue = jump
 row_of JumpIfFalse = jump
-row_of Header = record plain { a = Selection; b = Between 1 max_test_strings; c = Counts }
-row_of Exists = record plain { a = Below scopes; b = Between 1 max_test_strings }
+row_of Header = record plain { a = FieldTest; b = Between 1 max_test_strings; c = Counts }
+row_of Exists = record plain { a = Scope; b = Between 1 max_test_strings }
 row_of String = record plain { a = Match; b = Between 1 max_test_strings; c = Between 1 max_test_strings }
 row_of Size = record plain { a = Below 2; c = Any; index = Some Numbers }
 row_of PartSize = record plain { a = Below 2; c = Any; index = Some Numbers; needs_part = true }
@@ -69,33 +65,13 @@ row_in_version version operation = if (row_of operation).since_two && not (versi
 abbrev pub row_named : ℕ → ℕ → Option Row
 row_named version octet = option_and_then (row_in_version version) (operation_of octet)
 
--- how values are matched with keys: bits 0 and 1 say by which of three ways, bit 2 by which of two comparators
-abbrev pub is_match_number : ℕ → Bool
-is_match_number n = nat_lt n 8 && nat_lt (n % 4) 3
+abbrev pub is_param : Selector → Bool
+is_param Param = true
+is_param _ = false
 
--- what a says of a test of fields: how values are matched, plus 8 times the scope, plus 32 times the selector
-abbrev pub match_in : ℕ → ℕ
-match_in a = a % 8
-
-abbrev pub scope_in : ℕ → ℕ
-scope_in a = a / 8 % 4
-
-abbrev pub selector_in : ℕ → ℕ
-selector_in a = a / 32
-
--- what c says of it: how many keys, plus 65,536 times how many parameters
-abbrev pub keys_in : ℕ → ℕ
-keys_in c = c % 65536
-
-abbrev pub params_in : ℕ → ℕ
-params_in c = c / 65536
-
-abbrev pub is_selection : ℕ → Bool
-is_selection a = is_match_number (match_in a) && nat_lt (scope_in a) scopes && nat_lt (selector_in a) selectors
-
--- the selector of parameters
+-- a says that a test of fields selects parameters
 abbrev pub selects_params : ℕ → Bool
-selects_params a = selector_in a == 4
+selects_params a = option_map_or (λ (test : field.FieldTest). is_param test.selector) (field_test_numbered a) false
 
 -- how many strings a list of a test may have
 abbrev pub is_list : ℕ → Bool
@@ -110,8 +86,9 @@ abbrev pub takes : ℕ → Range → ℕ → Bool
 takes a Unnamed n = n == 0
 takes a (Below bound) n = nat_lt n bound
 takes a (Between least most) n = nat_le least n && nat_le n most
-takes a Match n = is_match_number n
-takes a Selection n = is_selection n
+takes a Match n = is_some (match_numbered n)
+takes a Scope n = is_some (scope_numbered n)
+takes a FieldTest n = is_some (field_test_numbered n)
 takes a Counts n = are_counts a n
 takes a Modifiers n = is_some (modifiers_numbered n)
 takes a Any n = true

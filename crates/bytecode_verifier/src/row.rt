@@ -2,29 +2,19 @@
 ghost use Rattle.std.specs.Prelude.{◌≡◌, ◌&&◌};
 ghost use Rattle.bytecode_verifier.specs.Rows;
 
-use bytecode_format::{Instruction, Modifiers, Operation};
+use bytecode_format::{
+    FieldTest, Instruction, Modifiers, Operation, Scope, Selector, TestCounts, match_of,
+};
 use octets::MAX_VALUE;
 
 /// The most strings in the lists of a test.
-const MAX_TEST_STRINGS: u32 = 512;
+const MAX_TEST_STRINGS: u16 = 512;
 
 /// The most texts that are joined.
 const MAX_SEGMENTS: u32 = 256;
 
 /// How many captures there are.
 const CAPTURES: u32 = 10;
-
-/// How many scopes there are.
-const SCOPES: u32 = 3;
-
-/// How many selectors there are.
-const SELECTORS: u32 = 5;
-
-/// The selector of parameters.
-const PARAMS: u32 = 4;
-
-/// What a parameter counts in the number of keys and parameters.
-const PARAMS_UNIT: u32 = 65_536;
 
 /// The version that has all operations.
 const VERSION_TWO: u8 = 2;
@@ -41,14 +31,14 @@ pub enum Range {
     Below(u32),
     /// The numbers from the first to the second, both included.
     Between(u32, u32),
-    /// How values are matched with keys: bits 0 and 1 say by which of three ways, bit 2 by which of
-    /// two comparators.
+    /// The numbers of ways to match values with keys.
     Match,
-    /// How a test of fields selects values: a match number, plus 8 times the scope, plus 32 times the
-    /// selector.
-    Selection,
-    /// How many keys, plus 65,536 times how many parameters, which are there exactly where the
-    /// instruction's a has the selector of parameters.
+    /// The numbers of scopes.
+    Scope,
+    /// The numbers of tests of fields.
+    FieldTest,
+    /// The numbers of keys and parameters, where there are parameters exactly where the instruction's a
+    /// selects them.
     Counts,
     /// The numbers of modifiers.
     Modifiers,
@@ -113,7 +103,7 @@ const PART: Row = Row {
 };
 
 /// How many strings a list of a test has.
-const LIST: Range = Range::Between(1, MAX_TEST_STRINGS);
+const LIST: Range = Range::Between(1, MAX_TEST_STRINGS as u32);
 
 /// The row of an operation in programs of a version, if they may have it.
 pub fn row_in_version(version: u8, operation: Operation) -> Option<Row>
@@ -164,13 +154,13 @@ fn row_of(operation: Operation) -> Row
         Operation::Jump | Operation::JumpIfTrue | Operation::JumpIfFalse => JUMP,
         Operation::Size => SIZE,
         Operation::Header => Row {
-            a: Range::Selection,
+            a: Range::FieldTest,
             b: LIST,
             c: Range::Counts,
             ..PLAIN
         },
         Operation::Exists => Row {
-            a: Range::Below(SCOPES),
+            a: Range::Scope,
             b: LIST,
             ..PLAIN
         },
@@ -218,8 +208,9 @@ impl Range {
             Range::Unnamed => value == 0,
             Range::Below(bound) => value < bound,
             Range::Between(least, most) => least <= value && value <= most,
-            Range::Match => is_match_number(value),
-            Range::Selection => is_selection(value),
+            Range::Match => value < 256 && match_of(value as u8).is_some(),
+            Range::Scope => value < 256 && Scope::of(value as u8).is_some(),
+            Range::FieldTest => value < 256 && FieldTest::of(value as u8).is_some(),
             Range::Counts => are_counts(a, value),
             Range::Modifiers => value < 256 && Modifiers::of(value as u8).is_some(),
             Range::Any => true,
@@ -227,71 +218,35 @@ impl Range {
     }
 }
 
-// Whether the number says how values are matched with keys.
-fn is_match_number(value: u32) -> bool
-    ensures { result ≡ Rows.is_match_number value }
+// Whether a says that a test of fields selects parameters.
+fn selects_params(a: u8) -> bool
+    ensures { result ≡ Rows.selects_params a }
 {
-    value < 8 && value % 4 < 3
+    matches!(
+        FieldTest::of(a),
+        Some(FieldTest {
+            selector: Selector::Param,
+            ..
+        })
+    )
 }
 
-// Whether the number says how values are matched, in which scope, and which are selected.
-fn is_selection(value: u32) -> bool
-    ensures { result ≡ Rows.is_selection value }
-{
-    is_match_number(match_in(value)) && scope_in(value) < SCOPES && selector_in(value) < SELECTORS
-}
-
-// How values are matched, of what a says of a test of fields.
-fn match_in(a: u32) -> u32
-    ensures { result ≡ Rows.match_in a }
-{
-    a % 8
-}
-
-// In which scope.
-fn scope_in(a: u32) -> u32
-    ensures { result ≡ Rows.scope_in a }
-{
-    a / 8 % 4
-}
-
-// By which selector.
-fn selector_in(a: u32) -> u32
-    ensures { result ≡ Rows.selector_in a }
-{
-    a / 32
-}
-
-// Whether there are keys, and parameters exactly where `a` has their selector.
+// Whether there are keys, and parameters exactly where `a` selects them.
 fn are_counts(a: u8, value: u32) -> bool
     ensures { result ≡ Rows.are_counts a value }
 {
-    let params = params_in(value);
-    let fine = if selector_in(u32::from(a)) == PARAMS {
+    let TestCounts { params, keys } = TestCounts::of(value);
+    let fine = if selects_params(a) {
         is_list(params)
     } else {
         params == 0
     };
-    is_list(keys_in(value)) && fine
+    is_list(keys) && fine
 }
 
 // Whether a list of a test may have so many strings.
-fn is_list(strings: u32) -> bool
+fn is_list(strings: u16) -> bool
     ensures { result ≡ Rows.is_list strings }
 {
     1 <= strings && strings <= MAX_TEST_STRINGS
-}
-
-/// How many keys c says that there are in a test of fields.
-pub fn keys_in(c: u32) -> u32
-    ensures { result ≡ Rows.keys_in c }
-{
-    c % PARAMS_UNIT
-}
-
-/// How many parameters c says that there are in a test of fields.
-pub fn params_in(c: u32) -> u32
-    ensures { result ≡ Rows.params_in c }
-{
-    c / PARAMS_UNIT
 }

@@ -7,8 +7,7 @@ ghost use Rattle.bytecode_verifier.specs.Budget.{one_charge, cap_of_octets, cap_
 ghost use Rattle.bytecode_verifier.specs.Pass.{IsSmall, Passes, Takes, TakesLists};
 
 use crate::cap::{Cap, ONE_CHARGE};
-use crate::row::{keys_in, params_in};
-use bytecode_format::{Instruction, Operation, Program};
+use bytecode_format::{Instruction, Operation, Program, TestCounts};
 use octets::{MAX_STRING, MAX_VALUE};
 use std::alloc::{AllocError, Global};
 use std::marker::Model;
@@ -103,7 +102,7 @@ impl Shape {
     {
         let Instruction { b, c, .. } = *instruction;
         let fine = match operation {
-            Some(Operation::Header) => return self.take_fields(b, params_in(c), keys_in(c)),
+            Some(Operation::Header) => return self.take_fields(b, TestCounts::of(c)),
             Some(Operation::String) => return self.take_sources(b, c),
             Some(Operation::Exists) => return self.take_names(b),
             Some(Operation::PartBody) => return self.take_body_keys(c),
@@ -233,14 +232,17 @@ impl Shape {
 
     // Takes the names of fields, the parameters above them and the keys above these, and pushes
     // whether one matches.
-    fn take_fields(&mut self, names: u16, params: u32, keys: u32) -> Result<Option<Cap>, AllocError>
+    fn take_fields(&mut self, names: u16, counts: TestCounts) -> Result<Option<Cap>, AllocError>
         requires { IsSmall self.old }
         ensures { IfOk result (λ cap. Passes cap self.new
-            (option_map_or cap_of_matching (take_lists names params keys self.old) one_charge)
+            (option_map_or cap_of_matching (take_lists names counts.params counts.keys self.old)
+            one_charge)
             (option_and_then (λ (lists : Lists). with_entry Entry.Truth lists.rest)
-            (take_lists names params keys self.old))) }
+            (take_lists names counts.params counts.keys self.old))) }
     {
-        let Some((names_total, keys_total)) = self.take_lists(names, params, keys) else {
+        let TestCounts { params, keys } = counts;
+        let taken = self.take_lists(names, u32::from(params), u32::from(keys));
+        let Some((names_total, keys_total)) = taken else {
             return Ok(None);
         };
         let selected = u64::from(names) * u64::from(params.max(1));

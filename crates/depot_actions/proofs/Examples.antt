@@ -9,7 +9,8 @@ use Rattle.mime_decode.specs.Mail.{Mail, Part}
 use Rattle.bytecode_format.specs.declared.action.Action.TheVariants.{Keep, File, Store}
 use Rattle.part_store.specs.Entries.{Draft}
 use Rattle.part_store.specs.declared.entry.Kind.TheVariants as kinds
-use Rattle.depot_actions.specs.Drafts.{drafts_of, media_text, name_of}
+use Rattle.depot_actions.specs.Drafts.{drafts_of, name_of}
+use Rattle.mime_params.specs.MediaValue.{media_text}
 use Rattle.depot_actions.specs.Users.{is_user_name}
 
 abbrev field : List ℕ → List ℕ → Field

@@ -1,8 +1,3 @@
-pub mod Hexadecimal
-pub mod Readings
-pub mod ReadBack
-pub mod Outputs
-pub mod Pieces
 pub mod Commands
 pub mod Numbering
 pub mod Keeping

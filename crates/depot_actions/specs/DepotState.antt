@@ -17,9 +17,9 @@ use Rattle.part_store.specs.Entries.{AreProgramsOf, Draft, Entries, Entry, Listi
 use Rattle.part_store.specs.Filing.{HasRoom}
 use Rattle.part_store.specs.Standing.{DiskFailed, IsEntryAt, IsStored, Stands}
 use Rattle.depot_actions.specs.Drafts.{drafts_of}
-use Rattle.depot_actions.specs.Texts.{text_of}
+use Rattle.encodings.specs.Texts.{text_of}
 use Rattle.depot_actions.specs.Users.{is_user_name}
-use Rattle.depot_actions.specs.declared.encoding.Encoding.{Encoding}
+use Rattle.encodings.specs.declared.encoding.Encoding.{Encoding}
 
 -- What a depot is asked for, by a user: to store the code of a script, or a program; to file a
 -- message; for the list of his entries; for his program; for the text of an entry's octets in an

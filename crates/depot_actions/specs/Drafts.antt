@@ -1,12 +1,11 @@
 -- The entries that actions file (RFC 5228, sections 2.10.2 and 4.1; RFC 2183, section 2.3).
 use Rattle.std.specs.Prelude.{ℕ, List, [], ◌++◌, Option, None, Some, codes, map, slice_get, unwrap_or}
-use Rattle.octets.specs.Ascii.{lowercase_of}
 use Rattle.bytecode_format.specs.declared.action.Action.{Action}
 use Rattle.bytecode_format.specs.declared.action.Action.TheVariants.{Keep, File, Store}
-use Rattle.mime_params.specs.MediaValue.{disposition_of, value_named}
+use Rattle.mime_params.specs.MediaValue.{disposition_of, media_text, value_named}
 use Rattle.mime_params.specs.declared.media.Disposition.{Disposition}
-use Rattle.mime_params.specs.declared.media.MediaType.{MediaType}
-use Rattle.mime_tree.specs.PartTree.{first_value, message_rfc822}
+use Rattle.header_fields.specs.Fields.{first_value}
+use Rattle.mime_tree.specs.PartTree.{message_rfc822}
 use Rattle.mime_decode.specs.Mail.{Mail, Part}
 use Rattle.part_store.specs.Entries.{Draft}
 use Rattle.part_store.specs.declared.entry.Kind.TheVariants as kinds
@@ -14,10 +13,6 @@ use Rattle.part_store.specs.declared.entry.Kind.TheVariants as kinds
 -- the folder of a message that is kept
 abbrev pub inbox : List ℕ
 inbox = codes "INBOX"
-
--- a media type in lower case
-abbrev pub media_text : MediaType → List ℕ
-media_text media = lowercase_of media.main ++ codes "/" ++ lowercase_of media.sub
 
 -- the file name that a disposition has
 abbrev pub file_name : Option Disposition → Option (List ℕ)

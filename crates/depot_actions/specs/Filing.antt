@@ -12,7 +12,8 @@ use Rattle.part_store.specs.Filing.{Collides, HasRoom}
 use Rattle.part_store.specs.Standing.{MayMake, Stands}
 use Rattle.refusals.specs.declared.refusal.Refusal.{Refusal}
 use Rattle.refusals.specs.declared.refusal.Refusal.TheVariants.{Memory, NumberFull, Collision, Database}
-use Rattle.depot_actions.specs.Drafts.{media_text, name_of}
+use Rattle.depot_actions.specs.Drafts.{name_of}
+use Rattle.mime_params.specs.MediaValue.{media_text}
 use Rattle.depot_actions.specs.declared.stored_part.StoredPart.{StoredPart}
 
 -- what is kept of a part is what an entry shows of it

@@ -1,5 +1,3 @@
-pub mod Device
-pub mod Texts
 pub mod Users
 pub mod Drafts
 pub mod DepotState

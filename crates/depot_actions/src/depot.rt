@@ -14,18 +14,16 @@ ghost use Rattle.depot_actions.specs.DepotState.{Deliver, Does, Done, Export, Li
 ghost use Rattle.depot_actions.specs.Overviews.{IsOverview};
 ghost use Rattle.sqlite.specs.Files.{file_state, IsOpened};
 ghost use Rattle.part_store.specs.Looking.{are_tables};
-ghost use Rattle.depot_actions.specs.Device.{HasBegun, HasBroken, HasTaken};
+ghost use Rattle.encodings.specs.Device.{HasBegun, HasBroken, HasTaken};
 
 use crate::checking::{check_code, code_octets};
 use crate::delivery::{actions_of, file_all};
-use crate::encoding::Encoding;
-use crate::exporting::put_text;
 use crate::inspecting::look_over;
 use crate::overview::Overview;
 use crate::refusing::refused;
 use crate::renewing::renewed_programs;
-use crate::sink::Sink;
 use crate::user::is_user_name;
+use encodings::{Encoding, Sink, put_text};
 use mime_decode::Message;
 use part_store::{EntryRow, PartStore, Unopened};
 use refusals::Refusal;

@@ -1,8 +1,7 @@
 //! What holds of the definitions alone.
-ghost use Rattle.std.specs.Prelude.{◌≡◌, ◌++◌, ◌∷◌, [], ℕ, List, IsTrue};
+ghost use Rattle.std.specs.Prelude.{◌≡◌, ◌∷◌, [], ℕ, List, IsTrue};
 ghost use Rattle.bytecode_format.specs.declared.action.Action.{Action};
 ghost use Rattle.mime_decode.specs.Mail.{Mail};
-ghost use Rattle.octet_lanes.specs.Encoding.{IsOctets};
 ghost use Rattle.sqlite.specs.Held.{Held, state};
 ghost use Rattle.sqlite.specs.Recovery.{Image};
 ghost use Rattle.sqlite.specs.State.{HasCleanDisk};
@@ -14,30 +13,10 @@ ghost use Rattle.depot_actions.specs.Causes.{IsFull, NamesNone};
 ghost use Rattle.depot_actions.specs.DepotState.{Accepts, AreActions, Command, IsNamed, Migrate, Reply};
 ghost use Rattle.depot_actions.specs.History.{AreAnswered, AreSteps, Call};
 ghost use Rattle.depot_actions.specs.Runs.{AreRuns, HoldFold, Run};
-ghost use Rattle.depot_actions.specs.Texts.{IsPiece, Reads, text_of};
-ghost use Rattle.depot_actions.specs.declared.encoding.Encoding.{Encoding};
 
 use part_store::laws::{each_image_holds_one_left, refused_opens_leave_the_store};
 use sqlite::{Alter, FileStore};
 use sqlite_disk::Disk;
-
-/// Each text reads as one list of octets at most.
-pub fn reads_at_most_one()
-    ensures { (encoding : Encoding) (text x y : List ℕ) → IsOctets x → IsOctets y
-        → Reads encoding text x → Reads encoding text y → x ≡ y }
-{}
-
-/// What was written is read back.
-pub fn reads_what_was_written()
-    ensures { (encoding : Encoding) (octets : List ℕ) → IsOctets octets
-        → Reads encoding (text_of encoding octets) octets }
-{}
-
-/// The text of octets is that of a piece of them, then that of the others.
-pub fn text_is_the_texts_of_its_pieces()
-    ensures { (encoding : Encoding) (piece rest : List ℕ) → IsPiece encoding piece
-        → text_of encoding (piece ++ rest) ≡ text_of encoding piece ++ text_of encoding rest }
-{}
 
 /// Whatever calls a depot is given, and whichever of them fail, what its store shows while it is open stands for what the accepted ones make of
 /// what it stood for, one after another. A store that a failure has shut accepts nothing more.

@@ -6,20 +6,12 @@
 //! (`specs/History`, [`laws`]). What the actions of a filter file stands in `specs/Drafts`, and who may be a user in `specs/Users`.
 //!
 //! [`Depot::inspect`] tells what a depot holds, user by user (`specs/Overviews`), to whoever keeps it.
-//!
-//! [`encode`] writes octets in an [`Encoding`], and [`decode`] reads them back: exactly the octets that the
-//! text reads as, or `NotCanonical` where there are none.
-//!
-//! A [`Sink`] takes octets. A contract sees the octets that it took, where they are told, and how many of its calls
-//! have failed (`specs/Device`); [`OfWrite`] makes a sink of a writer, and [`put`] writes all of some octets to one.
 #![tactic(auto)]
 
 mod checking;
 mod delivery;
 mod depot;
-mod encoding;
 mod entries;
-mod exporting;
 mod inspecting;
 mod kept_parts;
 pub mod laws;
@@ -28,14 +20,10 @@ mod overview;
 mod refusing;
 mod renewing;
 mod rows;
-mod sink;
 mod stored_part;
 mod user;
 
 pub use depot::Depot;
-pub use encoding::{Encoding, decode, encode};
-pub use exporting::put;
 pub use overview::{Overview, ProgramState, UserOverview};
 pub use refusals::Refusal;
-pub use sink::{DeviceFailed, MAX_TRIES, OfWrite, Sink};
 pub use user::{MAX_USER, is_user_name};

@@ -1,14 +1,14 @@
 // The names and media types of parts (RFC 2183, section 2.3; RFC 2045, section 5.1).
-ghost use Rattle.std.specs.Prelude.{◌≡◌, ◌<◌, IfOk, MatchOption, None, Some, codes, length, option_map};
+ghost use Rattle.std.specs.Prelude.{◌≡◌, ◌<◌, IfOk, Some, codes, length, option_map};
 ghost use Rattle.std.specs.List.{HoldsAt};
-ghost use Rattle.mime_tree.specs.PartTree.{first_value};
+ghost use Rattle.header_fields.specs.Fields.{first_value};
 ghost use Rattle.mime_decode.specs.Mail.{part_of};
-ghost use Rattle.depot_actions.specs.Drafts.{file_name_in, media_text, name_of};
+ghost use Rattle.mime_params.specs.MediaValue.{media_text};
+ghost use Rattle.depot_actions.specs.Drafts.{file_name_in, name_of};
 
-use header_fields::{Field, name_is, unfold};
+use header_fields::{Field, first_named, unfold};
 use mime_params::{MediaType, disposition_param};
 use mime_tree::Tree;
-use octets::to_lowercase;
 use std::alloc::{AllocError, Global};
 
 /// The name of a part. An error comes only where an allocation was refused.
@@ -29,9 +29,8 @@ pub(crate) fn part_name(alloc: Global, tree: &Tree<'_>, part: usize) -> Result<V
 pub(crate) fn media_text(alloc: Global, media: &MediaType) -> Result<Vec<u8>, AllocError>
     ensures { IfOk result (λ text. text.items ≡ media_text media.now) }
 {
-    let mut text = to_lowercase(alloc, media.main.as_slice())?.into_vec();
-    text.push(b'/')?;
-    text.extend_from_slice(to_lowercase(alloc, media.sub.as_slice())?.as_slice())?;
+    let mut text = Vec::new(alloc);
+    media.append_text(&mut text)?;
     Ok(text)
 }
 
@@ -54,17 +53,4 @@ fn file_name_of(alloc: Global, value: &[u8]) -> Result<Option<Vec<u8>>, AllocErr
         Some(name) => Ok(Some(name.into_vec())),
         None => Ok(None),
     }
-}
-
-// The first field of this name.
-fn first_named<'f, 'a>(fields: &'f [Field<'a>], name: &[u8]) -> Option<&'f Field<'a>>
-    ensures { MatchOption result (first_value name.now fields.now ≡ None)
-        (λ field. first_value name.now fields.now ≡ Some field.now.value) }
-{
-    for field in fields {
-        if name_is(field, name) {
-            return Some(field);
-        }
-    }
-    None
 }

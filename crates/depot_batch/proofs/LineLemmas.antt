@@ -9,7 +9,7 @@ use Rattle.sqlite_trees.specs.declared.store.Store.{Ghosts}
 use Rattle.sqlite_trees.specs.Tree.{Trees}
 use Rattle.sqlite.specs.Held.{state}
 use Rattle.sqlite.specs.State.{State, Survives}
-use Rattle.depot_actions.specs.Device.{HasBroken, HasTaken, Output}
+use Rattle.encodings.specs.Device.{HasBroken, HasTaken, Output}
 use Rattle.depot_cli.specs.Tasks.{MayAdd}
 use Rattle.refusals.specs.declared.refusal.Refusal.{Refusal}
 use Rattle.refusals.specs.declared.refusal.Refusal.TheVariants.{Database, Memory, Read, Write}

@@ -1,8 +1,8 @@
 -- Answers that are written, or break off.
 use Rattle.std.proofs.Common.{◌≡◌, ◌++◌, sym, subst, ℕ, List, Result, Ok, Err, IfOk, OnErr, OnOk}
 use Rattle.std.proofs.lemmas.Result.{on_err_weaker}
-use Rattle.depot_actions.specs.Device.{HasBroken, HasTaken, Output}
-use Rattle.depot_actions.proofs.Outputs.{broken_first, broken_later, on_err, taken_both}
+use Rattle.encodings.specs.Device.{HasBroken, HasTaken, Output}
+use Rattle.encodings.proofs.Outputs.{broken_first, broken_later, on_err, taken_both}
 use Rattle.depot_batch.specs.Batch.{closing}
 use Rattle.depot_batch.specs.declared.outcome.Outcome.{Outcome}
 

@@ -4,7 +4,7 @@ use Rattle.std.specs.List.{All}
 use Rattle.std.specs.Str.{IsUtf8}
 use Rattle.sqlite_trees.specs.declared.store.Store.{Ghosts}
 use Rattle.sqlite.specs.Held.{Held}
-use Rattle.depot_actions.specs.Device.{HasBroken, HasTaken, Output}
+use Rattle.encodings.specs.Device.{HasBroken, HasTaken, Output}
 use Rattle.depot_cli.specs.Host.{HostState}
 use Rattle.depot_cli.specs.Printed.{refusal_line}
 use Rattle.depot_cli.specs.Tasks.{text_in as reply_text}

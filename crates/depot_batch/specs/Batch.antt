@@ -12,7 +12,7 @@ use Rattle.sqlite.specs.State.{HasCleanDisk, Survives}
 use Rattle.part_store.specs.Standing.{Spares}
 use Rattle.depot_actions.specs.Causes.{HasCause}
 use Rattle.depot_actions.specs.DepotState.{Command, SetScript, SetCode, Deliver, ListAll, Export as Exports, Remove, Migrate, Text as Written}
-use Rattle.depot_actions.specs.Device.{HasBroken, HasTaken, Output}
+use Rattle.encodings.specs.Device.{HasBroken, HasTaken, Output}
 use Rattle.depot_cli.specs.Host.{HasMade, HasNotMade, HostState, file, makes, with_call}
 use Rattle.depot_cli.specs.Jobs.{HasTold}
 use Rattle.depot_cli.specs.Printed.{line, refusal_line}

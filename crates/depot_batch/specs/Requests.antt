@@ -2,8 +2,8 @@
 use Rattle.std.specs.Prelude.{◌≡◌, ◌≢◌, ℕ, ◌≤◌, List, [], ◌∷◌, Option, Some, None, codes, if◌then◌else◌, length}
 use Rattle.std.specs.Str.{bytes_eq}
 use Rattle.std.specs.Str.Parse.{digits_value, without_leading_plus}
-use Rattle.depot_actions.specs.declared.encoding.Encoding.{Encoding}
-use Rattle.depot_actions.specs.declared.encoding.Encoding.TheVariants.{Raw, Base64, Base64Mime, Base32, Base32Hex, Base16, Qp}
+use Rattle.encodings.specs.declared.encoding.Encoding.{Encoding}
+use Rattle.encodings.specs.declared.encoding.Encoding.TheVariants.{Raw, Base64, Base64Mime, Base32, Base32Hex, Base16, Qp}
 use Rattle.depot_cli.specs.Words.{IsNumberText}
 use Rattle.depot_batch.specs.declared.fault.LineFault.{LineFault}
 use Rattle.depot_batch.specs.declared.fault.LineFault.TheVariants as faults

@@ -2,17 +2,18 @@
 ghost use Rattle.std.specs.Prelude.{◌≡◌, ℕ, List, IfErr, IfOk, OnErr, OnOk, false, option_map};
 ghost use Rattle.sqlite.specs.Held.{state};
 ghost use Rattle.sqlite.specs.State.{Survives};
-ghost use Rattle.depot_actions.specs.Device.{HasBroken, HasTaken};
+ghost use Rattle.encodings.specs.Device.{HasBroken, HasTaken};
 ghost use Rattle.depot_actions.specs.Causes.{IsExport};
 ghost use Rattle.depot_cli.specs.Tasks.{MayAdd, command_of as tasks_command, text_in as reply_text};
 ghost use Rattle.depot_batch.specs.Answers.{is_export, text_in};
 ghost use Rattle.depot_batch.specs.Batch.{HasExported, HasNotExported, HasNotReadFile, HasNotReplied, HasReadFile, HasReplied, IsDone, IsRefused, command_of, exported_text, file_of};
 
 use crate::request::{Export, Request};
-use depot_actions::{Depot, DeviceFailed, Sink};
+use depot_actions::Depot;
 use depot_cli::{
     Host, Input, Piece, Refusal, Reply, Task, put_pieces, put_reply, read_input, reply_to,
 };
+use encodings::{DeviceFailed, Sink};
 use sqlite::Alter;
 use std::alloc::Global;
 

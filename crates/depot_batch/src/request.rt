@@ -4,7 +4,7 @@ ghost use Rattle.depot_batch.specs.Requests.{Asks, AskNothing, IsEntryNumber, en
 ghost use Rattle.depot_batch.specs.declared.fault.Form.{Form};
 
 use crate::fault::{Form, LineFault};
-use depot_actions::Encoding;
+use encodings::Encoding;
 
 /// A command on a depot, as a line of a batch says it.
 #[derive(Clone, Copy)]

@@ -8,8 +8,9 @@ ghost use Rattle.depot_batch.specs.declared.outcome.Outcome.TheVariants.{Refused
 
 use crate::line::serve;
 use crate::outcome::Outcome;
-use depot_actions::{Depot, DeviceFailed, OfWrite, Sink};
+use depot_actions::Depot;
 use depot_cli::{Host, Refusal, tell};
+use encodings::{DeviceFailed, OfWrite, Sink};
 use sqlite::Alter;
 use std::alloc::Global;
 use std::io::{BufRead, ErrorKind, Write};

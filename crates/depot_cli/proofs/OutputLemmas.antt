@@ -6,8 +6,8 @@ use Rattle.std.proofs.lemmas.List.Concat.{flat_map-cons}
 use Rattle.std.proofs.lemmas.Grind.{flat_map-append}
 use Rattle.std.proofs.lemmas.List.{take_more}
 use Rattle.depot_cli.specs.Gathering.{Gathering, HasGathered, gathering}
-use Rattle.depot_actions.specs.Device.{HasBroken, HasTaken, Output}
-use Rattle.depot_actions.proofs.Outputs.{broken_first, broken_later, rest_whole, taken_both, taken_none}
+use Rattle.encodings.specs.Device.{HasBroken, HasTaken, Output}
+use Rattle.encodings.proofs.Outputs.{broken_first, broken_later, rest_whole, taken_both, taken_none}
 
 -- nothing is gathered by doing nothing
 pub gathered_none : (s : Gathering) → HasGathered [] s s

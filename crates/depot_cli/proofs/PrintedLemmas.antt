@@ -1,7 +1,7 @@
 -- Printed texts.
 use Rattle.std.proofs.Common.{◌≡◌, ◌∙◌, ◌<◌, ◌≤◌, ◌++◌, ℕ, List, [], ◌∷◌, ap, arith, length, map, refl, subst, sym, take, true}
 use Rattle.std.proofs.lemmas.List.{take_all}
-use Rattle.depot_actions.specs.Device.{HasTaken, Output}
+use Rattle.encodings.specs.Device.{HasTaken, Output}
 use Rattle.std.specs.List.{flat_map, list_all}
 use Rattle.std.proofs.lemmas.List.Concat.{flat_map-cons}
 use Rattle.bytecode_format.specs.declared.action.Action.{Action}

@@ -4,8 +4,8 @@ use Rattle.std.specs.List.{flat_map}
 use Rattle.std.proofs.lemmas.List.{take_more}
 use Rattle.std.proofs.lemmas.List.Concat.{flat_map-cons}
 use Rattle.std.proofs.lemmas.Grind.{flat_map-append}
-use Rattle.depot_actions.specs.Device.{HasBroken, HasTaken, Output}
-use Rattle.depot_actions.proofs.Outputs.{taken_both}
+use Rattle.encodings.specs.Device.{HasBroken, HasTaken, Output}
+use Rattle.encodings.proofs.Outputs.{taken_both}
 use Rattle.depot_actions.specs.declared.overview.Overview.{Overview}
 use Rattle.refusals.specs.declared.refusal.Refusal.TheVariants.{Write}
 use Rattle.depot_cli.specs.Inspecting.{HasInspected, HasSeen}

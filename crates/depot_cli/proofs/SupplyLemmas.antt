@@ -2,7 +2,7 @@
 use Rattle.std.proofs.Common.{◌≡◌, ◌∙◌, ◌+◌, ap, ℕ, zero, suc, List, [], ◌++◌, sym, subst, refl, arith, length, take, drop, length-append}
 use Rattle.std.proofs.Math.Seq.{take-add}
 use Rattle.std.proofs.KnownBytes.{Consumes-kept, Consumes-nil, Consumes-trans}
-use Rattle.depot_actions.specs.Device.{counted}
+use Rattle.encodings.specs.Device.{counted}
 use Rattle.depot_cli.specs.Supply.{HasFailedToGive, HasGiven, HasStoppedGiving, Supply}
 
 -- counting in two steps is counting at once

@@ -1,6 +1,6 @@
 -- Lines that are gathered before they go out.
 use Rattle.std.specs.Prelude.{◌≡◌, ℕ, List, ◌++◌}
-use Rattle.depot_actions.specs.Device.{HasTaken, Output}
+use Rattle.encodings.specs.Device.{HasTaken, Output}
 
 -- a line that is gathered: the octets that wait, and what is known of the sink
 pub record Gathering : Type 0 where

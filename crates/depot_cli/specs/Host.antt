@@ -1,7 +1,7 @@
 -- What is known of a host, and what calls do to it.
 use Rattle.std.specs.Prelude.{◌≡◌, ◌⊎◌, ℕ, List, [], ◌∷◌, ◌++◌, Option, None, Some, IfSome, OnSome}
 use Rattle.std.specs.Option.{option_map}
-use Rattle.depot_actions.specs.Device.{Output, counted}
+use Rattle.encodings.specs.Device.{Output, counted}
 use Rattle.depot_cli.specs.Supply.{Supply}
 use Rattle.refusals.specs.declared.refusal.Refusal.{Refusal}
 use Rattle.refusals.specs.declared.refusal.Refusal.TheVariants.{Memory, Read, Write}

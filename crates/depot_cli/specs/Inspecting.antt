@@ -3,7 +3,7 @@ use Rattle.std.specs.Prelude.{◌≡◌, ◌⊎◌, ℕ, IsTrue, Option}
 use Rattle.sqlite.specs.State.{HasCleanDisk, State}
 use Rattle.part_store.specs.Entries.{Entries}
 use Rattle.part_store.specs.Standing.{Spares, Stands}
-use Rattle.depot_actions.specs.Device.{HasBroken, HasTaken, Output}
+use Rattle.encodings.specs.Device.{HasBroken, HasTaken, Output}
 use Rattle.depot_actions.specs.Overviews.{IsOverview}
 use Rattle.depot_actions.specs.declared.overview.Overview.{Overview}
 use Rattle.refusals.specs.declared.refusal.Refusal.{Refusal}

@@ -2,8 +2,8 @@
 use Rattle.std.specs.Prelude.{◌≡◌, ◌≢◌, ◌<◌, ◌⊎◌, ◌++◌, ℕ, List, length, codes, Option, None, Some}
 use Rattle.octets.specs.Limits.{max_program, max_script}
 use Rattle.octet_lanes.specs.Encoding.{IsOctets}
-use Rattle.depot_actions.specs.Device.{HasBroken, HasTaken, Output}
-use Rattle.depot_actions.specs.Texts.{IsUnread, Reads, text_of}
+use Rattle.encodings.specs.Device.{HasBroken, HasTaken, Output}
+use Rattle.encodings.specs.Texts.{IsUnread, Reads, text_of}
 use Rattle.bytecode_cost.specs.Text.{budget_text}
 use Rattle.bytecode_format.specs.declared.action.Action.{Action}
 use Rattle.bytecode_format.specs.Code.{Code}

@@ -11,7 +11,7 @@ use Rattle.part_store.specs.declared.entry.Kind.{Kind}
 use Rattle.part_store.specs.declared.entry.Kind.TheVariants.{Message, Part as Piece}
 use Rattle.depot_actions.specs.DepotState.{Command, Reply, SetScript, SetCode, Deliver, ListAll, Export, Remove, Migrate, Listed, Migrated}
 use Rattle.depot_actions.specs.DepotState.{Text as Written}
-use Rattle.depot_actions.specs.Drafts.{media_text}
+use Rattle.mime_params.specs.MediaValue.{media_text}
 use Rattle.depot_cli.specs.declared.entries.Detail.{Detail}
 use Rattle.depot_cli.specs.declared.entries.Detail.TheVariants.{Brief, Full}
 use Rattle.mime_decode.specs.Content.{digest_of}

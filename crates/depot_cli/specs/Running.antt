@@ -6,7 +6,7 @@ use Rattle.bytecode_format.specs.Code.{Code}
 use Rattle.bytecode_format.specs.Operations.{octet_of}
 use Rattle.bytecode_format.specs.Spelling.{spelling}
 use Rattle.bytecode_format.specs.declared.operation.Operation.TheVariants.{Keep, Halt}
-use Rattle.depot_actions.specs.Device.{HasBroken, HasTaken, Output, counted}
+use Rattle.encodings.specs.Device.{HasBroken, HasTaken, Output, counted}
 use Rattle.depot_cli.specs.Host.{HostState, Origin, file, opens, origin_of, standard, with_call, with_faults}
 use Rattle.depot_cli.specs.Jobs.{HasAnswered, HasFound, HasRefused, HasStopped, HasTold, World, world}
 use Rattle.depot_cli.specs.Limits.{max_input}

@@ -1,7 +1,7 @@
 -- What is known of a source, and what calls do to it.
 use Rattle.std.specs.Prelude.{◌≡◌, ℕ, List, Option, Bool, true, length}
 use Rattle.std.specs.Io.KnownBytes.{Consumes, IsAtEnd, Keeps}
-use Rattle.depot_actions.specs.Device.{counted}
+use Rattle.encodings.specs.Device.{counted}
 
 -- what is known of a source: the octets that are left, where they are told; how many it gave, at
 -- most 2^64 - 1; whether the last call met the end; and how many of its calls have failed

@@ -6,7 +6,7 @@ use Rattle.part_store.specs.Standing.{Spares, listed}
 use Rattle.depot_actions.specs.Causes.{HasCause, IsExport}
 use Rattle.depot_actions.specs.DepotState.{Command, Does, MayLeave, Reply, SetScript, SetCode, ListAll}
 use Rattle.depot_actions.specs.DepotState as depot
-use Rattle.depot_actions.specs.Device.{HasBegun, HasBroken, HasTaken, Output}
+use Rattle.encodings.specs.Device.{HasBegun, HasBroken, HasTaken, Output}
 use Rattle.refusals.specs.declared.refusal.Refusal.{Refusal}
 use Rattle.refusals.specs.declared.refusal.Refusal.TheVariants.{Memory, Write}
 use Rattle.depot_cli.specs.Jobs.{HasTold}

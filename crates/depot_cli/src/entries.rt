@@ -1,12 +1,12 @@
 // Printing the entries of a depot.
 ghost use Rattle.std.specs.Prelude.{◌≡◌, map, OnErr, OnOk};
 ghost use Rattle.part_store.specs.Standing.{listed};
-ghost use Rattle.depot_actions.specs.Device.{HasBroken, HasTaken};
+ghost use Rattle.encodings.specs.Device.{HasBroken, HasTaken};
 ghost use Rattle.depot_cli.specs.Printed.{entries_text, entry_text, kind_text, line as line_of};
 
 use crate::piece::Piece;
 use crate::printing::{put_line, put_pieces};
-use depot_actions::{DeviceFailed, Sink};
+use encodings::{DeviceFailed, Sink};
 use part_store::{EntryRow, Kind};
 
 /// How much of an entry is printed.

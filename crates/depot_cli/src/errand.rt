@@ -3,7 +3,7 @@ ghost use Rattle.std.specs.Prelude.{◌≡◌};
 ghost use Rattle.depot_cli.specs.Tasks.{command_in, command_of};
 
 use crate::task::Task;
-use depot_actions::Encoding;
+use encodings::Encoding;
 
 /// What is asked of a depot; the octets of a file may come to it.
 #[derive(Clone, Copy)]

@@ -1,11 +1,11 @@
 // Gathering a line, so that it goes out in one call.
 ghost use Rattle.arrayvec.specs.ArrayVec.{array_vec_len};
 ghost use Rattle.std.specs.Prelude.{◌≡◌, ◌<◌, ◌≤◌, [], ◌++◌, length, take, OnErr, OnOk};
-ghost use Rattle.depot_actions.specs.Device.{HasBroken, HasTaken};
+ghost use Rattle.encodings.specs.Device.{HasBroken, HasTaken};
 ghost use Rattle.depot_cli.specs.Gathering.{HasGathered, gathering};
 
 use arrayvec::ArrayVec;
-use depot_actions::{DeviceFailed, Sink, put};
+use encodings::{DeviceFailed, Sink, put};
 
 /// How many octets of a line wait for the others: as many as a pipe takes in one piece. A longer
 /// line goes out in several calls.

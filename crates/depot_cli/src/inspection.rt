@@ -2,7 +2,7 @@
 ghost use Rattle.std.specs.Prelude.{◌≡◌, ◌++◌, OnErr, OnOk};
 ghost use Rattle.sqlite.specs.Held.{state};
 ghost use Rattle.sqlite.specs.State.{Survives};
-ghost use Rattle.depot_actions.specs.Device.{HasBroken, HasTaken};
+ghost use Rattle.encodings.specs.Device.{HasBroken, HasTaken};
 ghost use Rattle.depot_cli.specs.Inspecting.{HasInspected};
 ghost use Rattle.depot_cli.specs.Printed.{contents_text, head_text, line as line_of, numbers_text, overview_text, state_line, user_line, users_text};
 ghost use Rattle.depot_cli.specs.Tasks.{desk};
@@ -11,7 +11,8 @@ use crate::job::tell;
 use crate::piece::Piece;
 use crate::printing::put_pieces;
 use crate::task::finish;
-use depot_actions::{Depot, DeviceFailed, Overview, ProgramState, Sink, UserOverview};
+use depot_actions::{Depot, Overview, ProgramState, UserOverview};
+use encodings::{DeviceFailed, Sink};
 use part_store::ContentTotal;
 use sqlite::Alter;
 use std::alloc::Global;

@@ -6,7 +6,7 @@ ghost use Rattle.depot_cli.specs.Words.{AreEncodings, IsDepot, IsNoMailCommand, 
 
 use crate::commands::depot_command;
 use clap::{ArgMatches, Error};
-use depot_actions::Encoding;
+use encodings::Encoding;
 use std::alloc::Global;
 
 /// A command with the names of its files, or with its encoding.

@@ -5,9 +5,8 @@ ghost use Rattle.std.specs.List.{HoldsAt};
 ghost use Rattle.mime_decode.specs.Content.{digest_of};
 ghost use Rattle.mime_decode.specs.Mail.{IsReadable, mail_of};
 ghost use Rattle.sieve_engine.specs.Execution.{IsUnread};
-ghost use Rattle.depot_actions.specs.Drafts.{media_text};
+ghost use Rattle.mime_params.specs.MediaValue.{media_text};
 ghost use Rattle.depot_cli.specs.Printed.{line, part_text, parts_text};
-ghost use Rattle.octets.specs.Ascii.{lowercase_of};
 
 use itoa::Buffer;
 use mime_decode::{Message, digest_of};
@@ -90,18 +89,6 @@ fn add_number(text: &mut Vec<u8>, number: usize) -> Result<(), AllocError>
 fn add_media(text: &mut Vec<u8>, media: &MediaType) -> Result<(), AllocError>
     ensures { OnOk result (text.new.items ≡ text.old.items ++ (media_text media.now ++ codes " ")) }
 {
-    add_lowercase(text, media.main.as_slice())?;
-    text.push(b'/')?;
-    add_lowercase(text, media.sub.as_slice())?;
+    media.append_text(text)?;
     Ok(text.push(b' ')?)
-}
-
-// Adds a text in lower case.
-fn add_lowercase(text: &mut Vec<u8>, word: &[u8]) -> Result<(), AllocError>
-    ensures { OnOk result (text.new.items ≡ text.old.items ++ lowercase_of word.now) }
-{
-    for octet in word {
-        text.push(octet.to_ascii_lowercase())?;
-    }
-    Ok(())
 }

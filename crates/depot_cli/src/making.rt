@@ -3,7 +3,7 @@ ghost use Rattle.std.specs.Prelude.{IfErr, OnOk};
 ghost use Rattle.depot_cli.specs.Host.{HasMade, HasNotMade};
 
 use crate::host::Host;
-use depot_actions::{DeviceFailed, put};
+use encodings::{DeviceFailed, put};
 use refusals::Refusal;
 use std::alloc::Global;
 

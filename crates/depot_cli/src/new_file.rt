@@ -3,7 +3,7 @@ ghost use Rattle.std.specs.Prelude.{◌≡◌, IfOk, IfSome};
 ghost use Rattle.std.specs.Path.{path_buf_bytes, path_with_file_name};
 ghost use Rattle.depot_cli.specs.Files.{IsReached, new_name};
 
-use depot_actions::{DeviceFailed, OfWrite, Sink};
+use encodings::{DeviceFailed, OfWrite, Sink};
 use std::alloc::{AllocError, Global};
 use std::fs::{File, Files, Metadata, OpenFile, OpenOptions};
 use std::io;

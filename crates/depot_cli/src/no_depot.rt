@@ -7,7 +7,7 @@ ghost use Rattle.depot_cli.specs.Printed.{why_text};
 use crate::job::{REFUSED, tell};
 use crate::piece::Piece;
 use crate::printing::put_pieces;
-use depot_actions::{DeviceFailed, Sink};
+use encodings::{DeviceFailed, Sink};
 use part_store::Unopened;
 use refusals::Refusal;
 

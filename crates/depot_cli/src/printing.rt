@@ -2,7 +2,7 @@
 ghost use Rattle.std.specs.Prelude.{◌≡◌, ◌++◌, ◌<◌, OnErr, OnOk, false};
 ghost use Rattle.std.specs.List.{list_all};
 ghost use Rattle.std.specs.Fmt.{decimal, digit_glyph};
-ghost use Rattle.depot_actions.specs.Device.{HasBroken, HasTaken};
+ghost use Rattle.encodings.specs.Device.{HasBroken, HasTaken};
 ghost use Rattle.depot_cli.specs.Gathering.{HasGathered, gathering};
 ghost use Rattle.depot_cli.specs.Pieces.{piece_text, pieces_text};
 ghost use Rattle.depot_cli.specs.Printed.{action_text, actions_text, charge_text, escaped, escaped_octet, line as line_of, quoted, refusal_line, report_text, shown, wrote_text};
@@ -11,7 +11,7 @@ ghost use Rattle.depot_cli.specs.Printed as Printed;
 use crate::gathering::{Line, gather, send};
 use crate::piece::{Piece, Setting};
 use bytecode_format::Action;
-use depot_actions::{DeviceFailed, Sink};
+use encodings::{DeviceFailed, Sink};
 use itoa::Buffer;
 use refusals::Refusal;
 use sieve_engine::Report;

@@ -9,7 +9,7 @@ ghost use Rattle.refusals.specs.declared.refusal.Refusal.TheVariants.{Memory};
 
 use crate::job::tell;
 use crate::running::tell_usage;
-use depot_actions::Sink;
+use encodings::Sink;
 use refusals::Refusal;
 use std::alloc::{AllocError, Global};
 use std::env::Args;

@@ -4,7 +4,7 @@ ghost use Rattle.depot_cli.specs.LimitedReading.{HasGivenUp};
 ghost use Rattle.depot_cli.specs.Supply.{HasEnded, HasFailedToGive, HasGiven};
 
 use crate::source::Source;
-use depot_actions::DeviceFailed;
+use encodings::DeviceFailed;
 use refusals::Refusal;
 use std::alloc::{AllocError, Global};
 

@@ -17,7 +17,7 @@ use crate::reading::read_limited;
 use crate::saving::Saving;
 use clap::Error;
 use clap::error::ErrorKind;
-use depot_actions::Sink;
+use encodings::Sink;
 use mime_decode::MAX_MESSAGE;
 use refusals::Refusal;
 use std::alloc::Global;

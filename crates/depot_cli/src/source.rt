@@ -3,7 +3,7 @@ ghost use Rattle.std.specs.Prelude.{◌≡◌, ◌<◌, ◌≤◌, false, length
 ghost use Rattle.std.specs.Io.KnownBytes.{Consumes, IsAtEnd, Keeps};
 ghost use Rattle.depot_cli.specs.Supply.{HasEnded, HasFailedToGive, HasGiven, Supply};
 
-use depot_actions::{DeviceFailed, MAX_TRIES};
+use encodings::{DeviceFailed, MAX_TRIES};
 use std::io::{ErrorKind, Read};
 
 /// What gives octets.

@@ -3,13 +3,13 @@ ghost use Rattle.std.specs.Prelude.{◌≡◌, ◌⊎◌, IfErr, IfOk, IfSome, O
 ghost use Rattle.std.specs.Path.{path_buf_bytes};
 ghost use Rattle.depot_cli.specs.Files.{IsReached};
 ghost use Rattle.depot_cli.specs.Host.{HasNotMade, IsFreshOutput, makes, untold, with_call};
-ghost use Rattle.depot_actions.specs.Device.{counted};
+ghost use Rattle.encodings.specs.Device.{counted};
 ghost use Rattle.refusals.specs.declared.refusal.Refusal.TheVariants.{Memory};
 
 use crate::host::{Host, Input};
 use crate::new_file::{NewFile, begin, discard, persist};
 use crate::source::OfRead;
-use depot_actions::DeviceFailed;
+use encodings::DeviceFailed;
 use refusals::Refusal;
 use std::alloc::Global;
 use std::fs::Files;

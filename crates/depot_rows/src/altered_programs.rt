@@ -1,7 +1,8 @@
 // Stored programs that something has altered: a delivery is refused, or files what the altered program says, and all else works.
 use crate::depot::KEEP;
 use bytecode_format::Action;
-use depot_actions::{Depot, Encoding, OfWrite, Refusal};
+use depot_actions::{Depot, Refusal};
+use encodings::{Encoding, OfWrite};
 use part_store::{EntryRow, Kind, NewEntry, PartStore, StoreError};
 use sieve_engine::execute;
 use sqlite::{MemStore, params};

@@ -2,8 +2,8 @@
 
 use crate::devices::Calls;
 use crate::shelf::{Known, Shelf};
-use depot_actions::{Encoding, OfWrite};
 use depot_cli::{Job, answer};
+use encodings::{Encoding, OfWrite};
 use std::io;
 
 const NOTHING: Known<'static> = Known {

@@ -2,8 +2,9 @@
 use crate::depot::{JUMP, KEEP, MESSAGE};
 use crate::devices::Calls;
 use crate::shelf::{Known, Shelf};
-use depot_actions::{Depot, OfWrite, Refusal};
+use depot_actions::{Depot, Refusal};
 use depot_batch::batch;
+use encodings::OfWrite;
 use sqlite::MemStore;
 use std::alloc::Global;
 use std::io;

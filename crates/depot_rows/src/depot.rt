@@ -1,5 +1,6 @@
 // The depot, in memory.
-use depot_actions::{Depot, Encoding, OfWrite, Refusal};
+use depot_actions::{Depot, Refusal};
+use encodings::{Encoding, OfWrite};
 use part_store::{EntryRow, Kind, PartStore};
 use sieve_engine::compile_script;
 use sqlite::MemStore;

@@ -1,7 +1,7 @@
 // Devices that do little at a time, and fail.
 
-use depot_actions::{DeviceFailed, OfWrite, Sink};
 use depot_cli::{OfRead, Source};
+use encodings::{DeviceFailed, OfWrite, Sink};
 use std::io;
 use std::io::{Error, ErrorKind, Read, Write};
 

@@ -1,6 +1,7 @@
 // Entries exported in pieces, from a depot in memory.
 use crate::devices::Calls;
-use depot_actions::{Depot, Encoding, OfWrite, Refusal, encode};
+use depot_actions::{Depot, Refusal};
+use encodings::{Encoding, OfWrite, encode};
 use sqlite::MemStore;
 use std::test::Fail;
 

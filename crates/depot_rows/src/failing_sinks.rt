@@ -2,8 +2,9 @@
 use crate::depot::{KEEP, MESSAGE, SCRIPT};
 use crate::devices::Calls;
 use crate::held::{Held, held_in};
-use depot_actions::{Depot, Encoding, OfWrite, Refusal, Sink, encode};
+use depot_actions::{Depot, Refusal};
 use depot_cli::{Task, perform};
+use encodings::{Encoding, OfWrite, Sink, encode};
 use sqlite::MemStore;
 use std::alloc::Global;
 use std::io;

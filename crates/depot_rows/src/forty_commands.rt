@@ -1,7 +1,8 @@
 // Forty commands over one depot in memory. The case `cases/forty_commands` runs the same table over a file, a process each.
 use crate::shelf::{Known, Shelf};
-use depot_actions::{Depot, OfWrite, Sink};
+use depot_actions::Depot;
 use depot_cli::{Next, perform, run};
+use encodings::{OfWrite, Sink};
 use sqlite::MemStore;
 use std::alloc::{AllocError, Global};
 use std::test::Fail;

@@ -1,5 +1,6 @@
 // Many commands on a depot, beside a plain model of one.
-use depot_actions::{Depot, Encoding, OfWrite, Refusal};
+use depot_actions::{Depot, Refusal};
+use encodings::{Encoding, OfWrite};
 use part_store::{EntryRow, Kind};
 use sqlite::MemStore;
 use std::alloc::Global;

@@ -1,6 +1,7 @@
 // What inspecting prints, line by line.
-use depot_actions::{Depot, OfWrite};
+use depot_actions::Depot;
 use depot_cli::{NoDepot, inspect, tell_no_depot};
+use encodings::OfWrite;
 use part_store::{PartStore, StoreError};
 use sqlite::{Connection, MemStore};
 use std::alloc::Global;

@@ -1,8 +1,9 @@
 // Tables that were laid by SQL: what a delivery prints there, and that a refusal leaves every row as it was.
 use crate::depot::{MESSAGE, SCRIPT};
 use crate::held::{Held, held_in};
-use depot_actions::{Depot, OfWrite};
+use depot_actions::Depot;
 use depot_cli::{Task, inspect, perform};
+use encodings::OfWrite;
 use part_store::{PartStore, StoreError};
 use sqlite::{Connection, MemStore};
 use std::alloc::Global;

@@ -1,8 +1,9 @@
 // From words to answers, over a shelf.
 
 use crate::shelf::{Asked, Known, Shelf};
-use depot_actions::{Depot, OfWrite, Sink};
+use depot_actions::Depot;
 use depot_cli::{Errand, Host, Next, Saving, inspect, perform, run, save, tell};
+use encodings::{OfWrite, Sink};
 use std::alloc::Global;
 use std::io;
 

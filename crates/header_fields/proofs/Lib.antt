@@ -7,4 +7,5 @@ pub mod Lengths
 pub mod Measuring
 pub mod Alone
 pub mod Starts
+pub mod FirstNamed
 mod Examples

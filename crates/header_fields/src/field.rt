@@ -5,11 +5,10 @@ ghost use Rattle.octets.specs.Ascii.{EqualIgnoringCase};
 ghost use Rattle.octets.specs.Blank.{without_outer_blanks, without_trailing_blanks};
 ghost use Rattle.header_fields.specs.Header.{after_colon, beginning_of, field_written, without_breaks};
 
-use crate::error::HeaderError;
 use crate::field_line::{after_colon, name_length, name_of_length};
 use crate::unfolding::joined_length;
 use octets::{equal_ignoring_case, trim_blanks, trim_leading_blanks, trim_trailing_blanks};
-use std::alloc::Global;
+use std::alloc::{AllocError, Global};
 use std::borrow::CowSlice;
 use std::marker::Model;
 use text_lines::Lines;
@@ -61,8 +60,8 @@ pub fn name_is(field: &Field, name: &[u8]) -> bool
 /// The field's value: what follows its colon, unfolded, without outer SP and TAB (RFC 5322, section 2.2.3).
 ///
 /// Unfolding takes the line breaks away and nothing else. A value that isn't folded is lent, and takes no memory.
-/// [`HeaderError::Memory`] comes only where memory was refused.
-pub fn unfold<'a>(alloc: Global, field: &Field<'a>) -> Result<CowSlice<'a, u8>, HeaderError>
+/// An error comes only where memory was refused.
+pub fn unfold<'a>(alloc: Global, field: &Field<'a>) -> Result<CowSlice<'a, u8>, AllocError>
     ensures value { IfOk result (λ value. cow_slice_items value ≡ field.now.value) }
     ensures lent { field.now.folded ≡ false → IfOk result (λ value. IsBorrowedSlice value) }
     ensures told { field.now.folded ≡ false → IsOk result }
@@ -73,12 +72,12 @@ pub fn unfold<'a>(alloc: Global, field: &Field<'a>) -> Result<CowSlice<'a, u8>, 
 /// The first octets of the field's value, unfolded: so many, or all where it has fewer, without the SP and TAB that they end
 /// with. No line is gone over that begins after them.
 ///
-/// Where the value isn't folded they are lent, and take no memory. [`HeaderError::Memory`] comes only where memory was refused.
+/// Where the value isn't folded they are lent, and take no memory. An error comes only where memory was refused.
 pub fn unfold_start<'a>(
     alloc: Global,
     field: &Field<'a>,
     most: usize,
-) -> Result<CowSlice<'a, u8>, HeaderError>
+) -> Result<CowSlice<'a, u8>, AllocError>
     ensures start { IfOk result (λ start. cow_slice_items start
         ≡ beginning_of most field.now.value) }
     ensures lent { field.now.folded ≡ false → IfOk result (λ start. IsBorrowedSlice start) }
@@ -103,7 +102,7 @@ pub fn unfolded_length(field: &Field) -> usize
 }
 
 // The first octets of the text without its line breaks and outer blanks: so many, without the blanks that they end with.
-fn joined(alloc: Global, text: &[u8], most: usize) -> Result<Vec<u8>, HeaderError>
+fn joined(alloc: Global, text: &[u8], most: usize) -> Result<Vec<u8>, AllocError>
     ensures { IfOk result (λ start. start.items ≡ beginning_of most (without_outer_blanks
         (without_breaks text.now))) }
 {

@@ -5,10 +5,9 @@ ghost use Rattle.header_fields.specs.Header.{header_of, fields_of, body_start_of
 ghost use Rattle.header_fields.specs.Extent.{IsHeader};
 ghost use Rattle.header_fields.specs.Reading.{IsContinued, IsFieldAt, GivesContinuation};
 
-use crate::error::HeaderError;
 use crate::field::Field;
 use crate::field_line::is_field_line;
-use std::alloc::Global;
+use std::alloc::{AllocError, Global};
 use std::marker::Model;
 use text_lines::{Line, Lines};
 
@@ -38,8 +37,8 @@ impl<'a> Header<'a> {
     /// The header that the octets begin with.
     ///
     /// It goes up to the first empty line, or to the end of the octets. What is no field line is skipped with its
-    /// continuations. [`HeaderError::Memory`] comes only where memory was refused.
-    pub fn read(alloc: Global, text: &'a [u8]) -> Result<Header<'a>, HeaderError>
+    /// continuations. An error comes only where memory was refused.
+    pub fn read(alloc: Global, text: &'a [u8]) -> Result<Header<'a>, AllocError>
         ensures header { IfOk result (λ header. header ≡ header_of text.now) }
         ensures within { IfOk result (λ header. header.body_start ≤ length text.now) }
     {
@@ -65,7 +64,7 @@ impl<'a> Header<'a> {
 }
 
 // The fields of the header that the octets begin with, and where the body begins.
-fn read_fields<'a>(alloc: Global, text: &'a [u8]) -> Result<(Vec<Field<'a>>, usize), HeaderError>
+fn read_fields<'a>(alloc: Global, text: &'a [u8]) -> Result<(Vec<Field<'a>>, usize), AllocError>
     ensures { IfOk result (λ read. (read.0.items ≡ fields_of text.now)
         × (read.1 ≡ body_start_of text.now)) }
 {

@@ -1,5 +1,5 @@
 // The trees of all small messages.
-use mime_tree::{Tree, TreeError};
+use mime_tree::{MessageError, Tree};
 use std::alloc::{AllocError, Global};
 use std::test::Fail;
 
@@ -93,7 +93,7 @@ fn add_parts<'a>(
     lines: &'a [Piece],
     whole: bool,
     out: &mut Vec<Wanted<'a>>,
-) -> Result<(), TreeError> {
+) -> Result<(), MessageError> {
     out.push(Wanted {
         depth,
         lines,
@@ -125,7 +125,7 @@ fn add_parts<'a>(
 }
 
 // Whether a message of these lines has the parts of the recursion.
-fn agrees(alloc: Global, lines: &[Piece], feed: &[u8]) -> Result<bool, TreeError> {
+fn agrees(alloc: Global, lines: &[Piece], feed: &[u8]) -> Result<bool, MessageError> {
     let mut wanted = Vec::new(alloc);
     add_parts(1, lines, true, &mut wanted)?;
     let text = joined(alloc, lines, feed, true)?;
@@ -146,7 +146,7 @@ fn agrees(alloc: Global, lines: &[Piece], feed: &[u8]) -> Result<bool, TreeError
 }
 
 // Whether each message of so many lines has the parts of the recursion.
-fn all_agree(alloc: Global, count: u32, feed: &[u8]) -> Result<bool, TreeError> {
+fn all_agree(alloc: Global, count: u32, feed: &[u8]) -> Result<bool, MessageError> {
     for message in 0..PIECES.saturating_pow(count) {
         let mut lines = Vec::new(alloc);
         let mut number = message;

@@ -12,9 +12,9 @@ use Rattle.mime_tree.specs.Order as order
 use Rattle.mime_tree.proofs.Places.{tree_extent, tree_nests, tree_within}
 use Rattle.mime_decode.specs.Mail.{Part, Mail, IsMail, IsReadable, IsWithin, Nests, mail_of, part_of, parts_extent, size_of}
 use Rattle.mime_tree.specs.Refusals.{IsTreeRefusal}
-use Rattle.mime_tree.specs.declared.error.TreeError.{TreeError}
-use Rattle.mime_tree.specs.declared.error.TreeError.TheVariants.{Memory, MessageTooLarge, TooManyParts}
-use Rattle.mime_decode.specs.Refusals.{IsMessageRefusal, of_tree}
+use Rattle.mime_tree.specs.declared.error.MessageError.{MessageError}
+use Rattle.mime_tree.specs.declared.error.MessageError.TheVariants.{Memory, MessageTooLarge, TooManyParts}
+use Rattle.mime_decode.specs.Refusals.{IsMessageRefusal}
 use Rattle.mime_decode.proofs.Contents.{content_fits}
 
 pub size_is : (octets : List ℕ) → size_of (mail_of octets) ≡ length octets
@@ -134,7 +134,7 @@ pub holds_at : {octets : List ℕ} {parts : List tree.Part} {mail : Mail} (P : P
 holds_at {octets} {parts} {mail} P place h lt at =
     subst (λ all. HoldsAt P all place) (sym (holds_parts h)) (at_mapped P parts place (omega (arith, lt, holds_number h)) at)
 
-pub refused_by_tree : (octets : List ℕ) (e : TreeError) → IsTreeRefusal octets e → IsMessageRefusal octets (of_tree e)
+pub refused_by_tree : (octets : List ℕ) (e : MessageError) → IsTreeRefusal octets e → IsMessageRefusal octets e
 refused_by_tree octets Memory h = tt
 refused_by_tree octets MessageTooLarge h = h
 refused_by_tree octets TooManyParts h = let number = parts_number octets in (h.0, omega (arith, number, h.1))

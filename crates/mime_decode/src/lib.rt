@@ -7,11 +7,9 @@
 #![tactic(auto)]
 
 mod content;
-mod error;
 pub mod laws;
 mod message;
 
 pub use content::digest_of;
-pub use error::MessageError;
 pub use message::Message;
-pub use mime_tree::{MAX_MESSAGE, MAX_PARTS};
+pub use mime_tree::{MAX_MESSAGE, MAX_PARTS, MessageError};

@@ -7,12 +7,11 @@ ghost use Rattle.mime_tree.specs.PartTree.{tree_of};
 ghost use Rattle.mime_decode.specs.Content.{digest_of, is_decoded};
 ghost use Rattle.mime_decode.specs.Mail.{IsMail, IsReadable, mail_of, size_of};
 ghost use Rattle.mime_decode.specs.Refusals.{IsMessageRefusal};
-ghost use Rattle.mime_decode.specs.declared.error.MessageError.TheVariants.{MessageTooLarge};
+ghost use Rattle.mime_tree.specs.declared.error.MessageError.TheVariants.{MessageTooLarge};
 
 use crate::content::{decoded, digest_of};
-use crate::error::MessageError;
 use mime_params::TransferEncoding;
-use mime_tree::Tree;
+use mime_tree::{MessageError, Tree};
 use std::alloc::{AllocError, Global};
 use std::borrow::CowSlice;
 use std::marker::Model;

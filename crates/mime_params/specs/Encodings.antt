@@ -1,5 +1,5 @@
 -- Transfer encodings (RFC 2045, section 6.1).
-use Rattle.std.specs.Prelude.{ℕ, Bool, ◌==◌, ◌||◌, not, List, codes, length, if◌then◌else◌}
+use Rattle.std.specs.Prelude.{ℕ, ◌==◌, ◌||◌, not, List, codes, length, if◌then◌else◌}
 use Rattle.std.specs.List.{take_while}
 use Rattle.octets.specs.Ascii.{is_word}
 use Rattle.octets.specs.Blank.{without_outer_blanks}

@@ -1,5 +1,5 @@
 -- Media types, dispositions and parameters (RFC 2045, section 5.1; RFC 2183, section 2).
-use Rattle.std.specs.Prelude.{ℕ, zero, suc, Bool, not, ◌==◌, List, [], ◌∷◌, Option, Some, None, option_map, length, drop, if◌then◌else◌}
+use Rattle.std.specs.Prelude.{ℕ, zero, suc, Bool, not, ◌==◌, List, [], ◌∷◌, ◌++◌, codes, Option, Some, None, option_map, length, drop, if◌then◌else◌}
 use Rattle.std.specs.List.{take_while, find}
 use Rattle.std.specs.Option.{option_map_or}
 use Rattle.octets.specs.Ascii.{lowercase_of}
@@ -110,3 +110,7 @@ type_params text = option_map_or (λ (media : MediaType). media.params) (media_t
 -- those of a disposition
 abbrev pub disposition_params : List ℕ → List Parameter
 disposition_params text = option_map_or (λ (disposition : Disposition). disposition.params) (disposition_of text) []
+
+-- a media type without its parameters, in lower case
+abbrev pub media_text : MediaType → List ℕ
+media_text media = lowercase_of media.main ++ codes "/" ++ lowercase_of media.sub

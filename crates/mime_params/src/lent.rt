@@ -2,13 +2,12 @@
 ghost use Rattle.std.specs.Prelude.{◌≡◌, ◌∷◌, [], MatchOption, None, Some};
 ghost use Rattle.mime_params.specs.MediaValue.{disposition_params, param_at, parameters_of, params_in, type_params};
 
-use crate::error::ValueError;
 use crate::gap::after_gap;
 use crate::media::{disposition_at, names_at};
 use crate::params::{is_empty_param, semicolon_at};
 use crate::words::{after_value, token, value};
 use octets::{Octets, first};
-use std::alloc::Global;
+use std::alloc::{AllocError, Global};
 use std::iter::FusedIterator;
 use std::marker::Model;
 
@@ -47,8 +46,8 @@ impl<'t> LentParameter<'t> {
 
     /// Its value, without quotes and the backslashes in them.
     ///
-    /// [`ValueError::Memory`] comes only where memory was refused.
-    pub fn value(&self, alloc: Global) -> Result<Octets, ValueError>
+    /// An error comes only where memory was refused.
+    pub fn value(&self, alloc: Global) -> Result<Octets, AllocError>
         ensures { IfOk result (λ octets. octets ≡ self.now.value) }
     {
         match value(alloc, self.given)? {

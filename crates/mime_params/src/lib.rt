@@ -11,7 +11,6 @@
 
 mod beginning;
 mod encoding;
-mod error;
 mod gap;
 mod lent;
 mod lookup;
@@ -21,7 +20,6 @@ mod words;
 
 pub use beginning::{settles_disposition, settles_type};
 pub use encoding::TransferEncoding;
-pub use error::ValueError;
 pub use lent::{LentParameter, LentParameters};
 pub use media::{
     Disposition, MediaType, disposition_name, disposition_param, read_disposition, read_type,

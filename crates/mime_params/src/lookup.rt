@@ -2,17 +2,16 @@
 ghost use Rattle.std.specs.Prelude.{◌≡◌, IfOk};
 ghost use Rattle.mime_params.specs.MediaValue.{value_named};
 
-use crate::error::ValueError;
 use crate::lent::LentParameters;
 use octets::{Octets, equal_ignoring_case};
-use std::alloc::Global;
+use std::alloc::{AllocError, Global};
 
 /// The value of the first of the parameters of this name. No other is kept.
 pub(crate) fn first_named(
     alloc: Global,
     params: LentParameters,
     name: &[u8],
-) -> Result<Option<Octets>, ValueError>
+) -> Result<Option<Octets>, AllocError>
     ensures { IfOk result (λ value. value ≡ value_named name.now params.entry) }
 {
     for param in params {

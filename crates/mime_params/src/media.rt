@@ -1,16 +1,16 @@
 // Media types and dispositions.
-ghost use Rattle.std.specs.Prelude.{◌≡◌, IfOk, MatchOption, None, Some};
+ghost use Rattle.std.specs.Prelude.{◌≡◌, ◌++◌, IfOk, MatchOption, None, OnOk, Some};
+ghost use Rattle.octets.specs.Ascii.{lowercase_of};
 ghost use Rattle.mime_params.specs.Gaps.{after_gap};
 ghost use Rattle.mime_params.specs.MediaValue.{disposition_name, disposition_of, disposition_param, media_type_of, params_in, type_names, type_param};
 
-use crate::error::ValueError;
 use crate::gap::after_gap;
 use crate::lent::LentParameters;
 use crate::lookup::first_named;
 use crate::params::{Params, read_params};
 use crate::words::token;
 use octets::{Octets, first};
-use std::alloc::Global;
+use std::alloc::{AllocError, Global};
 
 /// A media type with its parameters (RFC 2045, section 5.1), as it is written.
 #[derive(Drop)]
@@ -22,6 +22,32 @@ pub struct MediaType {
     pub params: Params,
 }
 
+impl MediaType {
+    ghost use Rattle.std.specs.Prelude.{◌≡◌, ◌++◌, OnOk};
+    ghost use Rattle.mime_params.specs.MediaValue.{media_text};
+
+    /// Appends the type and the subtype in lower case, with a slash between them.
+    ///
+    /// An error comes only where memory was refused.
+    pub fn append_text(&self, text: &mut Vec<u8>) -> Result<(), AllocError>
+        ensures { OnOk result (text.new.items ≡ text.old.items ++ media_text self.now) }
+    {
+        append_lowercase(text, self.main.as_slice())?;
+        text.push(b'/')?;
+        append_lowercase(text, self.sub.as_slice())
+    }
+}
+
+// Appends a word in lower case.
+fn append_lowercase(text: &mut Vec<u8>, word: &[u8]) -> Result<(), AllocError>
+    ensures { OnOk result (text.new.items ≡ text.old.items ++ lowercase_of word.now) }
+{
+    for octet in word {
+        text.push(octet.to_ascii_lowercase())?;
+    }
+    Ok(())
+}
+
 /// A disposition with its parameters (RFC 2183, section 2), as it is written.
 #[derive(Drop)]
 pub struct Disposition {
@@ -31,8 +57,8 @@ pub struct Disposition {
 
 /// The media type that the value of a Content-Type has, or nothing where it has no reading.
 ///
-/// [`ValueError::Memory`] comes only where memory was refused.
-pub fn read_type(alloc: Global, text: &[u8]) -> Result<Option<MediaType>, ValueError>
+/// An error comes only where memory was refused.
+pub fn read_type(alloc: Global, text: &[u8]) -> Result<Option<MediaType>, AllocError>
     ensures { IfOk result (λ read. read ≡ media_type_of text.now) }
 {
     let Some((main, sub, after)) = names_at(text) else {
@@ -57,8 +83,8 @@ pub fn type_names(text: &[u8]) -> Option<(&[u8], &[u8])>
 
 /// The value of the first parameter of this name, without ASCII case, that the value of a Content-Type has. No other is kept.
 ///
-/// [`ValueError::Memory`] comes only where memory was refused.
-pub fn type_param(alloc: Global, text: &[u8], name: &[u8]) -> Result<Option<Octets>, ValueError>
+/// An error comes only where memory was refused.
+pub fn type_param(alloc: Global, text: &[u8], name: &[u8]) -> Result<Option<Octets>, AllocError>
     ensures { IfOk result (λ value. value ≡ type_param name.now text.now) }
 {
     first_named(alloc, LentParameters::of_type(text), name)
@@ -86,8 +112,8 @@ pub(crate) fn names_at(text: &[u8]) -> Option<(&[u8], &[u8], &[u8])>
 
 /// The disposition that the value of a Content-Disposition has, or nothing where it has no reading.
 ///
-/// [`ValueError::Memory`] comes only where memory was refused.
-pub fn read_disposition(alloc: Global, text: &[u8]) -> Result<Option<Disposition>, ValueError>
+/// An error comes only where memory was refused.
+pub fn read_disposition(alloc: Global, text: &[u8]) -> Result<Option<Disposition>, AllocError>
     ensures { IfOk result (λ read. read ≡ disposition_of text.now) }
 {
     let Some((main, after)) = disposition_at(text) else {
@@ -112,12 +138,12 @@ pub fn disposition_name(text: &[u8]) -> Option<&[u8]>
 /// The value of the first parameter of this name, without ASCII case, that the value of a Content-Disposition has. No other is
 /// kept.
 ///
-/// [`ValueError::Memory`] comes only where memory was refused.
+/// An error comes only where memory was refused.
 pub fn disposition_param(
     alloc: Global,
     text: &[u8],
     name: &[u8],
-) -> Result<Option<Octets>, ValueError>
+) -> Result<Option<Octets>, AllocError>
     ensures { IfOk result (λ value. value ≡ disposition_param name.now text.now) }
 {
     first_named(alloc, LentParameters::of_disposition(text), name)

@@ -4,7 +4,6 @@ ghost use Rattle.std.specs.List.{take_while};
 ghost use Rattle.mime_params.specs.Reading.{is_empty_param};
 ghost use Rattle.mime_params.specs.MediaValue.{param_at, params_in, parameters_of, is_named, value_named};
 
-use crate::error::ValueError;
 use crate::gap::after_gap;
 use crate::words::{token, value};
 use octets::{Octets, equal_ignoring_case, first};
@@ -57,8 +56,8 @@ impl Params {
 
 /// The parameters of a field's value, from its first semicolon on, wherever that stands.
 ///
-/// They are read up to the first that is malformed. [`ValueError::Memory`] comes only where memory was refused.
-pub fn parameters_of(alloc: Global, text: &[u8]) -> Result<Params, ValueError>
+/// They are read up to the first that is malformed. An error comes only where memory was refused.
+pub fn parameters_of(alloc: Global, text: &[u8]) -> Result<Params, AllocError>
     ensures { IfOk result (λ params. params ≡ parameters_of text.now) }
 {
     Ok(read_params(alloc, &text[semicolon_at(text)..])?)

@@ -5,7 +5,6 @@ pub mod Children
 pub mod Delimiters
 pub mod Enclosing
 mod Examples
-pub mod Fields
 pub mod Going
 pub mod Heading
 pub mod Hits

@@ -4,7 +4,7 @@ use Rattle.octets.specs.Limits.{max_depth}
 use Rattle.octets.specs.Ascii.{is_word}
 use Rattle.octets.specs.Blank.{without_trailing_blanks}
 use Rattle.text_lines.specs.Lines.{TextLine, lines_of, line_octets}
-use Rattle.header_fields.specs.Fields.{Field}
+use Rattle.header_fields.specs.Fields.{first_value}
 use Rattle.header_fields.specs.Header.{Header, header_of, line_length}
 use Rattle.mime_params.specs.MediaValue.{media_type_of, value_named}
 use Rattle.mime_params.specs.Encodings.{encoding_of}
@@ -31,11 +31,6 @@ pub record Part : Type 0 where
 -- its octets after its header
 abbrev pub body_of : Part → List ℕ
 body_of part = drop part.header.body_start part.raw
-
--- the value of the first field of this name
-abbrev pub first_value : List ℕ → List Field → Option (List ℕ)
-first_value name [] = None
-first_value name (field ∷ fields) = if is_word field.name name then Some field.value else first_value name fields
 
 abbrev pub text_plain : MediaType
 text_plain = record { main = codes "text"; sub = codes "plain"; params = [] }

@@ -2,17 +2,17 @@
 use Rattle.std.specs.Prelude.{ℕ, ◌<◌, ◌≤◌, List, length}
 use Rattle.octets.specs.Limits.{max_message, max_parts}
 use Rattle.mime_tree.specs.PartTree.{tree_of}
-use Rattle.mime_tree.specs.declared.error.TreeError.{TreeError}
-use Rattle.mime_tree.specs.declared.error.TreeError.TheVariants.{Memory, MessageTooLarge, TooManyParts}
+use Rattle.mime_tree.specs.declared.error.MessageError.{MessageError}
+use Rattle.mime_tree.specs.declared.error.MessageError.TheVariants.{Memory, MessageTooLarge, TooManyParts}
 
 -- the cause of each refusal; Memory has none in the octets
-abbrev pub IsTreeRefusal : List ℕ → TreeError → Type 0
+abbrev pub IsTreeRefusal : List ℕ → MessageError → Type 0
 IsTreeRefusal octets Memory = Unit {0}
 IsTreeRefusal octets MessageTooLarge = max_message < length octets
 IsTreeRefusal octets TooManyParts = (length octets ≤ max_message) × (max_parts < length (tree_of octets))
 
 -- of a function that finds so many parts or more: they are too many, or memory was refused
-abbrev pub IsRefusedFor : TreeError → ℕ → Type 0
+abbrev pub IsRefusedFor : MessageError → ℕ → Type 0
 IsRefusedFor Memory parts = Unit {0}
 IsRefusedFor MessageTooLarge parts = ⊥
 IsRefusedFor TooManyParts parts = max_parts < parts

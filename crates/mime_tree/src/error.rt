@@ -1,14 +1,13 @@
-// Why octets can't be read as a tree of parts.
+// Why octets can't be read as a message.
 ghost use Rattle.std.specs.Prelude.{◌≡◌};
-ghost use Rattle.mime_tree.specs.declared.error.TreeError.TheVariants.{Memory};
+ghost use Rattle.mime_tree.specs.declared.error.MessageError.TheVariants.{Memory};
 
-use header_fields::HeaderError;
 use std::alloc::{AllocError, AllocFailed};
 use thiserror::Error;
 
-/// Why octets can't be read as a tree of parts.
+/// Why octets can't be read as a message, which is a tree of parts.
 #[derive(Debug, Drop, Error)]
-pub enum TreeError {
+pub enum MessageError {
     /// An allocation was refused.
     #[error("refused 1 Memory")]
     Memory,
@@ -20,26 +19,18 @@ pub enum TreeError {
     TooManyParts,
 }
 
-impl From<AllocError> for TreeError {
+impl From<AllocError> for MessageError {
     ghost from_gives = { λ _ e. e ≡ Memory };
 
-    fn from(_refused: AllocError) -> TreeError {
-        TreeError::Memory
+    fn from(_refused: AllocError) -> MessageError {
+        MessageError::Memory
     }
 }
 
-impl<T: Drop> From<AllocFailed<T>> for TreeError {
+impl<T: Drop> From<AllocFailed<T>> for MessageError {
     ghost from_gives = { λ _ e. e ≡ Memory };
 
-    fn from(_refused: AllocFailed<T>) -> TreeError {
-        TreeError::Memory
-    }
-}
-
-impl From<HeaderError> for TreeError {
-    ghost from_gives = { λ _ e. e ≡ Memory };
-
-    fn from(_refused: HeaderError) -> TreeError {
-        TreeError::Memory
+    fn from(_refused: AllocFailed<T>) -> MessageError {
+        MessageError::Memory
     }
 }

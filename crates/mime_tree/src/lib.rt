@@ -16,7 +16,7 @@ mod reader;
 mod run;
 mod tree;
 
-pub use error::TreeError;
+pub use error::MessageError;
 pub use tree::Tree;
 
 /// The most octets of a message.

@@ -3,13 +3,14 @@ ghost use Rattle.std.specs.Prelude.{◌≡◌, [], IfOk, IfErr, codes};
 ghost use Rattle.std.specs.Option.{option_map};
 ghost use Rattle.std.specs.Cow.{cow_slice_items};
 ghost use Rattle.octets.specs.Ascii.{is_word};
-ghost use Rattle.mime_tree.specs.PartTree.{first_value, is_plain, media_or, encoding_or_7bit, without_params};
+ghost use Rattle.header_fields.specs.Fields.{first_value};
+ghost use Rattle.mime_tree.specs.PartTree.{is_plain, media_or, encoding_or_7bit, without_params};
 ghost use Rattle.mime_tree.specs.Reading.{default_media};
 ghost use Rattle.mime_tree.specs.declared.media.DefaultType.{DefaultType};
 ghost use Rattle.mime_params.specs.MediaValue.{value_named};
 
-use crate::error::TreeError;
-use header_fields::{Field, HeaderError, name_is, unfold};
+use crate::error::MessageError;
+use header_fields::{Field, first_named, unfold};
 use mime_params::{MediaType, Params, TransferEncoding, read_type, type_names, type_param};
 use octets::{Octets, is_word};
 use std::alloc::{AllocError, Global};
@@ -101,10 +102,10 @@ pub(crate) fn media_param(
 }
 
 /// The encoding that the fields of a header give: that of the first Content-Transfer-Encoding, or 7bit (RFC 2045, section 6.1).
-pub(crate) fn encoding_of(alloc: Global, fields: &[Field]) -> Result<TransferEncoding, TreeError>
+pub(crate) fn encoding_of(alloc: Global, fields: &[Field]) -> Result<TransferEncoding, MessageError>
     ensures encoding { IfOk result (λ encoding. encoding ≡ encoding_or_7bit
         (first_value (codes "Content-Transfer-Encoding") fields.now)) }
-    ensures refused { IfErr result (λ e. e ≡ TreeError.Memory) }
+    ensures refused { IfErr result (λ e. e ≡ MessageError.Memory) }
 {
     match first_value(alloc, fields, b"Content-Transfer-Encoding")? {
         Some(value) => Ok(TransferEncoding::of(value.as_slice())),
@@ -117,16 +118,14 @@ fn first_value<'a>(
     alloc: Global,
     fields: &[Field<'a>],
     name: &[u8],
-) -> Result<Option<CowSlice<'a, u8>>, HeaderError>
+) -> Result<Option<CowSlice<'a, u8>>, AllocError>
     ensures { IfOk result (λ value. option_map cow_slice_items value
         ≡ first_value name.now fields.now) }
 {
-    for field in fields {
-        if name_is(field, name) {
-            return Ok(Some(unfold(alloc, field)?));
-        }
+    match first_named(fields, name) {
+        Some(field) => Ok(Some(unfold(alloc, field)?)),
+        None => Ok(None),
     }
-    Ok(None)
 }
 
 /// Whether the body stands as it is written, so that it may have parts.

@@ -6,13 +6,13 @@ ghost use Rattle.mime_tree.specs.PartTree.{body_of, default_below, without_param
 ghost use Rattle.mime_tree.specs.OpenParts.{boundary_inside, holds_message, part_read};
 ghost use Rattle.mime_tree.specs.Reading.{default_media};
 
-use crate::error::TreeError;
+use crate::error::MessageError;
 use crate::media::{
     DefaultType, encoding_of, is_plain, media_of, media_param, media_without_params,
 };
 use header_fields::Header;
 use mime_params::{MediaType, TransferEncoding};
-use octets::{Octets, trim_trailing_blanks};
+use octets::{Octets, is_word, trim_trailing_blanks};
 use std::alloc::{AllocError, Global};
 use std::marker::Model;
 
@@ -35,7 +35,8 @@ pub(crate) struct Part<'a> {
 
 impl<'a> Model for Part<'a> {
     ghost use Rattle.std.specs.Prelude.{◌≡◌, codes};
-    ghost use Rattle.mime_tree.specs.PartTree.{Part, first_value, media_or};
+    ghost use Rattle.header_fields.specs.Fields.{first_value};
+    ghost use Rattle.mime_tree.specs.PartTree.{Part, media_or};
     ghost use Rattle.mime_tree.specs.Reading.{default_media};
 
     ghost Value = { Part };
@@ -60,11 +61,11 @@ impl<'a> Part<'a> {
         place: usize,
         rest: &'a [u8],
         header: usize,
-    ) -> Result<Part<'a>, TreeError>
+    ) -> Result<Part<'a>, MessageError>
         requires { header ≤ length rest.now }
         ensures part { IfOk result (λ part. part ≡ part_read depth
             (default_media default) place rest.now header) }
-        ensures refused { IfErr result (λ e. e ≡ TreeError.Memory) }
+        ensures refused { IfErr result (λ e. e ≡ MessageError.Memory) }
     {
         let header = Header::read(alloc, &rest[..header])?;
         let names = media_without_params(alloc, header.fields(), default)?;

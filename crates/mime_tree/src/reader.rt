@@ -8,7 +8,7 @@ ghost use Rattle.mime_tree.specs.Reading.{AreAmong, BeginsChild, GivesPart, IsBe
 ghost use Rattle.mime_tree.specs.Refusals.{IsRefusedFor};
 
 use crate::delimiter::Mark;
-use crate::error::TreeError;
+use crate::error::MessageError;
 use crate::hit::{Hit, first_ends, header_end, next_hit};
 use crate::media::DefaultType;
 use crate::open_part::OpenPart;
@@ -29,7 +29,10 @@ struct Beginning {
 /// The parts of a message.
 ///
 /// `TooManyParts` comes only where they are more than [`MAX_PARTS`], and `Memory` only where memory was refused.
-pub(crate) fn message_parts<'a>(alloc: Global, text: &'a [u8]) -> Result<Vec<Part<'a>>, TreeError>
+pub(crate) fn message_parts<'a>(
+    alloc: Global,
+    text: &'a [u8],
+) -> Result<Vec<Part<'a>>, MessageError>
     ensures parts { IfOk result (λ parts. (parts.items ≡ tree_of text.now)
         × (length parts.items ≤ max_parts)) }
     ensures refused { IfErr result (λ e. IsRefusedFor e (length (tree_of text.now))) }
@@ -56,7 +59,7 @@ fn read_part<'a>(
     beginning: Beginning,
     parts: &mut Vec<Part<'a>>,
     opened: &mut Vec<OpenPart>,
-) -> Result<Option<Beginning>, TreeError>
+) -> Result<Option<Beginning>, MessageError>
     requires beginning { IsBeginning text.now beginning }
     requires few { vec_len parts.old ≤ max_parts }
     requires among { AreAmong (vec_len parts.old) opened.old.items }
@@ -70,7 +73,7 @@ fn read_part<'a>(
         (length (wanted_from text.now beginning opened.old.items parts.old.items))) }
 {
     if parts.len() == MAX_PARTS {
-        return Err(TreeError::TooManyParts);
+        return Err(MessageError::TooManyParts);
     }
     let (part, header) = read_header(alloc, text, beginning, opened.as_slice())?;
     let holds_message = add_part(alloc, part, beginning.levels, parts, opened)?;
@@ -92,14 +95,14 @@ fn read_header<'a>(
     text: &'a [u8],
     beginning: Beginning,
     opened: &[OpenPart],
-) -> Result<(Part<'a>, usize), TreeError>
+) -> Result<(Part<'a>, usize), MessageError>
     requires { IsBeginning text.now beginning }
     ensures header { IfOk result (λ read. read.1 ≡ header_length (cut (boundaries_in [] opened.now)
         (lines_at text.now beginning.place))) }
     ensures within { IfOk result (λ read. beginning.place + read.1 ≤ length text.now) }
     ensures part { IfOk result (λ read. read.0 ≡ part_read (max_depth - beginning.levels)
         (default_media beginning.default) beginning.place (drop beginning.place text.now) read.1) }
-    ensures refused { IfErr result (λ e. e ≡ TreeError.Memory) }
+    ensures refused { IfErr result (λ e. e ≡ MessageError.Memory) }
 {
     let rest = &text[beginning.place..];
     let header = header_end(opened, rest);
@@ -121,14 +124,14 @@ fn add_part<'a>(
     levels: usize,
     parts: &mut Vec<Part<'a>>,
     opened: &mut Vec<OpenPart>,
-) -> Result<bool, TreeError>
+) -> Result<bool, MessageError>
     requires { levels < max_depth }
     ensures parts { OnOk result (parts.new.items ≡ parts.old.items ++ part.entry ∷ []) }
     ensures len { OnOk result (vec_len parts.new ≡ vec_len parts.old + 1) }
     ensures opened { OnOk result (opened.new.items ≡ opened.old.items ++ opening
         (length parts.old.items) levels part.entry ∷ []) }
     ensures message { IfOk result (λ holds. holds ≡ message_below levels part.entry) }
-    ensures refused { IfErr result (λ e. e ≡ TreeError.Memory) }
+    ensures refused { IfErr result (λ e. e ≡ MessageError.Memory) }
 {
     opened.push(OpenPart::new(alloc, &part, parts.len(), levels)?)?;
     let holds_message = levels > 0 && part.holds_message();

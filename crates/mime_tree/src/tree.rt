@@ -6,10 +6,10 @@ ghost use Rattle.mime_params.specs.MediaValue.{value_named};
 ghost use Rattle.mime_tree.specs.PartTree.{tree_of, body_of, without_params};
 ghost use Rattle.mime_tree.specs.Readable.{IsReadable, IsTree};
 ghost use Rattle.mime_tree.specs.Refusals.{IsTreeRefusal};
-ghost use Rattle.mime_tree.specs.declared.error.TreeError.TheVariants.{MessageTooLarge};
+ghost use Rattle.mime_tree.specs.declared.error.MessageError.TheVariants.{MessageTooLarge};
 
 use crate::MAX_MESSAGE;
-use crate::error::TreeError;
+use crate::error::MessageError;
 use crate::part::Part;
 use crate::reader::message_parts;
 use header_fields::Header;
@@ -42,16 +42,16 @@ impl<'a> Model for Tree<'a> {
 impl<'a> Tree<'a> {
     /// The tree of the message that the octets are.
     ///
-    /// [`TreeError::MessageTooLarge`] comes exactly where they are more than [`MAX_MESSAGE`], [`TreeError::TooManyParts`] where
-    /// they aren't and the parts are more than [`MAX_PARTS`]. [`TreeError::Memory`] comes only where memory was refused.
-    pub fn read(alloc: Global, octets: &'a [u8]) -> Result<Tree<'a>, TreeError>
+    /// [`MessageError::MessageTooLarge`] comes exactly where they are more than [`MAX_MESSAGE`], [`MessageError::TooManyParts`] where
+    /// they aren't and the parts are more than [`MAX_PARTS`]. [`MessageError::Memory`] comes only where memory was refused.
+    pub fn read(alloc: Global, octets: &'a [u8]) -> Result<Tree<'a>, MessageError>
         ensures read { IfOk result (λ tree. IsReadable octets.now × (tree ≡ tree_of octets.now)) }
         ensures refused { IfErr result (λ e. IsTreeRefusal octets.now e) }
         ensures large { max_message < length octets.now
             → IsErrAnd result (λ e. e ≡ MessageTooLarge) }
     {
         if octets.len() > MAX_MESSAGE {
-            return Err(TreeError::MessageTooLarge);
+            return Err(MessageError::MessageTooLarge);
         }
         let parts = message_parts(alloc, octets)?;
         Ok(Tree { parts })

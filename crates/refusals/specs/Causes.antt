@@ -9,8 +9,8 @@ use Rattle.hex.specs.declared.error.FromHexError.{FromHexError}
 use Rattle.hex.specs.declared.error.FromHexError.TheVariants as hex
 use Rattle.lanes_base32.specs.declared.error.Refusal.{Refusal as Base32Refusal}
 use Rattle.lanes_base32.specs.declared.error.Refusal.TheVariants as base32
-use Rattle.mime_decode.specs.declared.error.MessageError.{MessageError}
-use Rattle.mime_decode.specs.declared.error.MessageError.TheVariants as message
+use Rattle.mime_tree.specs.declared.error.MessageError.{MessageError}
+use Rattle.mime_tree.specs.declared.error.MessageError.TheVariants as message
 use Rattle.sieve_check.specs.declared.error.CheckError.{CheckError}
 use Rattle.sieve_check.specs.declared.error.CheckError.TheVariants as checker
 use Rattle.sieve_parser.specs.declared.error.ParseError.{ParseError}

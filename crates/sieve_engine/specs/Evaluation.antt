@@ -5,7 +5,7 @@ use Rattle.bytecode_format.specs.Code.{Code}
 use Rattle.bytecode_verifier.specs.Acceptance.{IsAccepted}
 use Rattle.mime_decode.specs.Mail.{Mail, IsMail, mail_of}
 use Rattle.mime_decode.specs.Refusals.{IsMessageRefusal}
-use Rattle.mime_decode.specs.declared.error.MessageError.TheVariants as mail
+use Rattle.mime_tree.specs.declared.error.MessageError.TheVariants as mail
 use Rattle.sieve_parser.specs.declared.error.ParseError.TheVariants as parser
 use Rattle.sieve_parser.specs.Scripts.{IsParsed, IsParseRefusal}
 use Rattle.sieve_parser.specs.Tree.{CommandsTree}

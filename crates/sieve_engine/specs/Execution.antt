@@ -10,7 +10,7 @@ use Rattle.bytecode_verifier.specs.Acceptance.{IsAccepted, refusal_of}
 use Rattle.bytecode_verifier.specs.Budget.{budget_of}
 use Rattle.mime_decode.specs.Mail.{IsReadable, mail_of, size_of}
 use Rattle.mime_decode.specs.Refusals.{IsMessageRefusal}
-use Rattle.mime_decode.specs.declared.error.MessageError.TheVariants as mail
+use Rattle.mime_tree.specs.declared.error.MessageError.TheVariants as mail
 use Rattle.sieve_vm.specs.Ending.{IsOutcome}
 use Rattle.refusals.specs.declared.refusal.Refusal.{Refusal}
 use Rattle.refusals.specs.declared.refusal.Refusal.TheVariants.{Memory, MessageTooLarge, TooManyParts, Spelling, Index, Form, End, Loop, Jump, NoPart, Stack}

@@ -9,7 +9,7 @@ use mail_matching::{
     Answer, HeaderTest, Outcome, Reach, Scope, Selector, body, digest, exists, header,
 };
 use mime_decode::{MAX_MESSAGE, Message, digest_of};
-use octets::Octets;
+use octets::{MAX_STRING, Octets};
 use std::alloc::{AllocError, Global};
 use std::borrow::CowSlice;
 use std::mem;
@@ -166,7 +166,7 @@ fn print_last(
 fn are_texts(texts: &Vec<Octets>) -> bool
     ensures { result ≡ true → AreTexts texts.now.items }
 {
-    texts.len() <= 1024 && texts.iter().all(|text| text.len() <= 16_384)
+    texts.len() <= 1024 && texts.iter().all(|text| text.len() <= MAX_STRING)
 }
 
 // The texts of arguments.

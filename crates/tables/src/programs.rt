@@ -7,7 +7,7 @@ use crate::refused::put_refusal;
 use bytecode_format::{Action, Instruction, Operation, Program, final_actions};
 use bytecode_verifier::{Verified, verify};
 use itoa::Buffer;
-use mime_decode::Message;
+use mime_decode::{MAX_MESSAGE, MAX_PARTS, Message};
 use octets::Octets;
 use refusals::Refusal;
 use sieve_engine::{Report, execute};
@@ -101,7 +101,7 @@ fn put_limit(
         return Ok(false);
     };
     let program = program(alloc, code, strings)?;
-    if octets > 67_108_864 || parts > 4_096 {
+    if octets > MAX_MESSAGE || parts > MAX_PARTS {
         return Ok(false);
     }
     let verified = accepted(alloc, program)?;

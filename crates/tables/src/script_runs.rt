@@ -2,7 +2,7 @@
 use crate::actions::{put_action, put_actions, put_charge};
 use crate::printed::Printed;
 use bytecode_verifier::verify;
-use mime_decode::Message;
+use mime_decode::{MAX_MESSAGE, MAX_PARTS, Message};
 use refusals::Refusal;
 use sieve_engine::{Report, check_script, compile_script, evaluate, execute};
 use sieve_lexer::number_of;
@@ -88,8 +88,8 @@ pub fn put_budget(
 ) -> Result<(), Refusal> {
     match verify(alloc, compile_script(alloc, script)?) {
         Ok(verified) => {
-            let octets = number_of(octets).unwrap_or(0).min(67_108_864);
-            let parts = number_of(parts).unwrap_or(0).min(4_096);
+            let octets = number_of(octets).unwrap_or(0).min(MAX_MESSAGE as u64);
+            let parts = number_of(parts).unwrap_or(0).min(MAX_PARTS as u64);
             Ok(answer.large_number(verified.budget().at(octets, parts))?)
         }
         Err((_program, refusal)) => Err(Refusal::from(refusal)),

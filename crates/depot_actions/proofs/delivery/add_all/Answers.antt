@@ -4,7 +4,7 @@ use Rattle.part_store.specs.Standing.{draft_of}
 use Rattle.std.proofs.Common.{map}
 use Rattle.sqlite.specs.Held.{state}
 use Rattle.depot_actions.proofs.Commands.{spares_self}
-use Rattle.depot_actions.proofs.Outputs.{on_err}
+use Rattle.encodings.proofs.Outputs.{on_err}
 use Rattle.depot_actions.proofs.delivery.add_all.Goals as goal
 
 pub returns-in_err-rows-clause-spared : goal.returns-in_err-rows-clause-spared

@@ -1,6 +1,6 @@
 use Rattle.sqlite.specs.Held.{state}
 use Rattle.depot_actions.proofs.Commands.{spares_self}
-use Rattle.depot_actions.proofs.Outputs.{on_err}
+use Rattle.encodings.proofs.Outputs.{on_err}
 use Rattle.depot_actions.proofs.delivery.file_all.Goals as goal
 
 pub returns-in_err-kept-clause-spared : goal.returns-in_err-kept-clause-spared

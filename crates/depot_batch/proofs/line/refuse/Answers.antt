@@ -1,5 +1,5 @@
 use Rattle.std.proofs.lemmas.Result.{on_err_weaker}
-use Rattle.depot_actions.proofs.Outputs.{broken_first, broken_later, on_err}
+use Rattle.encodings.proofs.Outputs.{broken_first, broken_later, on_err}
 use Rattle.depot_cli.specs.Printed.{refusal_line}
 use Rattle.depot_batch.specs.Batch.{closing}
 use Rattle.depot_batch.specs.declared.outcome.Outcome.TheVariants.{Refused}

@@ -1,7 +1,7 @@
 use Rattle.std.proofs.Common.{◌≡◌, ◌∙◌, arith, inl, inr, refl, subst, sym, List, ℕ, []}
 use Rattle.std.specs.Io.KnownBytes.{Consumes}
 use Rattle.std.proofs.KnownBytes.{Consumes-nil}
-use Rattle.depot_actions.specs.Device.{Output}
+use Rattle.encodings.specs.Device.{Output}
 use Rattle.depot_batch.specs.Batch.{IsAnswered, IsBrokenOff, office}
 use Rattle.depot_batch.proofs.LineLemmas.{ends, ends_broken, ends_shut, ends_unread, none_read, stands_on}
 use Rattle.depot_batch.proofs.serving.serve_lines.Goals as goal

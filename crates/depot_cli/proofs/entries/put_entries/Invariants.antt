@@ -1,6 +1,6 @@
 use Rattle.std.proofs.Common.{take}
 use Rattle.std.specs.List.{flat_map}
-use Rattle.depot_actions.specs.Device.{HasTaken}
+use Rattle.encodings.specs.Device.{HasTaken}
 use Rattle.part_store.specs.Standing.{listed}
 use Rattle.depot_cli.specs.Printed.{entry_text, line}
 use Rattle.depot_cli.proofs.entries.put_entries.Given as goal

@@ -1,4 +1,4 @@
-use Rattle.depot_actions.proofs.Outputs.{next_within, on_err}
+use Rattle.encodings.proofs.Outputs.{next_within, on_err}
 use Rattle.depot_cli.proofs.OutputLemmas.{gathered_next, gathering_broken}
 use Rattle.depot_cli.proofs.gathering.gather.Goals as goal
 

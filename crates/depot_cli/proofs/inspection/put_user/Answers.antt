@@ -1,6 +1,6 @@
 use Rattle.std.proofs.lemmas.Result.{on_err_weaker}
 use Rattle.depot_cli.specs.Printed.{numbers_text, state_line}
-use Rattle.depot_actions.proofs.Outputs.{broken_first, broken_later, on_err}
+use Rattle.encodings.proofs.Outputs.{broken_first, broken_later, on_err}
 use Rattle.depot_cli.proofs.inspection.put_user.Goals as goal
 
 pub returns-in_err-put_numbers-clause-err : goal.returns-in_err-put_numbers-clause-err

@@ -1,5 +1,5 @@
 use Rattle.depot_cli.specs.Printed.{user_line}
-use Rattle.depot_actions.proofs.Outputs.{on_err}
+use Rattle.encodings.proofs.Outputs.{on_err}
 use Rattle.depot_cli.proofs.OutputLemmas.{broken_in_turn}
 use Rattle.depot_cli.proofs.Seeing.{taken_in_turn}
 use Rattle.depot_cli.proofs.inspection.put_users.Goals as goal

@@ -1,5 +1,5 @@
 use Rattle.std.proofs.Common.{take}
-use Rattle.depot_actions.specs.Device.{HasTaken}
+use Rattle.encodings.specs.Device.{HasTaken}
 use Rattle.depot_cli.specs.Printed.{users_text}
 use Rattle.depot_cli.proofs.inspection.put_users.Given as goal
 

@@ -1,7 +1,7 @@
 use Rattle.std.proofs.Common.{codes}
 use Rattle.std.proofs.lemmas.Result.{on_err_weaker}
 use Rattle.depot_cli.specs.Pieces.{verdict_line}
-use Rattle.depot_actions.proofs.Outputs.{broken_first, broken_later, on_err}
+use Rattle.encodings.proofs.Outputs.{broken_first, broken_later, on_err}
 use Rattle.depot_cli.proofs.job.put_commented.Goals as goal
 
 pub returns-in_err-put-clause-err : goal.returns-in_err-put-clause-err

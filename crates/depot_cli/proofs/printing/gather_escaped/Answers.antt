@@ -1,6 +1,6 @@
 use Rattle.std.proofs.Common.{◌∙◌, sym}
 use Rattle.depot_cli.specs.Printed.{escaped_octet}
-use Rattle.depot_actions.proofs.Outputs.{on_err}
+use Rattle.encodings.proofs.Outputs.{on_err}
 use Rattle.depot_cli.proofs.OutputLemmas.{gathered_in_turn, gathering_broken_in_turn}
 use Rattle.depot_cli.proofs.PrintedLemmas.{plain_escaped}
 use Rattle.depot_cli.proofs.printing.gather_escaped.Goals as goal

@@ -2,7 +2,7 @@ use Rattle.std.proofs.Common.{List, ℕ, [], ◌∷◌, ◌++◌}
 use Rattle.std.proofs.lemmas.Result.{on_err_weaker, on_ok_weaker}
 use Rattle.depot_cli.specs.Printed.{escaped}
 use Rattle.depot_cli.specs.declared.piece.Setting.TheVariants.{Quotes}
-use Rattle.depot_actions.proofs.Outputs.{on_err}
+use Rattle.encodings.proofs.Outputs.{on_err}
 use Rattle.depot_cli.proofs.OutputLemmas.{broken_before, gathered_both, gathered_broken}
 use Rattle.depot_cli.proofs.printing.gather_quoted.Goals as goal
 

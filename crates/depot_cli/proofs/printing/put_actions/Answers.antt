@@ -1,5 +1,5 @@
 use Rattle.depot_cli.specs.Printed.{action_text, line}
-use Rattle.depot_actions.proofs.Outputs.{on_err}
+use Rattle.encodings.proofs.Outputs.{on_err}
 use Rattle.depot_cli.proofs.OutputLemmas.{broken_in_turn}
 use Rattle.depot_cli.proofs.PrintedLemmas.{some_actions}
 use Rattle.depot_cli.proofs.printing.put_actions.Goals as goal

@@ -1,6 +1,6 @@
 use Rattle.std.proofs.Common.{take}
 use Rattle.std.specs.List.{flat_map}
-use Rattle.depot_actions.specs.Device.{HasTaken}
+use Rattle.encodings.specs.Device.{HasTaken}
 use Rattle.depot_cli.specs.Printed.{action_text, line}
 use Rattle.depot_cli.proofs.printing.put_actions.Given as goal
 

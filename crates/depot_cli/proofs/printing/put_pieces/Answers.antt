@@ -1,6 +1,6 @@
 use Rattle.std.proofs.lemmas.Result.{on_err_weaker}
 use Rattle.depot_cli.specs.Pieces.{piece_text}
-use Rattle.depot_actions.proofs.Outputs.{on_err}
+use Rattle.encodings.proofs.Outputs.{on_err}
 use Rattle.depot_cli.proofs.OutputLemmas.{gathered_all, gathered_in_turn, gathering_broken_in_turn, sending_broken}
 use Rattle.depot_cli.proofs.printing.put_pieces.Goals as goal
 

@@ -1,6 +1,6 @@
 use Rattle.std.proofs.lemmas.Result.{on_err_weaker}
 use Rattle.depot_cli.specs.Printed.{actions_text, charge_text, line}
-use Rattle.depot_actions.proofs.Outputs.{broken_first, broken_later, on_err}
+use Rattle.encodings.proofs.Outputs.{broken_first, broken_later, on_err}
 use Rattle.depot_cli.proofs.printing.put_run.Goals as goal
 
 pub returns-in_err-put_actions-clause-err : goal.returns-in_err-put_actions-clause-err

@@ -12,7 +12,7 @@ use Rattle.depot_actions.specs.DepotState.{Deliver, Does, Listed, MayLeave}
 use Rattle.depot_actions.specs.Users.{is_user_name}
 use Rattle.depot_actions.proofs.Commands.{ok_before, spares_self}
 use Rattle.depot_actions.proofs.Delivering.{delivered, no_actions, may_be_filed, nothing_delivered, some_actions, spared_twice, unfiled_cause, delivery_fault}
-use Rattle.depot_actions.proofs.Outputs.{on_err}
+use Rattle.encodings.proofs.Outputs.{on_err}
 use Rattle.depot_actions.proofs.depot.Depot.deliver.Goals as goal
 
 pub file_all-requires-clause-octets : goal.file_all-requires-clause-octets

@@ -4,7 +4,7 @@ use Rattle.std.proofs.Common.{IfErr, subst}
 use Rattle.depot_actions.specs.Causes.{IsFault, IsHindered}
 use Rattle.sqlite.specs.Held.{state}
 use Rattle.depot_actions.proofs.Commands.{spares_self}
-use Rattle.depot_actions.proofs.Outputs.{on_err}
+use Rattle.encodings.proofs.Outputs.{on_err}
 use Rattle.depot_actions.proofs.depot.Depot.set_code.Goals as goal
 
 pub returns-then-not-is_user_name-clause-spared : goal.returns-then-not-is_user_name-clause-spared

@@ -1,7 +1,8 @@
 use Rattle.std.proofs.Common.{◌≡◌, ◌∙◌, ap, arith, length}
 use Rattle.mime_decode.specs.Mail.{Part}
 use Rattle.mime_tree.specs.PartTree.{without_params}
-use Rattle.depot_actions.specs.Drafts.{media_text, name_of}
+use Rattle.depot_actions.specs.Drafts.{name_of}
+use Rattle.mime_params.specs.MediaValue.{media_text}
 use Rattle.depot_actions.proofs.Keeping.{at_part, tree_number}
 use Rattle.depot_actions.proofs.stored_part.StoredPart.read.Goals as goal
 

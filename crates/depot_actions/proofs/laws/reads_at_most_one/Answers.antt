@@ -1,5 +1,0 @@
-use Rattle.depot_actions.proofs.ReadBack.{at_most_one}
-use Rattle.depot_actions.proofs.laws.reads_at_most_one.Goals as goal
-
-pub returns : goal.returns
-returns c = at_most_one

@@ -1,5 +1,0 @@
-use Rattle.depot_actions.proofs.ReadBack.{written_is_read}
-use Rattle.depot_actions.proofs.laws.reads_what_was_written.Goals as goal
-
-pub returns : goal.returns
-returns c = written_is_read

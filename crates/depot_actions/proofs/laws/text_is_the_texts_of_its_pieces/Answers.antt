@@ -1,5 +1,0 @@
-use Rattle.depot_actions.proofs.Pieces.{in_two}
-use Rattle.depot_actions.proofs.laws.text_is_the_texts_of_its_pieces.Goals as goal
-
-pub returns : goal.returns
-returns c = in_two

@@ -1,0 +1,5 @@
+pub mod Hexadecimal
+pub mod Readings
+pub mod ReadBack
+pub mod Outputs
+pub mod Pieces

@@ -1,0 +1,128 @@
+// Writing octets and their texts to a sink.
+ghost use Rattle.std.specs.Prelude.{◌≡◌, ◌≢◌, ◌<◌, ◌++◌, length, IfErr, IfOk, OnErr, OnOk};
+ghost use Rattle.encodings.specs.Device.{HasBroken, HasStopped, HasTaken};
+ghost use Rattle.encodings.specs.Texts.{text_of};
+ghost use Rattle.encodings.specs.declared.encoding.Encoding.TheVariants.{Qp};
+
+use crate::encoding::{Encoding, encode};
+use crate::sink::{DeviceFailed, Sink};
+use quoted_printable::encode_qp_line;
+use refusals::Refusal;
+use std::alloc::{AllocError, Global};
+
+/// How many octets are encoded and written together: 80 lines of MIME base64 with 57 octets each, 1,520 groups of 3 octets or 912 of 5. So the texts
+/// of such pieces, one after another, are the text of the whole.
+const PIECE_OCTETS: usize = 4_560;
+
+/// The octets of the longest line of quoted-printable, with its soft break.
+const LINE_OCTETS: usize = 78;
+
+/// Writes the octets, as they are, in as few calls as the sink takes them.
+///
+/// # Errors
+///
+/// A call of the sink failed; the first of the octets were written.
+pub fn put<W: Sink>(writer: &mut W, octets: &[u8]) -> Result<(), DeviceFailed>
+    ensures ok { OnOk result (HasTaken octets.now (W.output writer.old) (W.output writer.new)) }
+    ensures err { OnErr result (HasBroken octets.now (W.output writer.old) (W.output writer.new)) }
+{
+    let mut done = 0;
+    'pieces: while done < octets.len() {
+        done += writer.write(&octets[done..])?;
+    }
+    Ok(())
+}
+
+/// Writes the text of the octets, of which no more is made at a time than that of a piece: a piece of [`PIECE_OCTETS`], or a line of quoted-printable.
+///
+/// # Errors
+///
+/// `Write` where a call of the sink failed, and `Memory` where an allocation was refused; the first of the text was written.
+pub fn put_text<W: Sink>(
+    alloc: Global,
+    encoding: Encoding,
+    octets: &[u8],
+    writer: &mut W,
+) -> Result<(), Refusal>
+    ensures ok { OnOk result (HasTaken (text_of encoding octets.now) (W.output writer.old)
+        (W.output writer.new)) }
+    ensures err { IfErr result (λ e. HasStopped e (text_of encoding octets.now)
+        (W.output writer.old) (W.output writer.new)) }
+{
+    match encoding {
+        Encoding::Raw => Ok(put_pieces(octets, writer)?),
+        Encoding::Qp => put_lines(alloc, octets, writer),
+        _ => put_groups(alloc, encoding, octets, writer),
+    }
+}
+
+// Writes the octets as they are, a piece at a time.
+fn put_pieces<W: Sink>(octets: &[u8], writer: &mut W) -> Result<(), DeviceFailed>
+    ensures ok { OnOk result (HasTaken octets.now (W.output writer.old) (W.output writer.new)) }
+    ensures err { OnErr result (HasBroken octets.now (W.output writer.old) (W.output writer.new)) }
+{
+    let mut rest = octets;
+    'pieces: while !rest.is_empty() {
+        let (piece, after) = rest.split_at(rest.len().min(PIECE_OCTETS));
+        put(writer, piece)?;
+        rest = after;
+    }
+    Ok(())
+}
+
+// Writes the quoted-printable text of the octets, a line at a time.
+fn put_lines<W: Sink>(alloc: Global, octets: &[u8], writer: &mut W) -> Result<(), Refusal>
+    ensures ok { OnOk result (HasTaken (text_of Qp octets.now) (W.output writer.old)
+        (W.output writer.new)) }
+    ensures err { IfErr result (λ e. HasStopped e (text_of Qp octets.now) (W.output writer.old)
+        (W.output writer.new)) }
+{
+    let mut line = Vec::with_capacity(alloc, LINE_OCTETS)?;
+    let mut rest = octets;
+    'lines: while !rest.is_empty() {
+        line.clear();
+        let taken = encode_qp_line(rest, &mut line)?;
+        put(writer, &line)?;
+        let (_, after) = rest.split_at(taken);
+        rest = after;
+    }
+    Ok(())
+}
+
+// Writes the text of the octets in another encoding, that of a piece at a time.
+fn put_groups<W: Sink>(
+    alloc: Global,
+    encoding: Encoding,
+    octets: &[u8],
+    writer: &mut W,
+) -> Result<(), Refusal>
+    requires { encoding ≢ Qp }
+    ensures ok { OnOk result (HasTaken (text_of encoding octets.now) (W.output writer.old)
+        (W.output writer.new)) }
+    ensures err { IfErr result (λ e. HasStopped e (text_of encoding octets.now)
+        (W.output writer.old) (W.output writer.new)) }
+{
+    let mut rest = octets;
+    'pieces: while !rest.is_empty() {
+        let (text, after) = first_groups(alloc, encoding, rest)?;
+        put(writer, &text)?;
+        rest = after;
+    }
+    Ok(())
+}
+
+// The text of the first piece of the octets, and the octets after it.
+fn first_groups<'a>(
+    alloc: Global,
+    encoding: Encoding,
+    octets: &'a [u8],
+) -> Result<(Vec<u8>, &'a [u8]), AllocError>
+    requires { encoding ≢ Qp }
+    ensures text { IfOk result (λ first. text_of encoding octets.now ≡ first.0.items
+        ++ text_of encoding first.1.now) }
+    ensures shorter { IfOk result
+        (λ first. 0 < length octets.now → length first.1.now < length octets.now) }
+{
+    let (piece, rest) = octets.split_at(octets.len().min(PIECE_OCTETS));
+    Ok((encode(alloc, encoding, piece)?, rest))
+}

@@ -1,0 +1,96 @@
+// Sinks, and a writer as one.
+ghost use Rattle.std.specs.Prelude.{◌≡◌, ◌<◌, ◌≤◌, length, take, IfOk, OnErr};
+ghost use Rattle.std.specs.Io.KnownBytes.{Appends, Keeps};
+ghost use Rattle.encodings.specs.Device.{HasFailed, HasTaken, Output};
+
+use refusals::Refusal;
+use std::io::{ErrorKind, Write};
+
+/// A device refused what it was asked for.
+#[derive(Drop)]
+pub struct DeviceFailed;
+
+impl From<DeviceFailed> for Refusal {
+    ghost use Rattle.std.specs.Prelude.{◌≡◌};
+    ghost use Rattle.refusals.specs.declared.refusal.Refusal.TheVariants.{Write};
+
+    ghost from_gives = { λ cause e. e ≡ Write };
+
+    fn from(_cause: DeviceFailed) -> Refusal {
+        Refusal::Write
+    }
+}
+
+/// What takes octets.
+///
+/// A contract sees the octets that it took, where they are told, and the number of its calls that have failed.
+pub trait Sink {
+    ghost output: { Self → Output };
+
+    /// Takes the first of the octets, at least one unless there is none, and answers how many.
+    ///
+    /// # Errors
+    ///
+    /// The device failed. Nothing was taken, and the failure is counted.
+    fn write(&mut self, octets: &[u8]) -> Result<usize, DeviceFailed>
+        ensures bound { IfOk result (λ n. n ≤ length octets.now) }
+        ensures some { IfOk result (λ n. 0 < length octets.now → 0 < n) }
+        ensures ok { IfOk result (λ n. HasTaken (take n octets.now) (output self.old)
+            (output self.new)) }
+        ensures err { OnErr result (HasFailed (output self.old) (output self.new)) };
+}
+
+/// How often a call is made that signals interrupt, before it counts as failed.
+pub const MAX_TRIES: u32 = 16;
+
+/// A writer as a sink.
+///
+/// A call that a signal interrupts is made again, up to [`MAX_TRIES`] times in all. That the writer takes nothing of octets is a failure.
+#[derive(Drop)]
+pub struct OfWrite<W: Write + Drop> {
+    /// The writer.
+    pub inner: W,
+    /// How many calls have failed, at most 2^64 - 1.
+    pub faults: u64,
+}
+
+impl<W: Write + Drop> OfWrite<W> {
+    /// The writer, of whose calls none has failed. The octets that it holds count as taken.
+    pub fn new(inner: W) -> OfWrite<W>
+        ensures fields { result ≡ record { inner = inner; faults = 0 } }
+        ensures output { ⟦<OfWrite<W> as Sink>⟧.output result
+            ≡ record { written = W.contents inner; faults = 0 } }
+    {
+        OfWrite { inner, faults: 0 }
+    }
+}
+
+impl<W: Write + Drop> Sink for OfWrite<W> {
+    ghost output = { λ s. record { written = W.contents s.inner; faults = s.faults } };
+
+    fn write(&mut self, octets: &[u8]) -> Result<usize, DeviceFailed> {
+        let written = write_some(&mut self.inner, octets);
+        if written.is_err() {
+            self.faults = self.faults.saturating_add(1);
+        }
+        written
+    }
+}
+
+// One write, made again where a signal interrupts it.
+fn write_some<W: Write>(writer: &mut W, octets: &[u8]) -> Result<usize, DeviceFailed>
+    ensures bound { IfOk result (λ n. n ≤ length octets.now) }
+    ensures some { IfOk result (λ n. 0 < length octets.now → 0 < n) }
+    ensures ok { IfOk result (λ n. Appends (W.contents writer.old) (W.contents writer.new)
+        (take n octets.now)) }
+    ensures err { OnErr result (Keeps (W.contents writer.old) (W.contents writer.new)) }
+{
+    for _ in 0..MAX_TRIES {
+        match writer.write(octets) {
+            Ok(n) if n > 0 || octets.is_empty() => return Ok(n),
+            Err(fault) if fault.kind() == ErrorKind::Interrupted => {}
+            _ => break,
+        }
+    }
+    Err(DeviceFailed)
+}
