@@ -1,5 +1,6 @@
 -- The first of a list that is so, piece by piece.
-use Rattle.std.proofs.Common.{◌≡◌, ◌∙◌, Bool, true, false, if◌then◌else◌, List, [], ◌∷◌, ◌++◌, Option, Some, None, refl, sym, ap}
+use Rattle.std.proofs.Common.{◌≡◌, ◌∙◌, Bool, true, false, ◌||◌, if◌then◌else◌, List, [], ◌∷◌, ◌++◌, Option, Some, None, refl, sym, ap}
+use Rattle.std.specs.List.{list_any}
 use Rattle.std.specs.Option.{option_or}
 use Rattle.sieve_check.specs.Causes.{first_where}
 
@@ -23,3 +24,12 @@ module _ {A : Type 0} (p : A → Bool) (all xs ys : List A) (is : all ≡ xs ++ 
   -- it is among the others, if anywhere
   pub found_after : None ≡ first_where p xs → first_where p all ≡ first_where p ys
   found_after h = split ∙ ap (λ o. option_or o (first_where p ys)) (sym h)
+
+-- where none is, it is so of none of them
+none_step : {A : Type 0} (b rest : Bool) (x : A) (o : Option A) → (o ≡ None → rest ≡ false) → (if b then Some x else o) ≡ None → (b || rest) ≡ false
+none_step true rest x o h k = absurd (cc)
+none_step false rest x o h k = h k
+
+pub none_where : {A : Type 0} (p : A → Bool) (xs : List A) → first_where p xs ≡ None → list_any p xs ≡ false
+none_where p [] h = refl
+none_where p (x ∷ xs) h = none_step (p x) (list_any p xs) x (first_where p xs) (none_where p xs) h

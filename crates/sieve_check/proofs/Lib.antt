@@ -19,6 +19,7 @@ pub mod Lists
 pub mod TestExistence
 pub mod Existence
 pub mod Examples
+pub mod ReasonExamples
 pub mod NameSteps
 pub mod FormExamples
 pub mod LoopExamples

@@ -2,17 +2,19 @@
 use Rattle.std.proofs.Common.{◌≡◌, ◌∙◌, ℕ, Bool, true, false, ◌&&◌, ◌||◌, not, if◌then◌else◌, List, [], ◌∷◌, Option, Some, None, option_map, length, refl, sym, ap}
 use Rattle.std.specs.Prelude.{is_some, nat_lt}
 use Rattle.std.specs.Option.{option_or}
+use Rattle.std.proofs.lemmas.Option.{same_Some}
 use Rattle.sieve_parser.specs.Tree.{ArgumentTree, text, text_list, amount, label}
 use Rattle.sieve_check.specs.declared.names.Tag.{Tag}
 use Rattle.sieve_check.specs.declared.signature.Positional.{Positional}
 use Rattle.sieve_check.specs.declared.signature.Positional.TheVariants.{Nothing, Number, Text, TwoTexts, OneList, TwoLists}
 use Rattle.sieve_check.specs.declared.signature.Signature.{Signature}
+use Rattle.sieve_check.specs.declared.signature.Tags.{Tags}
 use Rattle.sieve_check.specs.Names.{tag_named}
-use Rattle.sieve_check.specs.Signatures.{◌>>=◌, Given, Read, add_tag, asks_for_mime, awaited, is_complete, is_list, is_positional, nothing_given, reading, tags_read, with_argument}
+use Rattle.sieve_check.specs.Signatures.{◌>>=◌, Given, Read, add_tag, asks_for_mime, awaited, is_complete, is_list, is_positional, nothing_given, reading, tags_read, tags_with, with_argument}
 use Rattle.sieve_check.specs.declared.causes.ReasonKind.TheVariants.{UnknownTag, TagArgument, LateTag, MissingOrder, MissingMime, MissingArgument, ExtraArgument, WrongArgument}
 use Rattle.sieve_check.specs.Arguments.{Awaiting, arguments_cause, awaiting, first_label, label_needing_mime, missing_cause, named_so, number_of, positional_cause, rest_cause, untaken_kind}
 use Rattle.sieve_check.specs.Causes.{Cause, about, or_cause, plain}
-use Rattle.sieve_check.proofs.Options.{some_or, some_if}
+use Rattle.sieve_check.proofs.Options.{both_true, if_some, not_false, some_or, some_if, step_some}
 
 -- ---- the arguments behind the tags
 
@@ -181,3 +183,63 @@ rest_either signature all given (Some last) (a ∷ args) =
 
 pub unread_either : (signature : Signature) (args : List ArgumentTree) → is_some (arguments_cause signature args) ≡ not (is_some (reading signature args))
 unread_either signature args = rest_either signature args nothing_given None args
+
+none_of : {A : Type 0} (o : Option A) → not (is_some o) ≡ true → o ≡ None
+none_of None h = refl
+none_of (Some x) h = absurd (cc)
+
+pub unread : (signature : Signature) (args : List ArgumentTree) (cause : Cause) → arguments_cause signature args ≡ Some cause → (reading signature args ≡ None) × (arguments_cause signature args ≡ Some cause)
+unread signature args cause h = (none_of (reading signature args) (sym (unread_either signature args) ∙ ap is_some h), h)
+
+-- ---- step by step
+
+-- behind a tag that is taken
+pub behind_tag : (signature : Signature) (all : List ArgumentTree) (given : Given) (args : List ArgumentTree) (name : List ℕ) (rest : List ArgumentTree) (tag : Tag) (tags : Tags)
+    → args ≡ label name ∷ rest → tag_named name ≡ Some tag → tags_with signature tag given.tags ≡ Some tags
+    → rest_cause signature all given None args ≡ rest_cause signature all (record given { tags = tags }) (awaiting name tag) rest
+behind_tag signature all given args name rest tag tags is named taken =
+    ap (rest_cause signature all given None) is
+    ∙ ap
+    (λ (o : Option Tag).
+    or_cause o (about UnknownTag name)
+    (λ tag. or_cause (add_tag signature tag given) (about (untaken_kind signature tag given.tags) name) (λ more. rest_cause signature all more (awaiting name tag) rest)))
+    named
+    ∙ ap
+    (λ (o : Option Tags).
+    or_cause (option_map (λ (tags : Tags). record given { tags = tags }) o) (about (untaken_kind signature tag given.tags) name) (λ more. rest_cause signature all more (awaiting name tag) rest))
+    taken
+
+-- where no tag is next, and nothing is wrong with what is left
+behind_read : (signature : Signature) (given : Given) (args : List ArgumentTree) → ((name : List ℕ) (rest : List ArgumentTree) → args ≡ label name ∷ rest → ⊥)
+    → tags_read signature given None args ≡ Some (end_of given args)
+behind_read signature given [] none = refl
+behind_read signature given (text s ∷ args) none = refl
+behind_read signature given (text_list s ss ∷ args) none = refl
+behind_read signature given (amount n ∷ args) none = refl
+behind_read signature given (label name ∷ args) none = absurd (none name args refl)
+
+pub read_to_end : (signature : Signature) (all : List ArgumentTree) (given : Given) (args : List ArgumentTree) → ((name : List ℕ) (rest : List ArgumentTree) → args ≡ label name ∷ rest → ⊥)
+    → option_or (positional_cause signature.positional args) (missing_cause signature given.tags all) ≡ None → tags_read signature given None args ≡ tags_read signature nothing_given None all
+    → reading signature all ≡ Some (end_of given args)
+read_to_end signature all given args none h same =
+    let read = end_of given args in
+    let right : is_complete signature read ≡ true =
+    not_false (is_complete signature read) (ap not (sym (some_if (is_complete signature read) read)) ∙ sym (end_either signature all read) ∙ ap is_some h) in
+    ap (λ o. o >>= complete signature) (sym same ∙ behind_read signature given args none) ∙ ap (λ b. if b then Some read else None) right
+
+-- ---- arguments that were read
+
+pub complete_read : (signature : Signature) (args : List ArgumentTree) (read : Read) → reading signature args ≡ Some read → is_complete signature read ≡ true
+complete_read signature args read h =
+    let r = step_some (tags_read signature nothing_given None args) (complete signature) read h in
+    let done = if_some (is_complete signature r.0) r.0 read r.2 in
+    ap (is_complete signature) (sym (same_Some r.0 read done.1)) ∙ done.0
+
+-- what is complete has the order that it has to have, and the right arguments behind the tags
+pub complete_parts : (signature : Signature) (read : Read) → is_complete signature read ≡ true → ((not signature.order || is_some read.tags.order) ≡ true) × (is_positional signature.positional read.positional ≡ true)
+complete_parts signature read h =
+    let outer = both_true ((not signature.order || is_some read.tags.order) && (not (asks_for_mime read.tags) || read.tags.mime)) (is_positional signature.positional read.positional) h in
+    ((both_true (not signature.order || is_some read.tags.order) _ outer.0).0, outer.1)
+
+pub right_behind : (signature : Signature) (args : List ArgumentTree) (read : Read) → reading signature args ≡ Some read → is_positional signature.positional read.positional ≡ true
+right_behind signature args read h = (complete_parts signature read (complete_read signature args read h)).1

@@ -263,7 +263,7 @@ fn end_cause<'a>(
 ) -> Option<Cause<'a>>
     ensures { option_map cause_view result
         ≡ option_or (positional_cause signature.positional (left_of reading.entry))
-        (missing_cause signature reading.tags (map argument_tree arguments.now)) }
+        (missing_cause signature reading.entry.tags (map argument_tree arguments.now)) }
 {
     if let Some(cause) = positional_cause(signature, reading.positional) {
         return Some(cause);

@@ -482,7 +482,7 @@ fn known_test<'t>(
 
 // What was found of a command or test, with its place and its name.
 fn at<'t>(head: &'t Head, judged: Result<(), Cause<'t>>) -> Result<(), Refused<'t>>
-    ensures { MatchResult judged (λ _. IsOk result)
+    ensures { MatchResult judged.entry (λ _. IsOk result)
         (λ cause. MatchResult result (λ _. ⊥)
         (λ refused. refused_view refused
         ≡ refused_for head.now.token head.now.name (cause_view cause))) }
