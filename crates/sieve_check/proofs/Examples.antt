@@ -1,15 +1,16 @@
 -- Rows that were worked out by hand.
 use Rattle.std.proofs.Common.{◌≡◌, ℕ, zero, suc, ◌+◌, List, [], ◌∷◌, ◌++◌, Some, None, true, refl}
-use Rattle.std.specs.Prelude.{codes}
+use Rattle.std.specs.Prelude.{codes, option_map}
 use Rattle.sieve_parser.specs.Tree.{ArgumentTree, text, text_list, amount, label, InvocationTree, invocation, no_test, one_test, test_list, last, next, CommandsTree, simple, block, no_command, command}
 use Rattle.sieve_check.specs.declared.error.CheckError.TheVariants.{UnknownCommand, MissingCapability, UnknownCapability, BadArguments, Limit}
-use Rattle.sieve_check.specs.declared.error.Fault.TheVariants as fault
+use Rattle.sieve_check.specs.declared.causes.ReasonKind.TheVariants as kind
 use Rattle.sieve_check.specs.declared.names.Capability.TheVariants.{Mime, FileInto, Depot}
 use Rattle.sieve_check.specs.declared.names.TestName.TheVariants.{Header, Exists, Size}
 use Rattle.sieve_check.specs.declared.typed.Order.TheVariants.{Over}
-use Rattle.sieve_check.specs.Rules.{Visit, first_fault, fault_of, after_invocation}
+use Rattle.sieve_check.specs.Causes.{plain, refusal_for}
+use Rattle.sieve_check.specs.Rules.{Visit, first_refused, fault_of, after_invocation}
 use Rattle.sieve_check.specs.Signatures.{Read, no_tag, reading, test_signature}
-use Rattle.sieve_check.specs.Surroundings.{Context, at_start, first_lacking, lacks}
+use Rattle.sieve_check.specs.Surroundings.{Context, at_start, first_lacking}
 
 abbrev keep_at : ℕ → CommandsTree → CommandsTree
 keep_at n others = command (simple (invocation n (codes "keep") [] no_test)) others
@@ -77,10 +78,10 @@ faultless :
 faultless = refl
 
 -- what was required is there afterwards, and nothing else
-required : lacks (after_invocation at_start (invocation 0 (codes "require") (text_list (codes "fileinto") (codes "mime" ∷ []) ∷ []) no_test)) (Mime ∷ []) ≡ Rattle.std.proofs.Common.false
+required : first_lacking (Mime ∷ []) (after_invocation at_start (invocation 0 (codes "require") (text_list (codes "fileinto") (codes "mime" ∷ []) ∷ []) no_test)).required ≡ None
 required = refl
 
-not_all_required : lacks (after_invocation at_start (invocation 0 (codes "require") (text (codes "mime") ∷ []) no_test)) (FileInto ∷ []) ≡ true
+not_all_required : first_lacking (FileInto ∷ []) (after_invocation at_start (invocation 0 (codes "require") (text (codes "mime") ∷ []) no_test)).required ≡ Some FileInto
 not_all_required = refl
 
 -- of several the first that isn't there is named, whatever was required before or behind it
@@ -93,7 +94,7 @@ first_of_two = refl
 second_of_two : first_lacking (Mime ∷ Depot ∷ []) mime_alone.required ≡ Some Depot
 second_of_two = refl
 
-none_of_none : lacks mime_alone [] ≡ Rattle.std.proofs.Common.false
+none_of_none : first_lacking [] mime_alone.required ≡ None
 none_of_none = refl
 
 -- size :over 10, with one tag, with none, with two, and with the tag behind the number
@@ -115,17 +116,17 @@ names_numbered zero = []
 names_numbered (suc n) = ((128 + n) ∷ []) ∷ names_numbered n
 
 abbrev brings : ℕ → List (List ℕ) → Visit
-brings token names = record { token = token; names = names; fault = None }
+brings token names = record { token = token; name = codes "set"; names = names; cause = None }
 
 -- 128 names, of which some come again
-enough_names : first_fault [] (brings 0 (names_numbered 127) ∷ brings 4 (codes "a" ∷ codes "a" ∷ names_numbered 9) ∷ brings 7 (codes "a" ∷ []) ∷ []) ≡ None
+enough_names : option_map refusal_for (first_refused [] (brings 0 (names_numbered 127) ∷ brings 4 (codes "a" ∷ codes "a" ∷ names_numbered 9) ∷ brings 7 (codes "a" ∷ []) ∷ [])) ≡ None
 enough_names = refl
 
 -- the 129th is named where it comes, and a fault of the same visit before it
-too_many_names : first_fault [] (brings 0 (names_numbered 127) ∷ brings 4 (codes "a" ∷ []) ∷ brings 7 (codes "b" ∷ []) ∷ brings 9 (codes "c" ∷ []) ∷ []) ≡ Some (Limit 7)
+too_many_names : option_map refusal_for (first_refused [] (brings 0 (names_numbered 127) ∷ brings 4 (codes "a" ∷ []) ∷ brings 7 (codes "b" ∷ []) ∷ brings 9 (codes "c" ∷ []) ∷ [])) ≡ Some (Limit 7)
 too_many_names = refl
 
-least_fault : first_fault [] (brings 0 (names_numbered 128) ∷ record { token = 4; names = codes "a" ∷ []; fault = Some fault.BadArguments } ∷ []) ≡ Some (BadArguments 4)
+least_fault : option_map refusal_for (first_refused [] (brings 0 (names_numbered 128) ∷ record { token = 4; name = codes "set"; names = codes "a" ∷ []; cause = Some (plain kind.Misplaced) } ∷ [])) ≡ Some (BadArguments 4)
 least_fault = refl
 
 -- ---- strings in tests

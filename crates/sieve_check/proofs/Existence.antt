@@ -1,6 +1,7 @@
 -- A script of which nothing is wrong has a typed form, which is within the limits.
 use Rattle.std.proofs.Common.{◌≡◌, ℕ, zero, suc, ◌<◌, ◌≤◌, Bool, true, false, ◌&&◌, ◌||◌, not, List, [], ◌∷◌, ◌++◌, length, drop, bytes_eq, Option, Some, None, option_map, refl, sym, ap, subst, ◌∙◌, arith, if◌then◌else◌, inl, inr}
 use Rattle.std.specs.List.{list_any}
+use Rattle.std.specs.Option.{option_and_then}
 use Rattle.std.specs.Prelude.{is_some, min, unwrap_or}
 use Rattle.std.proofs.Math.Nat.{min-le_right}
 use Rattle.std.proofs.lemmas.Bool.{cases_Bool, ltb-true}
@@ -13,7 +14,7 @@ use Rattle.octets.specs.Once.{each_once}
 use Rattle.sieve_references.specs.References.{names_in}
 use Rattle.sieve_parser.specs.Scripts.{IsTree}
 use Rattle.sieve_parser.specs.Tree.{ArgumentTree, text, text_list, amount, label, InvocationTree, invocation, TestsTree, CommandTree, simple, block, CommandsTree, no_command as no_tree, command as tree}
-use Rattle.sieve_check.specs.declared.error.Fault.TheVariants.{MissingCapability, UnknownCapability, BadArguments, Limit}
+use Rattle.sieve_check.specs.declared.causes.ReasonKind.TheVariants.{UnknownCommand, ManyLoops, WrongEnding, WrongTests}
 use Rattle.sieve_check.specs.declared.names.Capability.TheVariants as capability
 use Rattle.sieve_check.specs.declared.names.CommandName.{CommandName}
 use Rattle.sieve_check.specs.declared.names.CommandName.TheVariants.{Require, If, Elsif, Else, Stop, Keep, Discard, FileInto, Set, ForEveryPart, Break, Store, Take}
@@ -24,28 +25,32 @@ use Rattle.sieve_check.specs.declared.signature.Ending.TheVariants.{Semicolon, B
 use Rattle.sieve_check.specs.Bounded.{IsBoundedString, IsBoundedCommand, AreBoundedCommands, AreBoundedBranches, IsCommandIn, AreCommandsIn, AreBranchesIn, IsBounded}
 use Rattle.sieve_check.specs.FormOf.{InnerForms, none, one, bracketed, template_of, setting_in, most_of, taking_in, inner_forms_of, PartForm, action, filing_in, simple_of, block_of, simple_part, block_part, Forms, closed, closed_by, after_none, put, part_of, forms_of, IsFormOf}
 use Rattle.sieve_check.specs.Names.{command_named}
-use Rattle.sieve_check.specs.Rules.{Visit, fault_of, known_command_fault, command_needs, leaves_loop, may_stand, opened_by, loops_by, has_unknown_capability, has_long_string, has_wrong_mention, has_large_mention, expanding, mentions_of, strings_read, lists_read, where_required, command_mentions, names_by, names_mentioned, same_tests, same_ending, is_well_formed, kind_of, strings_of, tests_visits, head_visits, command_visits, commands_visits, after_invocation, invocation_of, loops_opened}
+use Rattle.sieve_check.specs.Arguments.{arguments_cause}
+use Rattle.sieve_check.specs.Causes.{plain}
+use Rattle.sieve_check.specs.Rules.{Visit, fault_of, known_command_cause, read_command_cause, ill_formed_command, tests_cause, ending_cause, mention_cause, misplaced, place_cause, long_string_cause, large_mention_cause, many_loops_cause, lacking, lacking_cause, unknown_cause, command_needs, may_stand, opened_by, loops_by, expanding, mentions_of, strings_read, lists_read, where_required, command_mentions, names_by, names_mentioned, same_tests, same_ending, kind_of, strings_of, tests_visits, head_visits, command_visits, commands_visits, after_invocation, invocation_of, loops_opened}
 use Rattle.sieve_check.specs.Signatures.{◌>>=◌, Read, is_positional, reading, command_signature, ending_of}
-use Rattle.sieve_check.specs.Surroundings.{Context, lacks, at_start, in_block, inside, is_meant, loops_left, opens_many, following}
+use Rattle.sieve_check.specs.Surroundings.{Context, first_lacking, at_start, in_block, inside, is_meant, loops_left, opens_many, following}
 use Rattle.sieve_check.specs.Typed.{Template, CommandForm, keep, discard, file_into, set, take_first, store, for_every_part, leave, stop, choice, CommandForms, no_command, command, no_branch, otherwise, branch}
 use Rattle.sieve_check.specs.Variables.{string_variables, test_variables, command_variables, commands_variables, branches_variables}
 use Rattle.sieve_check.proofs.Extent.{form_fits}
-use Rattle.sieve_check.proofs.Faultless.{AreFaultless, faultless_both, names_brought, none_refused, few_in_script}
-use Rattle.sieve_check.proofs.Lists.{expands, is_large, read_short, texted, both_texted}
+use Rattle.sieve_check.proofs.Faultless.{AreFaultless, faultless_both, names_brought, none_refused, few_in_script, unrefused}
+use Rattle.sieve_check.proofs.Lists.{expands, has_long_string, is_large, read_short, texted, both_texted}
 use Rattle.sieve_check.proofs.OpenLoops.{room_inside}
 use Rattle.sieve_check.proofs.TagSteps.{number_read}
-use Rattle.sieve_check.proofs.Options.{all_taken, map_some, if_none, not_false, not_both, both_true, either_false, some_of}
+use Rattle.sieve_check.proofs.Options.{all_taken, map_some, both_none, map_none, if_none, unless_none, not_false, not_both, some_of}
 use Rattle.sieve_check.proofs.Templates.{names_at, mentioned_at, expanding_names, nothing_mentioned, template_names, template_bounded}
-use Rattle.sieve_check.proofs.TestExistence.{known, WellFormed, IsInnerIn, well_formed, complete_parts, none_large, inner_kind, IsBoundedInner, inner_variables, unnamed, Inner, inner_exists}
+use Rattle.sieve_check.proofs.Unread.{right_behind}
+use Rattle.sieve_check.proofs.TestExistence.{known, WellFormed, IsInnerIn, well_formed, none_large, none_long, inner_kind, IsBoundedInner, inner_variables, unnamed, Inner, inner_exists}
 
 -- ---- what follows from there being no fault
 
 -- the tests are those of the signature, the arguments were read, and their strings are within the limits
 pub record CommandWellFormed (s : Context) (name : CommandName) (args : List ArgumentTree) (tests : Tests) (ending : Ending) : Type 0 where
-  pub has : lacks s (command_needs name) ≡ false
-  pub stands : may_stand s name args ≡ true
+  pub has : first_lacking (command_needs name) s.required ≡ None
   pub ends : same_ending (ending_of name) ending ≡ true
-  pub form : WellFormed (command_signature name) args tests
+  pub same : same_tests (command_signature name).tests tests ≡ true
+  pub form : WellFormed (command_signature name) args
+  pub stands : may_stand s name form.read ≡ true
   pub room : opens_many (opened_by name args) s ≡ false
   pub positional : is_positional (command_signature name).positional form.read.positional ≡ true
   pub alone : lists_read form.read ≡ form.read.positional
@@ -68,31 +73,33 @@ unselecting Break = refl
 unselecting Store = refl
 unselecting Take = refl
 
-command_well_formed : (s : Context) (name : CommandName) (args : List ArgumentTree) (tests : Tests) (ending : Ending) → known_command_fault s name args tests ending ≡ None → CommandWellFormed s name args tests ending
+command_well_formed : (s : Context) (name : CommandName) (args : List ArgumentTree) (tests : Tests) (ending : Ending) → known_command_cause s name args tests ending ≡ None → CommandWellFormed s name args tests ending
 command_well_formed s name args tests ending h =
-    let a = if_none (lacks s (command_needs name)) MissingCapability _ h in
-    let b = if_none (has_unknown_capability name args) UnknownCapability _ a.1 in
-    let c = if_none (not (may_stand s name args && (same_ending (ending_of name) ending && is_well_formed (command_signature name) args tests))) BadArguments _ b.1 in
-    let d = both_true (may_stand s name args) _ (not_false _ c.0) in
-    let e = both_true (same_ending (ending_of name) ending) _ d.1 in
-    let f = if_none (has_wrong_mention (command_mentions s name args)) BadArguments _ c.1 in
-    let g = if_none (has_long_string args || has_large_mention (command_mentions s name args) || opens_many (opened_by name args) s) Limit _ f.1 in
-    let limits = either_false (has_long_string args || has_large_mention (command_mentions s name args)) _ g.0 in
-    let large = either_false (has_long_string args) _ limits.0 in
-    let form = well_formed (command_signature name) args tests e.1 in
-    let mentions = mentions_of name (strings_read (reading (command_signature name) args)) in
+    let a = both_none (lacking_cause s (command_needs name)) _ h in
+    let b = both_none (unknown_cause name args) _ a.1 in
+    let c = both_none (arguments_cause (command_signature name) args) _ b.1 in
+    let form = well_formed (command_signature name) args c.0 in
+    let read = form.read in
+    let mentions = mentions_of name (strings_of (lists_read read)) in
+    let rest : read_command_cause s name args tests ending read ≡ None = sym (ap (option_and_then (read_command_cause s name args tests ending)) form.is) ∙ c.1 in
+    let d = both_none (ill_formed_command name tests ending (where_required s mentions)) _ rest in
+    let e = both_none (tests_cause (command_signature name) tests) _ d.0 in
+    let f = both_none (ending_cause name ending) (mention_cause (where_required s mentions)) e.1 in
+    let g = both_none (place_cause s name read) _ d.1 in
+    let i = both_none (long_string_cause args) _ g.1 in
+    let j = both_none (large_mention_cause (where_required s mentions)) (many_loops_cause s name args) i.1 in
     let alone = form.alone (unselecting name) in
     record {
-      has = a.0;
-      stands = d.0;
-      ends = e.0;
+      has = map_none lacking (first_lacking (command_needs name) s.required) a.0;
+      ends = unless_none (same_ending (ending_of name) ending) (plain (WrongEnding (ending_of name))) f.0;
+      same = unless_none (same_tests (command_signature name).tests tests) (plain (WrongTests (command_signature name).tests)) e.0;
       form = form;
-      room = limits.1;
-      positional = (complete_parts (command_signature name) form.read form.complete).1;
+      stands = unless_none (may_stand s name read) (misplaced name read) g.0;
+      room = (if_none (opens_many (opened_by name args) s) (plain ManyLoops) None j.1).0;
+      positional = right_behind (command_signature name) args read form.is;
       alone = alone;
-      short = ap has_long_string (sym alone) ∙ read_short (command_signature name) args form.read form.is large.0;
-      few = λ yes. ap (λ xs. list_any is_large (mentions_of name (strings_of xs)).expanded) (sym alone)
-          ∙ ap (λ o. list_any is_large (mentions_of name (strings_read o)).expanded) (sym form.is) ∙ none_large (expands s) mentions large.1 yes;
+      short = ap has_long_string (sym alone) ∙ read_short (command_signature name) args read form.is (none_long args i.0);
+      few = λ yes. ap (λ xs. list_any is_large (mentions_of name (strings_of xs)).expanded) (sym alone) ∙ none_large (expands s) mentions j.0 yes;
     }
 
 -- ---- forms that go on
@@ -159,7 +166,7 @@ module _ (s : Context) (make : Template → CommandForm) (limits : (folder : Tem
       alone bounded
 
 -- what is needed first is there
-there : {A : Type 0} (b : Bool) (x : A) (others : Option A) → is_some (if b then others else Some x) ≡ false → b ≡ true
+there : {A : Type 0} (b : Bool) (x : A) (others : Option A) → (if b then others else Some x) ≡ None → b ≡ true
 there true x others h = refl
 there false x others h = absurd (cc)
 
@@ -168,7 +175,7 @@ set_names : (b : Bool) (name x : List ℕ) → b ≡ true → names_at b x ++ lo
 set_names true name x h = ap (λ names. names ++ lowercase_of name ∷ []) (sym (append-nil (names_in x)))
 set_names false name x h = absurd (cc)
 
-assigned : (s : Context) (read : Read) (rest : Forms) → lacks s (command_needs Set) ≡ false → is_positional (command_signature Set).positional read.positional ≡ true → has_long_string read.positional ≡ false → (expands s ≡ true → list_any is_large (drop 1 (strings_of read.positional)) ≡ false)
+assigned : (s : Context) (read : Read) (rest : Forms) → first_lacking (command_needs Set) s.required ≡ None → is_positional (command_signature Set).positional read.positional ≡ true → has_long_string read.positional ≡ false → (expands s ≡ true → list_any is_large (drop 1 (strings_of read.positional)) ≡ false)
     → rest.branches ≡ no_branch → AreWithin (length s.loops) rest → Goes s ((own_names s Set read ++ []) ++ forms_variables rest) (simple_of s Set read none >>= λ part. put part rest)
 assigned s read rest has positional short few alone bounded =
     let b = expands s in
@@ -202,7 +209,7 @@ most_some (Some n) some = (least n max_value (some n refl) (omega arith), min-le
   least (suc a) zero h k = absurd (omega (arith, k))
   least (suc a) (suc b) h k = omega arith
 
-taken : (s : Context) (args : List ArgumentTree) (read : Read) (rest : Forms) → reading (command_signature Take) args ≡ Some read → lacks s (command_needs Take) ≡ false → may_stand s Take args ≡ true → is_positional positional.Text read.positional ≡ true
+taken : (s : Context) (args : List ArgumentTree) (read : Read) (rest : Forms) → reading (command_signature Take) args ≡ Some read → first_lacking (command_needs Take) s.required ≡ None → may_stand s Take read ≡ true → is_positional positional.Text read.positional ≡ true
     → rest.branches ≡ no_branch → AreWithin (length s.loops) rest → Goes s ((own_names s Take read ++ []) ++ forms_variables rest) (simple_of s Take read none >>= λ part. put part rest)
 taken s args read rest is has stands positional alone bounded =
     let b = expands s in
@@ -228,13 +235,13 @@ left_there name (loop ∷ loops) n h =
           (omega (arith, one_more), omega (arith, one_more, there.1))
     ]
 
-left : (s : Context) (args : List ArgumentTree) (read : Read) (rest : Forms) → reading (command_signature Break) args ≡ Some read → may_stand s Break args ≡ true → is_positional positional.Nothing read.positional ≡ true → rest.branches ≡ no_branch → AreWithin (length s.loops) rest
+left : (s : Context) (read : Read) (rest : Forms) → may_stand s Break read ≡ true → is_positional positional.Nothing read.positional ≡ true → rest.branches ≡ no_branch → AreWithin (length s.loops) rest
     → Goes s ((own_names s Break read ++ []) ++ forms_variables rest) (simple_of s Break read none >>= λ part. put part rest)
-left s args read rest is stands positional alone bounded =
-    let loops = some_of (loops_left read.name s.loops) (ap (leaves_loop s) (sym is) ∙ stands) in
+left s read rest stands positional alone bounded =
+    let loops = some_of (loops_left read.name s.loops) stands in
     action_goes s (own_names s Break read) (leave loops.0) rest (simple_of s Break read none) (ap (option_map (λ loops. action (leave loops))) loops.1) tt (left_there read.name s.loops loops.0 loops.1) (unnamed (expands s) read.positional positional) alone bounded
 
-simple_goes : (s : Context) (name : CommandName) (args : List ArgumentTree) (read : Read) (inner : InnerForms) (rest : Forms) → reading (command_signature name) args ≡ Some read → may_stand s name args ≡ true → lacks s (command_needs name) ≡ false → is_positional (command_signature name).positional read.positional ≡ true → same_ending (ending_of name) Semicolon ≡ true
+simple_goes : (s : Context) (name : CommandName) (args : List ArgumentTree) (read : Read) (inner : InnerForms) (rest : Forms) → reading (command_signature name) args ≡ Some read → may_stand s name read ≡ true → first_lacking (command_needs name) s.required ≡ None → is_positional (command_signature name).positional read.positional ≡ true → same_ending (ending_of name) Semicolon ≡ true
     → same_tests (command_signature name).tests (inner_kind inner) ≡ true → has_long_string read.positional ≡ false → (expands s ≡ true → list_any is_large (mentions_of name (strings_of read.positional)).expanded ≡ false)
     → ((following s (Some name) (strings_of args)).after_if ≡ false → rest.branches ≡ no_branch) → AreWithin (length s.loops) rest → Goes s ((own_names s name read ++ inner_variables inner) ++ forms_variables rest) (simple_of s name read inner >>= λ part. put part rest)
 simple_goes s Require args read none rest is stands has positional ends same short few begins bounded = record {
@@ -249,7 +256,7 @@ simple_goes s Keep args read none rest is stands has positional ends same short 
 simple_goes s Discard args read none rest is stands has positional ends same short few begins bounded = action_goes s (own_names s Discard read) discard rest (Some (action discard)) refl tt tt (unnamed (expands s) read.positional positional) (begins refl) bounded
 simple_goes s FileInto args read none rest is stands has positional ends same short few begins bounded = filed s file_into (λ folder fits. fits) (λ folder. tt) (λ folder. refl) read rest positional short few (begins refl) bounded
 simple_goes s Store args read none rest is stands has positional ends same short few begins bounded = filed s store (λ folder fits. fits) (λ folder. ltb-true 0 (length s.loops) stands) (λ folder. refl) read rest positional short few (begins refl) bounded
-simple_goes s Break args read none rest is stands has positional ends same short few begins bounded = left s args read rest is stands positional (begins refl) bounded
+simple_goes s Break args read none rest is stands has positional ends same short few begins bounded = left s read rest stands positional (begins refl) bounded
 simple_goes s Set args read none rest is stands has positional ends same short few begins bounded = assigned s read rest has positional short few (begins refl) bounded
 simple_goes s Take args read none rest is stands has positional ends same short few begins bounded = taken s args read rest is has stands positional (begins refl) bounded
 simple_goes s Require args read (one f) rest is stands has positional ends same short few begins bounded = absurd (cc)
@@ -289,7 +296,7 @@ branch_behind names tests within rest same =
     append_assoc (tests ++ within) (branches_variables rest.branches) (commands_variables rest.commands)
     ∙ ap (λ vs. ((vs ++ tests) ++ within) ++ forms_variables rest) same
 
-block_goes : (s : Context) (name : CommandName) (args : List ArgumentTree) (read : Read) (inner : InnerForms) (body : CommandForms) (rest : Forms) → is_positional (command_signature name).positional read.positional ≡ true → may_stand s name args ≡ true → opens_many (opened_by name args) s ≡ false → same_ending (ending_of name) Block ≡ true
+block_goes : (s : Context) (name : CommandName) (args : List ArgumentTree) (read : Read) (inner : InnerForms) (body : CommandForms) (rest : Forms) → is_positional (command_signature name).positional read.positional ≡ true → may_stand s name read ≡ true → opens_many (opened_by name args) s ≡ false → same_ending (ending_of name) Block ≡ true
     → same_tests (command_signature name).tests (inner_kind inner) ≡ true → ((following s (Some name) (strings_of args)).after_if ≡ false → rest.branches ≡ no_branch) → IsBoundedInner inner → IsInnerIn (length s.loops) inner
     → AreBoundedCommands body → AreCommandsIn (length (opened_by name args ++ s.loops)) body → AreWithin (length s.loops) rest
     → Goes s (((own_names s name read ++ inner_variables inner) ++ commands_variables body) ++ forms_variables rest) (block_of name inner body >>= λ part. put part rest)
@@ -372,7 +379,7 @@ pub record Known (s : Context) (word : List ℕ) (args : List ArgumentTree) (tes
 
 known_command : (s : Context) (token : ℕ) (word : List ℕ) (args : List ArgumentTree) (tests : TestsTree) (ending : Ending) → AreFaultless (head_visits s (invocation token word args tests) ending) → Known s word args tests ending
 known_command s token word args tests ending h =
-    let name = known (λ known. known_command_fault s known args (kind_of tests) ending) (command_named word) h.0 in
+    let name = known UnknownCommand (λ known. known_command_cause s known args (kind_of tests) ending) (command_named word) h.0 in
     let form = command_well_formed s name.0 args (kind_of tests) ending name.2 in
     let inner = inner_exists s tests h.1 in
     record {
@@ -421,7 +428,7 @@ simple_exists : (s : Context) (i : InvocationTree) (rest : Forms) → AreFaultle
 simple_exists s (invocation token word args tests) rest h begins bounded =
     let k = known_command s token word args tests Semicolon h in
     let read = k.form.form.read in
-    let same = ap (same_tests (command_signature k.name).tests) k.inner.kind ∙ k.form.form.same in
+    let same = ap (same_tests (command_signature k.name).tests) k.inner.kind ∙ k.form.same in
     along s _ _ _ (simple_of s k.name read k.inner.inner >>= λ part. put part rest)
     (ap (λ o. o >>= λ part. put part rest) (all_taken (inner_forms_of s tests) k.inner.inner (command_named word) k.name (λ name. reading (command_signature name) args) read (λ inner name read. simple_of s name read inner) k.inner.is k.is_name k.form.form.is))
     (ap (λ names. names ++ forms_variables rest) k.names)
@@ -432,7 +439,7 @@ block_exists : (s : Context) (i : InvocationTree) (body : CommandForms) (rest : 
 block_exists s (invocation token word args tests) body rest h begins within within_in bounded =
     let k = known_command s token word args tests Block h in
     let read = k.form.form.read in
-    let same = ap (same_tests (command_signature k.name).tests) k.inner.kind ∙ k.form.form.same in
+    let same = ap (same_tests (command_signature k.name).tests) k.inner.kind ∙ k.form.same in
     along s _ _ _ (block_of k.name k.inner.inner body >>= λ part. put part rest)
     (ap (λ o. o >>= λ part. put part rest) (all_taken (inner_forms_of s tests) k.inner.inner (command_named word) k.name (λ name. reading (command_signature name) args) read (λ inner name read. block_of name inner body) k.inner.is k.is_name k.form.form.is))
     (ap (λ names. (names ++ commands_variables body) ++ forms_variables rest) k.names)
@@ -480,7 +487,7 @@ pub record Formed (script : CommandsTree) : Type 0 where
 
 pub form_exists : (script : CommandsTree) → fault_of script ≡ None → Formed script
 form_exists script h =
-    let goes = forms_exist at_start script (none_refused [] (commands_visits at_start script) h) in
+    let goes = forms_exist at_start script (none_refused [] (commands_visits at_start script) (unrefused script h)) in
     let alone = goes.begins refl in
     record {
       form = goes.forms.commands;

@@ -8,6 +8,9 @@ pub mod FaultSteps
 pub mod FormSteps
 pub mod Requiring
 pub mod Options
+pub mod Finding
+pub mod StringSteps
+pub mod Unread
 pub mod Faultless
 pub mod TagSteps
 pub mod Templates
@@ -16,6 +19,7 @@ pub mod Lists
 pub mod TestExistence
 pub mod Existence
 pub mod Examples
+pub mod ReasonExamples
 pub mod NameSteps
 pub mod FormExamples
 pub mod LoopExamples

@@ -19,7 +19,7 @@ use Rattle.sieve_check.specs.declared.signature.Positional.TheVariants as positi
 use Rattle.sieve_check.specs.declared.signature.Signature.{Signature}
 use Rattle.sieve_check.specs.Bounded.{IsBoundedString, IsBoundedList, AreBoundedLists, HasParams, IsBoundedHeader}
 use Rattle.sieve_check.specs.FormOf.{list_in, template_of, of_list, of_lists, selected_by, params_in}
-use Rattle.sieve_check.specs.Rules.{is_long, string_has, strings_in, strings_of, has_long_string, lists_read}
+use Rattle.sieve_check.specs.Rules.{is_long, string_has, strings_in, strings_of, lists_read}
 use Rattle.sieve_check.specs.Signatures.{◌>>=◌, Read, Given, with_argument, is_list, is_positional, reading}
 use Rattle.sieve_check.specs.Surroundings.{Context, has_capability}
 use Rattle.sieve_check.specs.Typed.{Template, Selected, params_of, TestForm}
@@ -29,6 +29,10 @@ use Rattle.sieve_check.proofs.TagSteps.{argument_taken, IsKept, kept_by_reading,
 use Rattle.sieve_check.proofs.Templates.{template_at, names_at, IsSound, templates_bounded, templates_names}
 
 -- ---- the strings behind the tags
+
+-- a string is longer than the limit
+abbrev pub has_long_string : List ArgumentTree → Bool
+has_long_string args = list_any (string_has Long) (strings_of args)
 
 both_short : (ss ts : List (List ℕ)) → list_any (string_has Long) (ss ++ ts) ≡ false → (list_any (string_has Long) ss ≡ false) × (list_any (string_has Long) ts ≡ false)
 both_short ss ts h = either_false (list_any (string_has Long) ss) (list_any (string_has Long) ts) (sym (list_any-append (string_has Long) ss ts) ∙ h)

@@ -15,7 +15,7 @@ use Rattle.sieve_references.specs.References.{names_in}
 use Rattle.sieve_parser.specs.View.{argument_tree}
 use Rattle.sieve_parser.specs.declared.tree.Argument.{Argument}
 use Rattle.sieve_parser.specs.declared.tree.Argument.TheVariants.{TextList}
-use Rattle.sieve_check.specs.declared.error.Fault.{Fault}
+use Rattle.sieve_check.specs.declared.causes.ReasonKind.{ReasonKind}
 use Rattle.sieve_check.specs.declared.signature.Lists.{Lists}
 use Rattle.sieve_check.specs.Reading.{all_lists}
 use Rattle.sieve_check.specs.Refusing.{Adds, shown}
@@ -65,7 +65,7 @@ shown_len names = length-map names (λ (name : Bor (List ℕ)). lowercase_of nam
 
 -- names and then others
 module _ {A : Type 0} where
-  pub adds_both : (names first second between : List (List ℕ)) (result : Result A Fault) (after : List (List ℕ)) → between ≡ with_more bytes_eq names first
+  pub adds_both : (names first second between : List (List ℕ)) (result : Result A ReasonKind) (after : List (List ℕ)) → between ≡ with_more bytes_eq names first
       → Adds between second result after → Adds names (first ++ second) result after
   adds_both names first second between (Ok x) after is adds = adds ∙ ap (λ l. with_more bytes_eq l second) is ∙ sym (more_after bytes_eq names first second)
   adds_both names first second between (Err e) after is adds =
@@ -128,7 +128,7 @@ module _ (lists : Lists) where
         subst (λ (more : List (List ℕ)). max_variables < length (with_more bytes_eq names more)) (sym lists_names)
         (many_with_more names (names_of lists.first.now ++ names_of lists.params.now) (names_of lists.others.now) (omega (arith, many, ap length both)))
 
-    module _ {A : Type 0} (later : List (List ℕ)) (result : Result A Fault) (after : List (List ℕ)) (second : later ≡ with_more bytes_eq between (names_of lists.params.now)) where
+    module _ {A : Type 0} (later : List (List ℕ)) (result : Result A ReasonKind) (after : List (List ℕ)) (second : later ≡ with_more bytes_eq between (names_of lists.params.now)) where
       pub adds_lists : Adds later (names_of lists.others.now) result after → Adds names (flat_map names_in (strings_of (all_lists lists))) result after
       adds_lists adds =
           subst (λ (more : List (List ℕ)). Adds names more result after) (sym lists_names)

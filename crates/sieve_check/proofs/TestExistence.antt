@@ -2,101 +2,106 @@
 use Rattle.std.proofs.Common.{◌≡◌, ℕ, ◌≤◌, length, Bool, true, false, ◌&&◌, ◌||◌, not, if◌then◌else◌, List, [], ◌∷◌, ◌++◌, All, Option, Some, None, option_map, refl, sym, ap, subst, ◌∙◌}
 use Rattle.std.specs.Prelude.{is_some, flat_map}
 use Rattle.std.specs.List.{list_any}
+use Rattle.std.specs.Option.{option_and_then}
 use Rattle.std.proofs.lemmas.Bool.{ltb-false, ltb-true}
 use Rattle.std.proofs.lemmas.Grind.{flat_map-append}
 use Rattle.std.proofs.lemmas.List.{append-nil}
 use Rattle.std.proofs.lemmas.Option.{same_Some}
 use Rattle.octets.specs.Limits.{max_test_strings}
 use Rattle.sieve_parser.specs.Tree.{ArgumentTree, text, text_list, amount, label, InvocationTree, invocation, TestsTree, no_test, one_test, test_list, MoreTests, last as no_more, next}
-use Rattle.sieve_check.specs.declared.error.Fault.{Fault}
-use Rattle.sieve_check.specs.declared.error.Fault.TheVariants.{MissingCapability, BadArguments, Limit}
+use Rattle.sieve_check.specs.declared.causes.ReasonKind.{ReasonKind}
+use Rattle.sieve_check.specs.declared.causes.ReasonKind.TheVariants.{UnknownTest, LongString, ManyStrings, Misplaced, WrongTests}
 use Rattle.sieve_check.specs.declared.names.TestName.{TestName}
 use Rattle.sieve_check.specs.declared.names.TestName.TheVariants.{Constant, Not, AllOf, AnyOf, Header, Exists, Size, String, PartSize, PartBody, PartDigest}
 use Rattle.sieve_check.specs.declared.signature.Positional.TheVariants as positional
 use Rattle.sieve_check.specs.declared.typed.Order.{Order}
 use Rattle.sieve_check.specs.declared.signature.Signature.{Signature}
+use Rattle.sieve_check.specs.declared.string_faults.StringFault.TheVariants.{Long}
 use Rattle.sieve_check.specs.declared.signature.Tests.{Tests}
 use Rattle.sieve_check.specs.declared.signature.Tests.TheVariants.{Nothing, One, Bracketed}
 use Rattle.sieve_check.specs.Bounded.{IsBoundedTest, AreBoundedTests, IsTestIn, AreTestsIn}
 use Rattle.sieve_check.specs.FormOf.{InnerForms, none, one, bracketed, number_in, match_of, scope_of, size_of, test_of, test_form_of, inner_forms_of, more_forms_of}
 use Rattle.sieve_check.specs.Names.{test_named}
-use Rattle.sieve_check.specs.Rules.{Visit, where_required, names_by, fault_by_name, known_test_fault, test_needs, test_may_stand, has_long_string, has_many_strings, Mentions, no_mention, expanding, strings_read, lists_read, test_mentions, has_wrong_mention, has_large_mention, names_mentioned, same_tests, is_well_formed, kind_of, strings_of, test_visits, tests_visits, more_visits}
+use Rattle.sieve_check.specs.Arguments.{arguments_cause}
+use Rattle.sieve_check.specs.Causes.{Cause, about, first_where, plain}
+use Rattle.sieve_check.specs.Rules.{Visit, where_required, names_by, cause_by_name, known_test_cause, read_test_cause, ill_formed_test, tests_cause, test_place_cause, long_string_cause, many_strings_cause, large_cause, large_mention_cause, lacking_cause, mention_cause, oversized_test, string_has, test_needs, test_may_stand, has_many_strings, Mentions, no_mention, expanding, strings_read, lists_read, test_mentions, names_mentioned, same_tests, kind_of, strings_of, test_visits, tests_visits, more_visits}
 use Rattle.sieve_check.specs.Signatures.{◌>>=◌, Read, nothing_given, tags_read, asks_for_mime, is_positional, is_complete, reading, test_signature}
-use Rattle.sieve_check.specs.Surroundings.{Context, lacks}
+use Rattle.sieve_check.specs.Surroundings.{Context}
 use Rattle.sieve_check.specs.Typed.{TestForm, constant, negation, all_of, any_of, header, exists, size, string, part_size, part_body, part_digest, TestForms, no_test as no_other, test}
 use Rattle.sieve_check.specs.Variables.{test_variables, tests_variables}
 use Rattle.sieve_check.proofs.Faultless.{AreFaultless, faultless_both, names_brought}
-use Rattle.sieve_check.proofs.Lists.{expands, is_large, read_short, all_sound, one_listed, two_listed, three_listed}
-use Rattle.sieve_check.proofs.Options.{step_some, all_taken, if_some, if_none, not_false, both_true, either_false, some_of}
+use Rattle.sieve_check.proofs.Lists.{expands, has_long_string, is_large, read_short, all_sound, one_listed, two_listed, three_listed}
+use Rattle.sieve_check.proofs.Finding.{none_where}
+use Rattle.sieve_check.proofs.Options.{step_some, all_taken, both_none, map_none, if_some, if_none, unless_none, not_false, both_true, either_false, some_of}
+use Rattle.sieve_check.proofs.Unread.{complete_parts, complete_read, unread_either}
 use Rattle.sieve_check.proofs.TagSteps.{HasArgument, selecting_read, only_behind}
 use Rattle.sieve_check.proofs.Templates.{IsSound, names_at, mentioned_at, expanding_names}
 
 -- ---- what follows from there being no fault
 
 -- a name that is known
-pub known : {Name : Type 0} (fault : Name → Option Fault) (o : Option Name) → fault_by_name fault o ≡ None → (name : Name) × (o ≡ Some name) × (fault name ≡ None)
-known fault None h = absurd (cc)
-known fault (Some name) h = (name, refl, h)
+pub known : {Name : Type 0} (unknown : ReasonKind) (cause : Name → Option Cause) (o : Option Name) → cause_by_name unknown cause o ≡ None → (name : Name) × (o ≡ Some name) × (cause name ≡ None)
+known unknown cause None h = absurd (cc)
+known unknown cause (Some name) h = (name, refl, h)
 
--- the tests are those of the signature, and the arguments were read
-pub record WellFormed (signature : Signature) (args : List ArgumentTree) (tests : Tests) : Type 0 where
+-- arguments that were read
+pub record WellFormed (signature : Signature) (args : List ArgumentTree) : Type 0 where
   pub read : Read
   pub is : reading signature args ≡ Some read
   pub complete : is_complete signature read ≡ true
   pub alone : signature.selecting ≡ false → lists_read read ≡ read.positional
-  pub same : same_tests signature.tests tests ≡ true
 
-pub well_formed : (signature : Signature) (args : List ArgumentTree) (tests : Tests) → is_well_formed signature args tests ≡ true → WellFormed signature args tests
-well_formed signature args tests h =
-    let parts = both_true (same_tests signature.tests tests) (is_some (reading signature args)) h in
-    let read = some_of (reading signature args) parts.1 in
-    let r = step_some (tags_read signature nothing_given None args) _ read.0 read.1 in
-    let done = if_some (is_complete signature r.0) r.0 read.0 r.2 in
+-- those with which nothing is wrong were
+pub well_formed : (signature : Signature) (args : List ArgumentTree) → arguments_cause signature args ≡ None → WellFormed signature args
+well_formed signature args h =
+    let read = some_of (reading signature args) (not_false (is_some (reading signature args)) (sym (unread_either signature args) ∙ ap is_some h)) in
     record {
       read = read.0;
       is = read.1;
-      complete = ap (is_complete signature) (sym (same_Some r.0 read.0 done.1)) ∙ done.0;
+      complete = complete_read signature args read.0 read.1;
       alone = λ plain. only_behind signature args read.0 plain read.1;
-      same = parts.0;
     }
 
--- what is complete has the order that it has to have, and the right arguments behind the tags
-pub complete_parts : (signature : Signature) (read : Read) → is_complete signature read ≡ true → ((not signature.order || is_some read.tags.order) ≡ true) × (is_positional signature.positional read.positional ≡ true)
-complete_parts signature read h =
-    let outer = both_true ((not signature.order || is_some read.tags.order) && (not (asks_for_mime read.tags) || read.tags.mime)) (is_positional signature.positional read.positional) h in
-    ((both_true (not signature.order || is_some read.tags.order) _ outer.0).0, outer.1)
-
 -- no string that is expanded has too many segments
-pub none_large : (b : Bool) (mentions : Mentions) → has_large_mention (if b then mentions else no_mention) ≡ false → b ≡ true → list_any is_large mentions.expanded ≡ false
-none_large true mentions h expands = (either_false (list_any is_large mentions.expanded) _ h).0
+pub none_large : (b : Bool) (mentions : Mentions) → large_mention_cause (if b then mentions else no_mention) ≡ None → b ≡ true → list_any is_large mentions.expanded ≡ false
+none_large true mentions h expands =
+    none_where is_large mentions.expanded (map_none large_cause (first_where is_large mentions.expanded) (both_none (option_map large_cause (first_where is_large mentions.expanded)) _ h).0)
 none_large false mentions h expands = absurd (cc)
+
+-- no string is too long
+pub none_long : (args : List ArgumentTree) → long_string_cause args ≡ None → has_long_string args ≡ false
+none_long args h = none_where (string_has Long) (strings_of args) (map_none (about LongString) (first_where (string_has Long) (strings_of args)) h)
 
 -- the same of a test, whose strings are within the limits
 pub record TestWellFormed (s : Context) (name : TestName) (args : List ArgumentTree) (tests : Tests) : Type 0 where
   pub stands : test_may_stand s name ≡ true
-  pub form : WellFormed (test_signature name) args tests
+  pub same : same_tests (test_signature name).tests tests ≡ true
+  pub form : WellFormed (test_signature name) args
   pub params : HasArgument form.read.tags.piece form.read.params
   pub few : length (strings_of (lists_read form.read)) ≤ max_test_strings
   pub sound : All (IsSound (expands s)) (strings_of (lists_read form.read))
 
-test_well_formed : (s : Context) (name : TestName) (args : List ArgumentTree) (tests : Tests) → known_test_fault s name args tests ≡ None → TestWellFormed s name args tests
+test_well_formed : (s : Context) (name : TestName) (args : List ArgumentTree) (tests : Tests) → known_test_cause s name args tests ≡ None → TestWellFormed s name args tests
 test_well_formed s name args tests h =
-    let a = if_none (lacks s (test_needs name args)) MissingCapability _ h in
-    let b = if_none (not (test_may_stand s name && is_well_formed (test_signature name) args tests)) BadArguments _ a.1 in
-    let taken = both_true (test_may_stand s name) _ (not_false _ b.0) in
-    let c = if_none (has_wrong_mention (test_mentions s name args)) BadArguments _ b.1 in
-    let d = if_none (has_long_string args || has_many_strings (reading (test_signature name) args) || has_large_mention (test_mentions s name args)) Limit _ c.1 in
-    let e = either_false (has_long_string args || has_many_strings (reading (test_signature name) args)) _ d.0 in
-    let f = either_false (has_long_string args) _ e.0 in
-    let form = well_formed (test_signature name) args tests taken.1 in
-    let mentions = expanding (strings_read (reading (test_signature name) args)) in
+    let a = both_none (lacking_cause s (test_needs name args)) _ h in
+    let b = both_none (arguments_cause (test_signature name) args) _ a.1 in
+    let form = well_formed (test_signature name) args b.0 in
+    let read = form.read in
+    let mentions = expanding (strings_of (lists_read read)) in
+    let rest : read_test_cause s name args tests read ≡ None = sym (ap (option_and_then (read_test_cause s name args tests)) form.is) ∙ b.1 in
+    let c = both_none (ill_formed_test name tests (where_required s mentions)) _ rest in
+    let d = both_none (tests_cause (test_signature name) tests) _ c.0 in
+    let e = both_none (test_place_cause s name) _ c.1 in
+    let f = both_none (long_string_cause args) _ e.1 in
+    let g = both_none (many_strings_cause read) (large_mention_cause (where_required s mentions)) f.1 in
+    let few = if_none (has_many_strings read) (plain ManyStrings) None g.0 in
     record {
-      stands = taken.0;
+      stands = unless_none (test_may_stand s name) (plain Misplaced) e.0;
+      same = unless_none (same_tests (test_signature name).tests tests) (plain (WrongTests (test_signature name).tests)) d.0;
       form = form;
-      params = (selecting_read (test_signature name) args form.read form.is).params;
-      few = ltb-false max_test_strings (length (strings_of (lists_read form.read))) (ap has_many_strings (sym form.is) ∙ f.1);
-      sound = all_sound (expands s) (strings_of (lists_read form.read)) (read_short (test_signature name) args form.read form.is f.0)
-          (λ yes. ap (λ o. list_any is_large (strings_read o)) (sym form.is) ∙ none_large (expands s) mentions e.1 yes);
+      params = (selecting_read (test_signature name) args read form.is).params;
+      few = ltb-false max_test_strings (length (strings_of (lists_read read))) few.0;
+      sound = all_sound (expands s) (strings_of (lists_read read)) (read_short (test_signature name) args read form.is (none_long args f.0)) (none_large (expands s) mentions g.1);
     }
 
 -- ---- the tests behind arguments
@@ -269,11 +274,11 @@ both_names vs ws = sym (flat_map-append (λ (v : Visit). v.names) vs ws)
 mutual
   pub test_exists : (s : Context) (i : InvocationTree) → AreFaultless (test_visits s i) → Made (length s.loops) (names_brought (test_visits s i)) (test_form_of s i)
   test_exists s (invocation token word args tests) h =
-      let name = known (λ known. known_test_fault s known args (kind_of tests)) (test_named word) h.0 in
+      let name = known UnknownTest (λ known. known_test_cause s known args (kind_of tests)) (test_named word) h.0 in
       let well = test_well_formed s name.0 args (kind_of tests) name.2 in
       let read = well.form.read in
       let inner = inner_exists s tests h.1 in
-      let f = made s name.0 read inner.inner well.form.complete well.form.alone (ap (same_tests (test_signature name.0).tests) inner.kind ∙ well.form.same) well.params well.few well.sound inner.bounded well.stands inner.around in
+      let f = made s name.0 read inner.inner well.form.complete well.form.alone (ap (same_tests (test_signature name.0).tests) inner.kind ∙ well.same) well.params well.few well.sound inner.bounded well.stands inner.around in
       record {
         form = f.form;
         is = all_taken (inner_forms_of s tests) inner.inner (test_named word) name.0 (λ name. reading (test_signature name) args) read (λ inner name read. test_of s name read inner) inner.is name.1 well.form.is

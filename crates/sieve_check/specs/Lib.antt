@@ -7,6 +7,8 @@ pub mod Names
 pub mod Signatures
 pub mod Surroundings
 pub mod FormOf
+pub mod Causes
+pub mod Arguments
 pub mod Rules
 pub mod CheckedScript
 pub mod Reading

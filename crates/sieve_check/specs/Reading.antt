@@ -1,14 +1,31 @@
 -- What the readers of arguments answer.
-use Rattle.std.specs.Prelude.{◌≡◌, ℕ, ◌≤◌, true, List, [], ◌∷◌, ◌++◌, map, length, Option, Some, None, option_map, MatchOption}
+use Rattle.std.specs.Prelude.{◌≡◌, ℕ, ◌≤◌, true, List, [], ◌∷◌, ◌++◌, map, length, Option, Some, None, option_map, Result, MatchOption, MatchResult}
 use Rattle.std.specs.Borrow.{Bor}
 use Rattle.sieve_parser.specs.Tree.{ArgumentTree, text, amount, label}
 use Rattle.sieve_parser.specs.View.{argument_tree}
 use Rattle.sieve_parser.specs.declared.tree.Argument.{Argument}
+use Rattle.sieve_check.specs.declared.causes.Cause.{Cause}
+use Rattle.sieve_check.specs.declared.causes.Reason.{Reason}
+use Rattle.sieve_check.specs.declared.causes.ReasonKind.TheVariants.{TagArgument}
+use Rattle.sieve_check.specs.declared.causes.Refused.{Refused}
 use Rattle.sieve_check.specs.declared.signature.Reading.{Reading}
 use Rattle.sieve_check.specs.declared.names.Tag.{Tag}
 use Rattle.sieve_check.specs.declared.signature.Signature.{Signature}
 use Rattle.sieve_check.specs.declared.signature.Lists.{Lists}
-use Rattle.sieve_check.specs.Signatures.{Read, Given, is_list, tags_read}
+use Rattle.sieve_check.specs.Arguments.{arguments_cause, awaiting, rest_cause}
+use Rattle.sieve_check.specs.Causes as causes
+use Rattle.sieve_check.specs.Causes.{about}
+use Rattle.sieve_check.specs.Signatures.{Read, Given, awaited, is_list, reading, tags_read}
+
+-- a cause and a reason, as the definitions see them
+abbrev pub cause_view : Cause → causes.Cause
+cause_view cause = record { kind = cause.kind; subject = cause.subject.now }
+
+abbrev pub reason_view : Reason → causes.Reason
+reason_view reason = record { kind = reason.kind; name = reason.name.now; subject = reason.subject.now }
+
+abbrev pub refused_view : Refused → causes.Refused
+refused_view refused = record { token = refused.token; reason = reason_view refused.reason }
 
 -- the name of the first argument and the arguments after it, if that is a tag
 abbrev pub FirstTag : List ArgumentTree → Option (Bor (List ℕ) × Bor (List Argument)) → Type 0
@@ -43,13 +60,18 @@ given_of reading = record { tags = reading.tags; params = map argument_tree read
 abbrev pub left_of : Reading → List ArgumentTree
 left_of reading = map argument_tree reading.positional.now
 
--- what was read, with what the last tag awaited, if it is there
-abbrev pub Settles : Reading → Option Tag → Option Reading → Type 0
-Settles before last answer = MatchOption answer
-    ((signature : Signature) → tags_read signature (given_of before) last (left_of before) ≡ None)
+-- what was read, with the argument that the tag takes; where it isn't there, that is what is wrong
+abbrev pub Settles : Reading → Tag → Option Reading → Type 0
+Settles before tag answer = MatchOption answer
+    ((signature : Signature) (all : List ArgumentTree) (name : List ℕ)
+    → rest_cause signature all (given_of before) (awaiting name tag) (left_of before)
+    ≡ Some (about (TagArgument tag) name))
     (λ after. (length after.positional.now ≤ length before.positional.now)
-    × ((signature : Signature) → tags_read signature (given_of before) last (left_of before)
-    ≡ tags_read signature (given_of after) None (left_of after)))
+    × ((signature : Signature) → tags_read signature (given_of before) (awaited tag) (left_of before)
+    ≡ tags_read signature (given_of after) None (left_of after))
+    × ((signature : Signature) (all : List ArgumentTree) (name : List ℕ)
+    → rest_cause signature all (given_of before) (awaiting name tag) (left_of before)
+    ≡ rest_cause signature all (given_of after) None (left_of after)))
 
 -- the arguments as they were read, as a definition sees them
 abbrev pub read_of : Reading → Read
@@ -60,5 +82,8 @@ abbrev pub all_lists : Lists → List ArgumentTree
 all_lists lists = map argument_tree lists.first.now ++ map argument_tree lists.params.now
     ++ map argument_tree lists.others.now
 
-abbrev pub Reads : Option Read → Option Reading → Type 0
-Reads read answer = MatchOption answer (read ≡ None) (λ found. read ≡ Some (read_of found))
+-- the arguments as they were read, where they could be; else what is wrong with them
+abbrev pub Reads : Signature → List ArgumentTree → Result Reading Cause → Type 0
+Reads signature args answer = MatchResult answer
+    (λ found. (reading signature args ≡ Some (read_of found)) × (arguments_cause signature args ≡ None))
+    (λ cause. (reading signature args ≡ None) × (arguments_cause signature args ≡ Some (cause_view cause)))

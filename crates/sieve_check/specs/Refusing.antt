@@ -5,9 +5,10 @@ use Rattle.octets.specs.Ascii.{lowercase_of}
 use Rattle.octets.specs.Limits.{max_variables}
 use Rattle.octets.specs.Once.{with_more}
 use Rattle.sieve_parser.specs.Tree.{ArgumentTree}
-use Rattle.sieve_check.specs.declared.error.CheckError.{CheckError}
-use Rattle.sieve_check.specs.declared.error.Fault.{Fault}
-use Rattle.sieve_check.specs.declared.error.Fault.TheVariants.{Limit}
+use Rattle.sieve_check.specs.declared.causes.Cause.{Cause}
+use Rattle.sieve_check.specs.declared.causes.ReasonKind.{ReasonKind}
+use Rattle.sieve_check.specs.declared.causes.ReasonKind.TheVariants.{ManyVariables}
+use Rattle.sieve_check.specs.declared.causes.Refused.{Refused}
 use Rattle.sieve_check.specs.declared.mentions.Mentions.{Mentions}
 use Rattle.sieve_check.specs.declared.loops.Loops.{Loops}
 use Rattle.sieve_check.specs.declared.names.CommandName.{CommandName}
@@ -16,9 +17,10 @@ use Rattle.sieve_check.specs.declared.signature.Ending.{Ending}
 use Rattle.sieve_check.specs.declared.signature.Tests.{Tests}
 use Rattle.sieve_check.specs.declared.surroundings.Surroundings.{Surroundings}
 use Rattle.sieve_check.specs.declared.variable_names.VariableNames.{VariableNames}
-use Rattle.sieve_check.specs.Reading.{all_lists, name_in}
+use Rattle.sieve_check.specs.Reading.{all_lists, cause_view, name_in, refused_view}
+use Rattle.sieve_check.specs.Causes as causes
 use Rattle.sieve_check.specs.Rules as rules
-use Rattle.sieve_check.specs.Rules.{Visit, command_mentions, first_fault, known_command_fault, known_test_fault, names_mentioned, names_with, strings_of, test_mentions, visit_fault}
+use Rattle.sieve_check.specs.Rules.{Visit, command_mentions, first_refused, known_command_cause, known_test_cause, names_mentioned, names_with, strings_of, test_mentions, visit_cause}
 use Rattle.sieve_check.specs.Surroundings.{Context, opens_many}
 
 -- the names of the loops that are open, the innermost first
@@ -50,45 +52,48 @@ set_in (Some name) = name.now ∷ []
 abbrev pub mentions_in : Mentions → rules.Mentions
 mentions_in m = record { expanded = strings_of (all_lists m.expanded); set = set_in m.set }
 
--- the refusal, where there is one
-abbrev pub Refuses : {A : Type 0} → Option CheckError → Result A CheckError → Type 0
-Refuses refusal result = MatchResult result (λ _. refusal ≡ None) (λ e. refusal ≡ Some e)
+-- what a command or test has to do with variables, where nothing is wrong with it; else what is
+abbrev pub Finds : rules.Mentions → Option causes.Cause → Result Mentions Cause → Type 0
+Finds mentions cause result =
+    MatchResult result (λ m. (cause ≡ None) × (mentions_in m ≡ mentions)) (λ found. cause ≡ Some (cause_view found))
 
 -- the names with more of them, where they are within the limit; else that they aren't
-abbrev pub Adds : {A : Type 0} → List (List ℕ) → List (List ℕ) → Result A Fault → List (List ℕ) → Type 0
+abbrev pub Adds : {A : Type 0} → List (List ℕ) → List (List ℕ) → Result A ReasonKind → List (List ℕ) → Type 0
 Adds names more result after =
     MatchResult result
     (λ _. after ≡ with_more bytes_eq names more)
-    (λ fault. (fault ≡ Limit) × (max_variables < length (with_more bytes_eq names more)))
+    (λ kind. (kind ≡ ManyVariables) × (max_variables < length (with_more bytes_eq names more)))
 
--- the names after a visit, where it has no fault; else its fault
-abbrev pub Judges : {A : Type 0} → List (List ℕ) → Visit → Result A Fault → List (List ℕ) → Type 0
+-- the names after a visit, where nothing is wrong with it; else what is
+abbrev pub Judges : {A : Type 0} → List (List ℕ) → Visit → Result A Cause → List (List ℕ) → Type 0
 Judges names visit result after =
-    MatchResult result (λ _. (visit_fault names visit ≡ None) × (after ≡ names_with names visit))
-    (λ fault. visit_fault names visit ≡ Some fault)
+    MatchResult result (λ _. (visit_cause names visit ≡ None) × (after ≡ names_with names visit))
+    (λ cause. visit_cause names visit ≡ Some (cause_view cause))
 
 -- the names after visits
 abbrev pub names_after : List (List ℕ) → List Visit → List (List ℕ)
 names_after names [] = names
 names_after names (v ∷ vs) = names_after (names_with names v) vs
 
--- the names after visits, where none has a fault; else the refusal of the first that has one
-abbrev pub Passes : {A : Type 0} → List (List ℕ) → List Visit → Result A CheckError → List (List ℕ) → Type 0
+-- the names after visits, where nothing is wrong with any; else the first that is refused, and why
+abbrev pub Passes : {A : Type 0} → List (List ℕ) → List Visit → Result A Refused → List (List ℕ) → Type 0
 Passes names visits result after =
-    MatchResult result (λ _. (first_fault names visits ≡ None) × (after ≡ names_after names visits))
-    (λ e. first_fault names visits ≡ Some e)
+    MatchResult result (λ _. (first_refused names visits ≡ None) × (after ≡ names_after names visits))
+    (λ refused. first_refused names visits ≡ Some (refused_view refused))
 
 -- the visit of a command or test that is known by that name
-abbrev pub known_command_visit : Context → ℕ → CommandName → List ArgumentTree → Tests → Ending → Visit
-known_command_visit s token name args tests ending = record {
+abbrev pub known_command_visit : Context → ℕ → List ℕ → CommandName → List ArgumentTree → Tests → Ending → Visit
+known_command_visit s token word name args tests ending = record {
   token = token;
+  name = word;
   names = names_mentioned (command_mentions s name args);
-  fault = known_command_fault s name args tests ending;
+  cause = known_command_cause s name args tests ending;
 }
 
-abbrev pub known_test_visit : Context → ℕ → TestName → List ArgumentTree → Tests → Visit
-known_test_visit s token name args tests = record {
+abbrev pub known_test_visit : Context → ℕ → List ℕ → TestName → List ArgumentTree → Tests → Visit
+known_test_visit s token word name args tests = record {
   token = token;
+  name = word;
   names = names_mentioned (test_mentions s name args);
-  fault = known_test_fault s name args tests;
+  cause = known_test_cause s name args tests;
 }

@@ -1,18 +1,17 @@
 -- What is wrong with the commands and tests of a script, and which fault is named.
 use Rattle.std.specs.Prelude.{ℕ, Bool, true, false, ◌&&◌, ◌||◌, not, nat_lt, bytes_eq, if◌then◌else◌, List, [], ◌∷◌, ◌++◌, map, length, take, drop, flat_map, Option, Some, None, is_some, option_map}
 use Rattle.std.specs.List.{list_any}
-use Rattle.std.specs.Option.{option_or}
+use Rattle.std.specs.Option.{option_and_then, option_map_or, option_or}
 use Rattle.octets.specs.Ascii.{lowercase_of}
 use Rattle.octets.specs.Limits.{max_name, max_segments, max_string, max_test_strings, max_variables}
 use Rattle.octets.specs.Once.{with_more}
-use Rattle.sieve_references.specs.References.{Segment, variable, beyond, foreign, segments, is_identifier, names_in}
+use Rattle.sieve_references.specs.References.{Segment, stretch, variable, capture, beyond, foreign, segments, is_identifier, names_in}
 use Rattle.sieve_parser.specs.Tree.{ArgumentTree, text, text_list, amount, label, InvocationTree, invocation, TestsTree, no_test, one_test, test_list, MoreTests, last, next, CommandTree, simple, block, CommandsTree, no_command, command}
 use Rattle.sieve_parser.specs.View.{argument_tree}
 use Rattle.sieve_parser.specs.declared.tree.Head.{Head}
+use Rattle.sieve_check.specs.declared.causes.ReasonKind.{ReasonKind}
+use Rattle.sieve_check.specs.declared.causes.ReasonKind.TheVariants.{UnknownCommand, UnknownTest, MissingCapability, UnknownCapability, WrongTests, WrongEnding, Namespace, CaptureIndex, VariableName, NoSuchLoop, Misplaced, LongString, ManyStrings, ManySegments, LongName, ManyLoops, ManyVariables}
 use Rattle.sieve_check.specs.declared.error.CheckError.{CheckError}
-use Rattle.sieve_check.specs.declared.error.CheckError.TheVariants as refused
-use Rattle.sieve_check.specs.declared.error.Fault.{Fault}
-use Rattle.sieve_check.specs.declared.error.Fault.TheVariants.{UnknownCommand, MissingCapability, UnknownCapability, BadArguments, Limit}
 use Rattle.sieve_check.specs.declared.names.Capability.{Capability}
 use Rattle.sieve_check.specs.declared.names.Capability.TheVariants as capability
 use Rattle.sieve_check.specs.declared.names.CommandName.{CommandName}
@@ -28,9 +27,11 @@ use Rattle.sieve_check.specs.declared.signature.Ending.TheVariants.{Semicolon, B
 use Rattle.sieve_check.specs.declared.signature.Signature.{Signature}
 use Rattle.sieve_check.specs.declared.names.Tag.{Tag}
 use Rattle.sieve_check.specs.declared.names.Tag.TheVariants.{Mime}
+use Rattle.sieve_check.specs.Arguments.{arguments_cause}
+use Rattle.sieve_check.specs.Causes.{Cause, Refused, about, first_where, plain, refusal_for, refused_for}
 use Rattle.sieve_check.specs.Names.{capability_named, command_named, tag_named, test_named}
 use Rattle.sieve_check.specs.Signatures.{Read, command_signature, ending_of, test_signature, reading}
-use Rattle.sieve_check.specs.Surroundings.{Context, at_start, following, has_capability, in_block, in_loop, lacks, loops_left, opens_many}
+use Rattle.sieve_check.specs.Surroundings.{Context, at_start, first_lacking, following, has_capability, in_block, in_loop, loops_left, opens_many}
 
 -- the strings of arguments, with those in brackets
 abbrev pub strings_in : ArgumentTree → List (List ℕ)
@@ -87,27 +88,22 @@ test_needs PartSize args = capability.Depot ∷ []
 test_needs PartBody args = capability.Depot ∷ []
 test_needs PartDigest args = capability.Depot ∷ []
 
--- arguments that were read name a loop that can be left, or none where there is one
-abbrev pub leaves_loop : Context → Option Read → Bool
-leaves_loop s None = false
-leaves_loop s (Some read) = is_some (loops_left read.name s.loops)
-
 -- where each command may stand: a require at the top level after nothing else, an elsif and an else
 -- directly after an if or elsif, a break where it has a loop to leave, a store and a take in a loop
-abbrev pub may_stand : Context → CommandName → List ArgumentTree → Bool
-may_stand s Require args = s.takes_require
-may_stand s If args = true
-may_stand s Elsif args = s.after_if
-may_stand s Else args = s.after_if
-may_stand s Stop args = true
-may_stand s Keep args = true
-may_stand s Discard args = true
-may_stand s FileInto args = true
-may_stand s Set args = true
-may_stand s ForEveryPart args = true
-may_stand s Break args = leaves_loop s (reading (command_signature Break) args)
-may_stand s Store args = in_loop s
-may_stand s Take args = in_loop s
+abbrev pub may_stand : Context → CommandName → Read → Bool
+may_stand s Require read = s.takes_require
+may_stand s If read = true
+may_stand s Elsif read = s.after_if
+may_stand s Else read = s.after_if
+may_stand s Stop read = true
+may_stand s Keep read = true
+may_stand s Discard read = true
+may_stand s FileInto read = true
+may_stand s Set read = true
+may_stand s ForEveryPart read = true
+may_stand s Break read = is_some (loops_left read.name s.loops)
+may_stand s Store read = in_loop s
+may_stand s Take read = in_loop s
 
 -- where each test may stand: those of the current part in a loop
 abbrev pub test_may_stand : Context → TestName → Bool
@@ -166,15 +162,6 @@ string_has Long s = nat_lt max_string (length s)
 string_has Wrong s = list_any is_wrong (segments s)
 string_has Large s = nat_lt max_segments (length (segments s)) || list_any is_long (segments s)
 
--- a require names something else than a capability, wherever it stands and however it is written
-abbrev pub has_unknown_capability : CommandName → List ArgumentTree → Bool
-has_unknown_capability Require args = list_any (string_has Unknown) (strings_of args)
-has_unknown_capability _ args = false
-
--- a string is longer than the limit
-abbrev pub has_long_string : List ArgumentTree → Bool
-has_long_string args = list_any (string_has Long) (strings_of args)
-
 -- what was read behind the tags, with the list of `:param`, if it stands there, after the first: in
 -- the order of the typed form
 abbrev pub lists_read : Read → List ArgumentTree
@@ -185,9 +172,9 @@ abbrev pub strings_read : Option Read → List (List ℕ)
 strings_read None = []
 strings_read (Some read) = strings_of (lists_read read)
 
--- arguments that were read have more strings in their lists than one test may have
-abbrev pub has_many_strings : Option Read → Bool
-has_many_strings read = nat_lt max_test_strings (length (strings_read read))
+-- the lists have more strings than one test may have
+abbrev pub has_many_strings : Read → Bool
+has_many_strings read = nat_lt max_test_strings (length (strings_of (lists_read read)))
 
 abbrev pub same_tests : Tests → Tests → Bool
 same_tests Nothing Nothing = true
@@ -199,10 +186,6 @@ abbrev pub same_ending : Ending → Ending → Bool
 same_ending Semicolon Semicolon = true
 same_ending Block Block = true
 same_ending _ _ = false
-
--- the tests are those of the signature, and the arguments can be read by it
-abbrev pub is_well_formed : Signature → List ArgumentTree → Tests → Bool
-is_well_formed signature args tests = same_tests signature.tests tests && is_some (reading signature args)
 
 -- the strings of a command or test that variables have to do with: those that are expanded, and the names that are set
 pub record Mentions : Type 0 where
@@ -243,67 +226,191 @@ command_mentions s name args = where_required s
 abbrev pub test_mentions : Context → TestName → List ArgumentTree → Mentions
 test_mentions s name args = where_required s (expanding (strings_read (reading (test_signature name) args)))
 
--- a string with a wrong reference is expanded, or what is set is no name
-abbrev pub has_wrong_mention : Mentions → Bool
-has_wrong_mention mentions = list_any (string_has Wrong) mentions.expanded
-    || list_any (λ name. not (is_identifier name)) mentions.set
-
--- a string of too many segments or with too long a name is expanded, or a variable of too long a name is set
-abbrev pub has_large_mention : Mentions → Bool
-has_large_mention mentions = list_any (string_has Large) mentions.expanded || list_any is_long_name mentions.set
-
 -- the names of variables, in lower case
 abbrev pub names_mentioned : Mentions → List (List ℕ)
 names_mentioned mentions = flat_map names_in mentions.expanded ++ map lowercase_of mentions.set
 
--- the fault of least number of a command that is known by that name
-abbrev pub known_command_fault : Context → CommandName → List ArgumentTree → Tests → Ending → Option Fault
-known_command_fault s name args tests ending =
-    if lacks s (command_needs name) then Some MissingCapability
-    else if has_unknown_capability name args then Some UnknownCapability
-    else if not (may_stand s name args && (same_ending (ending_of name) ending && is_well_formed (command_signature name) args tests)) then Some BadArguments
-    else if has_wrong_mention (command_mentions s name args) then Some BadArguments
-    else if has_long_string args || has_large_mention (command_mentions s name args) || opens_many (opened_by name args) s then Some Limit
-    else None
+-- ---- what is wrong with capabilities
 
--- the fault of least number of a test that is known by that name
-abbrev pub known_test_fault : Context → TestName → List ArgumentTree → Tests → Option Fault
-known_test_fault s name args tests =
-    if lacks s (test_needs name args) then Some MissingCapability
-    else if not (test_may_stand s name && is_well_formed (test_signature name) args tests) then Some BadArguments
-    else if has_wrong_mention (test_mentions s name args) then Some BadArguments
-    else if has_long_string args || has_many_strings (reading (test_signature name) args) || has_large_mention (test_mentions s name args) then Some Limit
-    else None
+abbrev pub lacking : Capability → Cause
+lacking capability = plain (MissingCapability capability)
 
--- the fault of a command or test, by what its name is known as, if it is known
-abbrev pub fault_by_name : {Name : Type 0} → (Name → Option Fault) → Option Name → Option Fault
-fault_by_name fault None = Some UnknownCommand
-fault_by_name fault (Some name) = fault name
+-- the first capability that is needed and wasn't required
+abbrev pub lacking_cause : Context → List Capability → Option Cause
+lacking_cause s needed = option_map lacking (first_lacking needed s.required)
+
+-- the first string of a require that is no capability, wherever it stands and however it is written
+abbrev pub unknown_cause : CommandName → List ArgumentTree → Option Cause
+unknown_cause Require args = option_map (about UnknownCapability) (first_where (string_has Unknown) (strings_of args))
+unknown_cause If args = None
+unknown_cause Elsif args = None
+unknown_cause Else args = None
+unknown_cause Stop args = None
+unknown_cause Keep args = None
+unknown_cause Discard args = None
+unknown_cause FileInto args = None
+unknown_cause Set args = None
+unknown_cause ForEveryPart args = None
+unknown_cause Break args = None
+unknown_cause Store args = None
+unknown_cause Take args = None
+
+-- ---- what is wrong behind the arguments, with references and names, and with the place
+
+abbrev pub tests_cause : Signature → Tests → Option Cause
+tests_cause signature tests = if same_tests signature.tests tests then None else Some (plain (WrongTests signature.tests))
+
+abbrev pub ending_cause : CommandName → Ending → Option Cause
+ending_cause name ending = if same_ending (ending_of name) ending then None else Some (plain (WrongEnding (ending_of name)))
+
+-- by the first wrong reference of a string that has one: to a capture after the last one, or into a namespace
+abbrev pub reference_kind : List Segment → ReasonKind
+reference_kind [] = Namespace
+reference_kind (foreign ∷ others) = Namespace
+reference_kind (beyond ∷ others) = CaptureIndex
+reference_kind (stretch octets ∷ others) = reference_kind others
+reference_kind (variable name ∷ others) = reference_kind others
+reference_kind (capture n ∷ others) = reference_kind others
+
+abbrev pub reference_cause : List ℕ → Cause
+reference_cause string = about (reference_kind (segments string)) string
+
+-- the first string with a wrong reference, or else what is set and is no name
+abbrev pub mention_cause : Mentions → Option Cause
+mention_cause mentions =
+    option_or (option_map reference_cause (first_where (string_has Wrong) mentions.expanded))
+    (option_map (about VariableName) (first_where (λ name. not (is_identifier name)) mentions.set))
+
+-- a wrong place: of a break with a name, that no loop around it has that name
+abbrev pub misplaced : CommandName → Read → Cause
+misplaced Break read = option_map_or (about NoSuchLoop) read.name (plain Misplaced)
+misplaced Require read = plain Misplaced
+misplaced If read = plain Misplaced
+misplaced Elsif read = plain Misplaced
+misplaced Else read = plain Misplaced
+misplaced Stop read = plain Misplaced
+misplaced Keep read = plain Misplaced
+misplaced Discard read = plain Misplaced
+misplaced FileInto read = plain Misplaced
+misplaced Set read = plain Misplaced
+misplaced ForEveryPart read = plain Misplaced
+misplaced Store read = plain Misplaced
+misplaced Take read = plain Misplaced
+
+abbrev pub place_cause : Context → CommandName → Read → Option Cause
+place_cause s name read = if may_stand s name read then None else Some (misplaced name read)
+
+abbrev pub test_place_cause : Context → TestName → Option Cause
+test_place_cause s name = if test_may_stand s name then None else Some (plain Misplaced)
+
+-- ---- what is beyond a limit
+
+abbrev pub long_string_cause : List ArgumentTree → Option Cause
+long_string_cause args = option_map (about LongString) (first_where (string_has Long) (strings_of args))
+
+abbrev pub many_strings_cause : Read → Option Cause
+many_strings_cause read = if has_many_strings read then Some (plain ManyStrings) else None
+
+-- the first name of a variable that is longer than the limit
+abbrev pub long_name : List Segment → Option (List ℕ)
+long_name [] = None
+long_name (variable name ∷ others) = if is_long_name name then Some name else long_name others
+long_name (stretch octets ∷ others) = long_name others
+long_name (capture n ∷ others) = long_name others
+long_name (beyond ∷ others) = long_name others
+long_name (foreign ∷ others) = long_name others
+
+-- of a string of too many segments or with too long a name: such a name, or else the string
+abbrev pub large_cause : List ℕ → Cause
+large_cause string = option_map_or (about LongName) (long_name (segments string)) (about ManySegments string)
+
+-- the first string of too many segments or with too long a name, or else too long a name that is set
+abbrev pub large_mention_cause : Mentions → Option Cause
+large_mention_cause mentions =
+    option_or (option_map large_cause (first_where (string_has Large) mentions.expanded))
+    (option_map (about LongName) (first_where is_long_name mentions.set))
+
+abbrev pub many_loops_cause : Context → CommandName → List ArgumentTree → Option Cause
+many_loops_cause s name args = if opens_many (opened_by name args) s then Some (plain ManyLoops) else None
+
+-- ---- what is wrong with a command or test: the first that holds
+
+-- the tests and the end behind the arguments, and the references and names among them
+abbrev pub ill_formed_command : CommandName → Tests → Ending → Mentions → Option Cause
+ill_formed_command name tests ending mentions =
+    option_or (tests_cause (command_signature name) tests) (option_or (ending_cause name ending) (mention_cause mentions))
+
+abbrev pub oversized_command : Context → CommandName → List ArgumentTree → Mentions → Option Cause
+oversized_command s name args mentions =
+    option_or (long_string_cause args) (option_or (large_mention_cause mentions) (many_loops_cause s name args))
+
+-- a command whose arguments were read, apart from them, with its place and the limits
+abbrev pub read_command_cause : Context → CommandName → List ArgumentTree → Tests → Ending → Read → Option Cause
+read_command_cause s name args tests ending read =
+    let mentions = where_required s (mentions_of name (strings_of (lists_read read))) in
+    option_or (ill_formed_command name tests ending mentions)
+    (option_or (place_cause s name read) (oversized_command s name args mentions))
+
+-- a command that is known by that name
+abbrev pub known_command_cause : Context → CommandName → List ArgumentTree → Tests → Ending → Option Cause
+known_command_cause s name args tests ending =
+    option_or (lacking_cause s (command_needs name))
+    (option_or (unknown_cause name args)
+    (option_or (arguments_cause (command_signature name) args)
+    (option_and_then (read_command_cause s name args tests ending) (reading (command_signature name) args))))
+
+-- the same of a test
+abbrev pub ill_formed_test : TestName → Tests → Mentions → Option Cause
+ill_formed_test name tests mentions = option_or (tests_cause (test_signature name) tests) (mention_cause mentions)
+
+abbrev pub oversized_test : List ArgumentTree → Read → Mentions → Option Cause
+oversized_test args read mentions =
+    option_or (long_string_cause args) (option_or (many_strings_cause read) (large_mention_cause mentions))
+
+abbrev pub read_test_cause : Context → TestName → List ArgumentTree → Tests → Read → Option Cause
+read_test_cause s name args tests read =
+    let mentions = where_required s (expanding (strings_of (lists_read read))) in
+    option_or (ill_formed_test name tests mentions)
+    (option_or (test_place_cause s name) (oversized_test args read mentions))
+
+abbrev pub known_test_cause : Context → TestName → List ArgumentTree → Tests → Option Cause
+known_test_cause s name args tests =
+    option_or (lacking_cause s (test_needs name args))
+    (option_or (arguments_cause (test_signature name) args)
+    (option_and_then (read_test_cause s name args tests) (reading (test_signature name) args)))
+
+-- what is wrong with a command or test, by what its name is known as; else that it isn't known
+abbrev pub cause_by_name : {Name : Type 0} → ReasonKind → (Name → Option Cause) → Option Name → Option Cause
+cause_by_name unknown cause None = Some (plain unknown)
+cause_by_name unknown cause (Some name) = cause name
 
 -- the names that a command or test brings, by what its name is known as; one that isn't known brings none
 abbrev pub names_by : {Name : Type 0} → (Name → Mentions) → Option Name → List (List ℕ)
 names_by mentions None = []
 names_by mentions (Some name) = names_mentioned (mentions name)
 
--- a visited command or test: the number of its identifier's token, the names of variables that it
--- brings, in lower case, and its fault, if it has one by itself
+-- a visited command or test: the number of its identifier's token, its name as it is written, the
+-- names of variables that it brings, in lower case, and what is wrong with it by itself, if anything is
 pub record Visit : Type 0 where
   pub token : ℕ
+  pub name : List ℕ
   pub names : List (List ℕ)
-  pub fault : Option Fault
+  pub cause : Option Cause
 
 abbrev pub command_visit : Context → ℕ → List ℕ → List ArgumentTree → Tests → Ending → Visit
 command_visit s token name args tests ending = record {
   token = token;
+  name = name;
   names = names_by (λ known. command_mentions s known args) (command_named name);
-  fault = fault_by_name (λ known. known_command_fault s known args tests ending) (command_named name);
+  cause = cause_by_name UnknownCommand (λ known. known_command_cause s known args tests ending) (command_named name);
 }
 
 abbrev pub test_visit : Context → ℕ → List ℕ → List ArgumentTree → Tests → Visit
 test_visit s token name args tests = record {
   token = token;
+  name = name;
   names = names_by (λ known. test_mentions s known args) (test_named name);
-  fault = fault_by_name (λ known. known_test_fault s known args tests) (test_named name);
+  cause = cause_by_name UnknownTest (λ known. known_test_cause s known args tests) (test_named name);
 }
 
 abbrev pub kind_of : TestsTree → Tests
@@ -358,28 +465,25 @@ abbrev mutual
   commands_visits s no_command = []
   commands_visits s (command c cs) = command_visits s c ++ commands_visits (after_invocation s (invocation_of c)) cs
 
--- a fault as the refusal that names it, with the place of the command or test
-abbrev pub refusal : ℕ → Fault → CheckError
-refusal place UnknownCommand = refused.UnknownCommand place
-refusal place MissingCapability = refused.MissingCapability place
-refusal place UnknownCapability = refused.UnknownCapability place
-refusal place BadArguments = refused.BadArguments place
-refusal place Limit = refused.Limit place
-
 -- the names so far, with those of a visit, each once
 abbrev pub names_with : List (List ℕ) → Visit → List (List ℕ)
 names_with names visit = with_more bytes_eq names visit.names
 
--- the fault of a visit after names: its own, or else that the script has too many names with it
-abbrev pub visit_fault : List (List ℕ) → Visit → Option Fault
-visit_fault names visit = option_or visit.fault (if nat_lt max_variables (length (names_with names visit)) then Some Limit else None)
+-- what is wrong with a visit after names: by itself, or else that the script has too many names with it
+abbrev pub visit_cause : List (List ℕ) → Visit → Option Cause
+visit_cause names visit =
+    option_or visit.cause (if nat_lt max_variables (length (names_with names visit)) then Some (plain ManyVariables) else None)
 
--- the refusal of the first visit that has a fault, after names
-abbrev pub first_fault : List (List ℕ) → List Visit → Option CheckError
-first_fault names [] = None
-first_fault names (v ∷ vs) = option_or (option_map (refusal v.token) (visit_fault names v))
-    (first_fault (names_with names v) vs)
+-- the first visit with which something is wrong, after names
+abbrev pub first_refused : List (List ℕ) → List Visit → Option Refused
+first_refused names [] = None
+first_refused names (v ∷ vs) = option_or (option_map (refused_for v.token v.name) (visit_cause names v))
+    (first_refused (names_with names v) vs)
+
+-- the command or test that is refused of a script, and why, if one is
+abbrev pub reason_of : CommandsTree → Option Refused
+reason_of script = first_refused [] (commands_visits at_start script)
 
 -- the fault of a script that is named, if it has one
 abbrev pub fault_of : CommandsTree → Option CheckError
-fault_of script = first_fault [] (commands_visits at_start script)
+fault_of script = option_map refusal_for (reason_of script)

@@ -1,5 +1,5 @@
 -- What surrounds a command or test.
-use Rattle.std.specs.Prelude.{ℕ, suc, Bool, true, false, not, nat_lt, bytes_eq, if◌then◌else◌, List, [], ◌∷◌, ◌++◌, length, Option, Some, None, is_some, option_map}
+use Rattle.std.specs.Prelude.{ℕ, suc, Bool, true, false, not, nat_lt, bytes_eq, if◌then◌else◌, List, [], ◌∷◌, ◌++◌, length, Option, Some, None, option_map}
 use Rattle.octets.specs.Limits.{max_loops}
 use Rattle.sieve_check.specs.declared.names.Capability.{Capability}
 use Rattle.sieve_check.specs.declared.names.Capability.TheVariants.{FileInto, Variables, Mime, ForEveryPart, Depot, OctetComparator, CasemapComparator}
@@ -33,10 +33,6 @@ has_capability CasemapComparator all = true
 abbrev pub first_lacking : List Capability → Capabilities → Option Capability
 first_lacking [] all = None
 first_lacking (capability ∷ others) all = if has_capability capability all then first_lacking others all else Some capability
-
--- one of the capabilities that are needed isn't there
-abbrev pub lacks : Context → List Capability → Bool
-lacks s needed = is_some (first_lacking needed s.required)
 
 -- one more capability
 abbrev pub with_capability : Capability → Capabilities → Capabilities

@@ -46,7 +46,7 @@ pub enum Fault {
 
 impl CheckError {
     ghost use Rattle.std.specs.Prelude.{◌≡◌};
-    ghost use Rattle.sieve_check.specs.Rules.{refusal};
+    ghost use Rattle.sieve_check.specs.Causes.{refusal};
 
     // The fault of the command or test whose identifier is that token.
     pub(crate) fn of(fault: Fault, place: usize) -> CheckError

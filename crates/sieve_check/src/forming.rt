@@ -130,7 +130,7 @@ fn plain_part(
     let Some(name) = command_named(head.name.as_slice()) else {
         return Ok(None);
     };
-    let Some(reading) = command_signature(name).read(&head.arguments) else {
+    let Ok(reading) = command_signature(name).read(&head.arguments) else {
         return Ok(None);
     };
     match name {
@@ -169,7 +169,9 @@ fn opened(head: &Head) -> Option<Opening>
         → head_block head.now (one f) body ≡ option_map (λ o. opened_by o f body) result }
 {
     let name = command_named(head.name.as_slice())?;
-    command_signature(name).read(&head.arguments)?;
+    if command_signature(name).read(&head.arguments).is_err() {
+        return None;
+    }
     match name {
         CommandName::If => Some(Opening::First),
         CommandName::Elsif => Some(Opening::Next),
@@ -204,7 +206,9 @@ fn untested_part(head: &Head, block: Vec<Command>) -> Option<Part>
     ensures { option_map part_form result ≡ head_block head.now none (commands_form block.items) }
 {
     let name = command_named(head.name.as_slice())?;
-    command_signature(name).read(&head.arguments)?;
+    if command_signature(name).read(&head.arguments).is_err() {
+        return None;
+    }
     match name {
         CommandName::Else => Some(Part::Last(block)),
         CommandName::ForEveryPart => Some(Part::Action(Command::ForEveryPart(block))),

@@ -12,6 +12,8 @@
 //! and tests take, what surrounds them, and the limits.
 #![tactic(auto)]
 
+mod arguments;
+mod causes;
 mod checked;
 mod checker;
 mod error;
@@ -31,22 +33,14 @@ mod test_forms;
 mod typed;
 mod variable_names;
 
+pub use causes::{Reason, ReasonKind, Refused};
 pub use checked::Checked;
-pub use checker::check;
+pub use checker::{check, reason_of};
 pub use error::{CheckError, Fault};
 pub use loops::MAX_LOOPS;
-pub use mentions::Mentions;
-pub use names::{
-    Capability, CommandName, Piece, Tag, TestName, command_named, comparator_named, tag_named,
-    test_named,
-};
-pub use references::{MAX_NAME, MAX_SEGMENTS, is_long_name};
-pub use rules::{command_needs, test_needs};
-pub use signature::{
-    Ending, Positional, Reading, Signature, Tags, Tests, command_signature, ending_of, first_list,
-    first_number, first_tag, first_text, test_signature,
-};
-pub use string_faults::{MAX_TEST_STRINGS, StringFault, has_many_strings};
-pub use surroundings::{Surroundings, head_in};
+pub use names::{Capability, CommandName, Piece, Tag, TestName, command_named, test_named};
+pub use references::{MAX_NAME, MAX_SEGMENTS};
+pub use signature::{Ending, Positional, Tests};
+pub use string_faults::MAX_TEST_STRINGS;
 pub use typed::{Branch, Command, Order, Segment, Selection, Test};
 pub use variable_names::MAX_VARIABLES;

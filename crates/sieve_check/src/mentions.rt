@@ -1,22 +1,69 @@
 // Which strings of a command or test variables have to do with.
-ghost use Rattle.std.specs.Prelude.{◌≡◌, map, true};
+ghost use Rattle.std.specs.Prelude.{◌≡◌, map, option_map, true};
 ghost use Rattle.sieve_parser.specs.View.{argument_tree};
+ghost use Rattle.sieve_references.specs.References.{segments};
+ghost use Rattle.sieve_references.specs.SegmentView.{segment_of};
 ghost use Rattle.sieve_check.specs.declared.signature.Positional.TheVariants.{Text, TwoTexts};
-ghost use Rattle.sieve_check.specs.Reading.{read_of};
+ghost use Rattle.sieve_check.specs.Reading.{cause_view, left_of, name_in, read_of};
 ghost use Rattle.sieve_check.specs.Refusing.{Adds, context_of, listed, mentions_in};
-ghost use Rattle.sieve_check.specs.Rules.{arguments_of, command_mentions, has_large_mention, has_wrong_mention, lists_read, mentions_of, names_mentioned, no_mention, strings_of, test_mentions};
-ghost use Rattle.sieve_check.specs.Signatures.{is_positional};
+ghost use Rattle.sieve_check.specs.Rules.{expanding, large_cause, large_mention_cause, lists_read, long_name, mention_cause, mentions_of, names_mentioned, no_mention, reference_kind, strings_of, where_required};
+ghost use Rattle.sieve_check.specs.Signatures.{command_signature, is_positional};
 
-use crate::error::Fault;
-use crate::names::{Capability, CommandName, TestName};
+use crate::arguments::first_text;
+use crate::causes::{Cause, ReasonKind};
+use crate::names::{Capability, CommandName};
 use crate::references::is_long_name;
-use crate::signature::{Lists, Reading, command_signature, first_text, test_signature};
+use crate::signature::{Lists, Reading};
 use crate::string_faults::StringFault;
 use crate::surroundings::Surroundings;
 use crate::variable_names::VariableNames;
 use octets::Octets;
-use sieve_parser::Head;
-use sieve_references::is_identifier;
+use sieve_references::{Segment, first_segment, is_identifier};
+
+// What kind of fault the first wrong reference in the string is.
+fn reference_kind(string: &[u8]) -> ReasonKind
+    ensures { result ≡ reference_kind (segments string.now) }
+{
+    let mut rest = string;
+    'segments: while let Some((segment, after)) = first_segment(rest) {
+        match segment {
+            Segment::Foreign => return ReasonKind::Namespace,
+            Segment::Beyond => return ReasonKind::CaptureIndex,
+            Segment::Text(_) | Segment::Variable(_) | Segment::Capture(_) => {}
+        }
+        rest = after;
+    }
+    ReasonKind::Namespace
+}
+
+// The first name of a variable in the string that has too many octets.
+fn long_name(string: &[u8]) -> Option<&[u8]>
+    ensures { name_in result ≡ long_name (segments string.now) }
+{
+    let mut rest = string;
+    'segments: while let Some((segment, after)) = first_segment(rest) {
+        match segment {
+            Segment::Variable(name) => {
+                if is_long_name(name) {
+                    return Some(name);
+                }
+            }
+            Segment::Text(_) | Segment::Capture(_) | Segment::Beyond | Segment::Foreign => {}
+        }
+        rest = after;
+    }
+    None
+}
+
+// What is wrong with a string of too many segments or with too long a name.
+fn large_cause(string: &[u8]) -> Cause<'_>
+    ensures { cause_view result ≡ large_cause string.now }
+{
+    match long_name(string) {
+        Some(name) => Cause::about(ReasonKind::LongName, name),
+        None => Cause::about(ReasonKind::ManySegments, string),
+    }
+}
 
 /// The strings of a command or test that variables have to do with.
 #[derive(Clone, Copy)]
@@ -72,22 +119,20 @@ impl<'t> Mentions<'t> {
         }
     }
 
-    /// Those of a command that is known by that name: none where variables weren't required, or where its arguments aren't
-    /// what it takes.
+    /// Those of a command that is known by that name, by its arguments: none where variables weren't required.
     pub fn of_command(
         surroundings: Surroundings<'_>,
         name: CommandName,
-        head: &'t Head,
+        reading: Reading<'t>,
     ) -> Mentions<'t>
+        requires { is_positional (command_signature name).positional (left_of reading) ≡ true }
         ensures { mentions_in result
-            ≡ command_mentions (context_of surroundings.entry) name (arguments_of head.now) }
+            ≡ where_required (context_of surroundings.entry)
+            (mentions_of name (strings_of (lists_read (read_of reading.entry)))) }
     {
         if !surroundings.required.has(Capability::Variables) {
             return Mentions::none();
         }
-        let Some(reading) = command_signature(name).read(&head.arguments) else {
-            return Mentions::none();
-        };
         match name {
             CommandName::Require => Mentions::none(),
             CommandName::Set => Mentions::of_set(reading),
@@ -108,51 +153,62 @@ impl<'t> Mentions<'t> {
         }
     }
 
-    /// Those of a test that is known by that name.
-    pub fn of_test(surroundings: Surroundings<'_>, name: TestName, head: &'t Head) -> Mentions<'t>
+    /// Those of a test, by its arguments.
+    pub fn of_test(surroundings: Surroundings<'_>, reading: Reading<'t>) -> Mentions<'t>
         ensures { mentions_in result
-            ≡ test_mentions (context_of surroundings.entry) name (arguments_of head.now) }
+            ≡ where_required (context_of surroundings.entry)
+            (expanding (strings_of (lists_read (read_of reading.entry)))) }
     {
         if !surroundings.required.has(Capability::Variables) {
             return Mentions::none();
         }
-        match test_signature(name).read(&head.arguments) {
-            Some(reading) => Mentions {
-                expanded: reading.lists(),
-                set: None,
-            },
-            None => Mentions::none(),
+        Mentions {
+            expanded: reading.lists(),
+            set: None,
         }
     }
 
-    /// Whether a string with a wrong reference is expanded, or what is set is no name.
-    pub fn are_wrong(self) -> bool
-        ensures { result ≡ has_wrong_mention (mentions_in self.entry) }
+    /// What is wrong with the first string with a wrong reference, or else with the name that is set.
+    pub fn wrong_cause(self) -> Option<Cause<'t>>
+        ensures { option_map cause_view result ≡ mention_cause (mentions_in self.entry) }
     {
-        if StringFault::Wrong.is_in_lists(self.expanded) {
-            return true;
+        if let Some(string) = StringFault::Wrong.first_in_lists(self.expanded) {
+            return Some(Cause::about(reference_kind(string), string));
         }
         match self.set {
-            Some(name) => !is_identifier(name.as_slice()),
-            None => false,
+            Some(name) => {
+                if is_identifier(name.as_slice()) {
+                    None
+                } else {
+                    Some(Cause::about(ReasonKind::VariableName, name.as_slice()))
+                }
+            }
+            None => None,
         }
     }
 
-    /// Whether a string of too many segments or with too long a name is expanded, or a variable of too long a name is set.
-    pub fn are_large(self) -> bool
-        ensures { result ≡ has_large_mention (mentions_in self.entry) }
+    /// What is wrong with the first string of too many segments or with too long a name, or else with too long a name
+    /// that is set.
+    pub fn large_cause(self) -> Option<Cause<'t>>
+        ensures { option_map cause_view result ≡ large_mention_cause (mentions_in self.entry) }
     {
-        if StringFault::Large.is_in_lists(self.expanded) {
-            return true;
+        if let Some(string) = StringFault::Large.first_in_lists(self.expanded) {
+            return Some(large_cause(string));
         }
         match self.set {
-            Some(name) => is_long_name(name.as_slice()),
-            None => false,
+            Some(name) => {
+                if is_long_name(name.as_slice()) {
+                    Some(Cause::about(ReasonKind::LongName, name.as_slice()))
+                } else {
+                    None
+                }
+            }
+            None => None,
         }
     }
 
     /// Adds the names that they bring to those so far: those in the strings, then the one that is set.
-    pub fn add_to(self, names: &mut VariableNames<'t>) -> Result<(), Fault>
+    pub fn add_to(self, names: &mut VariableNames<'t>) -> Result<(), ReasonKind>
         ensures { Adds (listed names.old) (names_mentioned (mentions_in self.entry)) result
             (listed names.new) }
     {

@@ -1,15 +1,16 @@
 // The static rules: what is wrong with commands and tests (RFC 5228, section 8.2, and each command's own section).
-ghost use Rattle.std.specs.Prelude.{◌≡◌, ◌&&◌, ◌||◌, [], ◌∷◌, map, IsOk, MatchResult};
+ghost use Rattle.std.specs.Prelude.{◌≡◌, ℕ, List, [], ◌∷◌, None, Some, map, option_map, true, IsOk, MatchResult};
 ghost use Rattle.sieve_parser.specs.View.{argument_tree, command_tree, commands_tree, invocation_tree, more_tests_of};
-ghost use Rattle.sieve_check.specs.Rules.{arguments_of, command_needs, command_visit, command_visits, commands_visits, fault_of, has_large_mention, has_long_string, has_many_strings, head_visits, is_well_formed, is_mime_tag, known_command_fault, known_test_fault, leaves_loop, may_stand, mime_where_given, more_visits, opened_by, refusal, same_ending, test_may_stand, test_needs, test_visit, test_visits};
-ghost use Rattle.sieve_check.specs.Signatures.{command_signature, ending_of, reading, test_signature};
-ghost use Rattle.sieve_check.specs.Refusing.{Judges, Passes, Refuses, context_of, listed, mentions_in, known_command_visit, known_test_visit};
-ghost use Rattle.sieve_check.specs.Surroundings.{opens_many};
+ghost use Rattle.sieve_check.specs.Causes.{refused_for};
+ghost use Rattle.sieve_check.specs.Reading.{cause_view, left_of, read_of, refused_view};
+ghost use Rattle.sieve_check.specs.Rules.{arguments_of, command_mentions, command_needs, command_visit, command_visits, commands_visits, ending_cause, expanding, head_visits, ill_formed_command, ill_formed_test, is_mime_tag, known_command_cause, known_test_cause, lacking_cause, lists_read, long_string_cause, many_loops_cause, many_strings_cause, may_stand, mentions_of, mime_where_given, misplaced, more_visits, names_mentioned, oversized_command, oversized_test, place_cause, read_command_cause, read_test_cause, reason_of, strings_of, test_may_stand, test_mentions, test_needs, test_place_cause, test_visit, test_visits, tests_cause, unknown_cause, where_required};
+ghost use Rattle.sieve_check.specs.Signatures.{command_signature, is_positional};
+ghost use Rattle.sieve_check.specs.Refusing.{Finds, Judges, Passes, context_of, known_command_visit, known_test_visit, listed, mentions_in};
 
-use crate::error::{CheckError, Fault};
+use crate::causes::{Cause, ReasonKind, Refused};
 use crate::mentions::Mentions;
 use crate::names::{Capability, CommandName, Tag, TestName, command_named, tag_named, test_named};
-use crate::signature::{Ending, Signature, Tests, command_signature, ending_of, test_signature};
+use crate::signature::{Ending, Reading, Signature, Tests, command_signature, ending_of, test_signature};
 use crate::string_faults::{StringFault, has_many_strings};
 use crate::surroundings::Surroundings;
 use crate::variable_names::VariableNames;
@@ -73,32 +74,14 @@ pub fn test_needs(name: TestName, head: &Head) -> &'static [Capability]
     }
 }
 
-// Whether arguments and tests are what the signature says.
-fn is_well_formed(signature: Signature, head: &Head, tests: Tests) -> bool
-    ensures { result ≡ is_well_formed signature (arguments_of head.now) tests }
-{
-    signature.tests == tests && signature.read(&head.arguments).is_some()
-}
-
-// Whether a `break` of these arguments has a loop to leave.
-fn leaves_loop(surroundings: Surroundings<'_>, head: &Head) -> bool
-    ensures { result ≡ leaves_loop (context_of surroundings.entry)
-        (reading (command_signature CommandName.Break) (arguments_of head.now)) }
-{
-    match command_signature(CommandName::Break).read(&head.arguments) {
-        Some(reading) => surroundings.loops.left_by(reading.name).is_some(),
-        None => false,
-    }
-}
-
 // Whether the command may stand there, with these arguments.
-fn may_stand(surroundings: Surroundings<'_>, name: CommandName, head: &Head) -> bool
-    ensures { result ≡ may_stand (context_of surroundings.entry) name (arguments_of head.now) }
+fn may_stand(surroundings: Surroundings<'_>, name: CommandName, reading: Reading<'_>) -> bool
+    ensures { result ≡ may_stand (context_of surroundings.entry) name (read_of reading.entry) }
 {
     match name {
         CommandName::Require => surroundings.takes_require,
         CommandName::Elsif | CommandName::Else => surroundings.after_if,
-        CommandName::Break => leaves_loop(surroundings, head),
+        CommandName::Break => surroundings.loops.left_by(reading.name).is_some(),
         CommandName::Store | CommandName::Take => surroundings.loops.are_some(),
         CommandName::If
         | CommandName::Stop
@@ -129,103 +112,334 @@ fn test_may_stand(surroundings: Surroundings<'_>, name: TestName) -> bool
     }
 }
 
-// Whether the command may stand there, with these arguments and tests, and ended so.
-fn is_taken(
-    surroundings: Surroundings<'_>,
-    name: CommandName,
-    head: &Head,
-    tests: Tests,
-    ending: Ending,
-) -> bool
-    ensures { result ≡ (may_stand (context_of surroundings.entry) name (arguments_of head.now)
-        && (same_ending (ending_of name) ending
-        && is_well_formed (command_signature name) (arguments_of head.now) tests)) }
+// What is wrong with a command at a wrong place.
+fn misplaced<'t>(name: CommandName, reading: Reading<'t>) -> Cause<'t>
+    ensures { cause_view result ≡ misplaced name (read_of reading.entry) }
 {
-    may_stand(surroundings, name, head)
-        && ending_of(name) == ending
-        && is_well_formed(command_signature(name), head, tests)
+    match name {
+        CommandName::Break => match reading.name {
+            Some(loop_name) => Cause::about(ReasonKind::NoSuchLoop, loop_name),
+            None => Cause::plain(ReasonKind::Misplaced),
+        },
+        CommandName::Require
+        | CommandName::If
+        | CommandName::Elsif
+        | CommandName::Else
+        | CommandName::Stop
+        | CommandName::Keep
+        | CommandName::Discard
+        | CommandName::FileInto
+        | CommandName::Set
+        | CommandName::ForEveryPart
+        | CommandName::Store
+        | CommandName::Take => Cause::plain(ReasonKind::Misplaced),
+    }
 }
 
-// Whether a command goes beyond a limit.
-fn is_large_command(
+// What is wrong with the place of a command, where it may not stand there.
+fn place_cause<'t>(
     surroundings: Surroundings<'_>,
     name: CommandName,
-    head: &Head,
-    mentions: Mentions<'_>,
-) -> bool
-    ensures { result ≡ (has_long_string (arguments_of head.now)
-        || has_large_mention (mentions_in mentions.entry)
-        || opens_many (opened_by name (arguments_of head.now))
-        (context_of surroundings.entry)) }
+    reading: Reading<'t>,
+) -> Option<Cause<'t>>
+    ensures { option_map cause_view result
+        ≡ place_cause (context_of surroundings.entry) name (read_of reading.entry) }
 {
-    StringFault::Long.is_in_some(&head.arguments)
-        || mentions.are_large()
-        || surroundings.opens_many(name)
+    if may_stand(surroundings, name, reading) {
+        None
+    } else {
+        Some(misplaced(name, reading))
+    }
 }
 
-// What is wrong with a command that is known by that name, by itself.
-fn known_command_fault(
-    surroundings: Surroundings<'_>,
-    name: CommandName,
-    head: &Head,
-    tests: Tests,
-    ending: Ending,
-) -> Option<Fault>
-    ensures { result ≡ known_command_fault (context_of surroundings.entry) name
-        (arguments_of head.now) tests ending }
+// What is wrong with the place of a test, where it may not stand there.
+fn test_place_cause<'t>(surroundings: Surroundings<'_>, name: TestName) -> Option<Cause<'t>>
+    ensures { option_map cause_view result
+        ≡ test_place_cause (context_of surroundings.entry) name }
 {
-    let mentions = Mentions::of_command(surroundings, name, head);
-    if surroundings.lacks(command_needs(name)) {
-        Some(Fault::MissingCapability)
-    } else if name == CommandName::Require && StringFault::Unknown.is_in_some(&head.arguments) {
-        Some(Fault::UnknownCapability)
-    } else if !is_taken(surroundings, name, head, tests, ending) || mentions.are_wrong() {
-        Some(Fault::BadArguments)
-    } else if is_large_command(surroundings, name, head, mentions) {
-        Some(Fault::Limit)
+    if test_may_stand(surroundings, name) {
+        None
+    } else {
+        Some(Cause::plain(ReasonKind::Misplaced))
+    }
+}
+
+// The first capability that is needed and wasn't required.
+fn lacking_cause<'t>(surroundings: Surroundings<'_>, needed: &[Capability]) -> Option<Cause<'t>>
+    ensures { option_map cause_view result
+        ≡ lacking_cause (context_of surroundings.entry) needed.now }
+{
+    let capability = surroundings.required.first_lacking(needed)?;
+    Some(Cause::plain(ReasonKind::MissingCapability(capability)))
+}
+
+// The first string of a `require` that is no capability.
+fn unknown_cause(name: CommandName, head: &Head) -> Option<Cause<'_>>
+    ensures { option_map cause_view result ≡ unknown_cause name (arguments_of head.now) }
+{
+    match name {
+        CommandName::Require => {
+            let string = StringFault::Unknown.first_in(&head.arguments)?;
+            Some(Cause::about(ReasonKind::UnknownCapability, string))
+        }
+        CommandName::If
+        | CommandName::Elsif
+        | CommandName::Else
+        | CommandName::Stop
+        | CommandName::Keep
+        | CommandName::Discard
+        | CommandName::FileInto
+        | CommandName::Set
+        | CommandName::ForEveryPart
+        | CommandName::Break
+        | CommandName::Store
+        | CommandName::Take => None,
+    }
+}
+
+// What is wrong with the tests behind the arguments.
+fn tests_cause<'t>(signature: Signature, tests: Tests) -> Option<Cause<'t>>
+    ensures { option_map cause_view result ≡ tests_cause signature tests }
+{
+    if signature.tests == tests {
+        None
+    } else {
+        Some(Cause::plain(ReasonKind::WrongTests(signature.tests)))
+    }
+}
+
+// What is wrong with how a command ends.
+fn ending_cause<'t>(name: CommandName, ending: Ending) -> Option<Cause<'t>>
+    ensures { option_map cause_view result ≡ ending_cause name ending }
+{
+    let wanted = ending_of(name);
+    if wanted == ending {
+        None
+    } else {
+        Some(Cause::plain(ReasonKind::WrongEnding(wanted)))
+    }
+}
+
+// The string that is longer than the limit, if one is.
+fn long_string_cause(head: &Head) -> Option<Cause<'_>>
+    ensures { option_map cause_view result ≡ long_string_cause (arguments_of head.now) }
+{
+    let string = StringFault::Long.first_in(&head.arguments)?;
+    Some(Cause::about(ReasonKind::LongString, string))
+}
+
+// That the lists of a test have more strings than the limit, if they have.
+fn many_strings_cause<'t>(reading: Reading<'_>) -> Option<Cause<'t>>
+    ensures { option_map cause_view result ≡ many_strings_cause (read_of reading.entry) }
+{
+    if has_many_strings(reading) {
+        Some(Cause::plain(ReasonKind::ManyStrings))
     } else {
         None
     }
 }
 
-// Whether the test may stand there, with these arguments and tests.
-fn is_taken_test(surroundings: Surroundings<'_>, name: TestName, head: &Head, tests: Tests) -> bool
-    ensures { result ≡ (test_may_stand (context_of surroundings.entry) name
-        && is_well_formed (test_signature name) (arguments_of head.now) tests) }
-{
-    test_may_stand(surroundings, name) && is_well_formed(test_signature(name), head, tests)
-}
-
-// Whether a test goes beyond a limit.
-fn is_large_test(signature: Signature, head: &Head, mentions: Mentions<'_>) -> bool
-    ensures { result ≡ (has_long_string (arguments_of head.now)
-        || has_many_strings (reading signature (arguments_of head.now))
-        || has_large_mention (mentions_in mentions.entry)) }
-{
-    StringFault::Long.is_in_some(&head.arguments)
-        || has_many_strings(signature, head)
-        || mentions.are_large()
-}
-
-// What is wrong with a test that is known by that name, by itself.
-fn known_test_fault(
+// That a command opens a loop within as many others as may be open, if it does.
+fn many_loops_cause<'t>(
     surroundings: Surroundings<'_>,
-    name: TestName,
+    name: CommandName,
     head: &Head,
-    tests: Tests,
-) -> Option<Fault>
-    ensures { result ≡ known_test_fault (context_of surroundings.entry) name (arguments_of head.now)
-        tests }
+) -> Option<Cause<'t>>
+    ensures { option_map cause_view result
+        ≡ many_loops_cause (context_of surroundings.entry) name (arguments_of head.now) }
 {
-    let mentions = Mentions::of_test(surroundings, name, head);
-    if surroundings.lacks(test_needs(name, head)) {
-        Some(Fault::MissingCapability)
-    } else if !is_taken_test(surroundings, name, head, tests) || mentions.are_wrong() {
-        Some(Fault::BadArguments)
-    } else if is_large_test(test_signature(name), head, mentions) {
-        Some(Fault::Limit)
+    if surroundings.opens_many(name) {
+        Some(Cause::plain(ReasonKind::ManyLoops))
     } else {
         None
+    }
+}
+
+// What is wrong behind the arguments of a command, or with references and names among them.
+fn ill_formed_command<'t>(
+    name: CommandName,
+    tests: Tests,
+    ending: Ending,
+    mentions: Mentions<'t>,
+) -> Option<Cause<'t>>
+    ensures { option_map cause_view result
+        ≡ ill_formed_command name tests ending (mentions_in mentions.entry) }
+{
+    if let Some(cause) = tests_cause(command_signature(name), tests) {
+        return Some(cause);
+    }
+    if let Some(cause) = ending_cause(name, ending) {
+        return Some(cause);
+    }
+    mentions.wrong_cause()
+}
+
+// What of a command is beyond a limit.
+fn oversized_command<'t>(
+    surroundings: Surroundings<'_>,
+    name: CommandName,
+    head: &'t Head,
+    mentions: Mentions<'t>,
+) -> Option<Cause<'t>>
+    ensures { option_map cause_view result
+        ≡ oversized_command (context_of surroundings.entry) name (arguments_of head.now)
+        (mentions_in mentions.entry) }
+{
+    if let Some(cause) = long_string_cause(head) {
+        return Some(cause);
+    }
+    if let Some(cause) = mentions.large_cause() {
+        return Some(cause);
+    }
+    many_loops_cause(surroundings, name, head)
+}
+
+// What a command whose arguments were read has to do with variables, where nothing is wrong with it.
+fn read_command<'t>(
+    surroundings: Surroundings<'_>,
+    name: CommandName,
+    head: &'t Head,
+    tests: Tests,
+    ending: Ending,
+    reading: Reading<'t>,
+) -> Result<Mentions<'t>, Cause<'t>>
+    requires { is_positional (command_signature name).positional (left_of reading) ≡ true }
+    ensures { Finds (where_required (context_of surroundings.entry)
+        (mentions_of name (strings_of (lists_read (read_of reading.entry)))))
+        (read_command_cause (context_of surroundings.entry) name (arguments_of head.now) tests
+        ending (read_of reading.entry)) result }
+{
+    let mentions = Mentions::of_command(surroundings, name, reading);
+    if let Some(cause) = ill_formed_command(name, tests, ending, mentions) {
+        return Err(cause);
+    }
+    if let Some(cause) = place_cause(surroundings, name, reading) {
+        return Err(cause);
+    }
+    match oversized_command(surroundings, name, head, mentions) {
+        Some(cause) => Err(cause),
+        None => Ok(mentions),
+    }
+}
+
+// The same of a command that is known by that name.
+fn found_command<'t>(
+    surroundings: Surroundings<'_>,
+    name: CommandName,
+    head: &'t Head,
+    tests: Tests,
+    ending: Ending,
+) -> Result<Mentions<'t>, Cause<'t>>
+    ensures { Finds (command_mentions (context_of surroundings.entry) name (arguments_of head.now))
+        (known_command_cause (context_of surroundings.entry) name (arguments_of head.now) tests
+        ending) result }
+{
+    if let Some(cause) = lacking_cause(surroundings, command_needs(name)) {
+        return Err(cause);
+    }
+    if let Some(cause) = unknown_cause(name, head) {
+        return Err(cause);
+    }
+    match command_signature(name).read(&head.arguments) {
+        Ok(reading) => read_command(surroundings, name, head, tests, ending, reading),
+        Err(cause) => Err(cause),
+    }
+}
+
+// What is wrong behind the arguments of a test, or with references among them.
+fn ill_formed_test<'t>(
+    name: TestName,
+    tests: Tests,
+    mentions: Mentions<'t>,
+) -> Option<Cause<'t>>
+    ensures { option_map cause_view result
+        ≡ ill_formed_test name tests (mentions_in mentions.entry) }
+{
+    if let Some(cause) = tests_cause(test_signature(name), tests) {
+        return Some(cause);
+    }
+    mentions.wrong_cause()
+}
+
+// What of a test is beyond a limit.
+fn oversized_test<'t>(
+    head: &'t Head,
+    reading: Reading<'_>,
+    mentions: Mentions<'t>,
+) -> Option<Cause<'t>>
+    ensures { option_map cause_view result
+        ≡ oversized_test (arguments_of head.now) (read_of reading.entry)
+        (mentions_in mentions.entry) }
+{
+    if let Some(cause) = long_string_cause(head) {
+        return Some(cause);
+    }
+    if let Some(cause) = many_strings_cause(reading) {
+        return Some(cause);
+    }
+    mentions.large_cause()
+}
+
+// What a test whose arguments were read has to do with variables, where nothing is wrong with it.
+fn read_test<'t>(
+    surroundings: Surroundings<'_>,
+    name: TestName,
+    head: &'t Head,
+    tests: Tests,
+    reading: Reading<'t>,
+) -> Result<Mentions<'t>, Cause<'t>>
+    ensures { Finds (where_required (context_of surroundings.entry)
+        (expanding (strings_of (lists_read (read_of reading.entry)))))
+        (read_test_cause (context_of surroundings.entry) name (arguments_of head.now) tests
+        (read_of reading.entry)) result }
+{
+    let mentions = Mentions::of_test(surroundings, reading);
+    if let Some(cause) = ill_formed_test(name, tests, mentions) {
+        return Err(cause);
+    }
+    if let Some(cause) = test_place_cause(surroundings, name) {
+        return Err(cause);
+    }
+    match oversized_test(head, reading, mentions) {
+        Some(cause) => Err(cause),
+        None => Ok(mentions),
+    }
+}
+
+// The same of a test that is known by that name.
+fn found_test<'t>(
+    surroundings: Surroundings<'_>,
+    name: TestName,
+    head: &'t Head,
+    tests: Tests,
+) -> Result<Mentions<'t>, Cause<'t>>
+    ensures { Finds (test_mentions (context_of surroundings.entry) name (arguments_of head.now))
+        (known_test_cause (context_of surroundings.entry) name (arguments_of head.now) tests)
+        result }
+{
+    if let Some(cause) = lacking_cause(surroundings, test_needs(name, head)) {
+        return Err(cause);
+    }
+    match test_signature(name).read(&head.arguments) {
+        Ok(reading) => read_test(surroundings, name, head, tests, reading),
+        Err(cause) => Err(cause),
+    }
+}
+
+// Adds the names that a command or test brings, or says that the script has too many with them.
+fn added<'t>(names: &mut VariableNames<'t>, mentions: Mentions<'t>) -> Result<(), Cause<'t>>
+    ensures { (token : ℕ) (word : List ℕ)
+        → Judges (listed names.old)
+        (record {
+          token = token;
+          name = word;
+          names = names_mentioned (mentions_in mentions.entry);
+          cause = None;
+        }) result (listed names.new) }
+{
+    match mentions.add_to(names) {
+        Ok(()) => Ok(()),
+        Err(kind) => Err(Cause::plain(kind)),
     }
 }
 
@@ -237,14 +451,14 @@ fn known_command<'t>(
     head: &'t Head,
     tests: Tests,
     ending: Ending,
-) -> Result<(), Fault>
+) -> Result<(), Cause<'t>>
     ensures { Judges (listed names.old)
-        (known_command_visit (context_of surroundings.entry) head.now.token name
+        (known_command_visit (context_of surroundings.entry) head.now.token head.now.name name
         (arguments_of head.now) tests ending) result (listed names.new) }
 {
-    match known_command_fault(surroundings, name, head, tests, ending) {
-        Some(fault) => Err(fault),
-        None => Mentions::of_command(surroundings, name, head).add_to(names),
+    match found_command(surroundings, name, head, tests, ending) {
+        Ok(mentions) => added(names, mentions),
+        Err(cause) => Err(cause),
     }
 }
 
@@ -255,23 +469,28 @@ fn known_test<'t>(
     name: TestName,
     head: &'t Head,
     tests: Tests,
-) -> Result<(), Fault>
+) -> Result<(), Cause<'t>>
     ensures { Judges (listed names.old)
-        (known_test_visit (context_of surroundings.entry) head.now.token name
+        (known_test_visit (context_of surroundings.entry) head.now.token head.now.name name
         (arguments_of head.now) tests) result (listed names.new) }
 {
-    match known_test_fault(surroundings, name, head, tests) {
-        Some(fault) => Err(fault),
-        None => Mentions::of_test(surroundings, name, head).add_to(names),
+    match found_test(surroundings, name, head, tests) {
+        Ok(mentions) => added(names, mentions),
+        Err(cause) => Err(cause),
     }
 }
 
-// What was found of a command or test, with its place: the number of its identifier's token.
-fn at(head: &Head, judged: Result<(), Fault>) -> Result<(), CheckError>
-    ensures { MatchResult judged (λ _. IsOk result)
-        (λ fault. result ≡ Err (refusal head.now.token fault)) }
+// What was found of a command or test, with its place and its name.
+fn at<'t>(head: &'t Head, judged: Result<(), Cause<'t>>) -> Result<(), Refused<'t>>
+    ensures { MatchResult judged.entry (λ _. IsOk result)
+        (λ cause. MatchResult result (λ _. ⊥)
+        (λ refused. refused_view refused
+        ≡ refused_for head.now.token head.now.name (cause_view cause))) }
 {
-    judged.map_err(|fault| CheckError::of(fault, head.token))
+    match judged {
+        Ok(()) => Ok(()),
+        Err(cause) => Err(Refused::of(head, cause)),
+    }
 }
 
 // Nothing, where nothing is wrong with a command, apart from its tests and its block.
@@ -281,14 +500,14 @@ fn command_alone<'t>(
     head: &'t Head,
     tests: Tests,
     ending: Ending,
-) -> Result<(), CheckError>
+) -> Result<(), Refused<'t>>
     ensures { Passes (listed names.old)
         (command_visit (context_of surroundings.entry) head.now.token head.now.name
         (arguments_of head.now) tests ending ∷ []) result (listed names.new) }
 {
     let judged = match command_named(head.name.as_slice()) {
         Some(name) => known_command(names, surroundings, name, head, tests, ending),
-        None => Err(Fault::UnknownCommand),
+        None => Err(Cause::plain(ReasonKind::UnknownCommand)),
     };
     at(head, judged)
 }
@@ -299,14 +518,14 @@ fn test_alone<'t>(
     surroundings: Surroundings<'_>,
     head: &'t Head,
     tests: Tests,
-) -> Result<(), CheckError>
+) -> Result<(), Refused<'t>>
     ensures { Passes (listed names.old)
         (test_visit (context_of surroundings.entry) head.now.token head.now.name
         (arguments_of head.now) tests ∷ []) result (listed names.new) }
 {
     let judged = match test_named(head.name.as_slice()) {
         Some(name) => known_test(names, surroundings, name, head, tests),
-        None => Err(Fault::UnknownCommand),
+        None => Err(Cause::plain(ReasonKind::UnknownTest)),
     };
     at(head, judged)
 }
@@ -317,7 +536,7 @@ fn test<'t>(
     names: &mut VariableNames<'t>,
     surroundings: Surroundings<'_>,
     invocation: &'t Invocation,
-) -> Result<(), CheckError>
+) -> Result<(), Refused<'t>>
     ensures { Passes (listed names.old)
         (test_visits (context_of surroundings.entry) (invocation_tree invocation.now)) result
         (listed names.new) }
@@ -342,7 +561,7 @@ fn tests<'t>(
     names: &mut VariableNames<'t>,
     surroundings: Surroundings<'_>,
     list: &'t [Invocation],
-) -> Result<(), CheckError>
+) -> Result<(), Refused<'t>>
     ensures { Passes (listed names.old)
         (more_visits (context_of surroundings.entry) (more_tests_of (map invocation_tree list.now)))
         result (listed names.new) }
@@ -359,7 +578,7 @@ fn head<'t>(
     surroundings: Surroundings<'_>,
     invocation: &'t Invocation,
     ending: Ending,
-) -> Result<(), CheckError>
+) -> Result<(), Refused<'t>>
     ensures { Passes (listed names.old)
         (head_visits (context_of surroundings.entry) (invocation_tree invocation.now) ending) result
         (listed names.new) }
@@ -386,7 +605,7 @@ fn command<'t>(
     names: &mut VariableNames<'t>,
     surroundings: Surroundings<'t>,
     tree: &'t Command,
-) -> Result<(), CheckError>
+) -> Result<(), Refused<'t>>
     ensures { Passes (listed names.old)
         (command_visits (context_of surroundings.entry) (command_tree tree.now)) result
         (listed names.new) }
@@ -409,7 +628,7 @@ fn commands<'t>(
     names: &mut VariableNames<'t>,
     surroundings: Surroundings<'t>,
     trees: &'t [Command],
-) -> Result<(), CheckError>
+) -> Result<(), Refused<'t>>
     ensures { Passes (listed names.old)
         (commands_visits (context_of surroundings.entry) (commands_tree trees.now)) result
         (listed names.new) }
@@ -422,9 +641,10 @@ fn commands<'t>(
     Ok(())
 }
 
-/// Nothing, where nothing is wrong with the commands of a script; else the fault that is named.
-pub fn script(trees: &[Command]) -> Result<(), CheckError>
-    ensures { Refuses (fault_of (commands_tree trees.now)) result }
+/// Nothing, where nothing is wrong with the commands of a script; else the first command or test that is refused, and why.
+pub fn script(trees: &[Command]) -> Result<(), Refused<'_>>
+    ensures { MatchResult result (λ _. reason_of (commands_tree trees.now) ≡ None)
+        (λ refused. reason_of (commands_tree trees.now) ≡ Some (refused_view refused)) }
 {
     let mut names = VariableNames::new();
     commands(&mut names, Surroundings::at_start(), trees)

@@ -1,15 +1,13 @@
 // What commands and tests take, and how their arguments are read (RFC 5228, section 2.6; RFC 5229, section 4; RFC 5703, sections 3
 // and 4).
-ghost use Rattle.std.specs.Prelude.{◌≡◌, map, Some};
+ghost use Rattle.std.specs.Prelude.{◌≡◌};
 ghost use Rattle.sieve_parser.specs.View.{argument_tree};
-ghost use Rattle.sieve_check.specs.Signatures.{awaited, bare, command_signature, ending_of, is_list, test_signature};
-ghost use Rattle.sieve_check.specs.Reading.{FirstList, FirstNumber, FirstTag, FirstText, Settles};
+ghost use Rattle.sieve_check.specs.Signatures.{bare, command_signature, ending_of, is_list, test_signature};
 
-use crate::names::{CommandName, Piece, Tag, TestName, comparator_named, tag_named};
+use crate::names::{CommandName, Piece, Tag, TestName};
 use crate::typed::Order;
 use bytecode_format::Modifiers;
 use glob_match::{Comparator, MatchType};
-use octets::Octets;
 use sieve_parser::Argument;
 
 /// The arguments behind the tags.
@@ -280,142 +278,17 @@ pub fn test_signature(name: TestName) -> Signature
     }
 }
 
-/// The first argument's name and the arguments after it, where it is a tag.
-pub fn first_tag(arguments: &[Argument]) -> Option<(&[u8], &[Argument])>
-    ensures { FirstTag (map argument_tree arguments.now) result }
-{
-    match arguments {
-        [Argument::Tag(name), rest @ ..] => Some((name.as_slice(), rest)),
-        _ => None,
-    }
-}
-
-/// The first argument and the arguments after it, where it is one string.
-pub fn first_text(arguments: &[Argument]) -> Option<(&Octets, &[Argument])>
-    ensures { FirstText (map argument_tree arguments.now) result }
-{
-    match arguments {
-        [Argument::Text(text), rest @ ..] => Some((text, rest)),
-        _ => None,
-    }
-}
-
-// Whether the argument is a list.
-fn is_list(argument: &Argument) -> bool
+/// Whether the argument is a list: a string, or strings in square brackets.
+pub fn is_list(argument: &Argument) -> bool
     ensures { result ≡ is_list (argument_tree argument.now) }
 {
     matches!(argument, Argument::Text(_) | Argument::TextList(_, _))
 }
 
-/// The first argument and the arguments after it, where it is a number.
-pub fn first_number(arguments: &[Argument]) -> Option<(u64, &[Argument])>
-    ensures { FirstNumber (map argument_tree arguments.now) result }
-{
-    match arguments {
-        [Argument::Number(number), rest @ ..] => Some((*number, rest)),
-        _ => None,
-    }
-}
-
-/// The first argument alone and the arguments after it, where it is a list: a string, or strings in square brackets.
-pub fn first_list(arguments: &[Argument]) -> Option<(&[Argument], &[Argument])>
-    ensures { FirstList (map argument_tree arguments.now) result }
-{
-    let (list, rest) = arguments.split_at(arguments.len().min(1));
-    match list {
-        [argument] if is_list(argument) => Some((list, rest)),
-        _ => None,
-    }
-}
-
-// What was read so far, with the comparator that is named next.
-fn with_comparator(reading: Reading<'_>) -> Option<Reading<'_>>
-    ensures { Settles reading.entry (Some Tag.Comparator) result }
-{
-    let (name, rest) = first_text(reading.positional)?;
-    let comparator = comparator_named(name.as_slice())?;
-    let tags = Tags {
-        comparator: Some(comparator),
-        ..reading.tags
-    };
-    Some(Reading {
-        tags,
-        positional: rest,
-        ..reading
-    })
-}
-
-// What was read so far, with the list of `:param`, which comes next.
-fn with_params(reading: Reading<'_>) -> Option<Reading<'_>>
-    ensures { Settles reading.entry (Some (Tag.Select Piece.Params)) result }
-{
-    let (params, rest) = first_list(reading.positional)?;
-    Some(Reading {
-        params,
-        positional: rest,
-        ..reading
-    })
-}
-
-// What was read so far, with the string of `:name`, which comes next.
-fn with_name(reading: Reading<'_>) -> Option<Reading<'_>>
-    ensures { Settles reading.entry (Some Tag.Name) result }
-{
-    let (loop_name, rest) = first_text(reading.positional)?;
-    Some(Reading {
-        name: Some(loop_name.as_slice()),
-        positional: rest,
-        ..reading
-    })
-}
-
-// What was read so far, with the number of `:first`, which comes next and isn't zero.
-fn with_first(reading: Reading<'_>) -> Option<Reading<'_>>
-    ensures { Settles reading.entry (Some Tag.First) result }
-{
-    let (number, rest) = first_number(reading.positional)?;
-    if number == 0 {
-        return None;
-    }
-    let tags = Tags {
-        first: Some(number),
-        ..reading.tags
-    };
-    Some(Reading {
-        tags,
-        positional: rest,
-        ..reading
-    })
-}
-
-// What was read so far, with the argument that the last tag takes.
-fn settle(tag: Tag, reading: Reading<'_>) -> Option<Reading<'_>>
-    ensures { Settles reading.entry (awaited tag) result }
-{
-    match tag {
-        Tag::Order(_)
-        | Tag::Kind(_)
-        | Tag::Letters(_)
-        | Tag::FirstLetter(_)
-        | Tag::QuoteWildcard
-        | Tag::Length
-        | Tag::Mime
-        | Tag::AnyChild => Some(reading),
-        Tag::Comparator => with_comparator(reading),
-        Tag::Select(piece) => match piece {
-            Piece::Main | Piece::Sub | Piece::ContentType => Some(reading),
-            Piece::Params => with_params(reading),
-        },
-        Tag::Name => with_name(reading),
-        Tag::First => with_first(reading),
-    }
-}
-
 impl Signature {
     ghost use Rattle.std.specs.Prelude.{◌≡◌, map};
     ghost use Rattle.sieve_parser.specs.View.{argument_tree};
-    ghost use Rattle.sieve_check.specs.Signatures.{is_complete, is_positional, reading, tags_with, takes_tag};
-    ghost use Rattle.sieve_check.specs.Reading.{Reads, read_of};
+    ghost use Rattle.sieve_check.specs.Signatures.{is_positional, tags_with, takes_tag};
 
     /// Whether the tag is taken, and none of its group was given.
     pub fn takes(self, tag: Tag, tags: Tags) -> bool
@@ -478,47 +351,6 @@ impl Signature {
                 [first, second] => is_list(first) && is_list(second),
                 _ => false,
             },
-        }
-    }
-
-    // Whether of each group that needs one a tag was given, none stands without what it needs, and the arguments behind them are
-    // right.
-    fn is_complete(self, reading: Reading<'_>) -> bool
-        ensures { result ≡ is_complete self (read_of reading.entry) }
-    {
-        let tags = reading.tags;
-        (!self.order || tags.order.is_some())
-            && (!tags.ask_for_mime() || tags.mime)
-            && self.is_positional(reading.positional)
-    }
-
-    /// The arguments, read: tags in any order, then the others. Nothing where they aren't those that are taken.
-    #[inline(always)]
-    pub fn read(self, arguments: &[Argument]) -> Option<Reading>
-        ensures { Reads (reading self (map argument_tree arguments.now)) result }
-    {
-        let mut reading = Reading {
-            tags: Tags::none(),
-            params: &[],
-            name: None,
-            positional: arguments,
-        };
-        'tags: while let Some((name, rest)) = first_tag(reading.positional) {
-            let tag = tag_named(name)?;
-            let tags = self.add(tag, reading.tags)?;
-            reading = settle(
-                tag,
-                Reading {
-                    tags,
-                    positional: rest,
-                    ..reading
-                },
-            )?;
-        }
-        if self.is_complete(reading) {
-            Some(reading)
-        } else {
-            None
         }
     }
 }

@@ -1,15 +1,14 @@
 // What is wrong with the strings of commands and tests.
 ghost use Rattle.std.specs.Prelude.{◌≡◌, ◌+◌, ◌<◌, map, length, nat_lt, not, is_some, MatchOption};
 ghost use Rattle.sieve_parser.specs.View.{argument_tree};
-ghost use Rattle.sieve_check.specs.Rules.{arguments_of, has_many_strings, strings_in, strings_of};
-ghost use Rattle.sieve_check.specs.Signatures.{reading};
-ghost use Rattle.sieve_check.specs.Reading.{all_lists};
+ghost use Rattle.sieve_check.specs.Rules.{has_many_strings, strings_in, strings_of};
+ghost use Rattle.sieve_check.specs.Reading.{all_lists, read_of};
 
 use crate::names::capability_named;
 use crate::references::{has_large_references, has_wrong_reference};
-use crate::signature::{Lists, Signature};
+use crate::signature::{Lists, Reading};
 use octets::{MAX_STRING, Octets};
-use sieve_parser::{Argument, Head};
+use sieve_parser::Argument;
 
 /// The most strings in the lists of one test.
 pub const MAX_TEST_STRINGS: usize = 512;
@@ -29,9 +28,9 @@ pub enum StringFault {
 
 impl StringFault {
     ghost use Rattle.std.specs.Prelude.{◌≡◌, map};
-    ghost use Rattle.std.specs.List.{list_any};
     ghost use Rattle.sieve_parser.specs.View.{argument_tree};
-    ghost use Rattle.sieve_check.specs.Reading.{all_lists};
+    ghost use Rattle.sieve_check.specs.Causes.{first_where};
+    ghost use Rattle.sieve_check.specs.Reading.{all_lists, name_in};
     ghost use Rattle.sieve_check.specs.Rules.{string_has, strings_in, strings_of};
 
     /// Whether this is wrong with the string.
@@ -46,49 +45,67 @@ impl StringFault {
         }
     }
 
-    // Whether this is wrong with one of the strings.
-    fn is_in_one(self, strings: &[Octets]) -> bool
-        ensures { result ≡ list_any (string_has self) strings.now }
+    // The first of the strings with which this is wrong.
+    fn first_of(self, strings: &[Octets]) -> Option<&[u8]>
+        ensures { name_in result ≡ first_where (string_has self) strings.now }
     {
         for string in strings {
             if self.is_in(string) {
-                return true;
+                return Some(string.as_slice());
             }
         }
-        false
+        None
     }
 
-    // Whether this is wrong with a string of the argument.
-    fn is_in_argument(self, argument: &Argument) -> bool
-        ensures { result ≡ list_any (string_has self) (strings_in (argument_tree argument.now)) }
+    // The first string of the argument with which this is wrong.
+    fn first_in_argument(self, argument: &Argument) -> Option<&[u8]>
+        ensures { name_in result ≡ first_where (string_has self)
+            (strings_in (argument_tree argument.now)) }
     {
         match argument {
-            Argument::Text(string) => self.is_in(string),
-            Argument::TextList(first, others) => self.is_in(first) || self.is_in_one(others),
-            Argument::Number(_) | Argument::Tag(_) => false,
+            Argument::Text(string) => {
+                if self.is_in(string) {
+                    Some(string.as_slice())
+                } else {
+                    None
+                }
+            }
+            Argument::TextList(first, others) => {
+                if self.is_in(first) {
+                    Some(first.as_slice())
+                } else {
+                    self.first_of(others)
+                }
+            }
+            Argument::Number(_) | Argument::Tag(_) => None,
         }
     }
 
-    /// Whether this is wrong with a string of the arguments.
-    pub fn is_in_some(self, arguments: &[Argument]) -> bool
-        ensures { result ≡ list_any (string_has self)
+    /// The first string of the arguments with which this is wrong.
+    pub fn first_in(self, arguments: &[Argument]) -> Option<&[u8]>
+        ensures { name_in result ≡ first_where (string_has self)
             (strings_of (map argument_tree arguments.now)) }
     {
         for argument in arguments {
-            if self.is_in_argument(argument) {
-                return true;
+            if let Some(string) = self.first_in_argument(argument) {
+                return Some(string);
             }
         }
-        false
+        None
     }
 
-    /// Whether this is wrong with a string of the lists.
-    pub fn is_in_lists(self, lists: Lists<'_>) -> bool
-        ensures { result ≡ list_any (string_has self) (strings_of (all_lists lists.entry)) }
+    /// The first string of the lists with which this is wrong.
+    pub fn first_in_lists<'t>(self, lists: Lists<'t>) -> Option<&'t [u8]>
+        ensures { name_in result ≡ first_where (string_has self)
+            (strings_of (all_lists lists.entry)) }
     {
-        self.is_in_some(lists.first)
-            || self.is_in_some(lists.params)
-            || self.is_in_some(lists.others)
+        if let Some(string) = self.first_in(lists.first) {
+            return Some(string);
+        }
+        if let Some(string) = self.first_in(lists.params) {
+            return Some(string);
+        }
+        self.first_in(lists.others)
     }
 }
 
@@ -124,12 +141,9 @@ fn left_after_lists(most: usize, lists: Lists<'_>) -> Option<usize>
     left_after(left, lists.others)
 }
 
-/// Whether the arguments, as the signature reads them, have more strings than one test may have.
-pub fn has_many_strings(signature: Signature, head: &Head) -> bool
-    ensures { result ≡ has_many_strings (reading signature (arguments_of head.now)) }
+/// Whether the lists have more strings than one test may have.
+pub fn has_many_strings(reading: Reading<'_>) -> bool
+    ensures { result ≡ has_many_strings (read_of reading.entry) }
 {
-    match signature.read(&head.arguments) {
-        Some(reading) => left_after_lists(MAX_TEST_STRINGS, reading.lists()).is_none(),
-        None => false,
-    }
+    left_after_lists(MAX_TEST_STRINGS, reading.lists()).is_none()
 }

@@ -130,9 +130,10 @@ fn loop_name(arguments: &[Argument]) -> Option<&[u8]>
     ensures { name_in result ≡ name_read
         (reading (command_signature CommandName.ForEveryPart) (map argument_tree arguments.now)) }
 {
-    command_signature(CommandName::ForEveryPart)
-        .read(arguments)?
-        .name
+    match command_signature(CommandName::ForEveryPart).read(arguments) {
+        Ok(reading) => reading.name,
+        Err(_) => None,
+    }
 }
 
 /// What surrounds a command or test.
@@ -155,7 +156,7 @@ impl<'t> Surroundings<'t> {
     ghost use Rattle.sieve_check.specs.Rules.{after_invocation, arguments_of, invocation_of, loops_by, loops_opened, opened_by, strings_of};
     ghost use Rattle.sieve_check.specs.Names.{command_named};
     ghost use Rattle.sieve_check.specs.Refusing.{LoopsWithin, context_of, open_loops};
-    ghost use Rattle.sieve_check.specs.Surroundings.{at_start, following, inside, lacks, opens_many};
+    ghost use Rattle.sieve_check.specs.Surroundings.{at_start, following, inside, opens_many};
 
     /// Those of the first command of a script.
     pub fn at_start() -> Surroundings<'t>
@@ -290,12 +291,5 @@ impl<'t> Surroundings<'t> {
             Command::Simple(invocation) => self.following(head_in(invocation)),
             Command::Block(invocation, _) => self.following(head_in(invocation)),
         }
-    }
-
-    /// Whether one of the capabilities that are needed wasn't required.
-    pub fn lacks(self, needed: &[Capability]) -> bool
-        ensures { result ≡ lacks (context_of self.entry) needed.now }
-    {
-        self.required.first_lacking(needed).is_some()
     }
 }

@@ -209,7 +209,7 @@ fn plain_test(
     let Some(name) = test_named(head.name.as_slice()) else {
         return Ok(None);
     };
-    let Some(reading) = test_signature(name).read(&head.arguments) else {
+    let Ok(reading) = test_signature(name).read(&head.arguments) else {
         return Ok(None);
     };
     match name {
@@ -236,7 +236,7 @@ fn negates(head: &Head) -> bool
     let Some(name) = test_named(head.name.as_slice()) else {
         return false;
     };
-    if test_signature(name).read(&head.arguments).is_none() {
+    if test_signature(name).read(&head.arguments).is_err() {
         return false;
     }
     match name {
@@ -267,7 +267,9 @@ fn combining(head: &Head) -> Option<Junction>
         → head_test s head.now (bracketed f fs) ≡ option_map (λ j. joined_by j f fs) result }
 {
     let name = test_named(head.name.as_slice())?;
-    test_signature(name).read(&head.arguments)?;
+    if test_signature(name).read(&head.arguments).is_err() {
+        return None;
+    }
     match name {
         TestName::AllOf => Some(Junction::All),
         TestName::AnyOf => Some(Junction::Any),

@@ -3,7 +3,7 @@ ghost use Rattle.std.specs.Prelude.{◌≡◌, ◌≤◌, bytes_eq, length};
 ghost use Rattle.octets.specs.Ascii.{lowercase_of};
 ghost use Rattle.octets.specs.Limits.{max_variables};
 
-use crate::error::Fault;
+use crate::causes::ReasonKind;
 use crate::signature::Lists;
 use arrayvec::ArrayVec;
 use octets::{Octets, equal_ignoring_case};
@@ -60,22 +60,22 @@ impl<'t> VariableNames<'t> {
         false
     }
 
-    /// Adds the name, unless it is among them. Where there would be too many, that is [`Fault::Limit`].
-    pub fn add(&mut self, name: &'t [u8]) -> Result<(), Fault>
+    /// Adds the name, unless it is among them. Where there would be too many, that is [`ReasonKind::ManyVariables`].
+    pub fn add(&mut self, name: &'t [u8]) -> Result<(), ReasonKind>
         ensures { Adds (listed self.old) (lowercase_of name.now ∷ []) result (listed self.new) }
     {
         if self.has(name) {
             return Ok(());
         }
         if self.names.is_full() {
-            return Err(Fault::Limit);
+            return Err(ReasonKind::ManyVariables);
         }
         self.names.push(name);
         Ok(())
     }
 
     // Adds the names in a string.
-    fn add_string(&mut self, string: &'t [u8]) -> Result<(), Fault>
+    fn add_string(&mut self, string: &'t [u8]) -> Result<(), ReasonKind>
         ensures { Adds (listed self.old) (names_in string.now) result (listed self.new) }
     {
         let mut rest = string;
@@ -89,7 +89,7 @@ impl<'t> VariableNames<'t> {
     }
 
     // Adds the names in strings.
-    fn add_strings(&mut self, strings: &'t [Octets]) -> Result<(), Fault>
+    fn add_strings(&mut self, strings: &'t [Octets]) -> Result<(), ReasonKind>
         ensures { Adds (listed self.old) (flat_map names_in strings.now) result (listed self.new) }
     {
         for string in strings {
@@ -99,7 +99,7 @@ impl<'t> VariableNames<'t> {
     }
 
     // Adds the names in the strings of an argument.
-    fn add_argument(&mut self, argument: &'t Argument) -> Result<(), Fault>
+    fn add_argument(&mut self, argument: &'t Argument) -> Result<(), ReasonKind>
         ensures { Adds (listed self.old)
             (flat_map names_in (strings_in (argument_tree argument.now))) result (listed self.new) }
     {
@@ -114,7 +114,7 @@ impl<'t> VariableNames<'t> {
     }
 
     // Adds the names in the strings of arguments.
-    fn add_arguments(&mut self, arguments: &'t [Argument]) -> Result<(), Fault>
+    fn add_arguments(&mut self, arguments: &'t [Argument]) -> Result<(), ReasonKind>
         ensures { Adds (listed self.old)
             (flat_map names_in (strings_of (map argument_tree arguments.now))) result
             (listed self.new) }
@@ -124,8 +124,8 @@ impl<'t> VariableNames<'t> {
         }
         Ok(())
     }
-    /// Adds the names in the strings of lists. Where there would be too many, that is [`Fault::Limit`].
-    pub fn add_lists(&mut self, lists: Lists<'t>) -> Result<(), Fault>
+    /// Adds the names in the strings of lists. Where there would be too many, that is [`ReasonKind::ManyVariables`].
+    pub fn add_lists(&mut self, lists: Lists<'t>) -> Result<(), ReasonKind>
         ensures { Adds (listed self.old) (flat_map names_in (strings_of (all_lists lists.entry)))
             result (listed self.new) }
     {

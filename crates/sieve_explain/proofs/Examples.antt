@@ -12,7 +12,7 @@ use Rattle.sieve_check.specs.declared.signature.Tests.TheVariants.{Nothing}
 use Rattle.sieve_lexer.specs.declared.token.Token.{Token}
 use Rattle.sieve_lexer.specs.declared.token.TokenKind.{TokenKind}
 use Rattle.sieve_lexer.specs.declared.token.TokenKind.TheVariants.{ClosingBrace, ClosingBracket, Comma, Identifier, Number, OpeningBrace, OpeningBracket, QuotedString, Semicolon}
-use Rattle.sieve_reasons.specs.declared.kind.ReasonKind.TheVariants.{ExtraArgument, ForeignTag, LongString, MissingCapability, Misplaced, UnknownCapability, UnknownCommand, UnknownTag, UnknownTest, WrongTests}
+use Rattle.sieve_check.specs.declared.causes.ReasonKind.TheVariants.{ExtraArgument, ForeignTag, LongString, MissingCapability, Misplaced, UnknownCapability, UnknownCommand, UnknownTag, UnknownTest, WrongTests}
 use Rattle.sieve_explain.specs.Explaining.{told}
 use Rattle.sieve_explain.specs.Faults.{lexical_blanks, syntax_blanks}
 use Rattle.sieve_explain.specs.Hints.{capability_names, command_meant, command_names, command_rows, lacking, tag_names, test_names, test_rows}
@@ -76,10 +76,10 @@ brace : filled (syntax_blanks (codes "stop }") (Some (record { kind = ClosingBra
     ≡ codes "`}` can't stand here: is a semicolon missing before it, or its opening brace?"
 brace = refl
 
-meant : filled (reason_blanks (Some (record { kind = UnknownCommand; name = codes "ElseIf"; subject = [] }))) ≡ codes "unknown command `ElseIf`, did you mean `elsif`?"
+meant : filled (reason_blanks (record { kind = UnknownCommand; name = codes "ElseIf"; subject = [] })) ≡ codes "unknown command `ElseIf`, did you mean `elsif`?"
 meant = refl
 
-nothing_near : filled (reason_blanks (Some (record { kind = UnknownCommand; name = codes "kp"; subject = [] }))) ≡ codes "unknown command `kp`"
+nothing_near : filled (reason_blanks (record { kind = UnknownCommand; name = codes "kp"; subject = [] })) ≡ codes "unknown command `kp`"
 nothing_near = refl
 
 -- a letter that is another, is missing, is one too many, and two that are swapped; and the case of letters
@@ -91,57 +91,57 @@ two_letters_off : list_any (λ name. is_near name (codes "keep"))
     (codes "kp" ∷ codes "ke" ∷ codes "keepss" ∷ codes "eekp" ∷ codes "peek" ∷ codes "kllp" ∷ []) ≡ false
 two_letters_off = refl
 
-another_case : filled (reason_blanks (Some (record { kind = UnknownCapability; name = codes "require"; subject = codes "FileInto" })))
+another_case : filled (reason_blanks (record { kind = UnknownCapability; name = codes "require"; subject = codes "FileInto" }))
     ≡ codes "depot knows no capability \"FileInto\", did you mean \"fileinto\"?"
 another_case = refl
 
-capability_elsewhere : filled (reason_blanks (Some (record { kind = UnknownCapability; name = codes "require"; subject = codes "vacation" })))
+capability_elsewhere : filled (reason_blanks (record { kind = UnknownCapability; name = codes "require"; subject = codes "vacation" }))
     ≡ codes "depot has no \"vacation\": it sends no mail"
 capability_elsewhere = refl
 
-tag_meant : filled (reason_blanks (Some (record { kind = UnknownTag; name = codes "header"; subject = codes "contain" })))
+tag_meant : filled (reason_blanks (record { kind = UnknownTag; name = codes "header"; subject = codes "contain" }))
     ≡ codes "depot knows no tag `:contain`, did you mean `:contains`?"
 tag_meant = refl
 
-elsewhere_known : filled (reason_blanks (Some (record { kind = UnknownCommand; name = codes "Vacation"; subject = [] }))) ≡ codes "depot has no `Vacation`: it sends no mail"
+elsewhere_known : filled (reason_blanks (record { kind = UnknownCommand; name = codes "Vacation"; subject = [] })) ≡ codes "depot has no `Vacation`: it sends no mail"
 elsewhere_known = refl
 
-test_elsewhere : filled (reason_blanks (Some (record { kind = UnknownTest; name = codes "address"; subject = [] }))) ≡ codes "depot has no `address`: `header` tests the whole value of a field"
+test_elsewhere : filled (reason_blanks (record { kind = UnknownTest; name = codes "address"; subject = [] })) ≡ codes "depot has no `address`: `header` tests the whole value of a field"
 test_elsewhere = refl
 
 -- a test's name stands where a command is looked for, and the other way round
-without_if : filled (reason_blanks (Some (record { kind = UnknownCommand; name = codes "header"; subject = [] }))) ≡ codes "`header` is a test: is an `if` missing before it?"
+without_if : filled (reason_blanks (record { kind = UnknownCommand; name = codes "header"; subject = [] })) ≡ codes "`header` is a test: is an `if` missing before it?"
 without_if = refl
 
-without_test : filled (reason_blanks (Some (record { kind = UnknownTest; name = codes "keep"; subject = [] }))) ≡ codes "`keep` is a command, and a test is needed here"
+without_test : filled (reason_blanks (record { kind = UnknownTest; name = codes "keep"; subject = [] })) ≡ codes "`keep` is a command, and a test is needed here"
 without_test = refl
 
-two_words : filled (reason_blanks (Some (record { kind = WrongTests Nothing; name = codes "ELSE"; subject = [] })))
+two_words : filled (reason_blanks (record { kind = WrongTests Nothing; name = codes "ELSE"; subject = [] }))
     ≡ codes "`ELSE` takes no test: is `elsif` meant, or its opening brace missing?"
 two_words = refl
 
-no_semicolon : filled (reason_blanks (Some (record { kind = WrongTests Nothing; name = codes "keep"; subject = [] })))
+no_semicolon : filled (reason_blanks (record { kind = WrongTests Nothing; name = codes "keep"; subject = [] }))
     ≡ codes "`keep` takes no test: is a semicolon missing at its end?"
 no_semicolon = refl
 
-no_comma : filled (reason_blanks (Some (record { kind = WrongTests Nothing; name = codes "header"; subject = [] })))
+no_comma : filled (reason_blanks (record { kind = WrongTests Nothing; name = codes "header"; subject = [] }))
     ≡ codes "`header` takes no test: is a comma or a brace missing behind it, or `allof` or `anyof` before it?"
 no_comma = refl
 
-not_required : filled (reason_blanks (Some (record { kind = MissingCapability FileInto; name = codes "fileinto"; subject = [] }))) ≡ codes "`fileinto` needs `require \"fileinto\"` before it"
+not_required : filled (reason_blanks (record { kind = MissingCapability FileInto; name = codes "fileinto"; subject = [] })) ≡ codes "`fileinto` needs `require \"fileinto\"` before it"
 not_required = refl
 
-foreign : filled (reason_blanks (Some (record { kind = ForeignTag; name = codes "fileinto"; subject = codes "is" }))) ≡ codes "`fileinto` takes no tag `:is`"
+foreign : filled (reason_blanks (record { kind = ForeignTag; name = codes "fileinto"; subject = codes "is" })) ≡ codes "`fileinto` takes no tag `:is`"
 foreign = refl
 
-too_many : filled (reason_blanks (Some (record { kind = ExtraArgument Text; name = codes "fileinto"; subject = [] }))) ≡ codes "`fileinto` has too many arguments: it takes one string without brackets"
+too_many : filled (reason_blanks (record { kind = ExtraArgument Text; name = codes "fileinto"; subject = [] })) ≡ codes "`fileinto` has too many arguments: it takes one string without brackets"
 too_many = refl
 
-long : filled (reason_blanks (Some (record { kind = LongString; name = codes "fileinto"; subject = codes "a@b" }))) ≡ codes "the string \"a@b\" has more than 16384 octets"
+long : filled (reason_blanks (record { kind = LongString; name = codes "fileinto"; subject = codes "a@b" })) ≡ codes "the string \"a@b\" has more than 16384 octets"
 unfolding digits
 long = refl
 
-elsewhere : filled (reason_blanks (Some (record { kind = Misplaced; name = codes "else"; subject = [] }))) ≡ codes "`else` stands directly after an `if` or `elsif`"
+elsewhere : filled (reason_blanks (record { kind = Misplaced; name = codes "else"; subject = [] })) ≡ codes "`else` stands directly after an `if` or `elsif`"
 elsewhere = refl
 
 -- a capability is told as a `require` has to name it

@@ -18,9 +18,9 @@ use Rattle.sieve_check.specs.declared.signature.Positional.{Positional}
 use Rattle.sieve_check.specs.declared.signature.Positional.TheVariants as positional
 use Rattle.sieve_check.specs.declared.signature.Tests.{Tests}
 use Rattle.sieve_check.specs.declared.signature.Tests.TheVariants as tests
-use Rattle.sieve_reasons.specs.Reasons.{Reason}
-use Rattle.sieve_reasons.specs.declared.kind.ReasonKind.{ReasonKind}
-use Rattle.sieve_reasons.specs.declared.kind.ReasonKind.TheVariants as reasons
+use Rattle.sieve_check.specs.Causes.{Reason}
+use Rattle.sieve_check.specs.declared.causes.ReasonKind.{ReasonKind}
+use Rattle.sieve_check.specs.declared.causes.ReasonKind.TheVariants as reasons
 use Rattle.bytecode_listing.specs.declared.error.FaultKind.{FaultKind}
 use Rattle.bytecode_listing.specs.declared.error.FaultKind.TheVariants.{Misplaced, SecondLabel, NoLabel, Limits}
 use Rattle.sieve_explain.specs.Faults.{Beginning, lexical_blanks, listing_blanks, misplaced_blanks, misplaced_token, mistaken, mistaken_blanks, other_blanks, syntax_blanks, text_at}
@@ -155,9 +155,8 @@ fine_text reasons.UnknownTag name subject = fine_tag_text subject
 fine_text reasons.Misplaced name subject = fine_place name
 fine_text _ name subject = refl
 
-pub fine_reason : (reason : Option Reason) → FineBlanks (reason_blanks reason)
-fine_reason None = (refl, refl)
-fine_reason (Some reason) = (fine_text reason.kind reason.name reason.subject, fine_words reason.kind reason.name reason.subject)
+pub fine_reason : (reason : Reason) → FineBlanks (reason_blanks reason)
+fine_reason reason = (fine_text reason.kind reason.name reason.subject, fine_words reason.kind reason.name reason.subject)
 
 fine_token : (kind : TokenKind) → Fine (misplaced_token kind)
 fine_token kinds.Identifier = refl

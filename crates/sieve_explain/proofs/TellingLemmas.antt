@@ -1,5 +1,5 @@
 -- What is told, from the place and the sentence that were found.
-use Rattle.std.proofs.Common.{◌≡◌, ◌≢◌, ◌∙◌, ℕ, List, ap}
+use Rattle.std.proofs.Common.{◌≡◌, ◌≢◌, ◌∙◌, ℕ, List, ap, subst}
 use Rattle.std.specs.Prelude.{Option, None}
 use Rattle.std.specs.List.{slice_get}
 use Rattle.sieve_check.specs.declared.error.Fault.{Fault}
@@ -8,8 +8,8 @@ use Rattle.sieve_parser.specs.Scripts.{IsParsed, IsParseRefusal}
 use Rattle.sieve_parser.specs.Tree.{CommandsTree}
 use Rattle.sieve_parser.specs.declared.error.ParseError.{ParseError}
 use Rattle.sieve_parser.specs.declared.error.ParseError.TheVariants.{Memory}
-use Rattle.sieve_reasons.specs.Reasons.{Reason}
-use Rattle.sieve_explain.specs.Explaining.{HasTokens, HasTree, TellsDepth, TellsReason, reason_in, reason_told, start_of, told}
+use Rattle.sieve_check.specs.Causes.{Reason}
+use Rattle.sieve_explain.specs.Explaining.{HasTokens, HasTree, TellsDepth, TellsReason, TellsWhy, reason_in, start_of, told}
 use Rattle.sieve_explain.specs.Faults.{too_deep_blanks}
 use Rattle.sieve_explain.specs.Sentences.{Blanks}
 
@@ -18,11 +18,9 @@ pub tells_depth : (name script : List ℕ) (number place : ℕ) (blanks : Blanks
 tells_depth name script number place blanks text tokens has p q e =
     (tokens, (has, e ∙ ap (λ (b : Blanks). told name script place b) q ∙ ap (λ (n : ℕ). told name script n too_deep_blanks) p))
 
-pub tells_reason : (name script : List ℕ) (fault : Fault) (number : ℕ) (tokens : List Token) (tree : Option CommandsTree) (reason : Option Reason) (text : List ℕ)
-    → HasTokens script tokens → HasTree script tree → reason ≡ reason_in tree fault number
-    → text ≡ reason_told name script fault reason tokens number → TellsReason name script fault number text
-tells_reason name script fault number tokens tree reason text has grown p e =
-    (tokens, (tree, (has, grown, e ∙ ap (λ (r : Option Reason). reason_told name script fault r tokens number) p)))
+pub tells_reason : (name script : List ℕ) (fault : Fault) (number : ℕ) (tree : Option CommandsTree) (reason : Option Reason) (text : List ℕ)
+    → HasTree script tree → reason ≡ reason_in tree fault number → TellsWhy name script fault number reason text → TellsReason name script fault number text
+tells_reason name script fault number tree reason text grown is tells = (tree, (grown, subst (λ (r : Option Reason). TellsWhy name script fault number r text) is tells))
 
 -- the law that a script that has a tree is refused for want of memory alone
 abbrev pub NoParseFault : Type 0

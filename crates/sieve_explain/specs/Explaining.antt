@@ -1,5 +1,5 @@
 -- What is told of a refused script.
-use Rattle.std.specs.Prelude.{◌≡◌, ◌⊎◌, ℕ, ◌≤◌, List, [], ◌++◌, if◌then◌else◌, length, drop, min, Option, Some, None, MatchOption, codes}
+use Rattle.std.specs.Prelude.{◌≡◌, ◌⊎◌, ℕ, ◌≤◌, Bool, true, false, ◌==◌, ◌&&◌, List, [], ◌++◌, if◌then◌else◌, length, drop, min, Option, Some, None, MatchOption, codes}
 use Rattle.std.specs.Fmt.{decimal}
 use Rattle.std.specs.List.{slice_get}
 use Rattle.std.specs.Option.{option_or}
@@ -13,7 +13,8 @@ use Rattle.sieve_lexer.specs.Tokens.{AreTokens}
 use Rattle.sieve_lexer.specs.declared.token.Token.{Token}
 use Rattle.sieve_parser.specs.Scripts.{IsParsed}
 use Rattle.sieve_parser.specs.Tree.{CommandsTree}
-use Rattle.sieve_reasons.specs.Reasons.{Reason, reason_of}
+use Rattle.sieve_check.specs.Causes.{Reason, Refused, fault_of_kind}
+use Rattle.sieve_check.specs.Rules.{reason_of}
 use Rattle.sieve_explain.specs.Faults.{lexical_blanks, listing_blanks, syntax_blanks, too_deep_blanks, too_long_blanks, unclosed_blanks, unit_blanks}
 use Rattle.sieve_explain.specs.Marks.{has_unit, string_among, unclosed}
 use Rattle.sieve_explain.specs.Places.{column, line_number}
@@ -49,10 +50,24 @@ start_of script (Some token) = token.start
 abbrev pub HasTree : List ℕ → Option CommandsTree → Type 0
 HasTree script tree = MatchOption tree ((commands : CommandsTree) → IsParsed script commands → ⊥) (IsParsed script)
 
--- what is wrong with the command or test whose identifier is that token, where it can be said
+abbrev pub same_fault : Fault → Fault → Bool
+same_fault UnknownCommand UnknownCommand = true
+same_fault MissingCapability MissingCapability = true
+same_fault UnknownCapability UnknownCapability = true
+same_fault BadArguments BadArguments = true
+same_fault Limit Limit = true
+same_fault _ _ = false
+
+-- the reason, where it is for that fault at that token
+abbrev pub reason_for : Fault → ℕ → Option Refused → Option Reason
+reason_for fault token None = None
+reason_for fault token (Some found) =
+    if found.token == token && same_fault (fault_of_kind found.reason.kind) fault then Some found.reason else None
+
+-- why the script is refused, where that fault at that token is what it is refused for
 abbrev pub reason_in : Option CommandsTree → Fault → ℕ → Option Reason
 reason_in None fault token = None
-reason_in (Some commands) fault token = reason_of commands fault token
+reason_in (Some commands) fault token = reason_for fault token (reason_of commands)
 
 -- where the brace stands that is never closed
 abbrev pub opened : List ℕ → List ℕ → Option Token → List ℕ
@@ -76,13 +91,12 @@ TellsDepth name script number text = (tokens : List Token) × (HasTokens script 
     × (text ≡ told name script (start_of script (slice_get tokens number)) too_deep_blanks))
 
 -- the string that is no capability, or else the command
-abbrev pub string_marked : List ℕ → Option Reason → List Token → ℕ → Option Token
-string_marked script None tokens number = slice_get tokens number
-string_marked script (Some reason) tokens number = option_or (string_among script reason.subject (drop number tokens))
+abbrev pub string_marked : List ℕ → Reason → List Token → ℕ → Option Token
+string_marked script reason tokens number = option_or (string_among script reason.subject (drop number tokens))
     (slice_get tokens number)
 
 -- the token under which the mark stands
-abbrev pub marked_token : List ℕ → Fault → Option Reason → List Token → ℕ → Option Token
+abbrev pub marked_token : List ℕ → Fault → Reason → List Token → ℕ → Option Token
 marked_token script UnknownCommand reason tokens number = slice_get tokens number
 marked_token script MissingCapability reason tokens number = slice_get tokens number
 marked_token script UnknownCapability reason tokens number = string_marked script reason tokens number
@@ -90,33 +104,38 @@ marked_token script BadArguments reason tokens number = slice_get tokens number
 marked_token script Limit reason tokens number = slice_get tokens number
 
 -- arguments with a wrong unit, or another reason
-abbrev pub arguments_blanks : List ℕ → Option Reason → List Token → ℕ → Blanks
+abbrev pub arguments_blanks : List ℕ → Reason → List Token → ℕ → Blanks
 arguments_blanks script reason tokens number = if has_unit script (drop 1 (drop number tokens)) then unit_blanks else reason_blanks reason
 
-abbrev pub fault_blanks : List ℕ → Fault → Option Reason → List Token → ℕ → Blanks
+abbrev pub fault_blanks : List ℕ → Fault → Reason → List Token → ℕ → Blanks
 fault_blanks script UnknownCommand reason tokens number = reason_blanks reason
 fault_blanks script MissingCapability reason tokens number = reason_blanks reason
 fault_blanks script UnknownCapability reason tokens number = reason_blanks reason
 fault_blanks script BadArguments reason tokens number = arguments_blanks script reason tokens number
 fault_blanks script Limit reason tokens number = reason_blanks reason
 
-abbrev pub reason_told : List ℕ → List ℕ → Fault → Option Reason → List Token → ℕ → List ℕ
+abbrev pub reason_told : List ℕ → List ℕ → Fault → Reason → List Token → ℕ → List ℕ
 reason_told name script fault reason tokens number =
     told name script (start_of script (marked_token script fault reason tokens number))
     (fault_blanks script fault reason tokens number)
 
--- 15 to 19
+-- the reason, where there is one; else nothing
+abbrev pub TellsWhy : List ℕ → List ℕ → Fault → ℕ → Option Reason → List ℕ → Type 0
+TellsWhy name script fault number None text = text ≡ []
+TellsWhy name script fault number (Some reason) text = (tokens : List Token) × (HasTokens script tokens
+    × (text ≡ reason_told name script fault reason tokens number))
+
+-- 15 to 19: nothing where the script isn't refused so
 abbrev pub TellsReason : List ℕ → List ℕ → Fault → ℕ → List ℕ → Type 0
-TellsReason name script fault number text = (tokens : List Token)
-    × ((tree : Option CommandsTree) × (HasTokens script tokens × HasTree script tree
-    × (text ≡ reason_told name script fault (reason_in tree fault number) tokens number)))
+TellsReason name script fault number text = (tree : Option CommandsTree) × (HasTree script tree
+    × TellsWhy name script fault number (reason_in tree fault number) text)
 
 -- what is told of a listing of a program, whose fault is of that kind: its place, a sentence and the line
 abbrev pub listing_told : List ℕ → List ℕ → ℕ → FaultKind → List ℕ
 listing_told name listing place kind = let at = min place (length listing) in told name listing at (listing_blanks kind (drop at listing))
 
--- what is told of a refused script: the refusal's place, a sentence and the line; nothing of a
--- refusal that no script has
+-- what is told of a refused script: the refusal's place, a sentence and the line; nothing of one
+-- that the script doesn't get
 abbrev pub Explains : List ℕ → List ℕ → Refusal → List ℕ → Type 0
 Explains name script (refused.Lexical place) text = let at = min place (length script) in text ≡ told name script at (lexical_blanks (drop at script))
 Explains name script refused.ScriptTooLong text = text

@@ -12,9 +12,9 @@ use Rattle.sieve_check.specs.declared.signature.Positional.{Positional}
 use Rattle.sieve_check.specs.declared.signature.Positional.TheVariants as positional
 use Rattle.sieve_check.specs.declared.signature.Tests.{Tests}
 use Rattle.sieve_check.specs.declared.signature.Tests.TheVariants as tests
-use Rattle.sieve_reasons.specs.Reasons.{Reason}
-use Rattle.sieve_reasons.specs.declared.kind.ReasonKind.{ReasonKind}
-use Rattle.sieve_reasons.specs.declared.kind.ReasonKind.TheVariants.{UnknownCommand, UnknownTest, MissingCapability, UnknownCapability, UnknownTag, ForeignTag, RepeatedTag, TwoModifiers, TagArgument, MissingOrder, MissingMime, LateTag, MissingArgument, ExtraArgument, WrongArgument, WrongTests, WrongEnding, Namespace, CaptureIndex, VariableName, NoSuchLoop, Misplaced, LongString, ManyStrings, ManySegments, LongName, ManyLoops, ManyVariables}
+use Rattle.sieve_check.specs.Causes.{Reason}
+use Rattle.sieve_check.specs.declared.causes.ReasonKind.{ReasonKind}
+use Rattle.sieve_check.specs.declared.causes.ReasonKind.TheVariants.{UnknownCommand, UnknownTest, MissingCapability, UnknownCapability, UnknownTag, ForeignTag, RepeatedTag, TwoModifiers, TagArgument, MissingOrder, MissingMime, LateTag, MissingArgument, ExtraArgument, WrongArgument, WrongTests, WrongEnding, Namespace, CaptureIndex, VariableName, NoSuchLoop, Misplaced, LongString, ManyStrings, ManySegments, LongName, ManyLoops, ManyVariables}
 use Rattle.sieve_explain.specs.Hints.{unknown_capability_text, unknown_capability_words, unknown_command_text, unknown_command_words, unknown_tag_text, unknown_tag_words, unknown_test_text, unknown_test_words}
 use Rattle.sieve_explain.specs.Sentences.{Blanks, plain}
 
@@ -134,10 +134,9 @@ reason_text LongName name subject = codes "the name of a variable, $, has more t
 reason_text ManyLoops name subject = codes "more than % loops stand inside of one another here"
 reason_text ManyVariables name subject = codes "with this @ the script has more than % variables"
 
--- 15 to 19, by the reason, where there is one
-abbrev pub reason_blanks : Option Reason → Blanks
-reason_blanks None = plain (codes "a command or test is refused here")
-reason_blanks (Some found) = record {
+-- 15 to 19, by the reason
+abbrev pub reason_blanks : Reason → Blanks
+reason_blanks found = record {
   text = reason_text found.kind found.name found.subject;
   name = found.name;
   subject = found.subject;

@@ -1,8 +1,9 @@
 // What is told of a refused script.
 ghost use Rattle.std.specs.Prelude.{◌≡◌, ◌≤◌, ◌++◌, IfOk, IfSome, OnOk, drop, length, option_map};
 ghost use Rattle.std.specs.List.{slice_get};
-ghost use Rattle.sieve_reasons.specs.View.{view_of};
-ghost use Rattle.sieve_explain.specs.Explaining.{Explains, HasTokens, TellsDepth, TellsReason, TellsSyntax, arguments_blanks, fault_blanks, heading, listing_told, marked_token, opened, reason_told, remark, start_of, string_marked, syntax_told, told};
+ghost use Rattle.sieve_check.specs.Reading.{reason_view, refused_view};
+ghost use Rattle.sieve_parser.specs.View.{commands_tree};
+ghost use Rattle.sieve_explain.specs.Explaining.{Explains, HasTokens, TellsDepth, TellsReason, TellsSyntax, TellsWhy, arguments_blanks, fault_blanks, heading, listing_told, marked_token, opened, reason_for, reason_told, remark, same_fault, start_of, string_marked, syntax_told, told};
 ghost use Rattle.sieve_explain.specs.Marks.{string_among, unclosed};
 ghost use Rattle.sieve_explain.specs.Sentences.{blanks_of, filled};
 
@@ -18,12 +19,11 @@ use crate::sentence::{Sentence, push_sentence};
 use bytecode_listing::FaultKind;
 use itoa::Buffer;
 use refusals::Refusal;
-use sieve_check::Fault;
+use sieve_check::{Fault, Reason, Refused, reason_of};
 use sieve_lexer::laws::tokens_have_no_fault;
 use sieve_lexer::{LexicalError, MAX_SCRIPT, Token, tokens};
 use sieve_parser::laws::parsed_scripts_have_no_fault;
 use sieve_parser::{ParseError, parse};
-use sieve_reasons::{Reason, reason};
 use std::alloc::{AllocError, Global};
 
 // Appends the script's name, the line and the column of the place, what kind of remark it is, and the sentence.
@@ -140,7 +140,7 @@ fn start_of(script: &[u8], token: Option<Token>) -> usize
 }
 
 /// Why a script is refused, for whoever wrote it: where, a sentence, the line and a mark under the place.
-/// Empty for a refusal that no script gets.
+/// Empty for a refusal that this script doesn't get.
 ///
 /// # Errors
 ///
@@ -283,32 +283,28 @@ fn depth_explanation(
 // The string that is no capability, or else the command.
 fn string_marked(
     script: &[u8],
-    reason: Option<Reason<'_>>,
+    reason: Reason<'_>,
     tokens: &[Token],
     number: usize,
 ) -> Option<Token>
     requires { HasTokens script.now tokens.now }
-    ensures token { result ≡ string_marked script.now (option_map view_of reason.entry) tokens.now
+    ensures token { result ≡ string_marked script.now (reason_view reason.entry) tokens.now
         number }
     ensures within { IfSome result (λ t. (t.start ≤ t.end) × (t.end ≤ length script.now)) }
 {
-    let command = token_numbered(script, tokens, number);
-    match reason {
-        Some(reason) => string_behind(script, tokens, number, reason.subject).or(command),
-        None => command,
-    }
+    string_behind(script, tokens, number, reason.subject).or(token_numbered(script, tokens, number))
 }
 
 // The token under which the mark stands.
 fn marked_token(
     script: &[u8],
     fault: Fault,
-    reason: Option<Reason<'_>>,
+    reason: Reason<'_>,
     tokens: &[Token],
     number: usize,
 ) -> Option<Token>
     requires { HasTokens script.now tokens.now }
-    ensures token { result ≡ marked_token script.now fault (option_map view_of reason.entry)
+    ensures token { result ≡ marked_token script.now fault (reason_view reason.entry)
         tokens.now number }
     ensures within { IfSome result (λ t. (t.start ≤ t.end) × (t.end ≤ length script.now)) }
 {
@@ -323,11 +319,11 @@ fn marked_token(
 // The sentence for arguments with a wrong unit, or for another reason.
 fn arguments_sentence<'a>(
     script: &[u8],
-    reason: Option<Reason<'a>>,
+    reason: Reason<'a>,
     tokens: &[Token],
     number: usize,
 ) -> Sentence<'a>
-    ensures { blanks_of result ≡ arguments_blanks script.now (option_map view_of reason.entry)
+    ensures { blanks_of result ≡ arguments_blanks script.now (reason_view reason.entry)
         tokens.now number }
 {
     if has_unit(script, tokens_from(tokens_from(tokens, number), 1)) {
@@ -341,11 +337,11 @@ fn arguments_sentence<'a>(
 fn fault_sentence<'a>(
     script: &[u8],
     fault: Fault,
-    reason: Option<Reason<'a>>,
+    reason: Reason<'a>,
     tokens: &[Token],
     number: usize,
 ) -> Sentence<'a>
-    ensures { blanks_of result ≡ fault_blanks script.now fault (option_map view_of reason.entry)
+    ensures { blanks_of result ≡ fault_blanks script.now fault (reason_view reason.entry)
         tokens.now number }
 {
     match fault {
@@ -363,18 +359,57 @@ fn reason_told(
     name: &str,
     script: &[u8],
     fault: Fault,
-    reason: Option<Reason<'_>>,
+    reason: Reason<'_>,
     tokens: &[Token],
     number: usize,
 ) -> Result<Vec<u8>, AllocError>
     requires { HasTokens script.now tokens.now }
     ensures { IfOk result (λ text. text.items
-        ≡ reason_told name.now script.now fault (option_map view_of reason.entry) tokens.now
+        ≡ reason_told name.now script.now fault (reason_view reason.entry) tokens.now
         number) }
 {
     let place = start_of(script, marked_token(script, fault, reason, tokens, number));
     let sentence = fault_sentence(script, fault, reason, tokens, number);
     told(alloc, name, script, place, &sentence)
+}
+
+// Whether these are the same fault.
+fn is_same_fault(fault: Fault, other: Fault) -> bool
+    ensures { result ≡ same_fault fault other }
+{
+    fault == other
+}
+
+// The reason, where it is for that fault at that token.
+fn reason_for(fault: Fault, number: usize, found: Option<Refused<'_>>) -> Option<Reason<'_>>
+    ensures { option_map reason_view result
+        ≡ reason_for fault number (option_map refused_view found.entry) }
+{
+    let found = found?;
+    if found.token == number && is_same_fault(found.reason.kind.fault(), fault) {
+        Some(found.reason)
+    } else {
+        None
+    }
+}
+
+// What is told of a command or test for the reason, where there is one.
+fn why_told(
+    alloc: Global,
+    name: &str,
+    script: &[u8],
+    fault: Fault,
+    number: usize,
+    reason: Option<Reason<'_>>,
+) -> Result<Vec<u8>, AllocError>
+    ensures { IfOk result (λ text. TellsWhy name.now script.now fault number
+        (option_map reason_view reason.entry) text.items) }
+{
+    let Some(reason) = reason else {
+        return Ok(Vec::new(alloc));
+    };
+    let tokens = tokens_of(alloc, script)?;
+    reason_told(alloc, name, script, fault, reason, &tokens, number)
 }
 
 // What is told of a command or test that isn't accepted.
@@ -387,22 +422,16 @@ fn reason_explanation(
 ) -> Result<Vec<u8>, AllocError>
     ensures { IfOk result (λ text. TellsReason name.now script.now fault number text.items) }
 {
-    let tokens = tokens_of(alloc, script)?;
     match parse(alloc, script) {
-        Ok(tree) => reason_told(
-            alloc,
-            name,
-            script,
-            fault,
-            reason(&tree, fault, number),
-            &tokens,
-            number,
-        ),
+        Ok(tree) => {
+            let reason = reason_for(fault, number, reason_of(&tree));
+            why_told(alloc, name, script, fault, number, reason)
+        }
         Err(error) => match error {
             ParseError::Memory => Err(AllocError),
             _ => {
                 parsed_scripts_have_no_fault();
-                reason_told(alloc, name, script, fault, None, &tokens, number)
+                why_told(alloc, name, script, fault, number, None)
             }
         },
     }

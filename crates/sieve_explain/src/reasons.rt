@@ -1,6 +1,6 @@
 // What is said of a command or test that isn't accepted.
-ghost use Rattle.std.specs.Prelude.{◌≡◌, option_map};
-ghost use Rattle.sieve_reasons.specs.View.{view_of};
+ghost use Rattle.std.specs.Prelude.{◌≡◌};
+ghost use Rattle.sieve_check.specs.Reading.{reason_view};
 ghost use Rattle.sieve_explain.specs.Reasons.{capability_words, ending_words, no_test_words, place_text, positional_words, reason_blanks, reason_limit, reason_text, reason_words, tag_words, tests_words};
 ghost use Rattle.sieve_explain.specs.Sentences.{blanks_of};
 
@@ -8,14 +8,13 @@ use crate::hints::{
     unknown_capability_text, unknown_capability_words, unknown_command_text, unknown_command_words,
     unknown_tag_text, unknown_tag_words, unknown_test_text, unknown_test_words,
 };
-use crate::sentence::{Sentence, plain};
+use crate::sentence::Sentence;
 use crate::words::is_word;
 use octets::MAX_STRING;
 use sieve_check::{
     Capability, Ending, MAX_LOOPS, MAX_NAME, MAX_SEGMENTS, MAX_TEST_STRINGS, MAX_VARIABLES,
-    Positional, Tag, Tests, command_named,
+    Positional, Reason, ReasonKind, Tag, Tests, command_named,
 };
-use sieve_reasons::{Reason, ReasonKind};
 
 // A capability, as a `require` names it.
 fn capability_words(capability: Capability) -> &'static str
@@ -188,18 +187,15 @@ fn reason_text(kind: ReasonKind, name: &[u8], subject: &[u8]) -> &'static str
     }
 }
 
-// The sentence for what was found.
-pub fn reason_sentence<'a>(found: Option<Reason<'a>>) -> Sentence<'a>
-    ensures { blanks_of result ≡ reason_blanks (option_map view_of found.entry) }
+// The sentence for a reason.
+pub fn reason_sentence(reason: Reason<'_>) -> Sentence<'_>
+    ensures { blanks_of result ≡ reason_blanks (reason_view reason.entry) }
 {
-    match found {
-        None => plain("a command or test is refused here"),
-        Some(reason) => Sentence {
-            text: reason_text(reason.kind, reason.name, reason.subject),
-            name: reason.name,
-            subject: reason.subject,
-            words: reason_words(reason.kind, reason.name, reason.subject),
-            number: reason_limit(reason.kind),
-        },
+    Sentence {
+        text: reason_text(reason.kind, reason.name, reason.subject),
+        name: reason.name,
+        subject: reason.subject,
+        words: reason_words(reason.kind, reason.name, reason.subject),
+        number: reason_limit(reason.kind),
     }
 }

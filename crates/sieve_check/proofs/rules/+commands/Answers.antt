@@ -1,5 +1,6 @@
 use Rattle.std.proofs.Common.{◌≡◌, ◌∙◌, ◌+◌, List, ap, sym, subst, drop}
 use Rattle.std.specs.Prelude.{option_map}
+use Rattle.std.proofs.lemmas.Option.{none-some}
 use Rattle.std.proofs.lemmas.Result.{err_from_is_err_and}
 use Rattle.sieve_parser.specs.View.{command_tree, commands_tree, invocation_tree}
 use Rattle.sieve_parser.specs.declared.tree.Command.{Command as Tree}
@@ -8,7 +9,9 @@ use Rattle.sieve_check.specs.Refusing.{Passes, context_of, listed}
 use Rattle.sieve_check.specs.Rules.{after_invocation, invocation_of, loops_opened, head_visits, command_visits, commands_visits}
 use Rattle.sieve_check.specs.Surroundings.{Context, in_block}
 use Rattle.sieve_check.proofs.FaultSteps.{block_visits, next_visits}
-use Rattle.sieve_check.proofs.OpenLoops.{inside_is}
+use Rattle.sieve_check.proofs.Existence.{room_in}
+use Rattle.sieve_check.proofs.Faultless.{none_refused}
+use Rattle.sieve_check.proofs.OpenLoops.{inside_is, room_inside}
 use Rattle.sieve_check.proofs.Visits.{AreLeft, found_among, one_less, passed, refused}
 use Rattle.sieve_check.proofs.rules.+commands.Goals as goal
 
@@ -52,3 +55,10 @@ commands-trees-preserved t c =
     subst (λ (around : Context). AreLeft (listed c.command.new.names) (commands_visits around rest) (listed c.args.names.now) all) (sym c.after-around.ensures)
     (one_less (listed c.trees.names) (commands_visits s (commands_tree (drop i c.args.trees.now))) (command_visits s x) (commands_visits (after_invocation s (invocation_of x)) rest)
     (listed c.args.names.now) all (listed c.command.new.names) (next_visits s c.args.trees.now i c.tree-item.result c.trees-test.true c.tree-item.is) c.in_ok-command.ensures c.trees.invariant)
+
+pub command-unreachable-requires : goal.command-unreachable-requires
+command-unreachable-requires t c =
+    let s = context_of c.args.surroundings in
+    let i = invocation_tree c.in-Block.invocation in
+    let faultless = none_refused (listed c.args.names.now) (head_visits s i Block) c.in_ok-head-in-Block.ensures.0 in
+    none-some (in_block (loops_opened i) s) (ap (option_map context_of) (sym c.in-None.is) ∙ c.in_block.ensures ∙ room_inside (loops_opened i) s (room_in s i Block faultless))

@@ -3,8 +3,9 @@ use Rattle.std.proofs.lemmas.Result.{err_from_is_err_and}
 use Rattle.sieve_parser.specs.View.{invocation_tree}
 use Rattle.sieve_parser.specs.declared.tree.Invocation.{Invocation}
 use Rattle.sieve_check.specs.declared.signature.Tests.TheVariants.{One, Bracketed}
+use Rattle.sieve_check.specs.Reading.{refused_view}
 use Rattle.sieve_check.specs.Refusing.{Passes, context_of, listed, names_after}
-use Rattle.sieve_check.specs.Rules.{arguments_of, first_fault, test_visit, test_visits, more_visits}
+use Rattle.sieve_check.specs.Rules.{arguments_of, first_refused, test_visit, test_visits, more_visits}
 use Rattle.sieve_check.proofs.FaultSteps.{rest_visits, test_inside, tests_inside}
 use Rattle.sieve_check.proofs.FromIndex.{others_of}
 use Rattle.sieve_check.proofs.Visits.{found_among, one_less, passed, refused}
@@ -34,7 +35,7 @@ test-returns-in_err-test-in-WithTests t c =
     let e = c.in_err-test-in-WithTests.field-0.0 in
     let p = err_from_is_err_and c.from_residual-in_err-test-in-WithTests.result c.from_residual-in_err-test-in-WithTests.ensures.1 in
     let between = listed c.test_alone-in-WithTests.new.names in
-    let inside = subst (λ (x : Invocation). first_fault between (test_visits s (invocation_tree x)) ≡ Some e) c.deref-in-WithTests.ensures c.in_err-test-in-WithTests.ensures in
+    let inside = subst (λ (x : Invocation). first_refused between (test_visits s (invocation_tree x)) ≡ Some (refused_view e)) c.deref-in-WithTests.ensures c.in_err-test-in-WithTests.ensures in
     passed (listed c.args.names.now) (test_visits s (invocation_tree c.args.invocation.now)) (test_visit s w.head.token w.head.name (arguments_of w.head) Bracketed ∷ [])
     (test_visits s (invocation_tree w.first.value) ++ more_visits s (others_of w.others.items)) (tests_inside s c.args.invocation.now w.head w.first w.others w.is)
     between c.from_residual-in_err-test-in-WithTests.result (listed c.test-in-WithTests.new.names) c.in_ok-test_alone-in-WithTests.ensures
@@ -56,7 +57,7 @@ test-returns-in_ok-test-in-WithTests t c =
     let s = context_of c.args.surroundings in
     let between = listed c.test_alone-in-WithTests.new.names in
     let after_first = listed c.test-in-WithTests.new.names in
-    let first = subst (λ (x : Invocation). (first_fault between (test_visits s (invocation_tree x)) ≡ None) × (after_first ≡ names_after between (test_visits s (invocation_tree x)))) c.deref-in-WithTests.ensures c.in_ok-test-in-WithTests.ensures in
+    let first = subst (λ (x : Invocation). (first_refused between (test_visits s (invocation_tree x)) ≡ None) × (after_first ≡ names_after between (test_visits s (invocation_tree x)))) c.deref-in-WithTests.ensures c.in_ok-test-in-WithTests.ensures in
     passed (listed c.args.names.now) (test_visits s (invocation_tree c.args.invocation.now)) (test_visit s w.head.token w.head.name (arguments_of w.head) Bracketed ∷ [])
     (test_visits s (invocation_tree w.first.value) ++ more_visits s (others_of w.others.items)) (tests_inside s c.args.invocation.now w.head w.first w.others w.is)
     between c.tests.result (listed c.tests.new.names) c.in_ok-test_alone-in-WithTests.ensures

@@ -3,8 +3,9 @@ use Rattle.std.proofs.lemmas.Result.{err_from_is_err_and}
 use Rattle.sieve_parser.specs.View.{invocation_tree}
 use Rattle.sieve_parser.specs.declared.tree.Invocation.{Invocation}
 use Rattle.sieve_check.specs.declared.signature.Tests.TheVariants.{One, Bracketed}
+use Rattle.sieve_check.specs.Reading.{refused_view}
 use Rattle.sieve_check.specs.Refusing.{Passes, context_of, listed, names_after}
-use Rattle.sieve_check.specs.Rules.{arguments_of, command_visit, first_fault, head_visits, test_visits, more_visits}
+use Rattle.sieve_check.specs.Rules.{arguments_of, command_visit, first_refused, head_visits, test_visits, more_visits}
 use Rattle.sieve_check.proofs.FaultSteps.{head_test, head_tests}
 use Rattle.sieve_check.proofs.FromIndex.{others_of}
 use Rattle.sieve_check.proofs.Visits.{passed, refused}
@@ -35,7 +36,7 @@ returns-in_err-test-in-WithTests c =
     let e = c.in_err-test-in-WithTests.field-0.0 in
     let p = err_from_is_err_and c.from_residual-in_err-test-in-WithTests.result c.from_residual-in_err-test-in-WithTests.ensures.1 in
     let between = listed c.command_alone-in-WithTests.new.names in
-    let inside = subst (λ (x : Invocation). first_fault between (test_visits s (invocation_tree x)) ≡ Some e) c.deref-in-WithTests.ensures c.in_err-test-in-WithTests.ensures in
+    let inside = subst (λ (x : Invocation). first_refused between (test_visits s (invocation_tree x)) ≡ Some (refused_view e)) c.deref-in-WithTests.ensures c.in_err-test-in-WithTests.ensures in
     passed (listed c.args.names.now) (head_visits s (invocation_tree c.args.invocation.now) c.args.ending) (command_visit s w.head.token w.head.name (arguments_of w.head) Bracketed c.args.ending ∷ [])
     (test_visits s (invocation_tree w.first.value) ++ more_visits s (others_of w.others.items)) (head_tests s c.args.invocation.now c.args.ending w.head w.first w.others w.is)
     between c.from_residual-in_err-test-in-WithTests.result (listed c.test-in-WithTests.new.names) c.in_ok-command_alone-in-WithTests.ensures
@@ -58,7 +59,7 @@ returns-in_ok-test-in-WithTests c =
     let s = context_of c.args.surroundings in
     let between = listed c.command_alone-in-WithTests.new.names in
     let after_first = listed c.test-in-WithTests.new.names in
-    let first = subst (λ (x : Invocation). (first_fault between (test_visits s (invocation_tree x)) ≡ None) × (after_first ≡ names_after between (test_visits s (invocation_tree x)))) c.deref-in-WithTests.ensures c.in_ok-test-in-WithTests.ensures in
+    let first = subst (λ (x : Invocation). (first_refused between (test_visits s (invocation_tree x)) ≡ None) × (after_first ≡ names_after between (test_visits s (invocation_tree x)))) c.deref-in-WithTests.ensures c.in_ok-test-in-WithTests.ensures in
     passed (listed c.args.names.now) (head_visits s (invocation_tree c.args.invocation.now) c.args.ending) (command_visit s w.head.token w.head.name (arguments_of w.head) Bracketed c.args.ending ∷ [])
     (test_visits s (invocation_tree w.first.value) ++ more_visits s (others_of w.others.items)) (head_tests s c.args.invocation.now c.args.ending w.head w.first w.others w.is)
     between c.tests.result (listed c.tests.new.names) c.in_ok-command_alone-in-WithTests.ensures

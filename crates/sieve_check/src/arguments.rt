@@ -1,0 +1,312 @@
+// How a signature reads arguments, and what is wrong with those that it can't read (RFC 5228, section 2.6).
+ghost use Rattle.std.specs.Prelude.{◌≡◌, length, map, option_map};
+ghost use Rattle.std.specs.Option.{option_or};
+ghost use Rattle.sieve_parser.specs.View.{argument_tree};
+ghost use Rattle.sieve_check.specs.Arguments.{first_label, is_second_modifier, label_needing_mime, missing_cause, needs_mime, number_of, positional_cause, untaken_kind};
+ghost use Rattle.sieve_check.specs.Names.{tag_named};
+ghost use Rattle.sieve_check.specs.Reading.{FirstList, FirstNumber, FirstTag, FirstText, Settles, cause_view, left_of, name_in};
+
+use crate::causes::{Cause, ReasonKind};
+use crate::names::{Piece, Tag, comparator_named, tag_named};
+use crate::signature::{Positional, Reading, Signature, Tags, is_list};
+use octets::Octets;
+use sieve_parser::Argument;
+
+// The first argument's name and the arguments after it, where it is a tag.
+fn first_tag(arguments: &[Argument]) -> Option<(&[u8], &[Argument])>
+    ensures { FirstTag (map argument_tree arguments.now) result }
+{
+    match arguments {
+        [Argument::Tag(name), rest @ ..] => Some((name.as_slice(), rest)),
+        _ => None,
+    }
+}
+
+/// The first argument and the arguments after it, where it is one string.
+pub fn first_text(arguments: &[Argument]) -> Option<(&Octets, &[Argument])>
+    ensures { FirstText (map argument_tree arguments.now) result }
+{
+    match arguments {
+        [Argument::Text(text), rest @ ..] => Some((text, rest)),
+        _ => None,
+    }
+}
+
+// The first argument and the arguments after it, where it is a number.
+fn first_number(arguments: &[Argument]) -> Option<(u64, &[Argument])>
+    ensures { FirstNumber (map argument_tree arguments.now) result }
+{
+    match arguments {
+        [Argument::Number(number), rest @ ..] => Some((*number, rest)),
+        _ => None,
+    }
+}
+
+// The first argument alone and the arguments after it, where it is a list: a string, or strings in square brackets.
+fn first_list(arguments: &[Argument]) -> Option<(&[Argument], &[Argument])>
+    ensures { FirstList (map argument_tree arguments.now) result }
+{
+    let (list, rest) = arguments.split_at(arguments.len().min(1));
+    match list {
+        [argument] if is_list(argument) => Some((list, rest)),
+        _ => None,
+    }
+}
+
+// Whether the tag is a modifier after a different one of the same precedence.
+fn is_second_modifier(tag: Tag, tags: Tags) -> bool
+    ensures { result ≡ is_second_modifier tag tags }
+{
+    match tag {
+        Tag::Letters(case) => tags.modifiers.letters.is_some_and(|other| other != case),
+        Tag::FirstLetter(case) => tags.modifiers.first.is_some_and(|other| other != case),
+        Tag::Order(_)
+        | Tag::Kind(_)
+        | Tag::Comparator
+        | Tag::QuoteWildcard
+        | Tag::Length
+        | Tag::Mime
+        | Tag::AnyChild
+        | Tag::Select(_)
+        | Tag::Name
+        | Tag::First => false,
+    }
+}
+
+// What is wrong with a tag that can't be added to those that were given.
+fn untaken_kind(signature: Signature, tag: Tag, tags: Tags) -> ReasonKind
+    ensures { result ≡ untaken_kind signature tag tags }
+{
+    if !signature.takes(tag, Tags::none()) {
+        ReasonKind::ForeignTag
+    } else if is_second_modifier(tag, tags) {
+        ReasonKind::TwoModifiers
+    } else {
+        ReasonKind::RepeatedTag
+    }
+}
+
+// What was read so far, with the comparator that is named next.
+fn with_comparator(reading: Reading<'_>) -> Option<Reading<'_>>
+    ensures { Settles reading.entry Tag.Comparator result }
+{
+    let (name, rest) = first_text(reading.positional)?;
+    let comparator = comparator_named(name.as_slice())?;
+    let tags = Tags {
+        comparator: Some(comparator),
+        ..reading.tags
+    };
+    Some(Reading {
+        tags,
+        positional: rest,
+        ..reading
+    })
+}
+
+// What was read so far, without the list that comes next.
+fn with_params(reading: Reading<'_>) -> Option<Reading<'_>>
+    ensures { Settles reading.entry (Tag.Select Piece.Params) result }
+{
+    let (params, rest) = first_list(reading.positional)?;
+    Some(Reading {
+        params,
+        positional: rest,
+        ..reading
+    })
+}
+
+// What was read so far, with the string of `:name`, which comes next.
+fn with_name(reading: Reading<'_>) -> Option<Reading<'_>>
+    ensures { Settles reading.entry Tag.Name result }
+{
+    let (loop_name, rest) = first_text(reading.positional)?;
+    Some(Reading {
+        name: Some(loop_name.as_slice()),
+        positional: rest,
+        ..reading
+    })
+}
+
+// What was read so far, with the number of `:first`, which comes next and isn't zero.
+fn with_first(reading: Reading<'_>) -> Option<Reading<'_>>
+    ensures { Settles reading.entry Tag.First result }
+{
+    let (number, rest) = first_number(reading.positional)?;
+    if number == 0 {
+        return None;
+    }
+    let tags = Tags {
+        first: Some(number),
+        ..reading.tags
+    };
+    Some(Reading {
+        tags,
+        positional: rest,
+        ..reading
+    })
+}
+
+// What was read so far, with the argument that the tag takes.
+fn with_argument(tag: Tag, reading: Reading<'_>) -> Option<Reading<'_>>
+    ensures { Settles reading.entry tag result }
+{
+    match tag {
+        Tag::Order(_)
+        | Tag::Kind(_)
+        | Tag::Letters(_)
+        | Tag::FirstLetter(_)
+        | Tag::QuoteWildcard
+        | Tag::Length
+        | Tag::Mime
+        | Tag::AnyChild => Some(reading),
+        Tag::Comparator => with_comparator(reading),
+        Tag::Select(piece) => match piece {
+            Piece::Main | Piece::Sub | Piece::ContentType => Some(reading),
+            Piece::Params => with_params(reading),
+        },
+        Tag::Name => with_name(reading),
+        Tag::First => with_first(reading),
+    }
+}
+
+// The name of the first of the arguments that is a tag.
+fn first_label(arguments: &[Argument]) -> Option<&[u8]>
+    ensures { name_in result ≡ first_label (map argument_tree arguments.now) }
+{
+    for argument in arguments {
+        match argument {
+            Argument::Tag(name) => return Some(name.as_slice()),
+            Argument::Text(_) | Argument::TextList(_, _) | Argument::Number(_) => {}
+        }
+    }
+    None
+}
+
+// Whether a tag of that name stands only with `:mime`.
+fn needs_mime(name: &[u8]) -> bool
+    ensures { result ≡ needs_mime (tag_named name.now) }
+{
+    match tag_named(name) {
+        Some(tag) => matches!(tag, Tag::AnyChild | Tag::Select(_)),
+        None => false,
+    }
+}
+
+// The name of the first of the arguments that is such a tag.
+fn label_needing_mime(arguments: &[Argument]) -> &[u8]
+    ensures { result.now ≡ label_needing_mime (map argument_tree arguments.now) }
+{
+    for argument in arguments {
+        match argument {
+            Argument::Tag(name) => {
+                if needs_mime(name.as_slice()) {
+                    return name.as_slice();
+                }
+            }
+            Argument::Text(_) | Argument::TextList(_, _) | Argument::Number(_) => {}
+        }
+    }
+    &[]
+}
+
+// How many arguments stand behind the tags.
+fn number_of(positional: Positional) -> usize
+    ensures { result ≡ number_of positional }
+{
+    match positional {
+        Positional::Nothing => 0,
+        Positional::Number | Positional::Text | Positional::OneList => 1,
+        Positional::TwoTexts | Positional::TwoLists => 2,
+    }
+}
+
+// What is wrong with the arguments behind the tags.
+fn positional_cause(signature: Signature, arguments: &[Argument]) -> Option<Cause<'_>>
+    ensures { option_map cause_view result
+        ≡ positional_cause signature.positional (map argument_tree arguments.now) }
+{
+    if let Some(name) = first_label(arguments) {
+        return Some(Cause::about(ReasonKind::LateTag, name));
+    }
+    let positional = signature.positional;
+    let number = number_of(positional);
+    if arguments.len() < number {
+        Some(Cause::plain(ReasonKind::MissingArgument(positional)))
+    } else if number < arguments.len() {
+        Some(Cause::plain(ReasonKind::ExtraArgument(positional)))
+    } else if !signature.is_positional(arguments) {
+        Some(Cause::plain(ReasonKind::WrongArgument(positional)))
+    } else {
+        None
+    }
+}
+
+// What is wrong with tags, of which each is taken, and which stand among the arguments.
+fn missing_cause(signature: Signature, tags: Tags, arguments: &[Argument]) -> Option<Cause<'_>>
+    ensures { option_map cause_view result
+        ≡ missing_cause signature tags (map argument_tree arguments.now) }
+{
+    if signature.order && tags.order.is_none() {
+        Some(Cause::plain(ReasonKind::MissingOrder))
+    } else if tags.ask_for_mime() && !tags.mime {
+        Some(Cause::about(ReasonKind::MissingMime, label_needing_mime(arguments)))
+    } else {
+        None
+    }
+}
+
+// What is wrong with what is left, where no tag is next, or else with the tags that were given.
+fn end_cause<'a>(
+    signature: Signature,
+    reading: Reading<'a>,
+    arguments: &'a [Argument],
+) -> Option<Cause<'a>>
+    ensures { option_map cause_view result
+        ≡ option_or (positional_cause signature.positional (left_of reading.entry))
+        (missing_cause signature reading.entry.tags (map argument_tree arguments.now)) }
+{
+    if let Some(cause) = positional_cause(signature, reading.positional) {
+        return Some(cause);
+    }
+    missing_cause(signature, reading.tags, arguments)
+}
+
+impl Signature {
+    ghost use Rattle.std.specs.Prelude.{map};
+    ghost use Rattle.sieve_parser.specs.View.{argument_tree};
+    ghost use Rattle.sieve_check.specs.Reading.{Reads};
+
+    /// The arguments, read: tags in any order, then the others; or what is wrong with them.
+    #[inline(always)]
+    pub fn read(self, arguments: &[Argument]) -> Result<Reading<'_>, Cause<'_>>
+        ensures { Reads self (map argument_tree arguments.now) result }
+    {
+        let mut reading = Reading {
+            tags: Tags::none(),
+            params: &[],
+            name: None,
+            positional: arguments,
+        };
+        'tags: while let Some((name, rest)) = first_tag(reading.positional) {
+            let Some(tag) = tag_named(name) else {
+                return Err(Cause::about(ReasonKind::UnknownTag, name));
+            };
+            let Some(tags) = self.add(tag, reading.tags) else {
+                return Err(Cause::about(untaken_kind(self, tag, reading.tags), name));
+            };
+            let with_tag = Reading {
+                tags,
+                positional: rest,
+                ..reading
+            };
+            let Some(settled) = with_argument(tag, with_tag) else {
+                return Err(Cause::about(ReasonKind::TagArgument(tag), name));
+            };
+            reading = settled;
+        }
+        match end_cause(self, reading, arguments) {
+            Some(cause) => Err(cause),
+            None => Ok(reading),
+        }
+    }
+}

@@ -1,7 +1,0 @@
-use Rattle.std.proofs.Common.{◌≡◌, drop}
-use Rattle.sieve_check.specs.Rules.{string_has}
-use Rattle.sieve_reasons.specs.Causes.{first_where}
-use Rattle.sieve_reasons.proofs.strings.first_of.Given as goal
-
-abbrev pub invariant-loop-string : goal.invariant-loop-string
-invariant-loop-string l = first_where (string_has l.fault) (drop l.string-index l.strings) ≡ first_where (string_has l.fault) l.strings

@@ -1,8 +1,0 @@
-use Rattle.std.proofs.Common.{◌≡◌, drop, map}
-use Rattle.sieve_parser.specs.View.{argument_tree}
-use Rattle.sieve_check.specs.Rules.{string_has, strings_of}
-use Rattle.sieve_reasons.specs.Causes.{first_where}
-use Rattle.sieve_reasons.proofs.strings.first_string.Given as goal
-
-abbrev pub invariant-loop-argument : goal.invariant-loop-argument
-invariant-loop-argument l = first_where (string_has l.fault) (strings_of (map argument_tree (drop l.argument-index l.arguments))) ≡ first_where (string_has l.fault) (strings_of (map argument_tree l.arguments))
