@@ -1,7 +1,7 @@
 -- A test of which nothing is wrong has a typed form, which is within the limits and has the variables that its visits bring.
 use Rattle.std.proofs.Common.{◌≡◌, ℕ, ◌≤◌, length, Bool, true, false, ◌&&◌, ◌||◌, not, if◌then◌else◌, List, [], ◌∷◌, ◌++◌, All, Option, Some, None, option_map, refl, sym, ap, subst, ◌∙◌}
 use Rattle.std.specs.Prelude.{is_some, flat_map}
-use Rattle.std.specs.List.{list_any}
+use Rattle.std.specs.List.{find, list_any}
 use Rattle.std.specs.Option.{option_and_then}
 use Rattle.std.proofs.lemmas.Bool.{ltb-false, ltb-true}
 use Rattle.std.proofs.lemmas.Grind.{flat_map-append}
@@ -23,7 +23,7 @@ use Rattle.sieve_check.specs.Bounded.{IsBoundedTest, AreBoundedTests, IsTestIn, 
 use Rattle.sieve_check.specs.FormOf.{InnerForms, none, one, bracketed, number_in, match_of, scope_of, size_of, test_of, test_form_of, inner_forms_of, more_forms_of}
 use Rattle.sieve_check.specs.Names.{test_named}
 use Rattle.sieve_check.specs.Arguments.{arguments_cause}
-use Rattle.sieve_check.specs.Causes.{Cause, about, first_where, plain}
+use Rattle.sieve_check.specs.Causes.{Cause, about, plain}
 use Rattle.sieve_check.specs.Rules.{Visit, where_required, names_by, cause_by_name, known_test_cause, read_test_cause, ill_formed_test, tests_cause, test_place_cause, long_string_cause, many_strings_cause, large_cause, large_mention_cause, lacking_cause, mention_cause, oversized_test, string_has, test_needs, test_may_stand, has_many_strings, Mentions, no_mention, expanding, strings_read, lists_read, test_mentions, names_mentioned, same_tests, kind_of, strings_of, test_visits, tests_visits, more_visits}
 use Rattle.sieve_check.specs.Signatures.{◌>>=◌, Read, nothing_given, tags_read, asks_for_mime, is_positional, is_complete, reading, test_signature}
 use Rattle.sieve_check.specs.Surroundings.{Context}
@@ -65,12 +65,12 @@ well_formed signature args h =
 -- no string that is expanded has too many segments
 pub none_large : (b : Bool) (mentions : Mentions) → large_mention_cause (if b then mentions else no_mention) ≡ None → b ≡ true → list_any is_large mentions.expanded ≡ false
 none_large true mentions h expands =
-    none_where is_large mentions.expanded (map_none large_cause (first_where is_large mentions.expanded) (both_none (option_map large_cause (first_where is_large mentions.expanded)) _ h).0)
+    none_where is_large mentions.expanded (map_none large_cause (find is_large mentions.expanded) (both_none (option_map large_cause (find is_large mentions.expanded)) _ h).0)
 none_large false mentions h expands = absurd (cc)
 
 -- no string is too long
 pub none_long : (args : List ArgumentTree) → long_string_cause args ≡ None → has_long_string args ≡ false
-none_long args h = none_where (string_has Long) (strings_of args) (map_none (about LongString) (first_where (string_has Long) (strings_of args)) h)
+none_long args h = none_where (string_has Long) (strings_of args) (map_none (about LongString) (find (string_has Long) (strings_of args)) h)
 
 -- the same of a test, whose strings are within the limits
 pub record TestWellFormed (s : Context) (name : TestName) (args : List ArgumentTree) (tests : Tests) : Type 0 where
