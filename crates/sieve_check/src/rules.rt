@@ -145,11 +145,7 @@ fn place_cause<'t>(
     ensures { option_map cause_view result
         ≡ place_cause (context_of surroundings.entry) name (read_of reading.entry) }
 {
-    if may_stand(surroundings, name, reading) {
-        None
-    } else {
-        Some(misplaced(name, reading))
-    }
+    (!may_stand(surroundings, name, reading)).then_some(misplaced(name, reading))
 }
 
 // What is wrong with the place of a test, where it may not stand there.
@@ -157,11 +153,7 @@ fn test_place_cause<'t>(surroundings: Surroundings<'_>, name: TestName) -> Optio
     ensures { option_map cause_view result
         ≡ test_place_cause (context_of surroundings.entry) name }
 {
-    if test_may_stand(surroundings, name) {
-        None
-    } else {
-        Some(Cause::plain(ReasonKind::Misplaced))
-    }
+    (!test_may_stand(surroundings, name)).then_some(Cause::plain(ReasonKind::Misplaced))
 }
 
 // The first capability that is needed and wasn't required.
@@ -201,11 +193,7 @@ fn unknown_cause(name: CommandName, head: &Head) -> Option<Cause<'_>>
 fn tests_cause<'t>(signature: Signature, tests: Tests) -> Option<Cause<'t>>
     ensures { option_map cause_view result ≡ tests_cause signature tests }
 {
-    if signature.tests == tests {
-        None
-    } else {
-        Some(Cause::plain(ReasonKind::WrongTests(signature.tests)))
-    }
+    (signature.tests != tests).then_some(Cause::plain(ReasonKind::WrongTests(signature.tests)))
 }
 
 // What is wrong with how a command ends.
@@ -213,11 +201,7 @@ fn ending_cause<'t>(name: CommandName, ending: Ending) -> Option<Cause<'t>>
     ensures { option_map cause_view result ≡ ending_cause name ending }
 {
     let wanted = ending_of(name);
-    if wanted == ending {
-        None
-    } else {
-        Some(Cause::plain(ReasonKind::WrongEnding(wanted)))
-    }
+    (wanted != ending).then_some(Cause::plain(ReasonKind::WrongEnding(wanted)))
 }
 
 // The string that is longer than the limit, if one is.
@@ -232,11 +216,7 @@ fn long_string_cause(head: &Head) -> Option<Cause<'_>>
 fn many_strings_cause<'t>(reading: Reading<'_>) -> Option<Cause<'t>>
     ensures { option_map cause_view result ≡ many_strings_cause (read_of reading.entry) }
 {
-    if has_many_strings(reading) {
-        Some(Cause::plain(ReasonKind::ManyStrings))
-    } else {
-        None
-    }
+    has_many_strings(reading).then_some(Cause::plain(ReasonKind::ManyStrings))
 }
 
 // That a command opens a loop within as many others as may be open, if it does.
@@ -248,11 +228,7 @@ fn many_loops_cause<'t>(
     ensures { option_map cause_view result
         ≡ many_loops_cause (context_of surroundings.entry) name (arguments_of head.now) }
 {
-    if surroundings.opens_many(name) {
-        Some(Cause::plain(ReasonKind::ManyLoops))
-    } else {
-        None
-    }
+    surroundings.opens_many(name).then_some(Cause::plain(ReasonKind::ManyLoops))
 }
 
 // What is wrong behind the arguments of a command, or with references and names among them.
