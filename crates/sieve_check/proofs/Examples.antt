@@ -1,8 +1,8 @@
 -- Rows that were worked out by hand.
-use Rattle.std.proofs.Common.{◌≡◌, ℕ, zero, suc, ◌+◌, List, [], ◌∷◌, ◌++◌, Some, None, true, refl}
+use Rattle.std.proofs.Common.{◌≡◌, ℕ, zero, suc, ◌+◌, List, [], ◌∷◌, Some, None, refl}
 use Rattle.std.specs.Prelude.{codes, option_map}
 use Rattle.sieve_parser.specs.Tree.{ArgumentTree, text, text_list, amount, label, InvocationTree, invocation, no_test, one_test, test_list, last, next, CommandsTree, simple, block, no_command, command}
-use Rattle.sieve_check.specs.declared.error.CheckError.TheVariants.{UnknownCommand, MissingCapability, UnknownCapability, BadArguments, Limit}
+use Rattle.sieve_check.specs.declared.error.CheckError.TheVariants.{MissingCapability, UnknownCapability, BadArguments, Limit}
 use Rattle.sieve_check.specs.declared.causes.ReasonKind.TheVariants as kind
 use Rattle.sieve_check.specs.declared.names.Capability.TheVariants.{Mime, FileInto, Depot}
 use Rattle.sieve_check.specs.declared.names.TestName.TheVariants.{Header, Exists, Size}

@@ -10,7 +10,9 @@ ghost use Rattle.sieve_check.specs.Refusing.{Finds, Passes, context_of, listed, 
 use crate::causes::{Cause, ReasonKind, Refused};
 use crate::mentions::Mentions;
 use crate::names::{Capability, CommandName, Tag, TestName, command_named, tag_named, test_named};
-use crate::signature::{Ending, Reading, Signature, Tests, command_signature, ending_of, test_signature};
+use crate::signature::{
+    Ending, Reading, Signature, Tests, command_signature, ending_of, test_signature,
+};
 use crate::string_faults::{StringFault, has_many_strings};
 use crate::surroundings::Surroundings;
 use crate::variable_names::VariableNames;
@@ -228,7 +230,9 @@ fn many_loops_cause<'t>(
     ensures { option_map cause_view result
         ≡ many_loops_cause (context_of surroundings.entry) name (arguments_of head.now) }
 {
-    surroundings.opens_many(name).then_some(Cause::plain(ReasonKind::ManyLoops))
+    surroundings
+        .opens_many(name)
+        .then_some(Cause::plain(ReasonKind::ManyLoops))
 }
 
 // What is wrong behind the arguments of a command, or with references and names among them.
@@ -342,11 +346,7 @@ fn found_command<'t>(
 }
 
 // What is wrong behind the arguments of a test, or with references among them.
-fn ill_formed_test<'t>(
-    name: TestName,
-    tests: Tests,
-    mentions: Mentions<'t>,
-) -> Option<Cause<'t>>
+fn ill_formed_test<'t>(name: TestName, tests: Tests, mentions: Mentions<'t>) -> Option<Cause<'t>>
     ensures { option_map cause_view result
         ≡ ill_formed_test name tests (mentions_in mentions.entry) }
 {
