@@ -1,8 +1,8 @@
 -- Rows that were worked out by hand.
-use Rattle.std.proofs.Common.{◌≡◌, ℕ, zero, suc, ◌+◌, List, [], ◌∷◌, ◌++◌, Some, None, true, refl}
+use Rattle.std.proofs.Common.{◌≡◌, ℕ, zero, suc, ◌+◌, List, [], ◌∷◌, Some, None, refl}
 use Rattle.std.specs.Prelude.{codes, option_map}
 use Rattle.sieve_parser.specs.Tree.{ArgumentTree, text, text_list, amount, label, InvocationTree, invocation, no_test, one_test, test_list, last, next, CommandsTree, simple, block, no_command, command}
-use Rattle.sieve_check.specs.declared.error.CheckError.TheVariants.{UnknownCommand, MissingCapability, UnknownCapability, BadArguments, Limit}
+use Rattle.sieve_check.specs.declared.error.CheckError.TheVariants.{MissingCapability, UnknownCapability, BadArguments, Limit}
 use Rattle.sieve_check.specs.declared.causes.ReasonKind.TheVariants as kind
 use Rattle.sieve_check.specs.declared.names.Capability.TheVariants.{Mime, FileInto, Depot}
 use Rattle.sieve_check.specs.declared.names.TestName.TheVariants.{Header, Exists, Size}
@@ -17,30 +17,6 @@ keep_at n others = command (simple (invocation n (codes "keep") [] no_test)) oth
 
 abbrev true_at : ℕ → InvocationTree
 true_at n = invocation n (codes "true") [] no_test
-
--- vacation;
-unknown : fault_of (command (simple (invocation 0 (codes "vacation") [] no_test)) no_command) ≡ Some (UnknownCommand 0)
-unknown = refl
-
--- fileinto "x";
-filed_without : fault_of (command (simple (invocation 0 (codes "fileinto") (text (codes "x") ∷ []) no_test)) no_command) ≡ Some (MissingCapability 0)
-filed_without = refl
-
--- require "fileinto"; fileinto "x"; fileinto ["x"];
-abbrev filing : CommandsTree → CommandsTree
-filing others =
-    command (simple (invocation 0 (codes "require") (text (codes "fileinto") ∷ []) no_test)) (command (simple (invocation 3 (codes "fileinto") (text (codes "x") ∷ []) no_test)) others)
-
-filed_list : fault_of (filing (command (simple (invocation 6 (codes "fileinto") (text_list (codes "x") [] ∷ []) no_test)) no_command)) ≡ Some (BadArguments 6)
-filed_list = refl
-
--- require "regex";
-not_required : fault_of (command (simple (invocation 0 (codes "require") (text (codes "regex") ∷ []) no_test)) no_command) ≡ Some (UnknownCapability 0)
-not_required = refl
-
--- keep; require "fileinto";
-required_late : fault_of (keep_at 0 (command (simple (invocation 2 (codes "require") (text (codes "fileinto") ∷ []) no_test)) no_command)) ≡ Some (BadArguments 2)
-required_late = refl
 
 -- keep; require "regex";
 required_late_and_unknown : fault_of (keep_at 0 (command (simple (invocation 2 (codes "require") (text (codes "regex") ∷ []) no_test)) no_command)) ≡ Some (UnknownCapability 2)

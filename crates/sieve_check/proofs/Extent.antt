@@ -65,7 +65,7 @@ IsWithin most awaiting given args = given_order given.tags.order + arguments_ext
 
 argument_within : (most : ℕ) (tag : Tag) (a : ArgumentTree) (given more : Given) (args : List ArgumentTree) → with_argument tag a given ≡ Some more → IsWithin most (Some tag) given (a ∷ args) → IsWithin most None more args
 argument_within most tag a given more args h within =
-    elim (argument_taken tag a given more h) [
+    elim (argument_taken tag a given more h).0 [
       | inl c ↦ omega (arith, within, one_at_most more.tags.order, argument_some a, ap arguments_extent c.1)
       | inr c ↦ subst (λ (g : Given). IsWithin most None g args) c.2 (omega (arith, within))
     ]

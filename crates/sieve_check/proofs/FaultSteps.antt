@@ -1,6 +1,7 @@
 -- The visits of tests and commands, piece by piece.
 use Rattle.std.proofs.Common.{◌≡◌, ℕ, ◌+◌, ◌<◌, List, ◌∷◌, ◌++◌, drop, length, get_or, ap, ◌∙◌}
 use Rattle.std.specs.Global.{Vec, Box}
+use Rattle.std.specs.Prelude.{Option, Some, None}
 use Rattle.sieve_parser.specs.View.{invocation_tree, command_tree, commands_tree}
 use Rattle.sieve_parser.specs.declared.tree.Head.{Head}
 use Rattle.sieve_parser.specs.declared.tree.Invocation.{Invocation}
@@ -12,26 +13,21 @@ use Rattle.sieve_parser.proofs.CommandSteps.{tree_block}
 use Rattle.sieve_check.specs.declared.signature.Tests.TheVariants.{One, Bracketed}
 use Rattle.sieve_check.specs.declared.signature.Ending.{Ending}
 use Rattle.sieve_check.specs.declared.signature.Ending.TheVariants.{Block}
-use Rattle.sieve_check.specs.Rules.{arguments_of, test_visit, test_visits, more_visits, command_visit, head_visits, command_visits, commands_visits, invocation_of, loops_opened, after_invocation}
+use Rattle.sieve_check.specs.Refusing.{visit_as, visits_as}
+use Rattle.sieve_check.specs.Rules.{arguments_of, test_visits, more_visits, head_visits, command_visits, commands_visits, invocation_of, loops_opened, after_invocation}
 use Rattle.sieve_check.specs.Surroundings.{Context, in_block}
 use Rattle.sieve_check.proofs.FromIndex.{others_of, split_at}
 
--- a test with one test, and with tests in round brackets
-pub test_inside : (s : Context) (i : Invocation) (h : Head) (t : Box Invocation) → i ≡ WithTest h t → test_visits s (invocation_tree i) ≡ test_visit s h.token h.name (arguments_of h) One ∷ test_visits s (invocation_tree t.value)
-test_inside s i h t is = ap (λ x. test_visits s x) (ap invocation_tree is ∙ tree_test h t)
+-- a command or test with one test, and with tests in round brackets
+pub test_inside : (ending : Option Ending) (s : Context) (i : Invocation) (h : Head) (t : Box Invocation) → i ≡ WithTest h t
+    → visits_as ending s (invocation_tree i) ≡ visit_as ending s h.token h.name (arguments_of h) One ∷ test_visits s (invocation_tree t.value)
+test_inside None s i h t is = ap (λ x. test_visits s x) (ap invocation_tree is ∙ tree_test h t)
+test_inside (Some ending) s i h t is = ap (λ x. head_visits s x ending) (ap invocation_tree is ∙ tree_test h t)
 
-pub tests_inside : (s : Context) (i : Invocation) (h : Head) (t : Box Invocation) (ts : Vec Invocation) → i ≡ WithTests h t ts
-    → test_visits s (invocation_tree i) ≡ test_visit s h.token h.name (arguments_of h) Bracketed ∷ (test_visits s (invocation_tree t.value) ++ more_visits s (others_of ts.items))
-tests_inside s i h t ts is = ap (λ x. test_visits s x) (ap invocation_tree is ∙ tree_tests h t ts)
-
--- a command with one test, and with tests in round brackets
-pub head_test : (s : Context) (i : Invocation) (ending : Ending) (h : Head) (t : Box Invocation) → i ≡ WithTest h t
-    → head_visits s (invocation_tree i) ending ≡ command_visit s h.token h.name (arguments_of h) One ending ∷ test_visits s (invocation_tree t.value)
-head_test s i ending h t is = ap (λ x. head_visits s x ending) (ap invocation_tree is ∙ tree_test h t)
-
-pub head_tests : (s : Context) (i : Invocation) (ending : Ending) (h : Head) (t : Box Invocation) (ts : Vec Invocation) → i ≡ WithTests h t ts
-    → head_visits s (invocation_tree i) ending ≡ command_visit s h.token h.name (arguments_of h) Bracketed ending ∷ (test_visits s (invocation_tree t.value) ++ more_visits s (others_of ts.items))
-head_tests s i ending h t ts is = ap (λ x. head_visits s x ending) (ap invocation_tree is ∙ tree_tests h t ts)
+pub tests_inside : (ending : Option Ending) (s : Context) (i : Invocation) (h : Head) (t : Box Invocation) (ts : Vec Invocation) → i ≡ WithTests h t ts
+    → visits_as ending s (invocation_tree i) ≡ visit_as ending s h.token h.name (arguments_of h) Bracketed ∷ (test_visits s (invocation_tree t.value) ++ more_visits s (others_of ts.items))
+tests_inside None s i h t ts is = ap (λ x. test_visits s x) (ap invocation_tree is ∙ tree_tests h t ts)
+tests_inside (Some ending) s i h t ts is = ap (λ x. head_visits s x ending) (ap invocation_tree is ∙ tree_tests h t ts)
 
 -- the tests of a list from an index on
 pub rest_visits : (s : Context) (list : List Invocation) (i : ℕ) (x : Invocation) → i < length list → x ≡ get_or list i x

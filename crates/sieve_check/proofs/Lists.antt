@@ -44,7 +44,7 @@ AreShort last given args = (has_long_string args ≡ false) × (has_long_string 
 argument_short : (tag : Tag) (a : ArgumentTree) (given more : Given) (args : List ArgumentTree) → with_argument tag a given ≡ Some more → AreShort (Some tag) given (a ∷ args) → AreShort None more args
 argument_short tag a given more args h short =
     let parts = both_short (strings_in a) (strings_of args) short.0 in
-    elim (argument_taken tag a given more h) [
+    elim (argument_taken tag a given more h).0 [
       | inl c ↦ (parts.1, ap has_long_string c.1 ∙ short.1)
       | inr c ↦ (parts.1, ap (λ (g : Given). has_long_string g.params) (sym c.2) ∙ ap (list_any (string_has Long)) (append-nil (strings_in a)) ∙ parts.0)
     ]

@@ -1,5 +1,5 @@
 -- Reasons that were worked out by hand.
-use Rattle.std.proofs.Common.{◌≡◌, ℕ, List, [], ◌∷◌, Option, Some, None, refl}
+use Rattle.std.proofs.Common.{◌≡◌, ℕ, List, [], ◌∷◌, Option, Some, refl}
 use Rattle.std.specs.Prelude.{codes}
 use Rattle.sieve_parser.specs.Tree.{ArgumentTree, text, text_list, amount, label, invocation, TestsTree, no_test, one_test, test_list, last, next, CommandsTree, simple, block, no_command, command}
 use Rattle.sieve_check.specs.declared.names.Capability.TheVariants as capability
@@ -9,7 +9,7 @@ use Rattle.sieve_check.specs.declared.signature.Positional.TheVariants.{Text, Tw
 use Rattle.sieve_check.specs.declared.signature.Tests.TheVariants as tests
 use Rattle.sieve_check.specs.declared.signature.Ending.TheVariants.{Block}
 use Rattle.sieve_check.specs.declared.causes.ReasonKind.{ReasonKind}
-use Rattle.sieve_check.specs.declared.causes.ReasonKind.TheVariants.{UnknownCommand, UnknownTest, MissingCapability, UnknownCapability, UnknownTag, ForeignTag, RepeatedTag, TwoModifiers, TagArgument, MissingOrder, MissingMime, LateTag, MissingArgument, ExtraArgument, WrongArgument, WrongTests, WrongEnding, Namespace, CaptureIndex, VariableName, NoSuchLoop, Misplaced, ManyLoops, LongName, ManyVariables}
+use Rattle.sieve_check.specs.declared.causes.ReasonKind.TheVariants.{UnknownCommand, UnknownTest, MissingCapability, UnknownCapability, UnknownTag, ForeignTag, RepeatedTag, TwoModifiers, TagArgument, MissingOrder, MissingMime, LateTag, MissingArgument, ExtraArgument, WrongArgument, WrongTests, WrongEnding, Namespace, CaptureIndex, VariableName, NoSuchLoop, Misplaced, ManyLoops, LongName}
 use Rattle.sieve_check.specs.Causes.{Refused}
 use Rattle.sieve_check.specs.Rules.{reason_of}
 

@@ -42,23 +42,37 @@ number_taken n given more h = step (n == 0) refl h where
   step true is h = absurd (cc)
   step false is h = (not_zero n is, sym (same_Some (with_number n given) more h))
 
--- of a comparator, a name or a number, and of `:param`
-pub argument_taken : (tag : Tag) (a : ArgumentTree) (given more : Given) → with_argument tag a given ≡ Some more
-    → (((tag ≡ Comparator) ⊎ ((tag ≡ Name) ⊎ (tag ≡ First))) × (more.params ≡ given.params) × (more.tags.piece ≡ given.tags.piece)) ⊎ ((tag ≡ Select Params) × (is_list a ≡ true) × (with_params a given ≡ more))
+-- the number of `:first`, where it was given, isn't zero
+abbrev pub IsCounted : Given → Type 0
+IsCounted given = (n : ℕ) → given.tags.first ≡ Some n → 0 < n
+
+same_number : (given more : Given) → more.tags.first ≡ given.tags.first → IsCounted given → IsCounted more
+same_number given more same counted n h = counted n (sym same ∙ h)
+
+-- of a comparator, a name or a number, and of `:param`; and what was counted stays so
+abbrev pub IsTaken : Tag → ArgumentTree → Given → Given → Type 0
+IsTaken tag a given more =
+    ((((tag ≡ Comparator) ⊎ ((tag ≡ Name) ⊎ (tag ≡ First))) × (more.params ≡ given.params) × (more.tags.piece ≡ given.tags.piece)) ⊎ ((tag ≡ Select Params) × (is_list a ≡ true) × (with_params a given ≡ more)))
+    × (IsCounted given → IsCounted more)
+
+pub argument_taken : (tag : Tag) (a : ArgumentTree) (given more : Given) → with_argument tag a given ≡ Some more → IsTaken tag a given more
 argument_taken Comparator (text s) given more h =
     let c = map_some (comparator_named s) _ more h in
     let same = sym (same_Some _ more c.2) in
-    inl (inl refl, ap (λ (g : Given). g.params) same, ap (λ (g : Given). g.tags.piece) same)
+    (inl (inl refl, ap (λ (g : Given). g.params) same, ap (λ (g : Given). g.tags.piece) same), same_number given more (ap (λ (g : Given). g.tags.first) same))
 argument_taken (Select Params) a given more h =
     let c = if_some (is_list a) (with_params a given) more h in
-    inr (refl, c.0, same_Some (with_params a given) more c.1)
+    let same = same_Some (with_params a given) more c.1 in
+    (inr (refl, c.0, same), same_number given more (ap (λ (g : Given). g.tags.first) (sym same)))
 argument_taken Name (text s) given more h =
     let named : Given = record given { name = Some s } in
     let same = sym (same_Some named more h) in
-    inl (inr (inl refl), ap (λ (g : Given). g.params) same, ap (λ (g : Given). g.tags.piece) same)
+    (inl (inr (inl refl), ap (λ (g : Given). g.params) same, ap (λ (g : Given). g.tags.piece) same), same_number given more (ap (λ (g : Given). g.tags.first) same))
 argument_taken First (amount n) given more h =
     let c = number_taken n given more h in
-    inl (inr (inr refl), ap (λ (g : Given). g.params) c.1, ap (λ (g : Given). g.tags.piece) c.1)
+    let counted : IsCounted given → IsCounted more =
+    λ counted m is. let same : n ≡ m = same_Some n m (sym (ap (λ (g : Given). g.tags.first) c.1) ∙ is) in omega (arith, c.0, same) in
+    (inl (inr (inr refl), ap (λ (g : Given). g.params) c.1, ap (λ (g : Given). g.tags.piece) c.1), counted)
 argument_taken Comparator (text_list s ss) given more h = absurd (cc)
 argument_taken Comparator (amount n) given more h = absurd (cc)
 argument_taken Comparator (label name) given more h = absurd (cc)
@@ -79,47 +93,6 @@ argument_taken Name (label name) given more h = absurd (cc)
 argument_taken First (text s) given more h = absurd (cc)
 argument_taken First (text_list s ss) given more h = absurd (cc)
 argument_taken First (label name) given more h = absurd (cc)
-
--- the number of `:first`, where it was given, isn't zero
-abbrev pub IsCounted : Given → Type 0
-IsCounted given = (n : ℕ) → given.tags.first ≡ Some n → 0 < n
-
-same_number : (given more : Given) → more.tags.first ≡ given.tags.first → IsCounted given → IsCounted more
-same_number given more same counted n h = counted n (sym same ∙ h)
-
-argument_counted : (tag : Tag) (a : ArgumentTree) (given more : Given) → with_argument tag a given ≡ Some more → IsCounted given → IsCounted more
-argument_counted Comparator (text s) given more h counted =
-    let c = map_some (comparator_named s) _ more h in
-    same_number given more (ap (λ (g : Given). g.tags.first) (sym (same_Some _ more c.2))) counted
-argument_counted (Select Params) a given more h counted =
-    let c = if_some (is_list a) (with_params a given) more h in
-    same_number given more (ap (λ (g : Given). g.tags.first) (sym (same_Some (with_params a given) more c.1))) counted
-argument_counted Name (text s) given more h counted =
-    let named : Given = record given { name = Some s } in
-    same_number given more (ap (λ (g : Given). g.tags.first) (sym (same_Some named more h))) counted
-argument_counted First (amount n) given more h counted =
-    let c = number_taken n given more h in
-    λ m is. let same : n ≡ m = same_Some n m (sym (ap (λ (g : Given). g.tags.first) c.1) ∙ is) in omega (arith, c.0, same)
-argument_counted Comparator (text_list s ss) given more h counted = absurd (cc)
-argument_counted Comparator (amount n) given more h counted = absurd (cc)
-argument_counted Comparator (label name) given more h counted = absurd (cc)
-argument_counted (Order order) a given more h counted = absurd (cc)
-argument_counted (Kind kind) a given more h counted = absurd (cc)
-argument_counted (Letters case) a given more h counted = absurd (cc)
-argument_counted (FirstLetter case) a given more h counted = absurd (cc)
-argument_counted QuoteWildcard a given more h counted = absurd (cc)
-argument_counted Length a given more h counted = absurd (cc)
-argument_counted Mime a given more h counted = absurd (cc)
-argument_counted AnyChild a given more h counted = absurd (cc)
-argument_counted (Select Main) a given more h counted = absurd (cc)
-argument_counted (Select Sub) a given more h counted = absurd (cc)
-argument_counted (Select ContentType) a given more h counted = absurd (cc)
-argument_counted Name (text_list s ss) given more h counted = absurd (cc)
-argument_counted Name (amount n) given more h counted = absurd (cc)
-argument_counted Name (label name) given more h counted = absurd (cc)
-argument_counted First (text s) given more h counted = absurd (cc)
-argument_counted First (text_list s ss) given more h counted = absurd (cc)
-argument_counted First (label name) given more h counted = absurd (cc)
 
 -- a tag by itself gives no number
 tag_counted : (tag : Tag) (given : Given) → IsCounted given → IsCounted (with_more tag given)
@@ -229,7 +202,7 @@ plain_awaits tag given is awaits =
 
 argument_selecting : (signature : Signature) (tag : Tag) (a : ArgumentTree) (given more : Given) (args : List ArgumentTree) → with_argument tag a given ≡ Some more → IsSelecting signature (Some tag) given (a ∷ args) → IsSelecting signature None more args
 argument_selecting signature tag a given more args h is =
-    elim (argument_taken tag a given more h) [
+    elim (argument_taken tag a given more h).0 [
       | inl c ↦
           let params = plain_awaits tag given c.0 is.params in
           record {
@@ -254,7 +227,7 @@ number_read signature args read h =
     let P = λ (last : Option Tag) (given : Given) (args : List ArgumentTree). IsCounted given in
     let kept : IsKept signature P = record {
       tag = λ tag name given args takes counted. tag_counted tag given counted;
-      argument = λ tag a given more args taken counted. argument_counted tag a given more taken counted;
+      argument = λ tag a given more args taken counted. (argument_taken tag a given more taken).1 counted;
     } in
     kept_by_reading signature P kept args read h (λ n none. absurd (cc))
 

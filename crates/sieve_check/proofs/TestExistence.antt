@@ -1,12 +1,11 @@
 -- A test of which nothing is wrong has a typed form, which is within the limits and has the variables that its visits bring.
-use Rattle.std.proofs.Common.{◌≡◌, ℕ, ◌≤◌, length, Bool, true, false, ◌&&◌, ◌||◌, not, if◌then◌else◌, List, [], ◌∷◌, ◌++◌, All, Option, Some, None, option_map, refl, sym, ap, subst, ◌∙◌}
+use Rattle.std.proofs.Common.{◌≡◌, ℕ, ◌≤◌, length, Bool, true, false, if◌then◌else◌, List, [], ◌∷◌, ◌++◌, All, Option, Some, None, option_map, refl, sym, ap, subst, ◌∙◌}
 use Rattle.std.specs.Prelude.{is_some, flat_map}
-use Rattle.std.specs.List.{list_any}
+use Rattle.std.specs.List.{find, list_any}
 use Rattle.std.specs.Option.{option_and_then}
 use Rattle.std.proofs.lemmas.Bool.{ltb-false, ltb-true}
 use Rattle.std.proofs.lemmas.Grind.{flat_map-append}
 use Rattle.std.proofs.lemmas.List.{append-nil}
-use Rattle.std.proofs.lemmas.Option.{same_Some}
 use Rattle.octets.specs.Limits.{max_test_strings}
 use Rattle.sieve_parser.specs.Tree.{ArgumentTree, text, text_list, amount, label, InvocationTree, invocation, TestsTree, no_test, one_test, test_list, MoreTests, last as no_more, next}
 use Rattle.sieve_check.specs.declared.causes.ReasonKind.{ReasonKind}
@@ -23,16 +22,16 @@ use Rattle.sieve_check.specs.Bounded.{IsBoundedTest, AreBoundedTests, IsTestIn, 
 use Rattle.sieve_check.specs.FormOf.{InnerForms, none, one, bracketed, number_in, match_of, scope_of, size_of, test_of, test_form_of, inner_forms_of, more_forms_of}
 use Rattle.sieve_check.specs.Names.{test_named}
 use Rattle.sieve_check.specs.Arguments.{arguments_cause}
-use Rattle.sieve_check.specs.Causes.{Cause, about, first_where, plain}
-use Rattle.sieve_check.specs.Rules.{Visit, where_required, names_by, cause_by_name, known_test_cause, read_test_cause, ill_formed_test, tests_cause, test_place_cause, long_string_cause, many_strings_cause, large_cause, large_mention_cause, lacking_cause, mention_cause, oversized_test, string_has, test_needs, test_may_stand, has_many_strings, Mentions, no_mention, expanding, strings_read, lists_read, test_mentions, names_mentioned, same_tests, kind_of, strings_of, test_visits, tests_visits, more_visits}
-use Rattle.sieve_check.specs.Signatures.{◌>>=◌, Read, nothing_given, tags_read, asks_for_mime, is_positional, is_complete, reading, test_signature}
+use Rattle.sieve_check.specs.Causes.{Cause, about, plain}
+use Rattle.sieve_check.specs.Rules.{Visit, where_required, names_by, cause_by_name, known_test_cause, read_test_cause, ill_formed_test, tests_cause, test_place_cause, long_string_cause, many_strings_cause, large_cause, large_mention_cause, lacking_cause, string_has, test_needs, test_may_stand, has_many_strings, Mentions, no_mention, expanding, strings_read, lists_read, test_mentions, names_mentioned, same_tests, kind_of, strings_of, test_visits, tests_visits, more_visits}
+use Rattle.sieve_check.specs.Signatures.{◌>>=◌, Read, is_positional, is_complete, reading, test_signature}
 use Rattle.sieve_check.specs.Surroundings.{Context}
 use Rattle.sieve_check.specs.Typed.{TestForm, constant, negation, all_of, any_of, header, exists, size, string, part_size, part_body, part_digest, TestForms, no_test as no_other, test}
 use Rattle.sieve_check.specs.Variables.{test_variables, tests_variables}
 use Rattle.sieve_check.proofs.Faultless.{AreFaultless, faultless_both, names_brought}
 use Rattle.sieve_check.proofs.Lists.{expands, has_long_string, is_large, read_short, all_sound, one_listed, two_listed, three_listed}
 use Rattle.sieve_check.proofs.Finding.{none_where}
-use Rattle.sieve_check.proofs.Options.{step_some, all_taken, both_none, map_none, if_some, if_none, unless_none, not_false, both_true, either_false, some_of}
+use Rattle.sieve_check.proofs.Options.{all_taken, both_none, map_none, if_none, unless_none, not_false, some_of}
 use Rattle.sieve_check.proofs.Unread.{complete_parts, complete_read, unread_either}
 use Rattle.sieve_check.proofs.TagSteps.{HasArgument, selecting_read, only_behind}
 use Rattle.sieve_check.proofs.Templates.{IsSound, names_at, mentioned_at, expanding_names}
@@ -65,12 +64,12 @@ well_formed signature args h =
 -- no string that is expanded has too many segments
 pub none_large : (b : Bool) (mentions : Mentions) → large_mention_cause (if b then mentions else no_mention) ≡ None → b ≡ true → list_any is_large mentions.expanded ≡ false
 none_large true mentions h expands =
-    none_where is_large mentions.expanded (map_none large_cause (first_where is_large mentions.expanded) (both_none (option_map large_cause (first_where is_large mentions.expanded)) _ h).0)
+    none_where is_large mentions.expanded (map_none large_cause (find is_large mentions.expanded) (both_none (option_map large_cause (find is_large mentions.expanded)) _ h).0)
 none_large false mentions h expands = absurd (cc)
 
 -- no string is too long
 pub none_long : (args : List ArgumentTree) → long_string_cause args ≡ None → has_long_string args ≡ false
-none_long args h = none_where (string_has Long) (strings_of args) (map_none (about LongString) (first_where (string_has Long) (strings_of args)) h)
+none_long args h = none_where (string_has Long) (strings_of args) (map_none (about LongString) (find (string_has Long) (strings_of args)) h)
 
 -- the same of a test, whose strings are within the limits
 pub record TestWellFormed (s : Context) (name : TestName) (args : List ArgumentTree) (tests : Tests) : Type 0 where

@@ -4,15 +4,13 @@ use Rattle.std.specs.Borrow.{Bor}
 use Rattle.octets.specs.Ascii.{lowercase_of}
 use Rattle.octets.specs.Limits.{max_variables}
 use Rattle.octets.specs.Once.{with_more}
-use Rattle.sieve_parser.specs.Tree.{ArgumentTree}
+use Rattle.sieve_parser.specs.Tree.{ArgumentTree, InvocationTree}
 use Rattle.sieve_check.specs.declared.causes.Cause.{Cause}
 use Rattle.sieve_check.specs.declared.causes.ReasonKind.{ReasonKind}
 use Rattle.sieve_check.specs.declared.causes.ReasonKind.TheVariants.{ManyVariables}
 use Rattle.sieve_check.specs.declared.causes.Refused.{Refused}
 use Rattle.sieve_check.specs.declared.mentions.Mentions.{Mentions}
 use Rattle.sieve_check.specs.declared.loops.Loops.{Loops}
-use Rattle.sieve_check.specs.declared.names.CommandName.{CommandName}
-use Rattle.sieve_check.specs.declared.names.TestName.{TestName}
 use Rattle.sieve_check.specs.declared.signature.Ending.{Ending}
 use Rattle.sieve_check.specs.declared.signature.Tests.{Tests}
 use Rattle.sieve_check.specs.declared.surroundings.Surroundings.{Surroundings}
@@ -20,7 +18,7 @@ use Rattle.sieve_check.specs.declared.variable_names.VariableNames.{VariableName
 use Rattle.sieve_check.specs.Reading.{all_lists, cause_view, name_in, refused_view}
 use Rattle.sieve_check.specs.Causes as causes
 use Rattle.sieve_check.specs.Rules as rules
-use Rattle.sieve_check.specs.Rules.{Visit, command_mentions, first_refused, known_command_cause, known_test_cause, names_mentioned, names_with, strings_of, test_mentions, visit_cause}
+use Rattle.sieve_check.specs.Rules.{Visit, command_visit, first_refused, head_visits, names_mentioned, names_with, strings_of, test_visit, test_visits}
 use Rattle.sieve_check.specs.Surroundings.{Context, opens_many}
 
 -- the names of the loops that are open, the innermost first
@@ -52,10 +50,22 @@ set_in (Some name) = name.now ∷ []
 abbrev pub mentions_in : Mentions → rules.Mentions
 mentions_in m = record { expanded = strings_of (all_lists m.expanded); set = set_in m.set }
 
--- what a command or test has to do with variables, where nothing is wrong with it; else what is
-abbrev pub Finds : rules.Mentions → Option causes.Cause → Result Mentions Cause → Type 0
-Finds mentions cause result =
-    MatchResult result (λ m. (cause ≡ None) × (mentions_in m ≡ mentions)) (λ found. cause ≡ Some (cause_view found))
+-- what a command or test has to do with variables, where nothing is wrong with it, by the names that
+-- it brings; else what is wrong
+abbrev pub Finds : List (List ℕ) → Option causes.Cause → Result Mentions Cause → Type 0
+Finds names cause result =
+    MatchResult result (λ m. (cause ≡ None) × (names_mentioned (mentions_in m) ≡ names))
+    (λ found. cause ≡ Some (cause_view found))
+
+-- the visit of a command, which has an ending, or of a test
+abbrev pub visit_as : Option Ending → Context → ℕ → List ℕ → List ArgumentTree → Tests → Visit
+visit_as None s token name args tests = test_visit s token name args tests
+visit_as (Some ending) s token name args tests = command_visit s token name args tests ending
+
+-- the same, with those of its tests behind it
+abbrev pub visits_as : Option Ending → Context → InvocationTree → List Visit
+visits_as None s t = test_visits s t
+visits_as (Some ending) s t = head_visits s t ending
 
 -- the names with more of them, where they are within the limit; else that they aren't
 abbrev pub Adds : {A : Type 0} → List (List ℕ) → List (List ℕ) → Result A ReasonKind → List (List ℕ) → Type 0
@@ -63,12 +73,6 @@ Adds names more result after =
     MatchResult result
     (λ _. after ≡ with_more bytes_eq names more)
     (λ kind. (kind ≡ ManyVariables) × (max_variables < length (with_more bytes_eq names more)))
-
--- the names after a visit, where nothing is wrong with it; else what is
-abbrev pub Judges : {A : Type 0} → List (List ℕ) → Visit → Result A Cause → List (List ℕ) → Type 0
-Judges names visit result after =
-    MatchResult result (λ _. (visit_cause names visit ≡ None) × (after ≡ names_with names visit))
-    (λ cause. visit_cause names visit ≡ Some (cause_view cause))
 
 -- the names after visits
 abbrev pub names_after : List (List ℕ) → List Visit → List (List ℕ)
@@ -80,20 +84,3 @@ abbrev pub Passes : {A : Type 0} → List (List ℕ) → List Visit → Result A
 Passes names visits result after =
     MatchResult result (λ _. (first_refused names visits ≡ None) × (after ≡ names_after names visits))
     (λ refused. first_refused names visits ≡ Some (refused_view refused))
-
--- the visit of a command or test that is known by that name
-abbrev pub known_command_visit : Context → ℕ → List ℕ → CommandName → List ArgumentTree → Tests → Ending → Visit
-known_command_visit s token word name args tests ending = record {
-  token = token;
-  name = word;
-  names = names_mentioned (command_mentions s name args);
-  cause = known_command_cause s name args tests ending;
-}
-
-abbrev pub known_test_visit : Context → ℕ → List ℕ → TestName → List ArgumentTree → Tests → Visit
-known_test_visit s token word name args tests = record {
-  token = token;
-  name = word;
-  names = names_mentioned (test_mentions s name args);
-  cause = known_test_cause s name args tests;
-}

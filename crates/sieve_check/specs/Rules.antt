@@ -1,6 +1,6 @@
 -- What is wrong with the commands and tests of a script, and which fault is named.
-use Rattle.std.specs.Prelude.{ℕ, Bool, true, false, ◌&&◌, ◌||◌, not, nat_lt, bytes_eq, if◌then◌else◌, List, [], ◌∷◌, ◌++◌, map, length, take, drop, flat_map, Option, Some, None, is_some, option_map}
-use Rattle.std.specs.List.{list_any}
+use Rattle.std.specs.Prelude.{ℕ, Bool, true, false, ◌||◌, not, nat_lt, bytes_eq, if◌then◌else◌, List, [], ◌∷◌, ◌++◌, map, length, take, drop, flat_map, Option, Some, None, is_some, option_map}
+use Rattle.std.specs.List.{find, list_any}
 use Rattle.std.specs.Option.{option_and_then, option_map_or, option_or}
 use Rattle.octets.specs.Ascii.{lowercase_of}
 use Rattle.octets.specs.Limits.{max_name, max_segments, max_string, max_test_strings, max_variables}
@@ -28,7 +28,7 @@ use Rattle.sieve_check.specs.declared.signature.Signature.{Signature}
 use Rattle.sieve_check.specs.declared.names.Tag.{Tag}
 use Rattle.sieve_check.specs.declared.names.Tag.TheVariants.{Mime}
 use Rattle.sieve_check.specs.Arguments.{arguments_cause}
-use Rattle.sieve_check.specs.Causes.{Cause, Refused, about, first_where, plain, refusal_for, refused_for}
+use Rattle.sieve_check.specs.Causes.{Cause, Refused, about, plain, refusal_for, refused_for}
 use Rattle.sieve_check.specs.Names.{capability_named, command_named, tag_named, test_named}
 use Rattle.sieve_check.specs.Signatures.{Read, command_signature, ending_of, test_signature, reading}
 use Rattle.sieve_check.specs.Surroundings.{Context, at_start, first_lacking, following, has_capability, in_block, in_loop, loops_left, opens_many}
@@ -241,7 +241,7 @@ lacking_cause s needed = option_map lacking (first_lacking needed s.required)
 
 -- the first string of a require that is no capability, wherever it stands and however it is written
 abbrev pub unknown_cause : CommandName → List ArgumentTree → Option Cause
-unknown_cause Require args = option_map (about UnknownCapability) (first_where (string_has Unknown) (strings_of args))
+unknown_cause Require args = option_map (about UnknownCapability) (find (string_has Unknown) (strings_of args))
 unknown_cause If args = None
 unknown_cause Elsif args = None
 unknown_cause Else args = None
@@ -278,8 +278,8 @@ reference_cause string = about (reference_kind (segments string)) string
 -- the first string with a wrong reference, or else what is set and is no name
 abbrev pub mention_cause : Mentions → Option Cause
 mention_cause mentions =
-    option_or (option_map reference_cause (first_where (string_has Wrong) mentions.expanded))
-    (option_map (about VariableName) (first_where (λ name. not (is_identifier name)) mentions.set))
+    option_or (option_map reference_cause (find (string_has Wrong) mentions.expanded))
+    (option_map (about VariableName) (find (λ name. not (is_identifier name)) mentions.set))
 
 -- a wrong place: of a break with a name, that no loop around it has that name
 abbrev pub misplaced : CommandName → Read → Cause
@@ -306,7 +306,7 @@ test_place_cause s name = if test_may_stand s name then None else Some (plain Mi
 -- ---- what is beyond a limit
 
 abbrev pub long_string_cause : List ArgumentTree → Option Cause
-long_string_cause args = option_map (about LongString) (first_where (string_has Long) (strings_of args))
+long_string_cause args = option_map (about LongString) (find (string_has Long) (strings_of args))
 
 abbrev pub many_strings_cause : Read → Option Cause
 many_strings_cause read = if has_many_strings read then Some (plain ManyStrings) else None
@@ -327,8 +327,8 @@ large_cause string = option_map_or (about LongName) (long_name (segments string)
 -- the first string of too many segments or with too long a name, or else too long a name that is set
 abbrev pub large_mention_cause : Mentions → Option Cause
 large_mention_cause mentions =
-    option_or (option_map large_cause (first_where (string_has Large) mentions.expanded))
-    (option_map (about LongName) (first_where is_long_name mentions.set))
+    option_or (option_map large_cause (find (string_has Large) mentions.expanded))
+    (option_map (about LongName) (find is_long_name mentions.set))
 
 abbrev pub many_loops_cause : Context → CommandName → List ArgumentTree → Option Cause
 many_loops_cause s name args = if opens_many (opened_by name args) s then Some (plain ManyLoops) else None

@@ -169,9 +169,7 @@ fn opened(head: &Head) -> Option<Opening>
         → head_block head.now (one f) body ≡ option_map (λ o. opened_by o f body) result }
 {
     let name = command_named(head.name.as_slice())?;
-    if command_signature(name).read(&head.arguments).is_err() {
-        return None;
-    }
+    command_signature(name).read(&head.arguments).ok()?;
     match name {
         CommandName::If => Some(Opening::First),
         CommandName::Elsif => Some(Opening::Next),
@@ -206,9 +204,7 @@ fn untested_part(head: &Head, block: Vec<Command>) -> Option<Part>
     ensures { option_map part_form result ≡ head_block head.now none (commands_form block.items) }
 {
     let name = command_named(head.name.as_slice())?;
-    if command_signature(name).read(&head.arguments).is_err() {
-        return None;
-    }
+    command_signature(name).read(&head.arguments).ok()?;
     match name {
         CommandName::Else => Some(Part::Last(block)),
         CommandName::ForEveryPart => Some(Part::Action(Command::ForEveryPart(block))),

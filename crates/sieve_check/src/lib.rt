@@ -1,15 +1,18 @@
 //! The static rules of Sieve scripts, and the typed form of those that keep them (RFC 5228; RFC 5229; RFC 5703, sections 3 and 4).
 //!
-//! [`check`] gives a script as [`Checked`], or names the fault that `specs/Rules` says. What a script means, and
-//! its code, go by its typed form alone (`specs/Typed`), which `specs/FormOf` reads off the tree. What each command and
-//! test takes is a table in `specs/Signatures`. `laws` says that a script has a typed form where nothing is wrong with it.
+//! [`check`] gives a script as [`Checked`], or names the fault that `specs/Rules` says. [`reason_of`] says of the same walk why the
+//! script is refused: at which command or test, for what kind of reason, and what in it is at fault. The fault is a function of the
+//! kind ([`ReasonKind::fault`]), so nothing has to agree with it. Each rule is a cause, and the first that holds is named.
+//! What is wrong with arguments is said where they are read (`specs/Arguments`).
+//!
+//! What a script means, and its code, go by its typed form alone (`specs/Typed`), which `specs/FormOf` reads off the tree. What each
+//! command and test takes is a table in `specs/Signatures`. `laws` says that a script has a typed form where nothing is wrong with it.
 //! A `break` of the typed form says how many of the loops around it are left, so names of loops stand in scripts alone.
 //! A string of the typed form is its segments: text as it stands and, where `variables` was required, references. Which
 //! variables a typed form has stands in `specs/Variables`, and how large it and its strings and lists and how deep its
 //! loops are at most in `specs/Bounded`.
 //!
-//! What is public beside that is for crates that say what is wrong with a script that isn't accepted: the names, what commands
-//! and tests take, what surrounds them, and the limits.
+//! What is public beside that is for crates that tell of a refusal in words: the names, and the limits.
 #![tactic(auto)]
 
 mod arguments;

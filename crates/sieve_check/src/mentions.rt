@@ -175,16 +175,8 @@ impl<'t> Mentions<'t> {
         if let Some(string) = StringFault::Wrong.first_in_lists(self.expanded) {
             return Some(Cause::about(reference_kind(string), string));
         }
-        match self.set {
-            Some(name) => {
-                if is_identifier(name.as_slice()) {
-                    None
-                } else {
-                    Some(Cause::about(ReasonKind::VariableName, name.as_slice()))
-                }
-            }
-            None => None,
-        }
+        let name = self.set?.as_slice();
+        (!is_identifier(name)).then_some(Cause::about(ReasonKind::VariableName, name))
     }
 
     /// What is wrong with the first string of too many segments or with too long a name, or else with too long a name
@@ -195,16 +187,8 @@ impl<'t> Mentions<'t> {
         if let Some(string) = StringFault::Large.first_in_lists(self.expanded) {
             return Some(large_cause(string));
         }
-        match self.set {
-            Some(name) => {
-                if is_long_name(name.as_slice()) {
-                    Some(Cause::about(ReasonKind::LongName, name.as_slice()))
-                } else {
-                    None
-                }
-            }
-            None => None,
-        }
+        let name = self.set?.as_slice();
+        is_long_name(name).then_some(Cause::about(ReasonKind::LongName, name))
     }
 
     /// Adds the names that they bring to those so far: those in the strings, then the one that is set.

@@ -5,12 +5,14 @@ ghost use Rattle.sieve_check.specs.Causes.{refused_for};
 ghost use Rattle.sieve_check.specs.Reading.{cause_view, left_of, read_of, refused_view};
 ghost use Rattle.sieve_check.specs.Rules.{arguments_of, command_mentions, command_needs, command_visit, command_visits, commands_visits, ending_cause, expanding, head_visits, ill_formed_command, ill_formed_test, is_mime_tag, known_command_cause, known_test_cause, lacking_cause, lists_read, long_string_cause, many_loops_cause, many_strings_cause, may_stand, mentions_of, mime_where_given, misplaced, more_visits, names_mentioned, oversized_command, oversized_test, place_cause, read_command_cause, read_test_cause, reason_of, strings_of, test_may_stand, test_mentions, test_needs, test_place_cause, test_visit, test_visits, tests_cause, unknown_cause, where_required};
 ghost use Rattle.sieve_check.specs.Signatures.{command_signature, is_positional};
-ghost use Rattle.sieve_check.specs.Refusing.{Finds, Judges, Passes, context_of, known_command_visit, known_test_visit, listed, mentions_in};
+ghost use Rattle.sieve_check.specs.Refusing.{Finds, Passes, context_of, listed, mentions_in, visit_as, visits_as};
 
 use crate::causes::{Cause, ReasonKind, Refused};
 use crate::mentions::Mentions;
 use crate::names::{Capability, CommandName, Tag, TestName, command_named, tag_named, test_named};
-use crate::signature::{Ending, Reading, Signature, Tests, command_signature, ending_of, test_signature};
+use crate::signature::{
+    Ending, Reading, Signature, Tests, command_signature, ending_of, test_signature,
+};
 use crate::string_faults::{StringFault, has_many_strings};
 use crate::surroundings::Surroundings;
 use crate::variable_names::VariableNames;
@@ -145,11 +147,7 @@ fn place_cause<'t>(
     ensures { option_map cause_view result
         ≡ place_cause (context_of surroundings.entry) name (read_of reading.entry) }
 {
-    if may_stand(surroundings, name, reading) {
-        None
-    } else {
-        Some(misplaced(name, reading))
-    }
+    (!may_stand(surroundings, name, reading)).then_some(misplaced(name, reading))
 }
 
 // What is wrong with the place of a test, where it may not stand there.
@@ -157,11 +155,7 @@ fn test_place_cause<'t>(surroundings: Surroundings<'_>, name: TestName) -> Optio
     ensures { option_map cause_view result
         ≡ test_place_cause (context_of surroundings.entry) name }
 {
-    if test_may_stand(surroundings, name) {
-        None
-    } else {
-        Some(Cause::plain(ReasonKind::Misplaced))
-    }
+    (!test_may_stand(surroundings, name)).then_some(Cause::plain(ReasonKind::Misplaced))
 }
 
 // The first capability that is needed and wasn't required.
@@ -201,11 +195,7 @@ fn unknown_cause(name: CommandName, head: &Head) -> Option<Cause<'_>>
 fn tests_cause<'t>(signature: Signature, tests: Tests) -> Option<Cause<'t>>
     ensures { option_map cause_view result ≡ tests_cause signature tests }
 {
-    if signature.tests == tests {
-        None
-    } else {
-        Some(Cause::plain(ReasonKind::WrongTests(signature.tests)))
-    }
+    (signature.tests != tests).then_some(Cause::plain(ReasonKind::WrongTests(signature.tests)))
 }
 
 // What is wrong with how a command ends.
@@ -213,11 +203,7 @@ fn ending_cause<'t>(name: CommandName, ending: Ending) -> Option<Cause<'t>>
     ensures { option_map cause_view result ≡ ending_cause name ending }
 {
     let wanted = ending_of(name);
-    if wanted == ending {
-        None
-    } else {
-        Some(Cause::plain(ReasonKind::WrongEnding(wanted)))
-    }
+    (wanted != ending).then_some(Cause::plain(ReasonKind::WrongEnding(wanted)))
 }
 
 // The string that is longer than the limit, if one is.
@@ -232,11 +218,7 @@ fn long_string_cause(head: &Head) -> Option<Cause<'_>>
 fn many_strings_cause<'t>(reading: Reading<'_>) -> Option<Cause<'t>>
     ensures { option_map cause_view result ≡ many_strings_cause (read_of reading.entry) }
 {
-    if has_many_strings(reading) {
-        Some(Cause::plain(ReasonKind::ManyStrings))
-    } else {
-        None
-    }
+    has_many_strings(reading).then_some(Cause::plain(ReasonKind::ManyStrings))
 }
 
 // That a command opens a loop within as many others as may be open, if it does.
@@ -248,11 +230,9 @@ fn many_loops_cause<'t>(
     ensures { option_map cause_view result
         ≡ many_loops_cause (context_of surroundings.entry) name (arguments_of head.now) }
 {
-    if surroundings.opens_many(name) {
-        Some(Cause::plain(ReasonKind::ManyLoops))
-    } else {
-        None
-    }
+    surroundings
+        .opens_many(name)
+        .then_some(Cause::plain(ReasonKind::ManyLoops))
 }
 
 // What is wrong behind the arguments of a command, or with references and names among them.
@@ -304,8 +284,8 @@ fn read_command<'t>(
     reading: Reading<'t>,
 ) -> Result<Mentions<'t>, Cause<'t>>
     requires { is_positional (command_signature name).positional (left_of reading) ≡ true }
-    ensures { Finds (where_required (context_of surroundings.entry)
-        (mentions_of name (strings_of (lists_read (read_of reading.entry)))))
+    ensures { Finds (names_mentioned (where_required (context_of surroundings.entry)
+        (mentions_of name (strings_of (lists_read (read_of reading.entry))))))
         (read_command_cause (context_of surroundings.entry) name (arguments_of head.now) tests
         ending (read_of reading.entry)) result }
 {
@@ -323,14 +303,15 @@ fn read_command<'t>(
 }
 
 // The same of a command that is known by that name.
-fn found_command<'t>(
+fn known_command<'t>(
     surroundings: Surroundings<'_>,
     name: CommandName,
     head: &'t Head,
     tests: Tests,
     ending: Ending,
 ) -> Result<Mentions<'t>, Cause<'t>>
-    ensures { Finds (command_mentions (context_of surroundings.entry) name (arguments_of head.now))
+    ensures { Finds (names_mentioned
+        (command_mentions (context_of surroundings.entry) name (arguments_of head.now)))
         (known_command_cause (context_of surroundings.entry) name (arguments_of head.now) tests
         ending) result }
 {
@@ -346,12 +327,26 @@ fn found_command<'t>(
     }
 }
 
-// What is wrong behind the arguments of a test, or with references among them.
-fn ill_formed_test<'t>(
-    name: TestName,
+// The same of any command.
+fn found_command<'t>(
+    surroundings: Surroundings<'_>,
+    head: &'t Head,
     tests: Tests,
-    mentions: Mentions<'t>,
-) -> Option<Cause<'t>>
+    ending: Ending,
+) -> Result<Mentions<'t>, Cause<'t>>
+    ensures { Finds (command_visit (context_of surroundings.entry) head.now.token head.now.name
+        (arguments_of head.now) tests ending).names
+        (command_visit (context_of surroundings.entry) head.now.token head.now.name
+        (arguments_of head.now) tests ending).cause result }
+{
+    match command_named(head.name.as_slice()) {
+        Some(name) => known_command(surroundings, name, head, tests, ending),
+        None => Err(Cause::plain(ReasonKind::UnknownCommand)),
+    }
+}
+
+// What is wrong behind the arguments of a test, or with references among them.
+fn ill_formed_test<'t>(name: TestName, tests: Tests, mentions: Mentions<'t>) -> Option<Cause<'t>>
     ensures { option_map cause_view result
         ≡ ill_formed_test name tests (mentions_in mentions.entry) }
 {
@@ -388,8 +383,8 @@ fn read_test<'t>(
     tests: Tests,
     reading: Reading<'t>,
 ) -> Result<Mentions<'t>, Cause<'t>>
-    ensures { Finds (where_required (context_of surroundings.entry)
-        (expanding (strings_of (lists_read (read_of reading.entry)))))
+    ensures { Finds (names_mentioned (where_required (context_of surroundings.entry)
+        (expanding (strings_of (lists_read (read_of reading.entry))))))
         (read_test_cause (context_of surroundings.entry) name (arguments_of head.now) tests
         (read_of reading.entry)) result }
 {
@@ -407,13 +402,14 @@ fn read_test<'t>(
 }
 
 // The same of a test that is known by that name.
-fn found_test<'t>(
+fn known_test<'t>(
     surroundings: Surroundings<'_>,
     name: TestName,
     head: &'t Head,
     tests: Tests,
 ) -> Result<Mentions<'t>, Cause<'t>>
-    ensures { Finds (test_mentions (context_of surroundings.entry) name (arguments_of head.now))
+    ensures { Finds (names_mentioned
+        (test_mentions (context_of surroundings.entry) name (arguments_of head.now)))
         (known_test_cause (context_of surroundings.entry) name (arguments_of head.now) tests)
         result }
 {
@@ -426,136 +422,90 @@ fn found_test<'t>(
     }
 }
 
-// Adds the names that a command or test brings, or says that the script has too many with them.
-fn added<'t>(names: &mut VariableNames<'t>, mentions: Mentions<'t>) -> Result<(), Cause<'t>>
-    ensures { (token : ℕ) (word : List ℕ)
-        → Judges (listed names.old)
-        (record {
-          token = token;
-          name = word;
-          names = names_mentioned (mentions_in mentions.entry);
-          cause = None;
-        }) result (listed names.new) }
-{
-    match mentions.add_to(names) {
-        Ok(()) => Ok(()),
-        Err(kind) => Err(Cause::plain(kind)),
-    }
-}
-
-// Nothing, where nothing is wrong with a command that is known by that name; the names that it brings are then added.
-fn known_command<'t>(
-    names: &mut VariableNames<'t>,
+// The same of any test.
+fn found_test<'t>(
     surroundings: Surroundings<'_>,
-    name: CommandName,
     head: &'t Head,
     tests: Tests,
-    ending: Ending,
-) -> Result<(), Cause<'t>>
-    ensures { Judges (listed names.old)
-        (known_command_visit (context_of surroundings.entry) head.now.token head.now.name name
-        (arguments_of head.now) tests ending) result (listed names.new) }
+) -> Result<Mentions<'t>, Cause<'t>>
+    ensures { Finds (test_visit (context_of surroundings.entry) head.now.token head.now.name
+        (arguments_of head.now) tests).names
+        (test_visit (context_of surroundings.entry) head.now.token head.now.name
+        (arguments_of head.now) tests).cause result }
 {
-    match found_command(surroundings, name, head, tests, ending) {
-        Ok(mentions) => added(names, mentions),
-        Err(cause) => Err(cause),
+    match test_named(head.name.as_slice()) {
+        Some(name) => known_test(surroundings, name, head, tests),
+        None => Err(Cause::plain(ReasonKind::UnknownTest)),
     }
 }
 
-// Nothing, where nothing is wrong with a test that is known by that name; the names that it brings are then added.
-fn known_test<'t>(
-    names: &mut VariableNames<'t>,
+// The same of a command, which ends so, or of a test.
+fn found<'t>(
     surroundings: Surroundings<'_>,
-    name: TestName,
     head: &'t Head,
     tests: Tests,
-) -> Result<(), Cause<'t>>
-    ensures { Judges (listed names.old)
-        (known_test_visit (context_of surroundings.entry) head.now.token head.now.name name
-        (arguments_of head.now) tests) result (listed names.new) }
+    ending: Option<Ending>,
+) -> Result<Mentions<'t>, Cause<'t>>
+    ensures { Finds (visit_as ending (context_of surroundings.entry) head.now.token
+        head.now.name (arguments_of head.now) tests).names
+        (visit_as ending (context_of surroundings.entry) head.now.token head.now.name
+        (arguments_of head.now) tests).cause result }
 {
-    match found_test(surroundings, name, head, tests) {
-        Ok(mentions) => added(names, mentions),
-        Err(cause) => Err(cause),
+    match ending {
+        Some(ending) => found_command(surroundings, head, tests, ending),
+        None => found_test(surroundings, head, tests),
     }
 }
 
-// What was found of a command or test, with its place and its name.
-fn at<'t>(head: &'t Head, judged: Result<(), Cause<'t>>) -> Result<(), Refused<'t>>
-    ensures { MatchResult judged.entry (λ _. IsOk result)
-        (λ cause. MatchResult result (λ _. ⊥)
-        (λ refused. refused_view refused
-        ≡ refused_for head.now.token head.now.name (cause_view cause))) }
+// Nothing, where nothing is wrong with a command or test, apart from its tests and its block; the names that it brings are then
+// added.
+fn alone<'t>(
+    names: &mut VariableNames<'t>,
+    surroundings: Surroundings<'_>,
+    head: &'t Head,
+    tests: Tests,
+    ending: Option<Ending>,
+) -> Result<(), Refused<'t>>
+    ensures { Passes (listed names.old)
+        (visit_as ending (context_of surroundings.entry) head.now.token head.now.name
+        (arguments_of head.now) tests ∷ []) result (listed names.new) }
 {
-    match judged {
-        Ok(()) => Ok(()),
+    match found(surroundings, head, tests, ending) {
+        Ok(mentions) => match mentions.add_to(names) {
+            Ok(()) => Ok(()),
+            Err(kind) => Err(Refused::of(head, Cause::plain(kind))),
+        },
         Err(cause) => Err(Refused::of(head, cause)),
     }
 }
 
-// Nothing, where nothing is wrong with a command, apart from its tests and its block.
-fn command_alone<'t>(
-    names: &mut VariableNames<'t>,
-    surroundings: Surroundings<'_>,
-    head: &'t Head,
-    tests: Tests,
-    ending: Ending,
-) -> Result<(), Refused<'t>>
-    ensures { Passes (listed names.old)
-        (command_visit (context_of surroundings.entry) head.now.token head.now.name
-        (arguments_of head.now) tests ending ∷ []) result (listed names.new) }
-{
-    let judged = match command_named(head.name.as_slice()) {
-        Some(name) => known_command(names, surroundings, name, head, tests, ending),
-        None => Err(Cause::plain(ReasonKind::UnknownCommand)),
-    };
-    at(head, judged)
-}
-
-// Nothing, where nothing is wrong with a test, apart from its own tests.
-fn test_alone<'t>(
-    names: &mut VariableNames<'t>,
-    surroundings: Surroundings<'_>,
-    head: &'t Head,
-    tests: Tests,
-) -> Result<(), Refused<'t>>
-    ensures { Passes (listed names.old)
-        (test_visit (context_of surroundings.entry) head.now.token head.now.name
-        (arguments_of head.now) tests ∷ []) result (listed names.new) }
-{
-    let judged = match test_named(head.name.as_slice()) {
-        Some(name) => known_test(names, surroundings, name, head, tests),
-        None => Err(Cause::plain(ReasonKind::UnknownTest)),
-    };
-    at(head, judged)
-}
-
-// Nothing, where nothing is wrong with a test and its own tests.
+// Nothing, where nothing is wrong with a command and its tests, apart from its block, or with a test and its own tests.
 #[cycle(tests)]
-fn test<'t>(
+fn invocation<'t>(
     names: &mut VariableNames<'t>,
     surroundings: Surroundings<'_>,
-    invocation: &'t Invocation,
+    tree: &'t Invocation,
+    ending: Option<Ending>,
 ) -> Result<(), Refused<'t>>
     ensures { Passes (listed names.old)
-        (test_visits (context_of surroundings.entry) (invocation_tree invocation.now)) result
+        (visits_as ending (context_of surroundings.entry) (invocation_tree tree.now)) result
         (listed names.new) }
 {
-    match invocation {
-        Invocation::Plain(head) => test_alone(names, surroundings, head, Tests::Nothing),
+    match tree {
+        Invocation::Plain(head) => alone(names, surroundings, head, Tests::Nothing, ending),
         Invocation::WithTest(head, inner) => {
-            test_alone(names, surroundings, head, Tests::One)?;
-            test(names, surroundings, inner)
+            alone(names, surroundings, head, Tests::One, ending)?;
+            invocation(names, surroundings, inner, None)
         }
         Invocation::WithTests(head, first, others) => {
-            test_alone(names, surroundings, head, Tests::Bracketed)?;
-            test(names, surroundings, first)?;
+            alone(names, surroundings, head, Tests::Bracketed, ending)?;
+            invocation(names, surroundings, first, None)?;
             tests(names, surroundings, others)
         }
     }
 }
 
-// The same of the tests of a list after its first.
+// Nothing, where nothing is wrong with the tests of a list after its first.
 #[cycle(tests)]
 fn tests<'t>(
     names: &mut VariableNames<'t>,
@@ -566,37 +516,10 @@ fn tests<'t>(
         (more_visits (context_of surroundings.entry) (more_tests_of (map invocation_tree list.now)))
         result (listed names.new) }
 {
-    'list: for invocation in list {
-        test(names, surroundings, invocation)?;
+    'list: for tree in list {
+        invocation(names, surroundings, tree, None)?;
     }
     Ok(())
-}
-
-// Nothing, where nothing is wrong with a command and its tests, apart from its block.
-fn head<'t>(
-    names: &mut VariableNames<'t>,
-    surroundings: Surroundings<'_>,
-    invocation: &'t Invocation,
-    ending: Ending,
-) -> Result<(), Refused<'t>>
-    ensures { Passes (listed names.old)
-        (head_visits (context_of surroundings.entry) (invocation_tree invocation.now) ending) result
-        (listed names.new) }
-{
-    match invocation {
-        Invocation::Plain(head) => {
-            command_alone(names, surroundings, head, Tests::Nothing, ending)
-        }
-        Invocation::WithTest(head, inner) => {
-            command_alone(names, surroundings, head, Tests::One, ending)?;
-            test(names, surroundings, inner)
-        }
-        Invocation::WithTests(head, first, others) => {
-            command_alone(names, surroundings, head, Tests::Bracketed, ending)?;
-            test(names, surroundings, first)?;
-            tests(names, surroundings, others)
-        }
-    }
 }
 
 // Nothing, where nothing is wrong with a command and what stands below it.
@@ -611,10 +534,12 @@ fn command<'t>(
         (listed names.new) }
 {
     match tree {
-        Command::Simple(invocation) => head(names, surroundings, invocation, Ending::Semicolon),
-        Command::Block(invocation, block) => {
-            head(names, surroundings, invocation, Ending::Block)?;
-            match surroundings.in_block(invocation) {
+        Command::Simple(first) => {
+            invocation(names, surroundings, first, Some(Ending::Semicolon))
+        }
+        Command::Block(first, block) => {
+            invocation(names, surroundings, first, Some(Ending::Block))?;
+            match surroundings.in_block(first) {
                 Some(inside) => commands(names, inside, block),
                 None => unreachable!(),
             }

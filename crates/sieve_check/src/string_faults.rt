@@ -28,8 +28,8 @@ pub enum StringFault {
 
 impl StringFault {
     ghost use Rattle.std.specs.Prelude.{◌≡◌, map};
+    ghost use Rattle.std.specs.List.{find};
     ghost use Rattle.sieve_parser.specs.View.{argument_tree};
-    ghost use Rattle.sieve_check.specs.Causes.{first_where};
     ghost use Rattle.sieve_check.specs.Reading.{all_lists, name_in};
     ghost use Rattle.sieve_check.specs.Rules.{string_has, strings_in, strings_of};
 
@@ -47,7 +47,7 @@ impl StringFault {
 
     // The first of the strings with which this is wrong.
     fn first_of(self, strings: &[Octets]) -> Option<&[u8]>
-        ensures { name_in result ≡ first_where (string_has self) strings.now }
+        ensures { name_in result ≡ find (string_has self) strings.now }
     {
         for string in strings {
             if self.is_in(string) {
@@ -59,7 +59,7 @@ impl StringFault {
 
     // The first string of the argument with which this is wrong.
     fn first_in_argument(self, argument: &Argument) -> Option<&[u8]>
-        ensures { name_in result ≡ first_where (string_has self)
+        ensures { name_in result ≡ find (string_has self)
             (strings_in (argument_tree argument.now)) }
     {
         match argument {
@@ -83,7 +83,7 @@ impl StringFault {
 
     /// The first string of the arguments with which this is wrong.
     pub fn first_in(self, arguments: &[Argument]) -> Option<&[u8]>
-        ensures { name_in result ≡ first_where (string_has self)
+        ensures { name_in result ≡ find (string_has self)
             (strings_of (map argument_tree arguments.now)) }
     {
         for argument in arguments {
@@ -96,16 +96,12 @@ impl StringFault {
 
     /// The first string of the lists with which this is wrong.
     pub fn first_in_lists<'t>(self, lists: Lists<'t>) -> Option<&'t [u8]>
-        ensures { name_in result ≡ first_where (string_has self)
+        ensures { name_in result ≡ find (string_has self)
             (strings_of (all_lists lists.entry)) }
     {
-        if let Some(string) = self.first_in(lists.first) {
-            return Some(string);
-        }
-        if let Some(string) = self.first_in(lists.params) {
-            return Some(string);
-        }
-        self.first_in(lists.others)
+        self.first_in(lists.first)
+            .or(self.first_in(lists.params))
+            .or(self.first_in(lists.others))
     }
 }
 

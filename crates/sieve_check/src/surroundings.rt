@@ -130,10 +130,10 @@ fn loop_name(arguments: &[Argument]) -> Option<&[u8]>
     ensures { name_in result ≡ name_read
         (reading (command_signature CommandName.ForEveryPart) (map argument_tree arguments.now)) }
 {
-    match command_signature(CommandName::ForEveryPart).read(arguments) {
-        Ok(reading) => reading.name,
-        Err(_) => None,
-    }
+    command_signature(CommandName::ForEveryPart)
+        .read(arguments)
+        .ok()?
+        .name
 }
 
 /// What surrounds a command or test.

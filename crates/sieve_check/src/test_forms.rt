@@ -267,9 +267,7 @@ fn combining(head: &Head) -> Option<Junction>
         → head_test s head.now (bracketed f fs) ≡ option_map (λ j. joined_by j f fs) result }
 {
     let name = test_named(head.name.as_slice())?;
-    if test_signature(name).read(&head.arguments).is_err() {
-        return None;
-    }
+    test_signature(name).read(&head.arguments).ok()?;
     match name {
         TestName::AllOf => Some(Junction::All),
         TestName::AnyOf => Some(Junction::Any),

@@ -41,17 +41,16 @@ one_depth : OneList → (name script : List ℕ) (number : ℕ) (text other : Li
 one_depth law name script number text other (tokens, (has, e)) (others, (has', e')) =
     e ∙ ap (λ (l : List Token). told name script (start_of script (slice_get l number)) too_deep_blanks) (one_list law script tokens others has has') ∙ sym e'
 
-one_why : OneList → (name script : List ℕ) (fault : Fault) (number : ℕ) (reason : Option Reason) (text other : List ℕ)
-    → TellsWhy name script fault number reason text → TellsWhy name script fault number reason other → text ≡ other
-one_why law name script fault number None text other e e' = e ∙ sym e'
-one_why law name script fault number (Some reason) text other (tokens, (has, e)) (others, (has', e')) =
-    e ∙ ap (λ (l : List Token). reason_told name script fault reason l number) (one_list law script tokens others has has') ∙ sym e'
+one_why : OneList → (name script : List ℕ) (number : ℕ) (reason : Option Reason) (text other : List ℕ) → TellsWhy name script number reason text → TellsWhy name script number reason other → text ≡ other
+one_why law name script number None text other e e' = e ∙ sym e'
+one_why law name script number (Some reason) text other (tokens, (has, e)) (others, (has', e')) =
+    e ∙ ap (λ (l : List Token). reason_told name script reason l number) (one_list law script tokens others has has') ∙ sym e'
 
 one_reason : OneList → OneTree → (name script : List ℕ) (fault : Fault) (number : ℕ) (text other : List ℕ)
     → TellsReason name script fault number text → TellsReason name script fault number other → text ≡ other
 one_reason law same name script fault number text other (tree, (grown, tells)) (tree', (grown', tells')) =
-    one_why law name script fault number (reason_in tree fault number) text other tells
-    (subst (λ (t : Option CommandsTree). TellsWhy name script fault number (reason_in t fault number) other) (one_tree same script tree' tree grown' grown) tells')
+    one_why law name script number (reason_in tree fault number) text other tells
+    (subst (λ (t : Option CommandsTree). TellsWhy name script number (reason_in t fault number) other) (one_tree same script tree' tree grown' grown) tells')
 
 pub one_text : OneList → OneTree → (name script : List ℕ) (refusal : Refusal) (text other : List ℕ) → Explains name script refusal text → Explains name script refusal other → text ≡ other
 one_text law same name script (refused.Lexical place) text other p q = p ∙ sym q

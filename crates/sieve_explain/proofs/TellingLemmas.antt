@@ -19,8 +19,8 @@ tells_depth name script number place blanks text tokens has p q e =
     (tokens, (has, e ∙ ap (λ (b : Blanks). told name script place b) q ∙ ap (λ (n : ℕ). told name script n too_deep_blanks) p))
 
 pub tells_reason : (name script : List ℕ) (fault : Fault) (number : ℕ) (tree : Option CommandsTree) (reason : Option Reason) (text : List ℕ)
-    → HasTree script tree → reason ≡ reason_in tree fault number → TellsWhy name script fault number reason text → TellsReason name script fault number text
-tells_reason name script fault number tree reason text grown is tells = (tree, (grown, subst (λ (r : Option Reason). TellsWhy name script fault number r text) is tells))
+    → HasTree script tree → reason ≡ reason_in tree fault number → TellsWhy name script number reason text → TellsReason name script fault number text
+tells_reason name script fault number tree reason text grown is tells = (tree, (grown, subst (λ (r : Option Reason). TellsWhy name script number r text) is tells))
 
 -- the law that a script that has a tree is refused for want of memory alone
 abbrev pub NoParseFault : Type 0

@@ -13,6 +13,8 @@ use Rattle.sieve_lexer.specs.Tokens.{AreTokens}
 use Rattle.sieve_lexer.specs.declared.token.Token.{Token}
 use Rattle.sieve_parser.specs.Scripts.{IsParsed}
 use Rattle.sieve_parser.specs.Tree.{CommandsTree}
+use Rattle.sieve_check.specs.declared.causes.ReasonKind.{ReasonKind}
+use Rattle.sieve_check.specs.declared.causes.ReasonKind.TheVariants as kind
 use Rattle.sieve_check.specs.Causes.{Reason, Refused, fault_of_kind}
 use Rattle.sieve_check.specs.Rules.{reason_of}
 use Rattle.sieve_explain.specs.Faults.{lexical_blanks, listing_blanks, syntax_blanks, too_deep_blanks, too_long_blanks, unclosed_blanks, unit_blanks}
@@ -90,45 +92,36 @@ abbrev pub TellsDepth : List ℕ → List ℕ → ℕ → List ℕ → Type 0
 TellsDepth name script number text = (tokens : List Token) × (HasTokens script tokens
     × (text ≡ told name script (start_of script (slice_get tokens number)) too_deep_blanks))
 
--- the string that is no capability, or else the command
-abbrev pub string_marked : List ℕ → Reason → List Token → ℕ → Option Token
-string_marked script reason tokens number = option_or (string_among script reason.subject (drop number tokens))
-    (slice_get tokens number)
+-- under a string that is no capability, else under the command
+abbrev pub marked_by : ReasonKind → Option Token → Option Token → Option Token
+marked_by kind.UnknownCapability string command = option_or string command
+marked_by _ string command = command
 
 -- the token under which the mark stands
-abbrev pub marked_token : List ℕ → Fault → Reason → List Token → ℕ → Option Token
-marked_token script UnknownCommand reason tokens number = slice_get tokens number
-marked_token script MissingCapability reason tokens number = slice_get tokens number
-marked_token script UnknownCapability reason tokens number = string_marked script reason tokens number
-marked_token script BadArguments reason tokens number = slice_get tokens number
-marked_token script Limit reason tokens number = slice_get tokens number
+abbrev pub marked_token : List ℕ → Reason → List Token → ℕ → Option Token
+marked_token script reason tokens number = marked_by reason.kind
+    (string_among script reason.subject (drop number tokens)) (slice_get tokens number)
 
 -- arguments with a wrong unit, or another reason
-abbrev pub arguments_blanks : List ℕ → Reason → List Token → ℕ → Blanks
-arguments_blanks script reason tokens number = if has_unit script (drop 1 (drop number tokens)) then unit_blanks else reason_blanks reason
+abbrev pub fault_blanks : List ℕ → Reason → List Token → ℕ → Blanks
+fault_blanks script reason tokens number =
+    if same_fault (fault_of_kind reason.kind) BadArguments && has_unit script (drop 1 (drop number tokens)) then unit_blanks
+    else reason_blanks reason
 
-abbrev pub fault_blanks : List ℕ → Fault → Reason → List Token → ℕ → Blanks
-fault_blanks script UnknownCommand reason tokens number = reason_blanks reason
-fault_blanks script MissingCapability reason tokens number = reason_blanks reason
-fault_blanks script UnknownCapability reason tokens number = reason_blanks reason
-fault_blanks script BadArguments reason tokens number = arguments_blanks script reason tokens number
-fault_blanks script Limit reason tokens number = reason_blanks reason
-
-abbrev pub reason_told : List ℕ → List ℕ → Fault → Reason → List Token → ℕ → List ℕ
-reason_told name script fault reason tokens number =
-    told name script (start_of script (marked_token script fault reason tokens number))
-    (fault_blanks script fault reason tokens number)
+abbrev pub reason_told : List ℕ → List ℕ → Reason → List Token → ℕ → List ℕ
+reason_told name script reason tokens number =
+    told name script (start_of script (marked_token script reason tokens number)) (fault_blanks script reason tokens number)
 
 -- the reason, where there is one; else nothing
-abbrev pub TellsWhy : List ℕ → List ℕ → Fault → ℕ → Option Reason → List ℕ → Type 0
-TellsWhy name script fault number None text = text ≡ []
-TellsWhy name script fault number (Some reason) text = (tokens : List Token) × (HasTokens script tokens
-    × (text ≡ reason_told name script fault reason tokens number))
+abbrev pub TellsWhy : List ℕ → List ℕ → ℕ → Option Reason → List ℕ → Type 0
+TellsWhy name script number None text = text ≡ []
+TellsWhy name script number (Some reason) text = (tokens : List Token) × (HasTokens script tokens
+    × (text ≡ reason_told name script reason tokens number))
 
 -- 15 to 19: nothing where the script isn't refused so
 abbrev pub TellsReason : List ℕ → List ℕ → Fault → ℕ → List ℕ → Type 0
 TellsReason name script fault number text = (tree : Option CommandsTree) × (HasTree script tree
-    × TellsWhy name script fault number (reason_in tree fault number) text)
+    × TellsWhy name script number (reason_in tree fault number) text)
 
 -- what is told of a listing of a program, whose fault is of that kind: its place, a sentence and the line
 abbrev pub listing_told : List ℕ → List ℕ → ℕ → FaultKind → List ℕ

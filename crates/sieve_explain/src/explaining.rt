@@ -3,7 +3,7 @@ ghost use Rattle.std.specs.Prelude.{◌≡◌, ◌≤◌, ◌++◌, IfOk, IfSome
 ghost use Rattle.std.specs.List.{slice_get};
 ghost use Rattle.sieve_check.specs.Reading.{reason_view, refused_view};
 ghost use Rattle.sieve_parser.specs.View.{commands_tree};
-ghost use Rattle.sieve_explain.specs.Explaining.{Explains, HasTokens, TellsDepth, TellsReason, TellsSyntax, TellsWhy, arguments_blanks, fault_blanks, heading, listing_told, marked_token, opened, reason_for, reason_told, remark, same_fault, start_of, string_marked, syntax_told, told};
+ghost use Rattle.sieve_explain.specs.Explaining.{Explains, HasTokens, TellsDepth, TellsReason, TellsSyntax, TellsWhy, fault_blanks, heading, listing_told, marked_token, opened, reason_for, reason_told, remark, same_fault, start_of, syntax_told, told};
 ghost use Rattle.sieve_explain.specs.Marks.{string_among, unclosed};
 ghost use Rattle.sieve_explain.specs.Sentences.{blanks_of, filled};
 
@@ -19,7 +19,7 @@ use crate::sentence::{Sentence, push_sentence};
 use bytecode_listing::FaultKind;
 use itoa::Buffer;
 use refusals::Refusal;
-use sieve_check::{Fault, Reason, Refused, reason_of};
+use sieve_check::{Fault, Reason, ReasonKind, Refused, reason_of};
 use sieve_lexer::laws::tokens_have_no_fault;
 use sieve_lexer::{LexicalError, MAX_SCRIPT, Token, tokens};
 use sieve_parser::laws::parsed_scripts_have_no_fault;
@@ -280,76 +280,49 @@ fn depth_explanation(
     told(alloc, name, script, place, &too_deep_sentence())
 }
 
-// The string that is no capability, or else the command.
-fn string_marked(
-    script: &[u8],
-    reason: Reason<'_>,
-    tokens: &[Token],
-    number: usize,
-) -> Option<Token>
-    requires { HasTokens script.now tokens.now }
-    ensures token { result ≡ string_marked script.now (reason_view reason.entry) tokens.now
-        number }
-    ensures within { IfSome result (λ t. (t.start ≤ t.end) × (t.end ≤ length script.now)) }
-{
-    string_behind(script, tokens, number, reason.subject).or(token_numbered(script, tokens, number))
-}
-
 // The token under which the mark stands.
 fn marked_token(
     script: &[u8],
-    fault: Fault,
     reason: Reason<'_>,
     tokens: &[Token],
     number: usize,
 ) -> Option<Token>
     requires { HasTokens script.now tokens.now }
-    ensures token { result ≡ marked_token script.now fault (reason_view reason.entry)
-        tokens.now number }
+    ensures token { result ≡ marked_token script.now (reason_view reason.entry) tokens.now number }
     ensures within { IfSome result (λ t. (t.start ≤ t.end) × (t.end ≤ length script.now)) }
 {
-    match fault {
-        Fault::UnknownCapability => string_marked(script, reason, tokens, number),
-        Fault::UnknownCommand | Fault::MissingCapability | Fault::BadArguments | Fault::Limit => {
-            token_numbered(script, tokens, number)
+    let command = token_numbered(script, tokens, number);
+    match reason.kind {
+        ReasonKind::UnknownCapability => {
+            string_behind(script, tokens, number, reason.subject).or(command)
         }
+        _ => command,
     }
+}
+
+// Whether these are the same fault.
+fn is_same_fault(fault: Fault, other: Fault) -> bool
+    ensures { result ≡ same_fault fault other }
+{
+    fault == other
 }
 
 // The sentence for arguments with a wrong unit, or for another reason.
-fn arguments_sentence<'a>(
+fn fault_sentence<'a>(
     script: &[u8],
     reason: Reason<'a>,
     tokens: &[Token],
     number: usize,
 ) -> Sentence<'a>
-    ensures { blanks_of result ≡ arguments_blanks script.now (reason_view reason.entry)
-        tokens.now number }
+    ensures { blanks_of result ≡ fault_blanks script.now (reason_view reason.entry) tokens.now
+        number }
 {
-    if has_unit(script, tokens_from(tokens_from(tokens, number), 1)) {
+    if is_same_fault(reason.kind.fault(), Fault::BadArguments)
+        && has_unit(script, tokens_from(tokens_from(tokens, number), 1))
+    {
         unit_sentence()
     } else {
         reason_sentence(reason)
-    }
-}
-
-// The sentence for a command or test that isn't accepted.
-fn fault_sentence<'a>(
-    script: &[u8],
-    fault: Fault,
-    reason: Reason<'a>,
-    tokens: &[Token],
-    number: usize,
-) -> Sentence<'a>
-    ensures { blanks_of result ≡ fault_blanks script.now fault (reason_view reason.entry)
-        tokens.now number }
-{
-    match fault {
-        Fault::BadArguments => arguments_sentence(script, reason, tokens, number),
-        Fault::UnknownCommand
-        | Fault::MissingCapability
-        | Fault::UnknownCapability
-        | Fault::Limit => reason_sentence(reason),
     }
 }
 
@@ -358,26 +331,17 @@ fn reason_told(
     alloc: Global,
     name: &str,
     script: &[u8],
-    fault: Fault,
     reason: Reason<'_>,
     tokens: &[Token],
     number: usize,
 ) -> Result<Vec<u8>, AllocError>
     requires { HasTokens script.now tokens.now }
     ensures { IfOk result (λ text. text.items
-        ≡ reason_told name.now script.now fault (reason_view reason.entry) tokens.now
-        number) }
+        ≡ reason_told name.now script.now (reason_view reason.entry) tokens.now number) }
 {
-    let place = start_of(script, marked_token(script, fault, reason, tokens, number));
-    let sentence = fault_sentence(script, fault, reason, tokens, number);
+    let place = start_of(script, marked_token(script, reason, tokens, number));
+    let sentence = fault_sentence(script, reason, tokens, number);
     told(alloc, name, script, place, &sentence)
-}
-
-// Whether these are the same fault.
-fn is_same_fault(fault: Fault, other: Fault) -> bool
-    ensures { result ≡ same_fault fault other }
-{
-    fault == other
 }
 
 // The reason, where it is for that fault at that token.
@@ -398,18 +362,17 @@ fn why_told(
     alloc: Global,
     name: &str,
     script: &[u8],
-    fault: Fault,
     number: usize,
     reason: Option<Reason<'_>>,
 ) -> Result<Vec<u8>, AllocError>
-    ensures { IfOk result (λ text. TellsWhy name.now script.now fault number
+    ensures { IfOk result (λ text. TellsWhy name.now script.now number
         (option_map reason_view reason.entry) text.items) }
 {
     let Some(reason) = reason else {
         return Ok(Vec::new(alloc));
     };
     let tokens = tokens_of(alloc, script)?;
-    reason_told(alloc, name, script, fault, reason, &tokens, number)
+    reason_told(alloc, name, script, reason, &tokens, number)
 }
 
 // What is told of a command or test that isn't accepted.
@@ -425,13 +388,13 @@ fn reason_explanation(
     match parse(alloc, script) {
         Ok(tree) => {
             let reason = reason_for(fault, number, reason_of(&tree));
-            why_told(alloc, name, script, fault, number, reason)
+            why_told(alloc, name, script, number, reason)
         }
         Err(error) => match error {
             ParseError::Memory => Err(AllocError),
             _ => {
                 parsed_scripts_have_no_fault();
-                why_told(alloc, name, script, fault, number, None)
+                why_told(alloc, name, script, number, None)
             }
         },
     }

@@ -15,23 +15,23 @@ use Rattle.sieve_check.proofs.OpenLoops.{inside_is, room_inside}
 use Rattle.sieve_check.proofs.Visits.{AreLeft, found_among, one_less, passed, refused}
 use Rattle.sieve_check.proofs.rules.+commands.Goals as goal
 
-pub command-returns-in_err-head-in-Block : goal.command-returns-in_err-head-in-Block
-command-returns-in_err-head-in-Block t c =
+pub command-returns-in_err-invocation-in-Block : goal.command-returns-in_err-invocation-in-Block
+command-returns-in_err-invocation-in-Block t c =
     let b = c.in-Block in
     let s = context_of c.args.surroundings in
     let p = err_from_is_err_and c.from_residual.result c.from_residual.ensures.1 in
-    refused (listed c.args.names.now) (command_visits s (command_tree c.args.tree.now)) (head_visits s (invocation_tree b.invocation) Block) (commands_visits (in_block (loops_opened (invocation_tree b.invocation)) s) (commands_tree b.block.items))
-    (block_visits s c.args.tree.now b.invocation b.block b.is) c.in_err-head-in-Block.field-0.0 p.0 c.from_residual.result (listed c.head-in-Block.new.names) c.in_err-head-in-Block.ensures p.1 p.2
+    refused (listed c.args.names.now) (command_visits s (command_tree c.args.tree.now)) (head_visits s (invocation_tree b.first) Block) (commands_visits (in_block (loops_opened (invocation_tree b.first)) s) (commands_tree b.block.items))
+    (block_visits s c.args.tree.now b.first b.block b.is) c.in_err-invocation-in-Block.field-0.0 p.0 c.from_residual.result (listed c.invocation-in-Block.new.names) c.in_err-invocation-in-Block.ensures p.1 p.2
 
 pub command-returns-in-Some : goal.command-returns-in-Some
 command-returns-in-Some t c =
     let b = c.in-Block in
     let s = context_of c.args.surroundings in
-    let i = invocation_tree b.invocation in
-    let between = listed c.head-in-Block.new.names in
+    let i = invocation_tree b.first in
+    let between = listed c.invocation-in-Block.new.names in
     let around : context_of c.in-Some.inside ≡ in_block (loops_opened i) s = inside_is (loops_opened i) s (context_of c.in-Some.inside) (ap (option_map context_of) (sym c.in-Some.is) ∙ c.in_block.ensures) in
     passed (listed c.args.names.now) (command_visits s (command_tree c.args.tree.now)) (head_visits s i Block) (commands_visits (in_block (loops_opened i) s) (commands_tree b.block.items))
-    (block_visits s c.args.tree.now b.invocation b.block b.is) between c.commands.result (listed c.commands.new.names) c.in_ok-head-in-Block.ensures
+    (block_visits s c.args.tree.now b.first b.block b.is) between c.commands.result (listed c.commands.new.names) c.in_ok-invocation-in-Block.ensures
     (subst (λ (around : Context). Passes between (commands_visits around (commands_tree b.block.items)) c.commands.result (listed c.commands.new.names)) around
     (subst (λ (xs : List Tree). Passes between (commands_visits (context_of c.in-Some.inside) (commands_tree xs)) c.commands.result (listed c.commands.new.names)) c.deref.ensures.value c.commands.ensures))
 
@@ -59,6 +59,6 @@ commands-trees-preserved t c =
 pub command-unreachable-requires : goal.command-unreachable-requires
 command-unreachable-requires t c =
     let s = context_of c.args.surroundings in
-    let i = invocation_tree c.in-Block.invocation in
-    let faultless = none_refused (listed c.args.names.now) (head_visits s i Block) c.in_ok-head-in-Block.ensures.0 in
+    let i = invocation_tree c.in-Block.first in
+    let faultless = none_refused (listed c.args.names.now) (head_visits s i Block) c.in_ok-invocation-in-Block.ensures.0 in
     none-some (in_block (loops_opened i) s) (ap (option_map context_of) (sym c.in-None.is) ∙ c.in_block.ensures ∙ room_inside (loops_opened i) s (room_in s i Block faultless))

@@ -7,5 +7,5 @@ use Rattle.sieve_check.proofs.rules.+tests.Given as goal
 
 abbrev pub invariant-tests-list : goal.invariant-tests-list
 invariant-tests-list l =
-    AreLeft (listed l.names) (more_visits (context_of l.surroundings) (more_tests_of (map invocation_tree (drop l.invocation-index l.list))))
+    AreLeft (listed l.names) (more_visits (context_of l.surroundings) (more_tests_of (map invocation_tree (drop l.tree-index l.list))))
     (listed l.initial.names) (more_visits (context_of l.surroundings) (more_tests_of (map invocation_tree l.list)))

@@ -32,8 +32,7 @@ returns-in-Some-end_cause c =
 pub returns-in-None : goal.returns-in-None
 returns-in-None c =
     let reading = c.tags.reading in
-    let all = map argument_tree c.args.arguments.now in
-    (
+    let all = map argument_tree c.args.arguments.now in (
       read_to_end c.args.self all (given_of reading) (left_of reading) c.in_default.ensures (sym c.in-None.ensures) c.tags.invariant.0,
       sym c.tags.invariant.1 ∙ sym (behind_tags c.args.self all (given_of reading) (left_of reading) c.in_default.ensures) ∙ sym c.in-None.ensures,
     )

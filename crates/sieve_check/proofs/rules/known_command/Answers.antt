@@ -4,7 +4,7 @@ use Rattle.sieve_check.specs.declared.signature.Signature.{Signature}
 use Rattle.sieve_check.specs.Reading.{left_of, read_of}
 use Rattle.sieve_check.specs.Signatures.{is_positional}
 use Rattle.sieve_check.proofs.Unread.{right_behind}
-use Rattle.sieve_check.proofs.rules.found_command.Goals as goal
+use Rattle.sieve_check.proofs.rules.known_command.Goals as goal
 
 pub read_command-requires : goal.read_command-requires
 read_command-requires c =
