@@ -1,5 +1,5 @@
 -- How an instruction leads on in the same loops: to the next place, with an entry pushed or none, and to the target of a jump.
-use Rattle.std.proofs.Common.{◌≡◌, ℕ, suc, ◌-◌, ◌<◌, Bool, true, false, not, ◌&&◌, nat_lt, cond, List, [], ◌∷◌, Option, Some, None, All, length, slice_get, get_or, refl, sym, ap, subst, ◌∙◌, arith}
+use Rattle.std.proofs.Common.{◌≡◌, ℕ, suc, ◌<◌, Bool, true, false, not, ◌&&◌, nat_lt, cond, List, [], ◌∷◌, Option, Some, None, All, length, slice_get, get_or, refl, sym, ap, subst, ◌∙◌, arith}
 use Rattle.std.proofs.lemmas.Bool.{lt-ltb}
 use Rattle.std.proofs.lemmas.Option.{slice_get-get_or}
 use Rattle.bytecode_format.specs.declared.instruction.Instruction.{Instruction}

@@ -13,8 +13,8 @@ use Rattle.bytecode_verifier.proofs.Tests.{same_place}
 use Rattle.bytecode_verifier.proofs.Consequences.{left_by, break_known}
 use Rattle.bytecode_verifier.proofs.Nesting.{Nesting}
 use Rattle.mime_decode.specs.Mail.{Mail, IsMail}
-use Rattle.sieve_vm.specs.State.{Frame, State, current_part, ends}
-use Rattle.sieve_vm.specs.Machine.{on, fails, are_partners, open_loop, next_part, next, close, effect}
+use Rattle.sieve_vm.specs.State.{Frame, State, current_part}
+use Rattle.sieve_vm.specs.Machine.{fails, are_partners, open_loop, next_part, next, close, effect}
 use Rattle.sieve_vm.specs.Potential.{potential_from}
 use Rattle.mime_decode.specs.Scope.{visited}
 use Rattle.bytecode_verifier.proofs.Nesting.{nesting}

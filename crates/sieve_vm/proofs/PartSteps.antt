@@ -1,5 +1,5 @@
 -- What the operations on the current part do to the machine.
-use Rattle.std.proofs.Common.{◌≡◌, ℕ, ◌+◌, ◌<◌, ◌≤◌, Bool, true, cond, List, [], ◌∷◌, ◌++◌, Option, Some, IfSome, IsSome, is_some, min, ◌-◌, length, take, slice_get, slice_set, get_or, refl, sym, ap, subst, ◌∙◌, arith}
+use Rattle.std.proofs.Common.{◌≡◌, ℕ, ◌+◌, ◌<◌, ◌≤◌, Bool, true, cond, List, [], ◌∷◌, ◌++◌, Option, Some, IfSome, IsSome, is_some, min, length, take, slice_get, slice_set, get_or, refl, sym, ap, subst, ◌∙◌, arith}
 use Rattle.std.proofs.lemmas.Bool.{lt-ltb}
 use Rattle.std.proofs.lemmas.Option.{slice_get-get_or}
 use Rattle.bytecode_format.specs.declared.action.Action.TheVariants as action
@@ -30,7 +30,7 @@ use Rattle.sieve_vm.specs.State.{Value, truth, text, State, current_part}
 use Rattle.sieve_vm.specs.Stack.{OnTop, texts_on_top, length_on_top}
 use Rattle.sieve_vm.specs.Visits.{part_in}
 use Rattle.sieve_vm.specs.Charge.{cost_with_part, octets_taken, charge_of}
-use Rattle.sieve_vm.specs.Machine.{Effect, on, fails, push, with_texts, with_number, with_meant, tested, test_body, with_part, set_content, with_text, store, store_part, next, compares, effect}
+use Rattle.sieve_vm.specs.Machine.{Effect, on, fails, push, with_texts, with_number, with_meant, tested, test_body, with_part, set_content, with_text, store, store_part, compares, effect}
 use Rattle.sieve_vm.specs.Standing.{once, StandsFor, IsIn, HasHad}
 use Rattle.mail_matching.specs.FirstMatch.{first_match}
 use Rattle.sieve_vm.proofs.Taking.{names_there, folder_there}

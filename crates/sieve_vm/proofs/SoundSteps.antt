@@ -1,5 +1,5 @@
 -- Every step of a run of an accepted program is sound, so all the states of the run are such as it may reach.
-use Rattle.std.proofs.Common.{◌≡◌, ℕ, zero, suc, ◌+◌, ◌-◌, ◌<◌, ◌≤◌, Bool, true, false, cond, List, [], ◌∷◌, Option, Some, None, All, replicate, length, slice_get, get_or, refl, sym, ap, subst, ◌∙◌, arith}
+use Rattle.std.proofs.Common.{◌≡◌, ℕ, zero, suc, ◌+◌, ◌<◌, ◌≤◌, Bool, true, false, cond, List, [], ◌∷◌, Option, Some, None, All, replicate, length, slice_get, get_or, refl, sym, ap, subst, ◌∙◌, arith}
 use Rattle.std.proofs.lemmas.Option.{slice_get-get_or}
 use Rattle.std.proofs.lemmas.List.{length-replicate}
 use Rattle.std.proofs.lemmas.List.Elements.{All-replicate, All-push, All-nil}
@@ -19,7 +19,7 @@ use Rattle.sieve_vm.specs.State.{State, goes, traps, start}
 use Rattle.sieve_vm.specs.Runs.{Run}
 use Rattle.sieve_vm.specs.Charge.{charge_of}
 use Rattle.sieve_vm.specs.Stores.{NamesPart}
-use Rattle.sieve_vm.specs.Machine.{Effect, on, jumps, halts, fails, next, effect, turn, turn_of, turn_at, step}
+use Rattle.sieve_vm.specs.Machine.{Effect, on, jumps, halts, fails, effect, turn, turn_of, turn_at, step}
 use Rattle.bytecode_verifier.specs.Budget.{cap_of, cap_at}
 use Rattle.glob_match.specs.Matching.{max_captures}
 use Rattle.sieve_vm.proofs.Charges.{charge_fits}

@@ -1,5 +1,5 @@
 -- How the machine goes on as the run does, when it has had the effect of an instruction.
-use Rattle.std.proofs.Common.{◌≡◌, ℕ, suc, ◌+◌, ◌^◌, ◌<◌, ◌≤◌, Bool, true, false, nat_lt, cond, List, [], ◌∷◌, Option, Some, None, IsSome, ◌-◌, length, slice_get, refl, sym, ap, subst, ◌∙◌, arith}
+use Rattle.std.proofs.Common.{◌≡◌, ℕ, suc, ◌+◌, ◌^◌, ◌<◌, ◌≤◌, Bool, true, false, nat_lt, cond, List, [], ◌∷◌, Option, Some, None, IsSome, length, slice_get, refl, sym, ap, subst, ◌∙◌, arith}
 use Rattle.bytecode_format.specs.Actions.{first_occurrences, with_implicit_keep}
 use Rattle.bytecode_format.specs.declared.action.Action.{Action}
 use Rattle.bytecode_format.specs.declared.instruction.Instruction.{Instruction}
@@ -23,7 +23,7 @@ use Rattle.sieve_vm.specs.declared.machine.Flow.TheVariants.{On, To, Ends}
 use Rattle.sieve_vm.specs.State.{Value, State, goes, ends, traps, start}
 use Rattle.sieve_vm.specs.Visits.{Visits}
 use Rattle.sieve_vm.specs.Charge.{charge_of}
-use Rattle.sieve_vm.specs.Machine.{Effect, on, jumps, halts, fails, push, next, is_sound_jump, effect, turn, turn_of, turn_at, step}
+use Rattle.sieve_vm.specs.Machine.{Effect, on, jumps, halts, fails, push, is_sound_jump, effect, turn, turn_of, turn_at, step}
 use Rattle.sieve_vm.specs.Standing.{held_of, StandsFor, IsIn, IsRunning, GoesFrom, StepsOn, IsOver}
 use Rattle.sieve_vm.specs.Ending.{IsOutcome}
 use Rattle.sieve_vm.proofs.Taking.{Describes}
