@@ -17,7 +17,8 @@ use Rattle.sieve_vm.specs.Potential.{potential, limit_of}
 use Rattle.sieve_vm.specs.Stores.{NamesPart}
 use Rattle.bytecode_verifier.proofs.Nesting.{nesting}
 use Rattle.sieve_vm.proofs.Opened.{open-length, inside}
-use Rattle.sieve_vm.proofs.Reached.{IsReached, IsSound, step_is_sound, start_is_reached, runs_are_reached}
+use Rattle.sieve_vm.proofs.Reached.{IsReached, IsSound}
+use Rattle.sieve_vm.proofs.SoundSteps.{step_is_sound, start_is_reached, runs_are_reached}
 use Rattle.sieve_vm.proofs.Falls.{potential-here, potential-start}
 
 -- what holds of all elements holds of those that are left where each stays once

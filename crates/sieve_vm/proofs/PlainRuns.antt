@@ -1,10 +1,9 @@
 -- Plain programs charge their whole budget on a chain of parts.
-use Rattle.std.proofs.Common.{◌≡◌, ◌==◌, ℕ, zero, suc, ◌+◌, ◌-◌, ◌<◌, ◌≤◌, Bool, true, false, not, ◌&&◌, nat_lt, cond, List, [], ◌∷◌, ◌++◌, Option, Some, None, All, min, sum, sum_by, take, length, length-append, slice_get, slice_set, refl, sym, ap, subst, ◌∙◌, arith}
+use Rattle.std.proofs.Common.{◌≡◌, ◌==◌, ℕ, zero, suc, ◌+◌, ◌-◌, ◌<◌, ◌≤◌, Bool, true, false, ◌&&◌, nat_lt, cond, List, [], ◌∷◌, ◌++◌, Option, Some, None, All, min, sum, sum_by, take, length, length-append, slice_get, slice_set, refl, sym, ap, subst, ◌∙◌, arith}
 use Rattle.std.specs.List.{concat}
 use Rattle.std.specs.Option.{option_and_then, option_map, option_map_or}
-use Rattle.std.proofs.lemmas.Bool.{eq-eqb}
 use Rattle.std.proofs.lemmas.List.{length-take}
-use Rattle.std.proofs.lemmas.List.Sums.{sum_by-cons, sum_by_push}
+use Rattle.std.proofs.lemmas.List.Sums.{sum_by-cons}
 use Rattle.std.proofs.lemmas.List.Concat.{concat_is, length-flat_map}
 use Rattle.octets.specs.Limits.{max_stack, max_string, max_value}
 use Rattle.bytecode_format.specs.declared.action.Action.TheVariants as action
@@ -16,149 +15,34 @@ use Rattle.bytecode_format.specs.Code.{Code}
 use Rattle.bytecode_format.specs.declared.modifiers.Modifiers.{Modifiers}
 use Rattle.bytecode_format.specs.Modifiers.{modified, modifiers_numbered}
 use Rattle.bytecode_verifier.specs.declared.shape.Entry.TheVariants.{Truth, Text}
-use Rattle.bytecode_verifier.specs.Places.{holds_at}
 use Rattle.bytecode_verifier.specs.Rows.{is_well_formed}
-use Rattle.bytecode_verifier.specs.Rules.{row_in, is_halt}
-use Rattle.bytecode_verifier.specs.Shape.{Entries, Texts, is_empty, with_entry, with_string as shape_string, with_text as with_bound, with_joined, take_texts, shape_at}
+use Rattle.bytecode_verifier.specs.Rules.{row_in}
+use Rattle.bytecode_verifier.specs.Shape.{Entries, Texts, is_empty, with_entry, with_string as shape_string, with_joined, take_texts, shape_at}
 use Rattle.bytecode_verifier.specs.Loops.{Loop, open_loops}
 use Rattle.bytecode_verifier.specs.Budget.{cap_of, cap_at, cap_of_octets, one_charge}
 use Rattle.bytecode_verifier.specs.Acceptance.{IsAccepted}
 use Rattle.bytecode_verifier.proofs.Consequences.{left_by, shape_next}
 use Rattle.bytecode_verifier.proofs.Nesting.{Nesting, nesting}
 use Rattle.mime_decode.specs.Mail.{Mail, Part, IsMail}
-use Rattle.mime_decode.specs.Scope.{numbers_from, visited}
+use Rattle.mime_decode.specs.Scope.{visited}
 use Rattle.sieve_vm.specs.Plain.{IsChain, IsPlain, is_plain}
 use Rattle.sieve_vm.specs.State.{Value, truth, text, Frame, State, current_part, Turn, goes, ends, traps, start}
-use Rattle.sieve_vm.specs.Stack.{OnTop, with_last, texts_on_top, length_on_top}
+use Rattle.sieve_vm.specs.Stack.{OnTop, length_on_top}
 use Rattle.sieve_vm.specs.Charge.{octets_on_top, charge_of}
 use Rattle.sieve_vm.specs.Machine as machine
 use Rattle.sieve_vm.specs.Machine.{Effect, on, jumps, halts, fails, push, with_text, with_texts, join, file, store, store_part, with_part, are_partners, open_loop, next_part, effect, turn, turn_of, turn_at, step}
 use Rattle.sieve_vm.specs.Runs.{Run, RunEnds}
 use Rattle.sieve_vm.specs.Potential.{potential_from, cap_value, limit_of}
-use Rattle.sieve_vm.proofs.Falls.{depth_at, cap_there, end_of, numbers-length, potential-start}
-use Rattle.sieve_vm.proofs.Opened.{loop_of, IsPart, AreOpen, open-length, last_of_both, AreVisited, are_visited, first_inside, end_inside, end_of_part, IsUnderWay, visited-inside, is_first, inside}
-use Rattle.sieve_vm.proofs.Reached.{IsReached, IsSound, step_is_sound, start_is_reached, with_entry-some, empty-some, part_there, All-head, shape_after_each, shape_after_next}
+use Rattle.sieve_vm.proofs.Falls.{depth_at, cap_there, end_of, potential-start}
+use Rattle.sieve_vm.proofs.Opened.{loop_of, IsPart, AreOpen, open-length, last_of_both, AreVisited, are_visited, first_inside, IsUnderWay, visited-inside, inside}
+use Rattle.sieve_vm.proofs.Reached.{IsReached, IsSound, with_entry-some, empty-some, All-head}
+use Rattle.sieve_vm.proofs.SoundSteps.{step_is_sound, start_is_reached}
+use Rattle.sieve_vm.proofs.AfterBrackets.{shape_after_each, shape_after_next}
 use Rattle.sieve_vm.proofs.Bounds.{ends_within}
 use Rattle.sieve_vm.proofs.Kept.{kept-on, kept-last, kept-enter, kept-pass, kept-again, kept-leave}
-
--- ---- stacks that are as long as the shape says
-
--- each text has as many octets as the shape allows it
-abbrev pub Fills : Entries → List Value → Type 0
-Fills [] [] = Unit {0}
-Fills (Truth ∷ es) (truth b ∷ vs) = Fills es vs
-Fills (Text bound ∷ es) (text t ∷ vs) = (bound ≤ length t) × Fills es vs
-Fills _ _ = ⊥
-
--- so many texts are on top of the stack, no shorter than their bounds
-pub record FillsTop (n : ℕ) (bounds : Texts) (stack : List Value) : Type 0 where
-  pub top : OnTop
-  pub is : texts_on_top n stack ≡ Some top
-  pub below : Fills bounds.rest top.below
-  pub long : sum bounds.bounds ≤ sum_by length top.texts
-
-pub fills_top : (n : ℕ) (entries : Entries) (bounds : Texts) (stack : List Value) → take_texts n entries ≡ Some bounds → Fills entries stack → FillsTop n bounds stack
-fills_top zero entries bounds stack e d =
-    let same : (let t : Texts = record { bounds = []; rest = entries } in t) ≡ bounds = cc in
-    subst (λ b. FillsTop 0 b stack) same (record { top = record { texts = []; below = stack }; is = refl; below = d; long = omega arith })
-fills_top (suc n) [] bounds stack e d = absurd cc
-fills_top (suc n) (Truth ∷ entries) bounds stack e d = absurd cc
-fills_top (suc n) (Text bound ∷ entries) bounds [] e d = absurd d
-fills_top (suc n) (Text bound ∷ entries) bounds (truth b ∷ vs) e d = absurd d
-fills_top (suc n) (Text bound ∷ entries) bounds (text t ∷ vs) e d = go (take_texts n entries) refl e (λ others h. fills_top n entries others vs h d.1)
-  where
-    go : (o : Option Texts) → take_texts n entries ≡ o → option_map (with_bound bound) o ≡ Some bounds → ((others : Texts) → take_texts n entries ≡ Some others → FillsTop n others vs) → FillsTop (suc n) bounds (text t ∷ vs)
-    go None h f ih = absurd cc
-    go (Some others) h f ih =
-        let before = ih others h in
-        let same : with_bound bound others ≡ bounds = cc in
-        let long = d.0 in
-        let more = before.long in
-        let bounded : sum (bound ∷ others.bounds) ≡ bound + sum others.bounds = sum_by-cons (λ x. x) bound others.bounds in
-        let extended : sum_by length (before.top.texts ++ t ∷ []) ≡ sum_by length before.top.texts + length t = sum_by_push length before.top.texts t in
-        subst (λ b. FillsTop (suc n) b (text t ∷ vs)) same
-        (record { top = with_last t before.top; is = ap (option_map (with_last t)) before.is; below = before.below; long = omega (arith, long, more, bounded, extended) })
-
-no_text_left : (stack : List Value) → Fills [] stack → stack ≡ []
-no_text_left [] d = refl
-no_text_left (v ∷ vs) d = absurd d
-
--- ---- the end of a program
-
-halts_at : (o : Option Operation) → is_halt o ≡ true → o ≡ Some Halt
-halts_at None h = absurd cc
-halts_at (Some Halt) h = refl
-halts_at (Some Literal) h = absurd cc
-halts_at (Some Variable) h = absurd cc
-halts_at (Some Capture) h = absurd cc
-halts_at (Some Join) h = absurd cc
-halts_at (Some Set) h = absurd cc
-halts_at (Some BoolOp) h = absurd cc
-halts_at (Some Not) h = absurd cc
-halts_at (Some Jump) h = absurd cc
-halts_at (Some JumpIfTrue) h = absurd cc
-halts_at (Some JumpIfFalse) h = absurd cc
-halts_at (Some Header) h = absurd cc
-halts_at (Some Exists) h = absurd cc
-halts_at (Some String) h = absurd cc
-halts_at (Some Size) h = absurd cc
-halts_at (Some PartSize) h = absurd cc
-halts_at (Some PartBody) h = absurd cc
-halts_at (Some PartDigest) h = absurd cc
-halts_at (Some Keep) h = absurd cc
-halts_at (Some Discard) h = absurd cc
-halts_at (Some File) h = absurd cc
-halts_at (Some Store) h = absurd cc
-halts_at (Some Each) h = absurd cc
-halts_at (Some Next) h = absurd cc
-halts_at (Some Break) h = absurd cc
-halts_at (Some Take) h = absurd cc
-
--- the place of the last instruction, which is a Halt
-last_halt : (code : Code) → IsAccepted code → (place : ℕ) → suc place ≡ length code.instructions → (i : Instruction) × (slice_get code.instructions place ≡ Some i) × (operation_of i.op ≡ Some Halt)
-last_halt code is place last = go (slice_get code.instructions place) refl
-  where
-    not_both : (a b : Bool) → a ≡ true → (a && not b) ≡ false → b ≡ true
-    not_both true true t h = refl
-    not_both true false t h = absurd cc
-    not_both false b t h = absurd cc
-
-    here : holds_at code place (λ i. is_halt (operation_of i.op)) ≡ true
-    here = not_both (place == length code.instructions - 1) _ (eq-eqb place (length code.instructions - 1) (omega (arith, last))) (is.end place)
-
-    go : (o : Option Instruction) → slice_get code.instructions place ≡ o → (i : Instruction) × (slice_get code.instructions place ≡ Some i) × (operation_of i.op ≡ Some Halt)
-    go None e = absurd (let wrong : false ≡ true = ap (λ (x : Option Instruction). option_map_or (λ (i : Instruction). is_halt (operation_of i.op)) x false) (sym e) ∙ here in cc)
-    go (Some i) e = (i, e, halts_at (operation_of i.op) (ap (λ (x : Option Instruction). option_map_or (λ (j : Instruction). is_halt (operation_of j.op)) x false) (sym e) ∙ here))
-
--- ---- chains of parts
-
-module _ (mail : Mail) (known : IsMail mail) (chain : IsChain mail) where
-  end_is : (part : ℕ) → IsPart mail part → end_of_part mail part ≡ length mail.parts
-  end_is part within = go (slice_get mail.parts part) refl
-    where
-      go : (found : Option Part) → slice_get mail.parts part ≡ found → option_map_or (λ (p : Part). suc (part + p.below)) found 0 ≡ length mail.parts
-      go None e = absurd (let some : None ≡ Some (part_there mail.parts part within).0 = sym e ∙ (part_there mail.parts part within).1 in cc)
-      go (Some p) e = chain part p e
-
-  end_most : (frames : List Frame) → end_inside mail frames ≤ length mail.parts
-  end_most [] = omega arith
-  end_most (frame ∷ frames) = go (slice_get mail.parts frame.part) refl
-    where
-      go : (found : Option Part) → slice_get mail.parts frame.part ≡ found → option_map_or (λ (p : Part). suc (frame.part + p.below)) found 0 ≤ length mail.parts
-      go None e = omega arith
-      go (Some p) e = omega (arith, chain frame.part p e)
-
-  -- what a loop has left after a part is all below it
-  all_below : (frames : List Frame) (part : ℕ) (rest : List ℕ) (first : ℕ) → IsPart mail part → numbers_from first (end_inside mail frames - first) ≡ part ∷ rest → length rest ≤ length (visited (Some part) mail)
-  all_below frames part rest first within e =
-      let others = (is_first first (end_inside mail frames) part rest e).others in
-      let frame : Frame = record { each = 0; next = 0; part = part; rest = [] } in
-      let below : length (visited (Some part) mail) ≡ end_of_part mail part - suc part =
-      ap length (visited-inside mail (frame ∷ [])) ∙ numbers-length (suc part) (end_of_part mail part - suc part) in
-      let left : length rest ≡ end_inside mail frames - suc part = ap length others ∙ numbers-length (suc part) (end_inside mail frames - suc part) in
-      omega (arith, below, left, end_is part within, end_most frames)
-
--- ---- runs
+use Rattle.sieve_vm.proofs.Filled.{Fills, fills_top}
+use Rattle.sieve_vm.proofs.LastHalt.{last_halt}
+use Rattle.sieve_vm.proofs.Chains.{all_below}
 
 -- a stack fills what the shape says of a place
 abbrev FillsAt : Code → ℕ → List Value → Type 0

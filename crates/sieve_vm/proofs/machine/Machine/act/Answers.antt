@@ -5,7 +5,9 @@ use Rattle.std.proofs.lemmas.Result.{IfOk-weaker}
 use Rattle.bytecode_format.specs.declared.operation.Operation.TheVariants.{JumpIfTrue, JumpIfFalse, PartSize, PartBody, PartDigest, Store, Take}
 use Rattle.sieve_vm.specs.Machine.{compares}
 use Rattle.sieve_vm.proofs.Reached.{take_needs_part}
-use Rattle.sieve_vm.proofs.Steps.{not_some, if_true_some, if_false_some, folder_some, names_some, lists_some, parts_some, sources_some, modifiers_some, field_test_some, scope_some, sources_match_some, body_match_some, value_some, had_variable, had_capture, had_join, had_set, had_string, had_bool, had_not, had_size, had_literal, had_branch, had_file, had_exists, had_header, had_part_size, had_part_body, had_part_digest, had_store, had_take, had_each, had_next, had_break, current_there, current_in_loops, part_some, part_small, keys_some, current_some, store_some, take_some, room_there, next_some, break_some, break_there}
+use Rattle.sieve_vm.proofs.StackSteps.{not_some, if_true_some, if_false_some, folder_some, names_some, lists_some, parts_some, sources_some, modifiers_some, field_test_some, scope_some, sources_match_some, value_some, had_variable, had_capture, had_join, had_set, had_string, had_bool, had_not, had_size, had_literal, had_branch, had_file, had_exists, had_header}
+use Rattle.sieve_vm.proofs.PartSteps.{body_match_some, had_part_size, had_part_body, had_part_digest, had_store, had_take, current_there, current_in_loops, part_some, part_small, keys_some, current_some, store_some, take_some}
+use Rattle.sieve_vm.proofs.LoopSteps.{had_each, had_next, had_break, room_there, next_some, break_some, break_there}
 use Rattle.sieve_vm.proofs.machine.Machine.act.Goals as goal
 
 pub take-value-requires : goal.take-value-requires
