@@ -1,5 +1,5 @@
 -- What is said of a command or test that isn't accepted: a sentence for each reason.
-use Rattle.std.specs.Prelude.{ℕ, List, [], ◌||◌, if◌then◌else◌, Option, Some, None, is_some, codes}
+use Rattle.std.specs.Prelude.{ℕ, List, [], ◌||◌, if◌then◌else◌, is_some, codes}
 use Rattle.octets.specs.Limits.{max_loops, max_name, max_segments, max_string, max_test_strings, max_variables}
 use Rattle.sieve_check.specs.Names.{command_named, is_word}
 use Rattle.sieve_check.specs.declared.names.Capability.{Capability}
@@ -16,7 +16,7 @@ use Rattle.sieve_check.specs.Causes.{Reason}
 use Rattle.sieve_check.specs.declared.causes.ReasonKind.{ReasonKind}
 use Rattle.sieve_check.specs.declared.causes.ReasonKind.TheVariants.{UnknownCommand, UnknownTest, MissingCapability, UnknownCapability, UnknownTag, ForeignTag, RepeatedTag, TwoModifiers, TagArgument, MissingOrder, MissingMime, LateTag, MissingArgument, ExtraArgument, WrongArgument, WrongTests, WrongEnding, Namespace, CaptureIndex, VariableName, NoSuchLoop, Misplaced, LongString, ManyStrings, ManySegments, LongName, ManyLoops, ManyVariables}
 use Rattle.sieve_explain.specs.Hints.{unknown_capability_text, unknown_capability_words, unknown_command_text, unknown_command_words, unknown_tag_text, unknown_tag_words, unknown_test_text, unknown_test_words}
-use Rattle.sieve_explain.specs.Sentences.{Blanks, plain}
+use Rattle.sieve_explain.specs.Sentences.{Blanks}
 
 -- a capability, as a `require` names it
 abbrev pub capability_words : Capability → List ℕ

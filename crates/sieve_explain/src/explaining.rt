@@ -281,12 +281,7 @@ fn depth_explanation(
 }
 
 // The token under which the mark stands.
-fn marked_token(
-    script: &[u8],
-    reason: Reason<'_>,
-    tokens: &[Token],
-    number: usize,
-) -> Option<Token>
+fn marked_token(script: &[u8], reason: Reason<'_>, tokens: &[Token], number: usize) -> Option<Token>
     requires { HasTokens script.now tokens.now }
     ensures token { result ≡ marked_token script.now (reason_view reason.entry) tokens.now number }
     ensures within { IfSome result (λ t. (t.start ≤ t.end) × (t.end ≤ length script.now)) }
