@@ -1,5 +1,5 @@
 -- The code of each command but for blocks and branches does what the command means, and how loops are turned and left.
-use Rattle.std.proofs.Common.{◌≡◌, ℕ, zero, suc, ◌+◌, ◌-◌, ◌<◌, ◌≤◌, Bool, true, false, ◌&&◌, nat_lt, bytes_eq, List, [], ◌∷◌, ◌++◌, Option, Some, All, length, map, take, drop, append-nil, slice_get, refl, sym, ap, subst, ◌∙◌, arith, if◌then◌else◌}
+use Rattle.std.proofs.Common.{◌≡◌, ℕ, zero, suc, ◌+◌, ◌<◌, ◌≤◌, Bool, true, false, ◌&&◌, nat_lt, bytes_eq, List, [], ◌∷◌, ◌++◌, Option, Some, All, length, map, take, drop, append-nil, slice_get, refl, sym, ap, subst, ◌∙◌, arith, if◌then◌else◌}
 use Rattle.std.proofs.lemmas.Bool.{lt-ltb, le-leb, eq-eqb}
 use Rattle.std.proofs.lemmas.List.{length-map}
 use Rattle.std.proofs.lemmas.List.Elements.{All-head, All-tail}
@@ -19,7 +19,7 @@ use Rattle.mime_decode.specs.Scope.{visited}
 use Rattle.octets.specs.Limits.{max_loops, max_value}
 use Rattle.octets.specs.Once.{is_listed}
 use Rattle.sieve_check.specs.Bounded.{IsBoundedString}
-use Rattle.sieve_check.specs.Typed.{Template, set, CommandForms, BranchForms, no_branch, otherwise, branch}
+use Rattle.sieve_check.specs.Typed.{Template, CommandForms, BranchForms, no_branch, otherwise, branch}
 use Rattle.sieve_check.specs.Variables.{string_variables, commands_variables}
 use Rattle.sieve_meaning.specs.Meaning.{Effects, expanded, with_taken, with_value, Ending, normal, stopped, broken, effects_of, followed_by, left, after_turn, turns, current, stored}
 use Rattle.sieve_vm.specs.State.{Value, text, Frame, State, current_part, goes, start}
@@ -34,7 +34,7 @@ use Rattle.sieve_compiler.specs.Strings.{string_strings}
 use Rattle.sieve_compiler.specs.Coding.{plain, instruction, string_code, set_variable, leave_code, code_of, take_octets, written_version}
 use Rattle.sieve_compiler.proofs.Standing.{Stands, stands_first, stands_left, stands_right}
 use Rattle.sieve_compiler.proofs.CodeLengths.{string_code_length}
-use Rattle.sieve_compiler.proofs.Known.{Has, has_right, found, found_variable}
+use Rattle.sieve_compiler.proofs.Known.{Has, has_right, found_variable}
 use Rattle.sieve_compiler.proofs.Values.{AreShort, variable_set, name_itself}
 use Rattle.sieve_compiler.proofs.OnStack.{OnPart, with_part_is, lands, part_at, left_more}
 use Rattle.sieve_compiler.proofs.StringsMeet.{after_steps, one_step, step_at, comes_here, jump_step, next_place, string_run, leads_then}

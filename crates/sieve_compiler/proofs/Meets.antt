@@ -15,7 +15,7 @@ use Rattle.sieve_check.specs.Bounded.{IsBoundedCommand, AreBoundedCommands, AreB
 use Rattle.sieve_check.specs.Typed.{CommandForm, keep, discard, file_into, set, take_first, store, for_every_part, leave, stop, choice, CommandForms, no_command, command, BranchForms, no_branch, otherwise, branch}
 use Rattle.sieve_meaning.specs.Meaning.{Effects, no_effects, expanded, with_value, Ending, normal, stopped, broken, effects_of, stored, test_does, command_does, commands_do, choice_does, meaning}
 use Rattle.sieve_vm.specs.State.{Value, Frame, State, current_part, ends, start}
-use Rattle.sieve_vm.specs.Machine.{tested, step}
+use Rattle.sieve_vm.specs.Machine.{step}
 use Rattle.sieve_vm.specs.Runs.{Run}
 use Rattle.sieve_vm.specs.Ending.{IsOutcome}
 use Rattle.sieve_vm.proofs.Opened.{some_left, are_visited}

@@ -14,7 +14,6 @@ use Rattle.sieve_vm.specs.State.{Value, text, Frame, State, current_part}
 use Rattle.sieve_vm.specs.Machine.{Effect, with_part}
 use Rattle.sieve_vm.specs.Stack.{OnTop, with_last, texts_on_top, lists_on_top}
 use Rattle.sieve_compiler.specs.Coding.{aim_of}
-use Rattle.sieve_compiler.proofs.Known.{found}
 use Rattle.sieve_compiler.proofs.Values.{AreShort, capture_short}
 
 -- where code that was asked for a value stands after it

@@ -1,5 +1,5 @@
 -- The strings of a script's tables are within its extent: how many, how long, and all together.
-use Rattle.std.proofs.Common.{◌≡◌, ℕ, ◌+◌, ◌*◌, ◌-◌, ◌≤◌, bytes_eq, Bool, true, false, not, List, [], ◌∷◌, ◌++◌, filter, sum_by, if◌then◌else◌, length, All, refl, ap, ◌∙◌, arith}
+use Rattle.std.proofs.Common.{◌≡◌, ℕ, ◌+◌, ◌*◌, ◌≤◌, bytes_eq, Bool, true, false, not, List, [], ◌∷◌, ◌++◌, filter, sum_by, if◌then◌else◌, length, All, refl, ap, ◌∙◌, arith}
 use Rattle.std.proofs.lemmas.List.{length-append}
 use Rattle.std.proofs.lemmas.List.Sums.{sum_by-cons, sum_by-append}
 use Rattle.std.proofs.lemmas.List.Elements.{All-nil, All-cons, All-head, All-tail, All-append}
