@@ -6,12 +6,22 @@ pub mod LeavingLemmas
 pub mod Known
 pub mod Selecting
 pub mod Sound
+pub mod PushedTexts
+pub mod StringsSound
+pub mod TestsSound
+pub mod CommandsSound
 pub mod Accepted
 pub mod Values
+pub mod OnStack
+pub mod StringsMeet
+pub mod TestsMeet
+pub mod CommandsMeet
 pub mod Meets
 pub mod Walks
 pub mod NumberingLemmas
 pub mod PuttingLemmas
 pub mod Leftovers
+pub mod LengthsFit
+pub mod StringsFit
 pub mod Fits
 mod Examples

@@ -3,7 +3,8 @@ use Rattle.sieve_check.specs.Bounded.{IsBounded}
 use Rattle.sieve_check.specs.Typed.{CommandForms}
 use Rattle.sieve_check.specs.TypedView.{commands_form}
 use Rattle.sieve_compiler.specs.Tables.{Tables, tables_of}
-use Rattle.sieve_compiler.proofs.Fits.{commands_within, strings_few, table_within}
+use Rattle.sieve_compiler.proofs.LengthsFit.{commands_within, table_within}
+use Rattle.sieve_compiler.proofs.StringsFit.{strings_few}
 use Rattle.sieve_compiler.proofs.LeavingLemmas.{leave_few}
 use Rattle.sieve_compiler.proofs.compiler.code_with.Goals as goal
 

@@ -1,0 +1,128 @@
+-- Strings on the stack and as they are expanded, and where a test leads.
+use Rattle.std.proofs.Common.{◌≡◌, ℕ, zero, suc, ◌+◌, ◌-◌, ◌<◌, ◌≤◌, Bool, true, false, not, List, [], ◌∷◌, ◌++◌, Option, Some, None, option_map, length, map, take, append-nil, append_assoc, slice_get, refl, sym, ap, subst, ◌∙◌, arith, if◌then◌else◌}
+use Rattle.std.specs.List.{concat, flat_map}
+use Rattle.std.proofs.lemmas.Bool.{lt-ltb}
+use Rattle.std.proofs.lemmas.List.{take_all}
+use Rattle.mime_decode.specs.Mail.{Mail, Part as MailPart}
+use Rattle.octets.specs.Limits.{max_string}
+use Rattle.sieve_check.specs.Bounded.{IsBoundedSegment}
+use Rattle.sieve_check.specs.declared.typed.Segment.{Segment}
+use Rattle.sieve_check.specs.declared.typed.Segment.TheVariants.{Text, Variable, Capture}
+use Rattle.sieve_check.specs.Typed.{Template, TestForm, TestForms, test}
+use Rattle.sieve_meaning.specs.Meaning.{Effects, value_of, expanded, all_expanded, Verdict, verdict, broken, left, current, of_part, all_do, any_do}
+use Rattle.sieve_vm.specs.State.{Value, text, Frame, State, current_part}
+use Rattle.sieve_vm.specs.Machine.{Effect, with_part}
+use Rattle.sieve_vm.specs.Stack.{OnTop, with_last, texts_on_top, lists_on_top}
+use Rattle.sieve_compiler.specs.Coding.{aim_of}
+use Rattle.sieve_compiler.proofs.Values.{AreShort, capture_short}
+
+-- where code that was asked for a value stands after it
+abbrev pub lands : Bool → Bool → ℕ → ℕ → ℕ
+lands true true target following = target
+lands false false target following = target
+lands true false target following = following
+lands false true target following = following
+
+-- what a list of tests comes to, from the value of the one before the rest
+abbrev pub listed : Mail → Option ℕ → Bool → Bool → Effects → TestForms → Verdict
+listed mail part false v e ts = if v then all_do mail part ts e else verdict false e
+listed mail part true v e ts = if v then verdict true e else any_do mail part ts e
+
+pub aim_lands : (deciding asked : Bool) (t : TestForm) (ts : TestForms) (following target : ℕ) → aim_of deciding asked (test t ts) following target ≡ lands deciding asked target following
+aim_lands true true t ts following target = refl
+aim_lands true false t ts following target = refl
+aim_lands false true t ts following target = refl
+aim_lands false false t ts following target = refl
+
+-- ---- strings on the stack
+
+-- strings on the stack, the last one on top
+abbrev pub onto : List (List ℕ) → List Value → List Value
+onto [] stack = stack
+onto (s ∷ ss) stack = onto ss (text s ∷ stack)
+
+on_top_of : (ss : List (List ℕ)) (k : ℕ) (stack : List Value) (top : OnTop) → texts_on_top k stack ≡ Some top → texts_on_top (length ss + k) (onto ss stack) ≡ Some (record { texts = top.texts ++ ss; below = top.below })
+on_top_of [] k stack top e =
+    let same : k ≡ 0 + k = omega arith in
+    subst (λ n. texts_on_top n stack ≡ Some (record { texts = top.texts ++ []; below = top.below })) same
+    (e ∙ ap (λ texts. Some (let t : OnTop = record { texts = texts; below = top.below } in t)) (sym (append-nil top.texts)))
+on_top_of (s ∷ ss) k stack top e =
+    let one : texts_on_top (suc k) (text s ∷ stack) ≡ Some (with_last s top) = ap (option_map (with_last s)) e in
+    let same : length ss + suc k ≡ suc (length ss) + k = omega arith in
+    subst (λ n. texts_on_top n (onto ss (text s ∷ stack)) ≡ Some (record { texts = top.texts ++ (s ∷ ss); below = top.below })) same
+    (on_top_of ss (suc k) (text s ∷ stack) (with_last s top) one ∙ ap (λ texts. Some (let t : OnTop = record { texts = texts; below = top.below } in t)) (append_assoc top.texts (s ∷ []) ss))
+
+-- they are found there again
+pub on_top : (n : ℕ) (ss : List (List ℕ)) (stack : List Value) → length ss ≡ n → texts_on_top n (onto ss stack) ≡ Some (record { texts = ss; below = stack })
+on_top n ss stack number =
+    let same : length ss + 0 ≡ n = omega (arith, number) in
+    subst (λ m. texts_on_top m (onto ss stack) ≡ Some (record { texts = ss; below = stack })) same (on_top_of ss 0 stack (record { texts = []; below = stack }) refl)
+
+pub onto_number : (ss : List (List ℕ)) (stack : List Value) → length (onto ss stack) ≡ length ss + length stack
+onto_number [] stack = omega arith
+onto_number (s ∷ ss) stack = omega (arith, onto_number ss (text s ∷ stack))
+
+-- names, and keys above them, are found again
+pub lists_again : (n k : ℕ) (names keys : List (List ℕ)) → length names ≡ n → length keys ≡ k → lists_on_top n 0 k (onto keys (onto names [])) ≡ Some (record { names = names; params = []; keys = keys; below = [] })
+lists_again n k names keys e f = rw (on_top k keys (onto names []) f, on_top n names [] e) refl
+
+-- and so are names, parameters above them, and keys above these
+pub three_again : (n m k : ℕ) (names given keys : List (List ℕ)) → length names ≡ n → length given ≡ m → length keys ≡ k → lists_on_top n m k (onto keys (onto given (onto names []))) ≡ Some (record { names = names; params = given; keys = keys; below = [] })
+three_again n m k names given keys e g f = rw (on_top k keys (onto given (onto names [])) f, on_top m given (onto names []) g, on_top n names [] e) refl
+
+-- ---- strings as they are expanded
+
+pub joined_texts : (e : Effects) (segments : List Segment) → concat (map (value_of e) segments) ≡ flat_map (value_of e) segments
+joined_texts e [] = refl
+joined_texts e (s ∷ ss) = ap (λ rest. value_of e s ++ rest) (joined_texts e ss)
+
+value_short : (e : Effects) (segment : Segment) → AreShort e → IsBoundedSegment segment → length (value_of e segment) ≤ max_string
+value_short e (Text octets) short b = b
+value_short e (Variable name) short b = omega (arith, short.variables name)
+value_short e (Capture n) short b = omega (arith, capture_short e.captures n short.captures)
+
+-- one segment is its value
+pub one_value : (e : Effects) (segment : Segment) → AreShort e → IsBoundedSegment segment → value_of e segment ≡ expanded e (segment ∷ [])
+one_value e segment short b = sym (ap (take max_string) (append-nil (value_of e segment)) ∙ take_all max_string (value_of e segment) (value_short e segment short b))
+
+pub no_value : (e : Effects) → [] ≡ expanded e []
+no_value e = sym (take_all max_string [] (omega arith))
+
+-- ---- matches
+
+pub turned : (b asked : Bool) (target following : ℕ) → lands b (not asked) target following ≡ lands (not b) asked target following
+turned true true target following = refl
+turned true false target following = refl
+turned false true target following = refl
+turned false false target following = refl
+
+-- the current part is this one of the message
+pub record OnPart (mail : Mail) (part : Option ℕ) : Type 0 where
+  pub number : ℕ
+  pub found : MailPart
+  pub is : part ≡ Some number
+  pub here : slice_get mail.parts number ≡ Some found
+
+pub with_part_is : (go : ℕ → MailPart → State → Effect) (mail : Mail) (s : State) (frames : List Frame) (on : OnPart mail (current_part frames)) → with_part go mail s frames ≡ go on.number on.found s
+with_part_is go mail s [] on = absurd (let wrong : None ≡ Some on.number = on.is in cc)
+with_part_is go mail s (f ∷ fs) on = let is : Some f.part ≡ Some on.number = on.is in let same : f.part ≡ on.number = cc in rw (same, on.here) refl
+
+pub of_part_is : (mail : Mail) (part : Option ℕ) (does : MailPart → Verdict) (e : Effects) (on : OnPart mail part) → of_part does e (current mail part) ≡ does on.found
+of_part_is mail part does e on = rw (on.is, on.here) refl
+
+pub part_at : (parts : List MailPart) (number : ℕ) → number < length parts → (found : MailPart) × (slice_get parts number ≡ Some found)
+part_at [] number lt = absurd (omega (arith, lt))
+part_at (p ∷ parts) zero lt = (p, refl)
+part_at (p ∷ parts) (suc number) lt = part_at parts number (omega (arith, lt))
+
+-- a loop is left, alone or with others
+pub left_more : (n m : ℕ) (e : Effects) → n ≡ suc (suc m) → left n e ≡ broken (suc m) e
+left_more n m e is = let before : suc (suc m) - 1 ≡ suc m = omega arith in rw is (rw (lt-ltb 1 (suc (suc m)) (omega arith), before) refl)
+
+-- two lists of strings on the stack
+abbrev pub both : Effects → List Template → List Template → List Value
+both e names keys = onto (all_expanded e keys) (onto (all_expanded e names) [])
+
+-- three lists of strings on the stack
+abbrev pub three : Effects → List Template → List Template → List Template → List Value
+three e names given keys = onto (all_expanded e keys) (both e names given)
