@@ -79,7 +79,10 @@ fn reply<S: Alter, H: Host>(
         × MayAdd (command_of request.entry octets) (state S.Store depot.old) trees) }
 {
     match read_file(alloc, request, host) {
-        Ok(octets) => reply_to(alloc, task_of(request, &octets), depot),
+        Ok(octets) => {
+            let task = task_of(request, octets);
+            reply_to(alloc, &task, depot)
+        }
         Err(refusal) => Err(refusal),
     }
 }
@@ -112,10 +115,10 @@ fn file_of<'a>(request: Request<'a>) -> Option<&'a str>
 }
 
 // The task of a request that is no export, with the octets of its file.
-fn task_of<'a>(request: Request<'a>, octets: &'a [u8]) -> Task<'a>
+fn task_of<'a>(request: Request<'a>, octets: Vec<u8>) -> Task<'a>
     requires { is_export request ≡ false }
-    ensures command { tasks_command result ≡ command_of request.entry octets.entry.now }
-    ensures replies { IsExport (command_of request.entry octets.entry.now) → ⊥ }
+    ensures command { tasks_command result ≡ command_of request.entry octets.items }
+    ensures replies { IsExport (command_of request.entry octets.items) → ⊥ }
 {
     match request {
         Request::Script { user, .. } => Task::Script {

@@ -6,11 +6,14 @@ use Rattle.bytecode_format.specs.Code.{Code}
 use Rattle.bytecode_format.specs.Operations.{octet_of}
 use Rattle.bytecode_format.specs.Spelling.{spelling}
 use Rattle.bytecode_format.specs.declared.operation.Operation.TheVariants.{Keep, Halt}
+use Rattle.depot_actions.specs.DepotState.{Command}
+use Rattle.depot_actions.specs.DepotState as commands
 use Rattle.encodings.specs.Device.{HasBroken, HasTaken, Output, counted}
 use Rattle.depot_cli.specs.Host.{HostState, Origin, file, opens, origin_of, standard, with_call, with_faults}
 use Rattle.depot_cli.specs.Jobs.{HasAnswered, HasFound, HasRefused, HasStopped, HasTold, World, world}
 use Rattle.depot_cli.specs.Limits.{max_input}
 use Rattle.depot_cli.specs.Printed.{shown}
+use Rattle.depot_cli.specs.Tasks.{command_of}
 use Rattle.depot_cli.specs.Words.{IsDepot, Says}
 use Rattle.refusals.specs.declared.refusal.Refusal.{Refusal}
 use Rattle.refusals.specs.declared.refusal.Refusal.TheVariants.{Memory, MessageTooLarge, Read}
@@ -19,8 +22,6 @@ use Rattle.depot_cli.specs.declared.job.Job.TheVariants as jobs
 use Rattle.depot_cli.specs.declared.line.CommandLine.{CommandLine}
 use Rattle.depot_cli.specs.declared.line.CommandLine.TheVariants.{NoWords, Check, Explain, Compile, Verify, Run, Disassemble, Assemble, Eval, Parts, Encode, Decode, Script, Code as CodeOf, Program, Deliver, List as ListAll, Export, Remove, Migrate, Inspect, Batch}
 use Rattle.depot_cli.specs.declared.errand.Errand.{Errand}
-use Rattle.depot_cli.specs.declared.errand.Order.{Order}
-use Rattle.depot_cli.specs.declared.errand.Order.TheVariants as orders
 use Rattle.depot_cli.specs.declared.saving.Saving.{Saving}
 use Rattle.depot_cli.specs.declared.running.Next.{Next}
 use Rattle.depot_cli.specs.declared.running.Next.TheVariants as next
@@ -123,30 +124,23 @@ is_on_depot (Remove depot user number) = true
 is_on_depot (Migrate depot) = true
 is_on_depot _ = false
 
--- the command looks at what may be a depot
-abbrev pub is_inspection : CommandLine → Bool
-is_inspection (Inspect depot) = true
-is_inspection _ = false
+-- the command is handed on as it is, with nothing read: it looks at what may be a depot, saves a
+-- user's program as a file, or takes other commands
+abbrev pub is_handed_on : CommandLine → Bool
+is_handed_on (Inspect depot) = true
+is_handed_on (Program depot user out) = true
+is_handed_on (Batch depot) = true
+is_handed_on _ = false
 
 -- the file that is inspected
 abbrev pub IsInspected : CommandLine → Text → Type 0
 IsInspected (Inspect depot) name = name ≡ depot.now
 IsInspected _ name = ⊥
 
--- the command takes others, one after another
-abbrev pub is_batch : CommandLine → Bool
-is_batch (Batch depot) = true
-is_batch _ = false
-
 -- the file of the depot that those are on
 abbrev pub IsBatchOn : CommandLine → Text → Type 0
 IsBatchOn (Batch depot) name = name ≡ depot.now
 IsBatchOn _ name = ⊥
-
--- the command saves a user's program as a file
-abbrev pub is_saving : CommandLine → Bool
-is_saving (Program depot user out) = true
-is_saving _ = false
 
 -- whose program is saved, from which depot's file, and as which file
 abbrev pub IsSavingOf : CommandLine → Saving → Type 0
@@ -193,16 +187,16 @@ IsDepotOf (Remove depot user number) name = name ≡ depot.now
 IsDepotOf (Migrate depot) name = name ≡ depot.now
 IsDepotOf _ name = ⊥
 
--- what a command asks of it; the octets that it reads come to that
-abbrev pub IsOrderOf : CommandLine → Order → Type 0
-IsOrderOf (Script depot user script) order = order ≡ orders.Script user
-IsOrderOf (CodeOf depot user program) order = order ≡ orders.Code user
-IsOrderOf (Deliver depot user message) order = order ≡ orders.Deliver user
-IsOrderOf (ListAll depot user) order = order ≡ orders.List user
-IsOrderOf (Export depot user number encoding) order = order ≡ orders.Export user number encoding
-IsOrderOf (Remove depot user number) order = order ≡ orders.Remove user number
-IsOrderOf (Migrate depot) order = order ≡ orders.Migrate
-IsOrderOf _ order = ⊥
+-- what a command asks of it, with the octets that were read
+abbrev pub IsCommandOf : CommandLine → List (List ℕ) → Command → Type 0
+IsCommandOf (Script depot user script) inputs command = command ≡ commands.SetScript user.now (input inputs 0)
+IsCommandOf (CodeOf depot user program) inputs command = command ≡ commands.SetCode user.now (input inputs 0)
+IsCommandOf (Deliver depot user message) inputs command = command ≡ commands.Deliver user.now (input inputs 0)
+IsCommandOf (ListAll depot user) inputs command = command ≡ commands.ListAll user.now
+IsCommandOf (Export depot user number encoding) inputs command = command ≡ commands.Export user.now number encoding
+IsCommandOf (Remove depot user number) inputs command = command ≡ commands.Remove user.now number
+IsCommandOf (Migrate depot) inputs command = command ≡ commands.Migrate
+IsCommandOf _ inputs command = ⊥
 
 -- ---- what comes of it
 
@@ -236,8 +230,7 @@ pub record HasPrepared (line : CommandLine) (errand : Errand) (old new : World) 
   pub inputs : List (List ℕ)
   pub read : HaveRead (origins_of line) inputs old.host new.host
   pub name : IsDepotOf line errand.name.now
-  pub order : IsOrderOf line errand.order
-  pub octets : errand.octets.items ≡ input inputs 0
+  pub command : IsCommandOf line inputs (command_of errand.task)
   pub out : new.out ≡ old.out
   pub err : new.err ≡ old.err
 

@@ -14,30 +14,18 @@ use Rattle.depot_cli.specs.Printed.{entries_text, migrated_text, removed_text, r
 use Rattle.depot_cli.specs.declared.entries.Detail.TheVariants.{Brief, Full}
 use Rattle.depot_cli.specs.declared.task.Reply.{Reply as Replied}
 use Rattle.depot_cli.specs.declared.task.Reply.TheVariants.{Stored, Filed, Listed, Removed, Migrated}
-use Rattle.depot_cli.specs.declared.errand.Order.{Order}
-use Rattle.depot_cli.specs.declared.errand.Order.TheVariants as orders
 use Rattle.depot_cli.specs.declared.task.Task.{Task}
 use Rattle.depot_cli.specs.declared.task.Task.TheVariants.{Script, Code, Deliver, List as ListEntries, Export, Remove, Migrate}
 
 -- what a task asks of the depot
 abbrev pub command_of : Task → Command
-command_of (Script user script) = SetScript user.now script.now
-command_of (Code user program) = SetCode user.now program.now
-command_of (Deliver user message) = depot.Deliver user.now message.now
+command_of (Script user script) = SetScript user.now script.items
+command_of (Code user program) = SetCode user.now program.items
+command_of (Deliver user message) = depot.Deliver user.now message.items
 command_of (ListEntries user) = ListAll user.now
 command_of (Export user number encoding) = depot.Export user.now number encoding
 command_of (Remove user number) = depot.Remove user.now number
 command_of Migrate = depot.Migrate
-
--- what an order asks of the depot, with the octets that come to it
-abbrev pub command_in : Order → List ℕ → Command
-command_in (orders.Script user) octets = SetScript user.now octets
-command_in (orders.Code user) octets = SetCode user.now octets
-command_in (orders.Deliver user) octets = depot.Deliver user.now octets
-command_in (orders.List user) octets = ListAll user.now
-command_in (orders.Export user number encoding) octets = depot.Export user.now number encoding
-command_in (orders.Remove user number) octets = depot.Remove user.now number
-command_in orders.Migrate octets = depot.Migrate
 
 -- ---- what performing does
 

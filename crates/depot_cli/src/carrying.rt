@@ -1,7 +1,7 @@
 // Errands and inspections, by what opening the file gave.
 ghost use Rattle.sqlite.specs.Held.{state};
 ghost use Rattle.depot_cli.specs.Carrying.{HasCarried, HasReported, OutlastsCarrying, OutlastsReporting};
-ghost use Rattle.depot_cli.specs.Tasks.{command_in};
+ghost use Rattle.depot_cli.specs.Tasks.{command_of};
 
 use crate::errand::Errand;
 use crate::inspection::inspect;
@@ -28,16 +28,14 @@ pub fn carry<S: Alter, O: Sink, E: Sink>(
     out: &mut O,
     err: &mut E,
 ) -> u8
-    ensures carried { HasCarried (state S.Store)
-        (command_in errand.now.order errand.now.octets.items) result
+    ensures carried { HasCarried (state S.Store) (command_of errand.now.task) result
         opened.old opened.new
         (O.output out.old) (E.output err.old) (O.output out.new) (E.output err.new) }
-    ensures survives { OutlastsCarrying (state S.Store)
-        (command_in errand.now.order errand.now.octets.items)
+    ensures survives { OutlastsCarrying (state S.Store) (command_of errand.now.task)
         opened.old opened.new }
 {
     match opened {
-        Ok(depot) => perform(alloc, errand.task(), depot, out, err),
+        Ok(depot) => perform(alloc, &errand.task, depot, out, err),
         Err(refusal) => tell(err, refusal),
     }
 }

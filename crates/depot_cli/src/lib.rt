@@ -35,7 +35,7 @@ mod system;
 mod task;
 
 pub use carrying::{carry, inspect_opened};
-pub use errand::{Errand, Order};
+pub use errand::Errand;
 pub use host::{Host, Input};
 pub use inspection::inspect;
 pub use job::{Job, answer, tell};

@@ -1,20 +1,22 @@
 // From the words of a command line to its status.
-ghost use Rattle.std.specs.Prelude.{◌≡◌, ◌≢◌, ◌≤◌, ◌⊎◌, List, ℕ, [], ◌∷◌, false, IfErr, IfOk, MatchOption, map};
+ghost use Rattle.std.specs.Prelude.{◌≡◌, ◌≢◌, ◌≤◌, ◌⊎◌, List, ℕ, [], ◌∷◌, false, true, IfErr, IfOk, MatchOption, map};
 ghost use Rattle.clap.specs.Words.{kind_of};
 ghost use Rattle.clap.specs.declared.error.kind.ErrorKind.TheVariants.{OutOfMemory};
 ghost use Rattle.bytecode_format.specs.Spelling.{spelling};
 ghost use Rattle.depot_cli.specs.Host.{HostState, origin_of};
 ghost use Rattle.depot_cli.specs.Jobs.{HasTold, world};
 ghost use Rattle.refusals.specs.declared.refusal.Refusal.TheVariants.{Memory};
-ghost use Rattle.depot_cli.specs.Running.{LeadsTo, HasNotRead, HasRead, HasRun, HasShown, HasToldUsage, HaveNotRead, HaveRead, IsBatchOn, IsDepotOf, IsInspected, IsJobOf, IsOrderOf, IsSavingOf, input, is_batch, is_inspection, is_on_depot, is_saving, keeping_code, origins_in, origins_of, refused, usage};
+ghost use Rattle.depot_cli.specs.Running.{LeadsTo, HasNotRead, HasRead, HasRun, HasShown, HasToldUsage, HaveNotRead, HaveRead, IsCommandOf, IsDepotOf, IsJobOf, input, is_handed_on, is_on_depot, keeping_code, origins_in, origins_of, refused, usage};
+ghost use Rattle.depot_cli.specs.Tasks.{command_of};
 
-use crate::errand::{Errand, Order};
+use crate::errand::Errand;
 use crate::host::{Host, Input};
 use crate::job::{Job, answer, tell};
 use crate::line::{CommandLine, line_of};
 use crate::printing::put_text;
 use crate::reading::read_limited;
 use crate::saving::Saving;
+use crate::task::Task;
 use clap::Error;
 use clap::error::ErrorKind;
 use encodings::Sink;
@@ -122,52 +124,19 @@ fn lead<'a, H: Host, O: Sink, E: Sink>(
         (world (H.state host.old) (O.output out.old) (E.output err.old))
         (world (H.state host.new) (O.output out.new) (E.output err.new)) }
 {
-    match (inspected(line), saved(line), batched(line)) {
-        (Some(name), _, _) => Next::Inspect(name),
-        (None, Some(saving), _) => Next::Save(saving),
-        (None, None, Some(name)) => Next::Batch(name),
-        (None, None, None) => carry_out(alloc, line, host, out, err),
-    }
-}
-
-// The file that a command inspects, if it does.
-fn inspected<'a>(line: CommandLine<'a>) -> Option<&'a str>
-    ensures { MatchOption result (is_inspection line.entry ≡ false)
-        (λ name. IsInspected line.entry name.now) }
-{
     match line {
-        CommandLine::Inspect { depot } => Some(depot),
-        _ => None,
-    }
-}
-
-// The depot of the commands that a command takes, if it does.
-fn batched<'a>(line: CommandLine<'a>) -> Option<&'a str>
-    ensures { MatchOption result (is_batch line.entry ≡ false)
-        (λ name. IsBatchOn line.entry name.now) }
-{
-    match line {
-        CommandLine::Batch { depot } => Some(depot),
-        _ => None,
-    }
-}
-
-// What a command saves, if it does.
-fn saved<'a>(line: CommandLine<'a>) -> Option<Saving<'a>>
-    ensures { MatchOption result (is_saving line.entry ≡ false)
-        (λ saving. IsSavingOf line.entry saving) }
-{
-    match line {
-        CommandLine::Program { depot, user, out } => Some(Saving {
+        CommandLine::Inspect { depot } => Next::Inspect(depot),
+        CommandLine::Program { depot, user, out } => Next::Save(Saving {
             name: depot,
             user,
             out,
         }),
-        _ => None,
+        CommandLine::Batch { depot } => Next::Batch(depot),
+        _ => carry_out(alloc, line, host, out, err),
     }
 }
 
-// Reads what a command reads, and answers its job, or hands its order back.
+// Reads what a command reads, and answers its job, or hands its errand back.
 fn carry_out<'a, H: Host, O: Sink, E: Sink>(
     alloc: Global,
     line: CommandLine<'a>,
@@ -175,19 +144,16 @@ fn carry_out<'a, H: Host, O: Sink, E: Sink>(
     out: &mut O,
     err: &mut E,
 ) -> Next<'a>
-    requires inspects { is_inspection line ≡ false }
-    requires saves { is_saving line ≡ false }
-    requires batches { is_batch line ≡ false }
+    requires stays { is_handed_on line ≡ false }
     ensures { LeadsTo line.entry result
         (world (H.state host.old) (O.output out.old) (E.output err.old))
         (world (H.state host.new) (O.output out.new) (E.output err.new)) }
 {
     match read_inputs(alloc, inputs_of(line), host) {
-        Ok((first, second)) => match order_of(line) {
-            Some((name, order)) => Next::Perform(Errand {
+        Ok((first, second)) => match depot_of(line) {
+            Some(name) => Next::Perform(Errand {
                 name,
-                order,
-                octets: first,
+                task: task_of(line, first),
             }),
             None => {
                 let job = job_of(line, &first, &second);
@@ -198,36 +164,56 @@ fn carry_out<'a, H: Host, O: Sink, E: Sink>(
     }
 }
 
-// The depot that a command is on, and what it asks of it.
-fn order_of<'a>(line: CommandLine<'a>) -> Option<(&'a str, Order<'a>)>
+// The file of the depot that a command is on.
+fn depot_of<'a>(line: CommandLine<'a>) -> Option<&'a str>
     ensures { MatchOption result (is_on_depot line.entry ≡ false)
-        (λ found. IsDepotOf line.entry found.0.now × IsOrderOf line.entry found.1) }
+        (λ name. (is_on_depot line.entry ≡ true) × IsDepotOf line.entry name.now) }
 {
     match line {
-        CommandLine::Script { depot, user, .. } => Some((depot, Order::Script { user })),
-        CommandLine::Code { depot, user, .. } => Some((depot, Order::Code { user })),
-        CommandLine::Deliver { depot, user, .. } => Some((depot, Order::Deliver { user })),
-        CommandLine::List { depot, user } => Some((depot, Order::List { user })),
+        CommandLine::Script { depot, .. }
+        | CommandLine::Code { depot, .. }
+        | CommandLine::Deliver { depot, .. }
+        | CommandLine::List { depot, .. }
+        | CommandLine::Export { depot, .. }
+        | CommandLine::Remove { depot, .. }
+        | CommandLine::Migrate { depot } => Some(depot),
+        _ => None,
+    }
+}
+
+// What a command on a depot asks of it, with the octets that it reads.
+fn task_of<'a>(line: CommandLine<'a>, octets: Vec<u8>) -> Task<'a>
+    requires { is_on_depot line ≡ true }
+    ensures { (inputs : List (List ℕ)) → octets.items ≡ input inputs 0
+        → IsCommandOf line.entry inputs (command_of result) }
+{
+    match line {
+        CommandLine::Script { user, .. } => Task::Script {
+            user,
+            script: octets,
+        },
+        CommandLine::Code { user, .. } => Task::Code {
+            user,
+            program: octets,
+        },
+        CommandLine::Deliver { user, .. } => Task::Deliver {
+            user,
+            message: octets,
+        },
+        CommandLine::List { user, .. } => Task::List { user },
         CommandLine::Export {
-            depot,
             user,
             number,
             encoding,
-        } => Some((
-            depot,
-            Order::Export {
-                user,
-                number,
-                encoding,
-            },
-        )),
-        CommandLine::Remove {
-            depot,
+            ..
+        } => Task::Export {
             user,
             number,
-        } => Some((depot, Order::Remove { user, number })),
-        CommandLine::Migrate { depot } => Some((depot, Order::Migrate)),
-        _ => None,
+            encoding,
+        },
+        CommandLine::Remove { user, number, .. } => Task::Remove { user, number },
+        CommandLine::Migrate { .. } => Task::Migrate,
+        _ => unreachable!(),
     }
 }
 
@@ -270,9 +256,7 @@ fn inputs_of<'a>(line: CommandLine<'a>) -> Inputs<'a>
 // where it reads once.
 fn job_of<'a>(line: CommandLine<'a>, first: &'a [u8], second: &'a [u8]) -> Job<'a>
     requires elsewhere { is_on_depot line ≡ false }
-    requires inspects { is_inspection line ≡ false }
-    requires saves { is_saving line ≡ false }
-    requires batches { is_batch line ≡ false }
+    requires stays { is_handed_on line ≡ false }
     ensures { (inputs : List (List ℕ)) → first.entry.now ≡ input inputs 0
         → second.entry.now ≡ input inputs 1 → IsJobOf line.entry inputs result }
 {

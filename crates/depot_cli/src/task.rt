@@ -21,22 +21,22 @@ use sqlite::Alter;
 use std::alloc::Global;
 
 /// A command on a depot, with the octets of its file.
-#[derive(Clone, Copy)]
+#[derive(Drop)]
 pub enum Task<'a> {
     /// A script's code as the user's filter.
     Script {
         user: &'a str,
-        script: &'a [u8],
+        script: Vec<u8>,
     },
     /// A program as the user's filter.
     Code {
         user: &'a str,
-        program: &'a [u8],
+        program: Vec<u8>,
     },
     /// A message, filed as the user's filter says.
     Deliver {
         user: &'a str,
-        message: &'a [u8],
+        message: Vec<u8>,
     },
     /// The user's entries.
     List {
@@ -84,23 +84,23 @@ pub enum Reply {
 /// and never a part of that.
 pub fn perform<S: Alter, O: Sink, E: Sink>(
     alloc: Global,
-    task: Task<'_>,
+    task: &Task<'_>,
     depot: &mut Depot<S>,
     out: &mut O,
     err: &mut E,
 ) -> u8
-    ensures performed { HasPerformed (command_of task.entry) result
+    ensures performed { HasPerformed (command_of task.now) result
         (desk (state S.Store depot.old) (O.output out.old) (E.output err.old))
         (desk (state S.Store depot.new) (O.output out.new) (E.output err.new)) }
     ensures survives { Survives (state S.Store depot.old) (state S.Store depot.new)
-        (MayAdd (command_of task.entry) (state S.Store depot.old)) }
+        (MayAdd (command_of task.now) (state S.Store depot.old)) }
 {
     match task {
         Task::Export {
             user,
             number,
             encoding,
-        } => match depot.export(alloc, user, number, encoding, out) {
+        } => match depot.export(alloc, user, *number, *encoding, out) {
             Ok(()) => SUCCESS,
             Err(refusal) => tell(err, &refusal),
         },
@@ -121,16 +121,16 @@ pub fn perform<S: Alter, O: Sink, E: Sink>(
 /// The depot refused the command, and is as it was.
 pub fn reply_to<S: Alter>(
     alloc: Global,
-    task: Task<'_>,
+    task: &Task<'_>,
     depot: &mut Depot<S>,
 ) -> Result<Reply, Refusal>
-    requires tells { IsExport (command_of task) → ⊥ }
-    ensures done { IfOk result (λ reply. HasAnswered (command_of task.entry) (text_in reply)
+    requires tells { IsExport (command_of task.now) → ⊥ }
+    ensures done { IfOk result (λ reply. HasAnswered (command_of task.now) (text_in reply)
         (state S.Store depot.old) (state S.Store depot.new)) }
-    ensures refused { IfErr result (λ e. HasRefused (command_of task.entry) e
+    ensures refused { IfErr result (λ e. HasRefused (command_of task.now) e
         (state S.Store depot.old) (state S.Store depot.new)) }
     ensures survives { Survives (state S.Store depot.old) (state S.Store depot.new)
-        (MayAdd (command_of task.entry) (state S.Store depot.old)) }
+        (MayAdd (command_of task.now) (state S.Store depot.old)) }
 {
     match task {
         Task::Script { user, script } => match depot.set_script(alloc, user, script) {
@@ -149,8 +149,8 @@ pub fn reply_to<S: Alter>(
             Ok(rows) => Ok(Reply::Listed(rows)),
             Err(refusal) => Err(refusal),
         },
-        Task::Remove { user, number } => match depot.remove(user, number) {
-            Ok(()) => Ok(Reply::Removed(number)),
+        Task::Remove { user, number } => match depot.remove(user, *number) {
+            Ok(()) => Ok(Reply::Removed(*number)),
             Err(refusal) => Err(refusal),
         },
         Task::Migrate => match depot.migrate(alloc) {

@@ -6,7 +6,7 @@ use depot_actions::{Depot, Refusal};
 use depot_cli::{Task, perform};
 use encodings::{Encoding, OfWrite, Sink, encode};
 use sqlite::MemStore;
-use std::alloc::Global;
+use std::alloc::{AllocError, Global};
 use std::io;
 use std::io::Write;
 use std::test::Fail;
@@ -21,49 +21,47 @@ const ENCODINGS: [Encoding; 7] = [
     Encoding::Qp,
 ];
 
+/// Which task a row has.
+#[derive(Clone, Copy)]
+enum Kind {
+    Script,
+    Code,
+    Deliver,
+    List,
+    Remove,
+}
+
 /// A task, the line that it prints, and how many users, contents and entries it leaves.
 #[derive(Clone, Copy)]
 struct Row {
-    task: Task<'static>,
+    kind: Kind,
     line: &'static str,
     leaves: [usize; 3],
 }
 
 const ROWS: [Row; 5] = [
     Row {
-        task: Task::Script {
-            user: "bob",
-            script: SCRIPT,
-        },
+        kind: Kind::Script,
         line: "stored\n",
         leaves: [2, 1, 1],
     },
     Row {
-        task: Task::Code {
-            user: "bob",
-            program: KEEP,
-        },
+        kind: Kind::Code,
         line: "stored\n",
         leaves: [2, 1, 1],
     },
     Row {
-        task: Task::Deliver {
-            user: "ann",
-            message: MESSAGE,
-        },
+        kind: Kind::Deliver,
         line: "2 part \"att\"\n",
         leaves: [1, 1, 2],
     },
     Row {
-        task: Task::List { user: "ann" },
+        kind: Kind::List,
         line: "1 part \"att\" \"a.txt\" text/plain 6\n",
         leaves: [1, 1, 1],
     },
     Row {
-        task: Task::Remove {
-            user: "ann",
-            number: 1,
-        },
+        kind: Kind::Remove,
         line: "removed 1\n",
         leaves: [1, 0, 0],
     },
@@ -97,10 +95,33 @@ fn laid(alloc: Global) -> Result<Depot<MemStore>, Refusal> {
     Ok(depot)
 }
 
+// The task of a row.
+fn task_of(alloc: Global, kind: Kind) -> Result<Task<'static>, AllocError> {
+    match kind {
+        Kind::Script => Ok(Task::Script {
+            user: "bob",
+            script: SCRIPT.to_vec(alloc)?,
+        }),
+        Kind::Code => Ok(Task::Code {
+            user: "bob",
+            program: KEEP.to_vec(alloc)?,
+        }),
+        Kind::Deliver => Ok(Task::Deliver {
+            user: "ann",
+            message: MESSAGE.to_vec(alloc)?,
+        }),
+        Kind::List => Ok(Task::List { user: "ann" }),
+        Kind::Remove => Ok(Task::Remove {
+            user: "ann",
+            number: 1,
+        }),
+    }
+}
+
 // Performs a task on a new depot, and gives the status and what the depot holds then.
 fn performed<O: Sink, E: Sink>(
     alloc: Global,
-    task: Task<'_>,
+    task: &Task<'_>,
     out: &mut O,
     err: &mut E,
 ) -> Result<(u8, Held), Fail> {
@@ -119,7 +140,7 @@ fn exported<W: Write + Drop>(alloc: Global, writer: W) -> Result<(u8, W, Vec<u8>
         number: 1,
         encoding: Encoding::Base64Mime,
     };
-    let (status, _) = performed(alloc, task, &mut out, &mut err)?;
+    let (status, _) = performed(alloc, &task, &mut out, &mut err)?;
     Ok((status, out.inner, err.inner))
 }
 
@@ -127,7 +148,8 @@ fn exported<W: Write + Drop>(alloc: Global, writer: W) -> Result<(u8, W, Vec<u8>
 fn whole(alloc: Global, row: Row) -> Result<(bool, Held), Fail> {
     let mut out = OfWrite::new(Vec::new(alloc));
     let mut err = OfWrite::new(Vec::new(alloc));
-    let (status, held) = performed(alloc, row.task, &mut out, &mut err)?;
+    let task = task_of(alloc, row.kind)?;
+    let (status, held) = performed(alloc, &task, &mut out, &mut err)?;
     let is_printed = out.inner.as_slice() == row.line.as_bytes() && err.inner.is_empty();
     Ok((status == 0 && is_printed, held))
 }
@@ -136,7 +158,8 @@ fn whole(alloc: Global, row: Row) -> Result<(bool, Held), Fail> {
 fn is_told(rt: &HostRuntime, row: Row, whole: &Held) -> Result<bool, Fail> {
     let mut out = OfWrite::new(Calls::new(rt, 1, 0));
     let mut err = OfWrite::new(Vec::new(rt.alloc()));
-    let (status, held) = performed(rt.alloc(), row.task, &mut out, &mut err)?;
+    let task = task_of(rt.alloc(), row.kind)?;
+    let (status, held) = performed(rt.alloc(), &task, &mut out, &mut err)?;
     let is_told = err.inner.as_slice() == b"refused 45 Write\n".as_slice();
     Ok(status == 1 && is_told && held == *whole)
 }
@@ -145,7 +168,8 @@ fn is_told(rt: &HostRuntime, row: Row, whole: &Held) -> Result<bool, Fail> {
 fn is_mute(rt: &HostRuntime, row: Row, whole: &Held) -> Result<bool, Fail> {
     let mut out = OfWrite::new(Calls::new(rt, 1, 0));
     let mut err = OfWrite::new(Calls::new(rt, 1, 0));
-    let (status, held) = performed(rt.alloc(), row.task, &mut out, &mut err)?;
+    let task = task_of(rt.alloc(), row.kind)?;
+    let (status, held) = performed(rt.alloc(), &task, &mut out, &mut err)?;
     Ok(status == 1 && held == *whole)
 }
 

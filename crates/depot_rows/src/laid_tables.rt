@@ -6,7 +6,7 @@ use depot_cli::{Task, inspect, perform};
 use encodings::OfWrite;
 use part_store::{PartStore, StoreError};
 use sqlite::{Connection, MemStore};
-use std::alloc::Global;
+use std::alloc::{AllocError, Global};
 use std::test::Fail;
 
 // `foobaz` under the SHA-256 of `foobar`, which an entry of bob names.
@@ -49,16 +49,22 @@ fn held_by(alloc: Global, depot: Depot<MemStore>) -> Result<(Held, Depot<MemStor
 }
 
 // Delivers a message by the command line.
-fn delivered(alloc: Global, depot: &mut Depot<MemStore>, user: &str, message: &[u8]) -> Printed {
+fn delivered(
+    alloc: Global,
+    depot: &mut Depot<MemStore>,
+    user: &str,
+    octets: &[u8],
+) -> Result<Printed, AllocError> {
     let mut out = OfWrite::new(Vec::new(alloc));
     let mut err = OfWrite::new(Vec::new(alloc));
+    let message = octets.to_vec(alloc)?;
     let task = Task::Deliver { user, message };
-    let status = perform(alloc, task, depot, &mut out, &mut err);
-    Printed {
+    let status = perform(alloc, &task, depot, &mut out, &mut err);
+    Ok(Printed {
         status,
         out: out.inner,
         err: err.inner,
-    }
+    })
 }
 
 // Whether a delivery is refused by this line, and every row is as it was.
@@ -70,7 +76,7 @@ fn is_refused(
     line: &str,
 ) -> Result<bool, StoreError> {
     let (before, mut depot) = held_by(alloc, laid)?;
-    let printed = delivered(alloc, &mut depot, user, message);
+    let printed = delivered(alloc, &mut depot, user, message)?;
     let (after, _depot) = held_by(alloc, depot)?;
     Ok(
         printed.status == 1
@@ -87,7 +93,7 @@ fn the_last_number(rt: HostRuntime) -> Result<(), Fail> {
         alloc,
         &["INSERT INTO users (user, last, program) VALUES ('dan', 4294967294, NULL)"],
     )?;
-    let printed = delivered(alloc, &mut depot, "dan", b"");
+    let printed = delivered(alloc, &mut depot, "dan", b"")?;
     assert_eq!(rt; printed.status, 0);
     assert!(rt; printed.out.as_slice() == b"4294967295 message \"INBOX\"\n".as_slice());
     assert!(rt; printed.err.is_empty());

@@ -33,7 +33,7 @@ fn carry<O: Sink, E: Sink>(alloc: Global, errand: &Errand<'_>, out: &mut O, err:
     match Depot::in_memory(alloc) {
         Ok(opened) => {
             let mut depot = opened;
-            perform(alloc, errand.task(), &mut depot, out, err)
+            perform(alloc, &errand.task, &mut depot, out, err)
         }
         Err(refusal) => tell(err, &refusal),
     }

@@ -12,9 +12,8 @@ returns-in-Some g c =
     record {
       inputs = read.0;
       read = subst (λ origins. HaveRead origins read.0 before mid) c.inputs_of.ensures read.1;
-      name = c.in-Some.ensures.0;
-      order = c.in-Some.ensures.1;
-      octets = read.2;
+      name = c.in-Some.ensures.1;
+      command = c.task_of.ensures read.0 read.2;
       out = refl;
       err = refl;
     }

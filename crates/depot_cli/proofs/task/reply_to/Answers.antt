@@ -1,10 +1,10 @@
-use Rattle.std.proofs.Common.{map, refl}
+use Rattle.std.proofs.Common.{map, refl, sym}
 use Rattle.part_store.specs.Standing.{listed}
 use Rattle.depot_actions.specs.DepotState.{Listed, Migrated}
 use Rattle.depot_cli.proofs.task.reply_to.Goals as goal
 
 pub returns-in-Ok-deliver-clause-done : goal.returns-in-Ok-deliver-clause-done
-returns-in-Ok-deliver-clause-done g c = rw c.in-Deliver.is (Listed (map listed c.in-Ok-deliver.rows.items), c.in-Ok-deliver.ensures.done, refl)
+returns-in-Ok-deliver-clause-done g c = rw (c.in-Deliver.is, sym c.deref-in-Deliver.ensures.value) (Listed (map listed c.in-Ok-deliver.rows.items), c.in-Ok-deliver.ensures.done, refl)
 
 pub returns-in-Ok-list-clause-done : goal.returns-in-Ok-list-clause-done
 returns-in-Ok-list-clause-done g c = rw c.in-List.is (Listed (map listed c.in-Ok-list.rows.items), c.in-Ok-list.ensures.done, refl)
