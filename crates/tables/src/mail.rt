@@ -1,10 +1,12 @@
 // What mail is read as: lines, headers, the values of fields, and the parts of messages.
 use crate::numbers::{number_of, print_size};
 use crate::printed::Printed;
+use crate::refused::put_refusal;
 use header_fields::{Header, name_is, unfold, unfolded_length};
 use mime_decode::{Message, digest_of};
 use mime_params::{Params, TransferEncoding, param, parameters_of, read_disposition, read_type};
-use mime_tree::{MessageError, Tree};
+use mime_tree::Tree;
+use refusals::Refusal;
 use std::alloc::{AllocError, Global};
 use text_lines::Lines;
 
@@ -245,7 +247,7 @@ fn name_of(encoding: TransferEncoding) -> &'static str {
 fn print_tree(alloc: Global, text: &[u8], answer: &mut Printed) -> Result<(), AllocError> {
     let tree = match Tree::read(alloc, text) {
         Ok(tree) => tree,
-        Err(refused) => return answer.word(refusal_of(&refused)),
+        Err(refused) => return put_refusal(&Refusal::from(refused), answer),
     };
     for part in 0..tree.parts() {
         print_size(tree.depth(part), answer)?;
@@ -259,7 +261,7 @@ fn print_tree(alloc: Global, text: &[u8], answer: &mut Printed) -> Result<(), Al
 fn print_types(alloc: Global, text: &[u8], answer: &mut Printed) -> Result<(), AllocError> {
     let tree = match Tree::read(alloc, text) {
         Ok(tree) => tree,
-        Err(refused) => return answer.word(refusal_of(&refused)),
+        Err(refused) => return put_refusal(&Refusal::from(refused), answer),
     };
     for part in 0..tree.parts() {
         print_size(tree.depth(part), answer)?;
@@ -275,7 +277,7 @@ fn print_types(alloc: Global, text: &[u8], answer: &mut Printed) -> Result<(), A
 fn print_parts(alloc: Global, text: &[u8], answer: &mut Printed) -> Result<(), AllocError> {
     let tree = match Tree::read(alloc, text) {
         Ok(tree) => tree,
-        Err(refused) => return answer.word(refusal_of(&refused)),
+        Err(refused) => return put_refusal(&Refusal::from(refused), answer),
     };
     let parts = tree.parts();
     print_size(parts, answer)?;
@@ -295,7 +297,7 @@ fn print_part(
 ) -> Result<(), AllocError> {
     let tree = match Tree::read(alloc, text) {
         Ok(tree) => tree,
-        Err(refused) => return answer.word(refusal_of(&refused)),
+        Err(refused) => return put_refusal(&Refusal::from(refused), answer),
     };
     if part >= tree.parts() {
         return Ok(());
@@ -322,11 +324,29 @@ fn print_content(
 ) -> Result<(), AllocError> {
     let message = match Message::read(alloc, text) {
         Ok(message) => message,
-        Err(refused) => return answer.word(refusal_of(&refused)),
+        Err(refused) => return put_refusal(&Refusal::from(refused), answer),
     };
     if part >= message.parts() {
         return Ok(());
     }
     let content = message.content(alloc, part)?;
     answer.text(content.as_slice())
+}
+
+// The digest of what the body of a part stands for; nothing where there is no such part.
+fn print_digest(
+    alloc: Global,
+    text: &[u8],
+    part: usize,
+    answer: &mut Printed,
+) -> Result<(), AllocError> {
+    let message = match Message::read(alloc, text) {
+        Ok(message) => message,
+        Err(refused) => return put_refusal(&Refusal::from(refused), answer),
+    };
+    if part >= message.parts() {
+        return Ok(());
+    }
+    let digest = message.digest(alloc, part)?;
+    answer.text(&digest)
 }
