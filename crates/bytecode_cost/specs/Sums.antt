@@ -1,3 +1,4 @@
+-- What a program may charge: sums by the number of open loops, and the budget that they make.
 use Rattle.std.specs.Prelude.{◌≡◌, ◌==◌, ℕ, zero, suc, ◌+◌, ◌*◌, ◌^◌, ◌<◌, List, [], ◌∷◌, length, All, slice_index, slice_set, if◌then◌else◌}
 
 -- a version, and for each number of open loops the sum of the fixed caps and that of the caps for each octet

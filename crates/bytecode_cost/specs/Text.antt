@@ -1,3 +1,4 @@
+-- The printed line of a budget.
 use Rattle.std.specs.Prelude.{ℕ, ◌==◌, List, [], ◌++◌, codes, slice_index, if◌then◌else◌}
 use Rattle.std.specs.Fmt.{decimal}
 use Rattle.bytecode_cost.specs.Sums.{Sums}

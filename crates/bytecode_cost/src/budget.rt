@@ -90,7 +90,8 @@ impl Budget {
         requires level { k < 4 }
         requires octets { n ≤ max_message }
         requires turns { turns ≤ 2 ^ 36 }
-        ensures value { result ≡ (slice_index self.now.fixed k + slice_index self.now.scaled k * (n + 1)) * turns }
+        ensures value { result
+            ≡ (slice_index self.now.fixed k + slice_index self.now.scaled k * (n + 1)) * turns }
         ensures bound { result < 2 ^ 126 }
     {
         let octets = n as u128 + 1;
@@ -100,7 +101,11 @@ impl Budget {
     // The sums of `k` open loops, to be printed.
     fn level(&self, k: usize) -> Level
         requires { k < 4 }
-        ensures { result ≡ record { k = k; fixed = slice_index self.now.fixed k; scaled = slice_index self.now.scaled k } }
+        ensures { result ≡ record {
+          k = k;
+          fixed = slice_index self.now.fixed k;
+          scaled = slice_index self.now.scaled k;
+        } }
     {
         Level {
             k,

@@ -5,7 +5,8 @@ ghost use Rattle.bytecode_cost.specs.Sums.{Sums, IsBudget, budget_at, chains, tu
 
 /// At a message of at most 2^26 octets and 4,096 parts every budget is below 2^128.
 pub fn budget_fits()
-    ensures { (sums : Sums) → IsBudget sums → (n p : ℕ) → n ≤ max_message → p ≤ max_parts → budget_at sums n p < 2 ^ 128 }
+    ensures { (sums : Sums) → IsBudget sums
+        → (n p : ℕ) → n ≤ max_message → p ≤ max_parts → budget_at sums n p < 2 ^ 128 }
 {}
 
 /// Two parts of `n` can be chosen in `n (n - 1) / 2` ways.
@@ -25,7 +26,8 @@ pub fn chains_within_powers()
 
 /// The budget of version 2 is nowhere larger than that of another version with the same sums.
 pub fn chains_never_cost_more()
-    ensures { (sums : Sums) → (n p : ℕ) → budget_at (record sums { version = 2 }) n p ≤ budget_at sums n p }
+    ensures { (sums : Sums) → (n p : ℕ)
+        → budget_at (record sums { version = 2 }) n p ≤ budget_at sums n p }
 {}
 
 /// Where all parts are left, what is left of the turns is all of them.

@@ -1,3 +1,4 @@
+-- What a program is made of.
 use Rattle.std.specs.Prelude.{ℕ, List}
 use Rattle.bytecode_format.specs.declared.instruction.Instruction.{Instruction}
 

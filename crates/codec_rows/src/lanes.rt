@@ -1,3 +1,4 @@
+// Thirty-two octets at once: classes, symbols, upper case.
 use octet_lanes::{Alphabet, STRAY, ascii_upper_lanes, classify, close_up, spell};
 
 #[test]

@@ -1,3 +1,4 @@
+// MIME base64 in pieces: whatever the pieces are, the text is read as it is whole.
 use lanes_base64_mime::{Decoder, decode_mime, encode_mime};
 use std::alloc::{AllocError, Global};
 

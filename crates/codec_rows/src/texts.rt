@@ -1,3 +1,4 @@
+// Each base on texts of every length, there and back, and with a stray character at each place.
 use base64::engine::general_purpose::STANDARD;
 use lanes_base32::{decode32, decode32hex, encode32, encode32hex};
 use lanes_base64_mime::{decode_mime, encode_mime};

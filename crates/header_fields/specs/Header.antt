@@ -1,3 +1,4 @@
+-- The header of a part: its lines, its fields, and where it ends (RFC 5322, section 2.2).
 use Rattle.std.specs.Prelude.{ℕ, ◌+◌, Bool, false, not, ◌==◌, ◌&&◌, nat_lt, if◌then◌else◌, List, [], ◌∷◌, ◌++◌, length, drop, flat_map, take}
 use Rattle.std.specs.List.{list_any, prefix_len, take_while}
 use Rattle.std.specs.Char.{is_ascii_graphic}

@@ -1,3 +1,4 @@
+-- The case of ASCII letters.
 use Rattle.std.specs.Prelude.{◌≡◌, ℕ, Bool, List, bytes_eq, map}
 use Rattle.std.specs.Char.{to_ascii_uppercase, to_ascii_lowercase}
 

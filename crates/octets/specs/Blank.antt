@@ -1,3 +1,4 @@
+-- SP and TAB around a text.
 use Rattle.std.specs.Prelude.{ℕ, Bool, List, [], ◌∷◌, ◌||◌, ◌==◌, cond, reverse}
 
 -- SP or TAB

@@ -1,3 +1,4 @@
+-- Places in a script that steps lead between.
 use Rattle.std.specs.Prelude.{◌≡◌, ℕ, ◌<◌, ◌≤◌, Bool, true, false, List, [], ◌∷◌, length, slice_index}
 
 -- the steps lead from place a to place b, each from one of the places given to the next

@@ -1,3 +1,4 @@
+-- What octets may stand for between tokens and in identifiers (RFC 5228, section 8.1).
 use Rattle.std.specs.Prelude.{ℕ, Bool, not, ◌==◌, ◌||◌}
 use Rattle.std.specs.Char.{is_ascii_alphabetic, is_ascii_alphanumeric}
 

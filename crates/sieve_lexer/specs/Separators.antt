@@ -1,3 +1,4 @@
+-- What stands between tokens: white space and comments (RFC 5228, sections 2.2 and 2.3).
 use Rattle.std.specs.Prelude.{◌≡◌, ◌⊎◌, ℕ, ◌+◌, ◌<◌, ◌≤◌, List, length, slice_index, IsTrue}
 use Rattle.sieve_lexer.specs.Classes.{is_white_space, is_not_line_feed}
 use Rattle.sieve_lexer.specs.Chain.{IsRun, Leads}

@@ -1,3 +1,4 @@
+-- Quoted and multi-line strings as they are written (RFC 5228, section 2.4.2).
 use Rattle.std.specs.Prelude.{◌≡◌, ◌≢◌, ◌⊎◌, ℕ, ◌+◌, ◌<◌, ◌≤◌, List, length, slice_index, slice_range, IsTrue, codes, map}
 use Rattle.std.specs.Char.{to_ascii_lowercase}
 use Rattle.octets.specs.Blank.{is_blank}

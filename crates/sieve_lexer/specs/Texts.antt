@@ -1,3 +1,4 @@
+-- How tokens of each kind are written (RFC 5228, section 8.1).
 use Rattle.std.specs.Prelude.{◌≡◌, ◌⊎◌, ℕ, ◌+◌, ◌<◌, ◌≤◌, List, length, slice_index, IsTrue, Option, Some, None}
 use Rattle.std.specs.Char.{is_ascii_digit}
 use Rattle.sieve_lexer.specs.Classes.{begins_identifier, continues_identifier}

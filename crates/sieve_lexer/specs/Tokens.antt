@@ -1,3 +1,4 @@
+-- The tokens of a script, and where a script has none.
 use Rattle.std.specs.Prelude.{◌≡◌, ℕ, ◌<◌, ◌≤◌, ◌^◌, List, [], ◌∷◌, length, slice_range, Option, MatchOption}
 use Rattle.sieve_lexer.specs.Chain.{Stops}
 use Rattle.sieve_lexer.specs.Separators.{IsSeparator, IsGap}

@@ -1,3 +1,4 @@
+-- What the grammar reads of tokens.
 use Rattle.std.specs.Prelude.{ℕ, ◌+◌, List, [], ◌∷◌, slice_range, drop}
 use Rattle.sieve_lexer.specs.Values.{number_value, string_value}
 use Rattle.sieve_lexer.specs.declared.token.Token.{Token}

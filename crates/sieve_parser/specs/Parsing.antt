@@ -1,3 +1,4 @@
+-- What the functions of the parser answer.
 use Rattle.std.specs.Prelude.{◌≡◌, ℕ, zero, suc, ◌+◌, ◌<◌, ◌≤◌, List, [], ◌∷◌, ◌++◌, length, take, drop, slice_index_or, Option, Some, None, Result, MatchResult, MatchOption, map, option_map}
 use Rattle.std.specs.List.{slice_get}
 use Rattle.sieve_lexer.specs.declared.token.Token.{Token}

@@ -1,3 +1,4 @@
+-- The lexer's refusals as those of the parser.
 use Rattle.sieve_lexer.specs.declared.error.LexicalError.{LexicalError}
 use Rattle.sieve_lexer.specs.declared.error.LexicalError.TheVariants as lexer
 use Rattle.sieve_parser.specs.declared.error.ParseError.{ParseError}

@@ -1,3 +1,4 @@
+-- What a script says, and what each refusal says of it.
 use Rattle.std.specs.Prelude.{ℕ, ◌<◌, ◌≤◌, List, length}
 use Rattle.sieve_lexer.specs.Tokens.{AreTokens, IsFault}
 use Rattle.octets.specs.Limits.{max_script}

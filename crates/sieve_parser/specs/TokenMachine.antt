@@ -1,3 +1,4 @@
+-- A machine that reads lexemes from left to right: what is still to be read after each.
 use Rattle.std.specs.Prelude.{◌≡◌, ℕ, suc, nat_le, List, [], ◌∷◌, ◌++◌, Option, Some, None, fold, if◌then◌else◌}
 use Rattle.octets.specs.Limits.{max_nesting}
 use Rattle.sieve_parser.specs.Lexemes.{Lexeme, identifier, tag, number, string, semicolon, comma, opening_brace, closing_brace, opening_parenthesis, closing_parenthesis, opening_bracket, closing_bracket}

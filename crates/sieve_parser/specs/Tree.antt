@@ -1,3 +1,4 @@
+-- The tree of a script: commands, tests and arguments.
 use Rattle.std.specs.Prelude.{ℕ, List}
 
 -- an argument: a string, a list of strings by its first and the others, a number, a tag

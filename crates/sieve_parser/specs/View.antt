@@ -1,3 +1,4 @@
+-- The code's tree as the definitions' tree.
 use Rattle.std.specs.Prelude.{List, [], ◌∷◌, map}
 use Rattle.sieve_parser.specs.Tree.{ArgumentTree, text, text_list, amount, label, InvocationTree, invocation, TestsTree, no_test, one_test, test_list, MoreTests, last, next, CommandTree, simple, block, CommandsTree, no_command, command}
 use Rattle.sieve_parser.specs.declared.tree.Argument.{Argument}

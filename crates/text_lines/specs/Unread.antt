@@ -1,3 +1,4 @@
+-- A text that is read line by line.
 use Rattle.std.specs.Prelude.{ℕ, List}
 
 -- a text of which the lines before a place were given
