@@ -9,10 +9,10 @@ use thiserror::Error;
 #[derive(Debug, Drop, Error)]
 pub enum FormatError {
     /// An allocation was refused.
-    #[error("refused 1 Memory")]
+    #[error("an allocation was refused")]
     Memory,
     /// The octets spell no program, or the parts exceed a program's limits.
-    #[error("refused 20 Spelling")]
+    #[error("the octets spell no program")]
     Spelling,
 }
 

@@ -9,28 +9,28 @@ use thiserror::Error;
 #[derive(Debug, Drop, Error)]
 pub enum Refusal {
     /// An allocation was refused.
-    #[error("refused 1 Memory")]
+    #[error("an allocation was refused")]
     Memory,
     /// An index of what isn't there.
-    #[error("refused 21 Index at {place}")]
+    #[error("instruction {place} names what isn't there")]
     Index { place: usize },
     /// No operation, a field out of its range, or a field that isn't named and not 0.
-    #[error("refused 22 Form at {place}")]
+    #[error("instruction {place} has a wrong field")]
     Form { place: usize },
     /// The last instruction doesn't end the run. The place is 0 where there is no instruction.
-    #[error("refused 23 End at {place}")]
+    #[error("instruction {place} doesn't end the run")]
     End { place: usize },
     /// A loop without its other end, too many open loops, or a break of more than there are.
-    #[error("refused 24 Loop at {place}")]
+    #[error("a loop is wrong at instruction {place}")]
     Loop { place: usize },
     /// A jump that isn't forward, or to a place that is none or has other open loops.
-    #[error("refused 25 Jump at {place}")]
+    #[error("instruction {place} jumps to a wrong place")]
     Jump { place: usize },
     /// An operation on the current part where no loop is open.
-    #[error("refused 26 NoPart at {place}")]
+    #[error("no loop is open around instruction {place}")]
     NoPart { place: usize },
     /// An entry of the stack is missing, of the wrong kind, too many, or left where none may be.
-    #[error("refused 27 Stack at {place}")]
+    #[error("the stack is wrong at instruction {place}")]
     Stack { place: usize },
 }
 

@@ -8,10 +8,10 @@ use thiserror::Error;
 #[derive(Debug, Drop, PartialEq, Eq, Error)]
 pub enum Refusal {
     /// An allocation was refused.
-    #[error("refused 1 Memory")]
+    #[error("an allocation was refused")]
     Memory,
     /// The text isn't one that the encoder writes.
-    #[error("refused 10 NotCanonical")]
+    #[error("the text isn't one that the encoder writes")]
     NotCanonical,
 }
 

@@ -9,13 +9,13 @@ use thiserror::Error;
 #[derive(Debug, Drop, Error)]
 pub enum MessageError {
     /// An allocation was refused.
-    #[error("refused 1 Memory")]
+    #[error("an allocation was refused")]
     Memory,
     /// More octets than [`MAX_MESSAGE`](crate::MAX_MESSAGE).
-    #[error("refused 2 MessageTooLarge")]
+    #[error("the message is longer than a message may be")]
     MessageTooLarge,
     /// More parts than [`MAX_PARTS`](crate::MAX_PARTS).
-    #[error("refused 3 TooManyParts")]
+    #[error("the message has more parts than a message may have")]
     TooManyParts,
 }
 

@@ -11,19 +11,19 @@ use thiserror::Error;
 #[derive(Clone, Copy, Debug, PartialEq, Eq, Drop, Error)]
 pub enum StoreError {
     /// An allocation was refused, here or in the database.
-    #[error("refused 1 Memory")]
+    #[error("an allocation was refused")]
     Memory,
     /// The user has no entry of that number.
-    #[error("refused 40 NoSuchEntry")]
+    #[error("the user has no entry of that number")]
     NoSuchEntry,
     /// The numbers that are left don't suffice.
-    #[error("refused 41 NumberFull")]
+    #[error("the numbers that are left don't suffice")]
     NumberFull,
     /// Another content has the same digest and other octets.
-    #[error("refused 42 Collision")]
+    #[error("another content has the same digest")]
     Collision,
     /// The database refused or failed.
-    #[error("refused 43 Database")]
+    #[error("the database refused or failed")]
     Database,
 }
 

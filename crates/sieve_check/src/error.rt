@@ -9,28 +9,28 @@ use thiserror::Error;
 #[derive(Debug, Drop, Error)]
 pub enum CheckError {
     /// An allocation was refused.
-    #[error("refused 1 Memory")]
+    #[error("an allocation was refused")]
     Memory,
     /// A command or test of this name isn't known (RFC 5228, section 2.10.5).
-    #[error("refused 15 UnknownCommand at {place}")]
+    #[error("token {place} names no command or test")]
     UnknownCommand { place: usize },
     /// The command or test needs a capability that wasn't required (RFC 5228, section 2.10.5).
-    #[error("refused 16 MissingCapability at {place}")]
+    #[error("token {place} needs a capability that wasn't required")]
     MissingCapability { place: usize },
     /// `require` names a capability that isn't known (RFC 5228, section 3.2).
-    #[error("refused 17 UnknownCapability at {place}")]
+    #[error("token {place} requires what is no capability")]
     UnknownCapability { place: usize },
     /// The command or test stands at a wrong place, or with other arguments, tests or another end than it takes; or a
     /// string of it that is expanded has a reference into a namespace or to a capture after the last one; or `set` gives
     /// a name that is no identifier (RFC 5229, sections 3 and 4). Wrong places are, outside of all loops, those of `store`, of
     /// the tests of the current part and of `break`, and that of a `break` with a name that no loop around it has (RFC 5703,
     /// section 3).
-    #[error("refused 18 BadArguments at {place}")]
+    #[error("the command or test at token {place} is wrong")]
     BadArguments { place: usize },
     /// A string of the command or test has more octets than the limit, or the lists of a test have more strings; or a
     /// string of it that is expanded has more segments, or a name of a variable has more octets; or this is the command or
     /// test with which the script has more variables, or a loop within as many others as may be open.
-    #[error("refused 19 Limit at {place}")]
+    #[error("the command or test at token {place} is beyond a limit")]
     Limit { place: usize },
 }
 

@@ -9,13 +9,13 @@ use thiserror::Error;
 #[derive(Debug, Drop, Error)]
 pub enum LexicalError {
     /// An allocation was refused.
-    #[error("refused 1 Memory")]
+    #[error("an allocation was refused")]
     Memory,
     /// The script has more octets than the limit.
-    #[error("refused 12 ScriptTooLong")]
+    #[error("the script is longer than a script may be")]
     ScriptTooLong,
     /// At this octet begins neither a token nor white space nor a comment.
-    #[error("refused 11 Lexical at {place}")]
+    #[error("no token begins at octet {place}")]
     Lexical { place: usize },
 }
 

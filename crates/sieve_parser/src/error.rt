@@ -11,19 +11,19 @@ use thiserror::Error;
 #[derive(Debug, Drop, Error)]
 pub enum ParseError {
     /// An allocation was refused.
-    #[error("refused 1 Memory")]
+    #[error("an allocation was refused")]
     Memory,
     /// The script has more octets than the limit.
-    #[error("refused 12 ScriptTooLong")]
+    #[error("the script is longer than a script may be")]
     ScriptTooLong,
     /// At this octet begins neither a token nor white space nor a comment.
-    #[error("refused 11 Lexical at {place}")]
+    #[error("no token begins at octet {place}")]
     Lexical { place: usize },
     /// With this token the tokens begin no script; the end counts as a token.
-    #[error("refused 13 Syntax at {place}")]
+    #[error("no script goes on with token {place}")]
     Syntax { place: usize },
     /// This token is the brace or test name that would be nested too deep.
-    #[error("refused 14 TooDeep at {place}")]
+    #[error("token {place} is nested too deep")]
     TooDeep { place: usize },
 }
 
