@@ -1,5 +1,4 @@
 // Batches on a depot in memory, over a shelf: what each line is answered, and what breaks off.
-use crate::depot::{JUMP, KEEP, MESSAGE};
 use crate::devices::Calls;
 use crate::shelf::{Known, Shelf};
 use depot_actions::{Depot, Refusal};
@@ -10,6 +9,7 @@ use std::alloc::Global;
 use std::io;
 use std::io::{BufReader, Error, ErrorKind, Read, Write};
 use std::test::Fail;
+use store_rows::samples::{JUMP, KEEP, MESSAGE};
 
 const PROGRAM: Known<'static> = Known {
     name: "program",

@@ -1,7 +1,5 @@
 // Replies that can't be written: what was done stands, and what was written is the text's beginning.
-use crate::depot::{KEEP, MESSAGE, SCRIPT};
 use crate::devices::Calls;
-use crate::held::{Held, held_in};
 use depot_actions::{Depot, Refusal};
 use depot_cli::{Task, perform};
 use encodings::{Encoding, OfWrite, Sink, encode};
@@ -10,6 +8,8 @@ use std::alloc::{AllocError, Global};
 use std::io;
 use std::io::Write;
 use std::test::Fail;
+use store_rows::held::{Held, held_in};
+use store_rows::samples::{KEEP, MESSAGE, SCRIPT};
 
 const ENCODINGS: [Encoding; 7] = [
     Encoding::Raw,

@@ -1,6 +1,4 @@
 // Tables that were laid by SQL: what a delivery prints there, and that a refusal leaves every row as it was.
-use crate::depot::{MESSAGE, SCRIPT};
-use crate::held::{Held, held_in};
 use depot_actions::Depot;
 use depot_cli::{Task, inspect, perform};
 use encodings::OfWrite;
@@ -8,6 +6,8 @@ use part_store::{PartStore, StoreError};
 use sqlite::{Connection, MemStore};
 use std::alloc::{AllocError, Global};
 use std::test::Fail;
+use store_rows::held::{Held, held_in};
+use store_rows::samples::{MESSAGE, SCRIPT};
 
 // `foobaz` under the SHA-256 of `foobar`, which an entry of bob names.
 const OTHER_OCTETS: [&str; 3] = [

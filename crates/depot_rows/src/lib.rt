@@ -1,38 +1,24 @@
-//! Tests of the depot's layer over its public calls, and a host whose files are known: what a contract is told of a host can be told.
+//! Tests of commands over their public calls, and a host whose files are known: what a contract is told of a host can be told.
 #![tactic(auto)]
 
-#[cfg(test)]
-mod altered_programs;
 #[cfg(test)]
 mod answers;
 #[cfg(test)]
 mod batches;
 #[cfg(test)]
-mod depot;
-#[cfg(test)]
 mod devices;
 #[cfg(test)]
 mod exports;
-#[cfg(test)]
-mod failing_disks;
 #[cfg(test)]
 mod failing_sinks;
 #[cfg(test)]
 mod forty_commands;
 #[cfg(test)]
-mod held;
-#[cfg(test)]
-mod history;
-#[cfg(test)]
 mod inspecting;
 #[cfg(test)]
 mod laid_tables;
-#[cfg(test)]
-mod migrating;
 #[cfg(test)]
 mod readings;
 #[cfg(test)]
 mod runs;
 pub mod shelf;
-#[cfg(test)]
-mod store;

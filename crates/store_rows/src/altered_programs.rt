@@ -1,5 +1,5 @@
 // Stored programs that something has altered: a delivery is refused, or files what the altered program says, and all else works.
-use crate::depot::KEEP;
+use crate::samples::KEEP;
 use bytecode_format::Action;
 use depot_actions::{Depot, Refusal};
 use encodings::{Encoding, OfWrite};

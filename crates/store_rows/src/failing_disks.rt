@@ -1,6 +1,6 @@
 // A depot whose files stop at some call: what a command leaves is what was there, or what the command makes of it, and nothing between.
-use crate::depot::{KEEP, MESSAGE, SCRIPT};
 use crate::held::{Held, held_in};
+use crate::samples::{KEEP, MESSAGE, SCRIPT};
 use depot_actions::{Depot, Refusal};
 use part_store::PartStore;
 use sqlite::{Connection, FileStore, Files, Options};

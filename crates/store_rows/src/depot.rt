@@ -1,4 +1,5 @@
 // The depot, in memory.
+use crate::samples::{JUMP, KEEP, MESSAGE, SCRIPT};
 use depot_actions::{Depot, Refusal};
 use encodings::{Encoding, OfWrite};
 use part_store::{EntryRow, Kind, PartStore};
@@ -6,19 +7,6 @@ use sieve_engine::compile_script;
 use sqlite::MemStore;
 use std::alloc::Global;
 use std::test::Fail;
-
-// A message with an attachment of the name a.txt, whose content is `foobar`.
-pub const MESSAGE: &[u8] =
-    b"Content-Type: multipart/mixed; boundary=b\n\n--b\nContent-Disposition: attachment; filename=\"a.txt\"\nContent-Transfer-Encoding: base64\n\nZm9vYmFy\n--b--\n";
-
-// Stores the attachments of that name.
-pub const SCRIPT: &[u8] =
-    b"require [\"foreverypart\", \"mime\", \"vnd.depot\"]; foreverypart { if header :mime :param \"filename\" \"Content-Disposition\" \"a.txt\" { store \"att\"; } } discard;";
-
-// A program that keeps every message, and one that jumps to where it stands.
-pub const KEEP: &[u8] = b"SVBC\x01\0\0\0\0\0\0\0\0\0\x02\x13\0\0\0\0\0\0\0\x01\0\0\0\0\0\0\0";
-
-pub const JUMP: &[u8] = b"SVBC\x01\0\0\0\0\0\0\0\0\0\x02\x09\0\0\0\0\0\0\0\x01\0\0\0\0\0\0\0";
 
 // The text of an entry in an encoding.
 fn exported(

@@ -1,0 +1,17 @@
+//! Tests of the store and of the calls on a depot, over their public calls, and what they share with the tests above.
+#![tactic(auto)]
+
+#[cfg(test)]
+mod altered_programs;
+#[cfg(test)]
+mod depot;
+#[cfg(test)]
+mod failing_disks;
+pub mod held;
+#[cfg(test)]
+mod history;
+#[cfg(test)]
+mod migrating;
+pub mod samples;
+#[cfg(test)]
+mod store;
