@@ -1,6 +1,6 @@
 -- Rows that were worked out by hand.
 use Rattle.std.proofs.Common.{◌≡◌, ℕ, zero, suc, ◌+◌, List, [], ◌∷◌, Some, None, refl}
-use Rattle.std.specs.Prelude.{codes, option_map}
+use Rattle.std.specs.Prelude.{codes, map}
 use Rattle.sieve_parser.specs.Tree.{ArgumentTree, text, text_list, amount, label, InvocationTree, invocation, no_test, one_test, test_list, last, next, CommandsTree, simple, block, no_command, command}
 use Rattle.sieve_check.specs.declared.error.CheckError.TheVariants.{MissingCapability, UnknownCapability, BadArguments, Limit}
 use Rattle.sieve_check.specs.declared.causes.ReasonKind.TheVariants as kind
@@ -8,7 +8,7 @@ use Rattle.sieve_check.specs.declared.names.Capability.TheVariants.{Mime, FileIn
 use Rattle.sieve_check.specs.declared.names.TestName.TheVariants.{Header, Exists, Size}
 use Rattle.sieve_check.specs.declared.typed.Order.TheVariants.{Over}
 use Rattle.sieve_check.specs.Causes.{plain, refusal_for}
-use Rattle.sieve_check.specs.Rules.{Visit, first_refused, fault_of, after_invocation}
+use Rattle.sieve_check.specs.Rules.{Visit, refused_among, fault_of, after_invocation}
 use Rattle.sieve_check.specs.Signatures.{Read, no_tag, reading, test_signature}
 use Rattle.sieve_check.specs.Surroundings.{Context, at_start, first_lacking}
 
@@ -95,14 +95,14 @@ abbrev brings : ℕ → List (List ℕ) → Visit
 brings token names = record { token = token; name = codes "set"; names = names; cause = None }
 
 -- 128 names, of which some come again
-enough_names : option_map refusal_for (first_refused [] (brings 0 (names_numbered 127) ∷ brings 4 (codes "a" ∷ codes "a" ∷ names_numbered 9) ∷ brings 7 (codes "a" ∷ []) ∷ [])) ≡ None
+enough_names : map refusal_for (refused_among [] (brings 0 (names_numbered 127) ∷ brings 4 (codes "a" ∷ codes "a" ∷ names_numbered 9) ∷ brings 7 (codes "a" ∷ []) ∷ [])) ≡ []
 enough_names = refl
 
--- the 129th is named where it comes, and a fault of the same visit before it
-too_many_names : option_map refusal_for (first_refused [] (brings 0 (names_numbered 127) ∷ brings 4 (codes "a" ∷ []) ∷ brings 7 (codes "b" ∷ []) ∷ brings 9 (codes "c" ∷ []) ∷ [])) ≡ Some (Limit 7)
+-- the 129th is named where it comes, and each after it; a fault of the same visit is named before it
+too_many_names : map refusal_for (refused_among [] (brings 0 (names_numbered 127) ∷ brings 4 (codes "a" ∷ []) ∷ brings 7 (codes "b" ∷ []) ∷ brings 9 (codes "a" ∷ []) ∷ brings 12 (codes "c" ∷ []) ∷ [])) ≡ Limit 7 ∷ Limit 12 ∷ []
 too_many_names = refl
 
-least_fault : option_map refusal_for (first_refused [] (brings 0 (names_numbered 128) ∷ record { token = 4; name = codes "set"; names = codes "a" ∷ []; cause = Some (plain kind.Misplaced) } ∷ [])) ≡ Some (BadArguments 4)
+least_fault : map refusal_for (refused_among [] (brings 0 (names_numbered 128) ∷ record { token = 4; name = codes "set"; names = codes "a" ∷ []; cause = Some (plain kind.Misplaced) } ∷ [])) ≡ BadArguments 4 ∷ []
 least_fault = refl
 
 -- ---- strings in tests

@@ -455,16 +455,18 @@ mutual
   command_exists s (simple i) rest h begins bounded = simple_exists s i rest h begins bounded
   command_exists s (block i cs) rest h begins bounded =
       let around = in_block (loops_opened i) s in
-      let parts = faultless_both (head_visits s i Block) (commands_visits around cs) h in
-      let body = forms_exist around cs parts.1 in
+      let parts = faultless_both (head_visits s i Block) (if opens_many (loops_opened i) s then [] else commands_visits around cs) h in
+      let few = room_in s i Block parts.0 in
+      let entered : (if opens_many (loops_opened i) s then [] else commands_visits around cs) ≡ commands_visits around cs = ap (λ b. if b then [] else commands_visits around cs) few in
+      let body = forms_exist around cs (subst AreFaultless entered parts.1) in
       let alone = body.begins refl in
-      let room : inside (loops_opened i) s ≡ Some around = room_inside (loops_opened i) s (room_in s i Block parts.0) in
+      let room : inside (loops_opened i) s ≡ Some around = room_inside (loops_opened i) s few in
       let same : commands_variables body.forms.commands ≡ names_brought (commands_visits around cs) = ap (λ bs. branches_variables bs ++ commands_variables body.forms.commands) (sym alone) ∙ body.variables in
       along s _ _ _ (block_part s i body.forms.commands >>= λ part. put part rest)
       (ap (λ o. (o >>= λ around. forms_of around cs >>= λ forms. closed forms >>= λ body. block_part s i body) >>= λ part. put part rest) room
       ∙ ap (λ o. (o >>= λ forms. closed forms >>= λ body. block_part s i body) >>= λ part. put part rest) body.is
       ∙ ap (λ o. (o >>= λ body. block_part s i body) >>= λ part. put part rest) (shut body.forms alone))
-      (ap (λ names. (names_brought (head_visits s i Block) ++ names) ++ forms_variables rest) same ∙ ap (λ names. names ++ forms_variables rest) (sym (both_names (head_visits s i Block) (commands_visits around cs))))
+      (ap (λ names. (names_brought (head_visits s i Block) ++ names) ++ forms_variables rest) same ∙ ap (λ names. names ++ forms_variables rest) (sym (ap (λ vs. names_brought (head_visits s i Block ++ vs)) entered ∙ both_names (head_visits s i Block) (commands_visits around cs))))
       (block_exists s i body.forms.commands rest parts.0 begins body.bounded.commands body.bounded.commands_in bounded)
 
   forms_exist : (s : Context) (cs : CommandsTree) → AreFaultless (commands_visits s cs) → Goes s (names_brought (commands_visits s cs)) (forms_of s cs)

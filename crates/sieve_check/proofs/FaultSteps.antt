@@ -1,24 +1,28 @@
 -- The visits of tests and commands, piece by piece.
-use Rattle.std.proofs.Common.{◌≡◌, ℕ, ◌+◌, ◌<◌, List, ◌∷◌, ◌++◌, drop, length, get_or, ap, ◌∙◌}
+use Rattle.std.proofs.Common.{◌≡◌, ℕ, ◌+◌, ◌<◌, if◌then◌else◌, List, [], ◌∷◌, ◌++◌, drop, length, get_or, ap, ◌∙◌}
 use Rattle.std.specs.Global.{Vec, Box}
 use Rattle.std.specs.Prelude.{Option, Some, None}
 use Rattle.sieve_parser.specs.View.{invocation_tree, command_tree, commands_tree}
 use Rattle.sieve_parser.specs.declared.tree.Head.{Head}
 use Rattle.sieve_parser.specs.declared.tree.Invocation.{Invocation}
-use Rattle.sieve_parser.specs.declared.tree.Invocation.TheVariants.{WithTest, WithTests}
+use Rattle.sieve_parser.specs.declared.tree.Invocation.TheVariants.{Plain, WithTest, WithTests}
 use Rattle.sieve_parser.specs.declared.tree.Command.{Command as Tree}
 use Rattle.sieve_parser.specs.declared.tree.Command.TheVariants as trees
-use Rattle.sieve_parser.proofs.TestSteps.{tree_test, tree_tests}
+use Rattle.sieve_parser.proofs.TestSteps.{tree_plain, tree_test, tree_tests}
 use Rattle.sieve_parser.proofs.CommandSteps.{tree_block}
-use Rattle.sieve_check.specs.declared.signature.Tests.TheVariants.{One, Bracketed}
+use Rattle.sieve_check.specs.declared.signature.Tests.TheVariants.{Nothing, One, Bracketed}
 use Rattle.sieve_check.specs.declared.signature.Ending.{Ending}
 use Rattle.sieve_check.specs.declared.signature.Ending.TheVariants.{Block}
 use Rattle.sieve_check.specs.Refusing.{visit_as, visits_as}
 use Rattle.sieve_check.specs.Rules.{arguments_of, test_visits, more_visits, head_visits, command_visits, commands_visits, invocation_of, loops_opened, after_invocation}
-use Rattle.sieve_check.specs.Surroundings.{Context, in_block}
+use Rattle.sieve_check.specs.Surroundings.{Context, in_block, opens_many}
 use Rattle.sieve_check.proofs.FromIndex.{others_of, split_at}
 
--- a command or test with one test, and with tests in round brackets
+-- a command or test without tests, with one test, and with tests in round brackets
+pub nothing_inside : (ending : Option Ending) (s : Context) (i : Invocation) (h : Head) → i ≡ Plain h → visits_as ending s (invocation_tree i) ≡ visit_as ending s h.token h.name (arguments_of h) Nothing ∷ []
+nothing_inside None s i h is = ap (λ x. test_visits s x) (ap invocation_tree is ∙ tree_plain h)
+nothing_inside (Some ending) s i h is = ap (λ x. head_visits s x ending) (ap invocation_tree is ∙ tree_plain h)
+
 pub test_inside : (ending : Option Ending) (s : Context) (i : Invocation) (h : Head) (t : Box Invocation) → i ≡ WithTest h t
     → visits_as ending s (invocation_tree i) ≡ visit_as ending s h.token h.name (arguments_of h) One ∷ test_visits s (invocation_tree t.value)
 test_inside None s i h t is = ap (λ x. test_visits s x) (ap invocation_tree is ∙ tree_test h t)
@@ -36,7 +40,7 @@ rest_visits s list i x lt is = ap (λ xs. more_visits s (others_of xs)) (split_a
 
 -- a command with a block
 pub block_visits : (s : Context) (tree : Tree) (i : Invocation) (cs : Vec Tree) → tree ≡ trees.Block i cs
-    → command_visits s (command_tree tree) ≡ head_visits s (invocation_tree i) Block ++ commands_visits (in_block (loops_opened (invocation_tree i)) s) (commands_tree cs.items)
+    → command_visits s (command_tree tree) ≡ head_visits s (invocation_tree i) Block ++ (if opens_many (loops_opened (invocation_tree i)) s then [] else commands_visits (in_block (loops_opened (invocation_tree i)) s) (commands_tree cs.items))
 block_visits s tree i cs is = ap (λ x. command_visits s x) (ap command_tree is ∙ tree_block i cs)
 
 -- the commands from an index on

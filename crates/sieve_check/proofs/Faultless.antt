@@ -1,6 +1,8 @@
 -- Visits that are refused for nothing, and the names that they bring.
-use Rattle.std.proofs.Common.{◌≡◌, ℕ, ◌≤◌, List, [], ◌∷◌, ◌++◌, length, nat_lt, bytes_eq, None, sym, subst, arith}
-use Rattle.std.specs.Prelude.{flat_map}
+use Rattle.std.proofs.Common.{◌≡◌, ◌∙◌, ℕ, ◌≤◌, if◌then◌else◌, List, [], ◌∷◌, ◌++◌, length, nat_lt, take, bytes_eq, Option, None, Some, refl, sym, ap, subst, arith}
+use Rattle.std.specs.Prelude.{flat_map, is_some, map, option_map, slice_get}
+use Rattle.std.specs.Option.{option_to_list}
+use Rattle.std.proofs.lemmas.List.{take_all}
 use Rattle.std.proofs.lemmas.Bool.{ltb-false}
 use Rattle.std.proofs.lemmas.Cmp.{nat_list_eq_equiv}
 use Rattle.octets.specs.Limits.{max_variables}
@@ -8,8 +10,13 @@ use Rattle.octets.specs.Once.{each_once, with_more}
 use Rattle.octets.proofs.Once.{more_after, all_added}
 use Rattle.sieve_parser.specs.Tree.{CommandsTree}
 use Rattle.sieve_check.specs.declared.causes.ReasonKind.TheVariants.{ManyVariables}
+use Rattle.sieve_check.specs.declared.causes.Refused.{Refused}
+use Rattle.sieve_check.specs.declared.error.CheckError.{CheckError}
+use Rattle.sieve_check.specs.declared.error.CheckError.TheVariants.{Memory, UnknownCommand, MissingCapability, UnknownCapability, BadArguments, Limit}
+use Rattle.sieve_check.specs.CheckedScript.{IsCheckRefusal}
+use Rattle.sieve_check.specs.Reading.{refused_view}
 use Rattle.sieve_check.specs.Causes.{plain, refusal_for, refused_for}
-use Rattle.sieve_check.specs.Rules.{Visit, names_with, visit_cause, first_refused, reason_of, fault_of, commands_visits}
+use Rattle.sieve_check.specs.Rules.{Visit, max_reasons, names_past, names_with, visit_cause, refused_after, refused_among, reasons_of, fault_of, commands_visits}
 use Rattle.sieve_check.specs.Surroundings.{at_start}
 use Rattle.sieve_check.proofs.Options.{both_none, map_none, if_none}
 
@@ -26,27 +33,72 @@ faultless_both (v ∷ vs) ws h = let parts = faultless_both vs ws h.1 in ((h.0, 
 abbrev pub names_brought : List Visit → List (List ℕ)
 names_brought vs = flat_map (λ (v : Visit). v.names) vs
 
-pub none_refused : (names : List (List ℕ)) (vs : List Visit) → first_refused names vs ≡ None → AreFaultless vs
+-- where nothing is refused of a list, nothing is of its first visit, nor of the others
+list_none : {A : Type 0} (o : Option A) (xs : List A) → option_to_list o ++ xs ≡ [] → (o ≡ None) × (xs ≡ [])
+list_none None xs h = (refl, h)
+list_none (Some x) xs h = absurd (cc)
+
+pub none_refused : (names : List (List ℕ)) (vs : List Visit) → refused_among names vs ≡ [] → AreFaultless vs
 none_refused names [] h = tt
 none_refused names (v ∷ vs) h =
-    let parts = both_none _ (first_refused (names_with names v) vs) h in
+    let parts = list_none (refused_after names v) (refused_among (names_past names v) vs) h in
     let own = both_none v.cause _ (map_none (refused_for v.token v.name) (visit_cause names v) parts.0) in
-    (own.0, none_refused (names_with names v) vs parts.1)
+    (own.0, none_refused (names_past names v) vs parts.1)
 
 -- each once, names and those that visits bring are no more than there may be
-few_names : (names : List (List ℕ)) (vs : List Visit) → length names ≤ max_variables → first_refused names vs ≡ None → length (with_more bytes_eq names (names_brought vs)) ≤ max_variables
+few_names : (names : List (List ℕ)) (vs : List Visit) → length names ≤ max_variables → refused_among names vs ≡ [] → length (with_more bytes_eq names (names_brought vs)) ≤ max_variables
 few_names names [] few h = few
 few_names names (v ∷ vs) few h =
-    let parts = both_none _ (first_refused (names_with names v) vs) h in
+    let parts = list_none (refused_after names v) (refused_among (names_past names v) vs) h in
     let own = both_none v.cause _ (map_none (refused_for v.token v.name) (visit_cause names v) parts.0) in
     let here = ltb-false max_variables (length (names_with names v)) (if_none (nat_lt max_variables (length (names_with names v))) (plain ManyVariables) None own.1).0 in
-    subst (λ (ns : List (List ℕ)). length ns ≤ max_variables) (sym (more_after bytes_eq names v.names (names_brought vs))) (few_names (names_with names v) vs here parts.1)
+    let past : names_past names v ≡ names_with names v = ap (λ o. if is_some o then names else take max_variables (names_with names v)) own.0 ∙ take_all max_variables (names_with names v) here in
+    let others = subst (λ (ns : List (List ℕ)). refused_among ns vs ≡ []) past parts.1 in
+    subst (λ (ns : List (List ℕ)). length ns ≤ max_variables) (sym (more_after bytes_eq names v.names (names_brought vs))) (few_names (names_with names v) vs here others)
+
+none_first : {A : Type 0} (xs : List A) → slice_get xs 0 ≡ None → xs ≡ []
+none_first [] h = refl
+none_first (x ∷ xs) h = absurd (cc)
 
 -- where there is no fault, nothing is refused
-pub unrefused : (script : CommandsTree) → fault_of script ≡ None → reason_of script ≡ None
-unrefused script h = map_none refusal_for (reason_of script) h
+pub unrefused : (script : CommandsTree) → fault_of script ≡ None → reasons_of script ≡ []
+unrefused script h = none_first (reasons_of script) (map_none refusal_for (slice_get (reasons_of script) 0) h)
 
 pub few_in_script : (script : CommandsTree) → fault_of script ≡ None → length (each_once bytes_eq (names_brought (commands_visits at_start script))) ≤ max_variables
 few_in_script script h =
     let names = names_brought (commands_visits at_start script) in
     subst (λ (ns : List (List ℕ)). length ns ≤ max_variables) (all_added bytes_eq nat_list_eq_equiv names) (few_names [] (commands_visits at_start script) (omega arith) (unrefused script h))
+
+take_none : {A : Type 0} (xs : List A) → take max_reasons xs ≡ [] → xs ≡ []
+take_none [] h = refl
+take_none (x ∷ xs) h = absurd (cc)
+
+-- where nothing is told to be refused, there is no fault
+pub none_told : (script : CommandsTree) (items : List Refused) → map refused_view items ≡ take max_reasons (reasons_of script) → slice_get items 0 ≡ None → fault_of script ≡ None
+none_told script items is none =
+    let nothing : take max_reasons (reasons_of script) ≡ [] = sym is ∙ ap (map refused_view) (none_first items none) in
+    ap (λ l. option_map refusal_for (slice_get l 0)) (take_none (reasons_of script) nothing)
+
+-- the fault is that of the first that is told
+pub first_told : (script : CommandsTree) (items : List Refused) (found : Refused) → map refused_view items ≡ take max_reasons (reasons_of script) → slice_get items 0 ≡ Some found → fault_of script ≡ Some (refusal_for (refused_view found))
+first_told script items found is here =
+    ap (option_map refusal_for) (same_first (reasons_of script) ∙ ap (λ l. slice_get l 0) (sym is) ∙ first_mapped items ∙ ap (option_map refused_view) here)
+  where
+    same_first : {A : Type 0} (xs : List A) → slice_get xs 0 ≡ slice_get (take max_reasons xs) 0
+    same_first [] = refl
+    same_first (x ∷ xs) = refl
+
+    first_mapped : (xs : List Refused) → slice_get (map refused_view xs) 0 ≡ option_map refused_view (slice_get xs 0)
+    first_mapped [] = refl
+    first_mapped (x ∷ xs) = refl
+
+-- a refusal by the fault
+pub refusal_told : (script : CommandsTree) (e f : CheckError) → fault_of script ≡ Some f → e ≡ f → IsCheckRefusal script e
+refusal_told script e f told is = step e (told ∙ ap Some (sym is)) where
+  step : (e : CheckError) → fault_of script ≡ Some e → IsCheckRefusal script e
+  step Memory h = tt
+  step (UnknownCommand place) h = h
+  step (MissingCapability place) h = h
+  step (UnknownCapability place) h = h
+  step (BadArguments place) h = h
+  step (Limit place) h = h

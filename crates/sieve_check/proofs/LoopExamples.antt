@@ -1,6 +1,6 @@
 -- Scripts with loops over parts that were worked out by hand.
 use Rattle.std.proofs.Common.{◌≡◌, ℕ, List, [], ◌∷◌, ◌++◌, Option, Some, None, refl}
-use Rattle.std.specs.Prelude.{codes}
+use Rattle.std.specs.Prelude.{codes, map}
 use Rattle.glob_match.specs.declared.comparator.Comparator.TheVariants.{Octet, Casemap}
 use Rattle.glob_match.specs.declared.match_type.MatchType.TheVariants.{Is, Contains}
 use Rattle.sieve_parser.specs.Tree.{ArgumentTree, text, text_list, amount, label, invocation, no_test, one_test, CommandsTree, simple, block, no_command, command}
@@ -9,7 +9,8 @@ use Rattle.sieve_check.specs.declared.names.CommandName.TheVariants.{Break, ForE
 use Rattle.sieve_check.specs.declared.typed.Order.TheVariants.{Under}
 use Rattle.sieve_check.specs.declared.typed.Segment.TheVariants.{Text, Variable}
 use Rattle.sieve_check.specs.FormOf.{IsFormOf, form_of}
-use Rattle.sieve_check.specs.Rules.{fault_of}
+use Rattle.sieve_check.specs.Causes.{refusal_for}
+use Rattle.sieve_check.specs.Rules.{fault_of, reasons_of}
 use Rattle.sieve_check.specs.Signatures.{Read, no_tag, reading, command_signature}
 use Rattle.sieve_check.specs.Surroundings.{loops_left}
 use Rattle.sieve_check.specs.Typed as typed
@@ -70,6 +71,11 @@ four_loops args = with_loops (loop_at 3 [] (loop_at 5 [] (loop_at 7 [] (loop_at 
 
 fourth_loop : fault_of (four_loops []) ≡ Some (Limit 9)
 fourth_loop = refl
+
+-- the block of a loop too many isn't looked at, but what stands behind it is; each that is refused is told, in order
+all_refused : map refusal_for (reasons_of (with_loops (loop_at 3 [] (loop_at 5 [] (loop_at 7 [] (block_at 9 (codes "foreverypart") [] (last_at 11 (codes "kep") []) (last_at 14 (codes "store") [])))))))
+    ≡ Limit 9 ∷ MissingCapability 14 ∷ []
+all_refused = refl
 
 fourth_loop_form : form_of (four_loops []) ≡ None
 fourth_loop_form = refl

@@ -1,12 +1,12 @@
 -- The names of variables, as they are met.
-use Rattle.std.proofs.Common.{◌≡◌, ℕ, ◌+◌, ◌<◌, ◌≤◌, true, false, ◌||◌, bytes_eq, List, [], ◌∷◌, ◌++◌, length, map, flat_map, drop, get_or, refl, sym, ap, subst, ◌∙◌, arith, length-append, add-one, inl, inr}
+use Rattle.std.proofs.Common.{◌≡◌, ℕ, ◌+◌, ◌<◌, ◌≤◌, true, false, ◌||◌, bytes_eq, List, [], ◌∷◌, ◌++◌, length, map, flat_map, drop, take, get_or, refl, sym, ap, subst, ◌∙◌, arith, length-append, add-one, inl, inr}
 use Rattle.std.proofs.Math.Seq.{drop-cons}
 use Rattle.std.specs.Prelude.{Result, Ok, Err}
 use Rattle.std.specs.Borrow.{Bor}
 use Rattle.std.specs.Global.{Vec}
 use Rattle.std.proofs.lemmas.Grind.{flat_map-append}
 use Rattle.std.proofs.lemmas.Bool.{cases_Bool}
-use Rattle.std.proofs.lemmas.List.{length-map, map-append}
+use Rattle.std.proofs.lemmas.List.{length-map, map-append, take-append-le, take_all}
 use Rattle.octets.specs.Ascii.{lowercase_of}
 use Rattle.octets.specs.Limits.{max_variables}
 use Rattle.octets.specs.Once.{is_listed, with_one, with_more}
@@ -18,7 +18,7 @@ use Rattle.sieve_parser.specs.declared.tree.Argument.TheVariants.{TextList}
 use Rattle.sieve_check.specs.declared.causes.ReasonKind.{ReasonKind}
 use Rattle.sieve_check.specs.declared.signature.Lists.{Lists}
 use Rattle.sieve_check.specs.Reading.{all_lists}
-use Rattle.sieve_check.specs.Refusing.{Adds, shown}
+use Rattle.sieve_check.specs.Refusing.{Adds, Overflows, shown}
 use Rattle.sieve_check.specs.Rules.{strings_in, strings_of}
 use Rattle.sieve_check.proofs.FromIndex.{split_at}
 
@@ -63,6 +63,43 @@ shown_push names more name is = ap shown is ∙ map-append (λ (name : Bor (List
 pub shown_len : (names : List (Bor (List ℕ))) → length (shown names) ≡ length names
 shown_len names = length-map names (λ (name : Bor (List ℕ)). lowercase_of name.now)
 
+-- as many names as there may be stay where there are more
+kept_one : (names : List (List ℕ)) (name : List ℕ) → max_variables < length names → take max_variables (with_one bytes_eq names name) ≡ take max_variables names
+kept_one names name many =
+    elim (cases_Bool (is_listed bytes_eq name names)) [
+      | inl listed ↦ rw listed refl
+      | inr fresh ↦ rw fresh (take-append-le max_variables names (name ∷ []) (omega (arith, many)))
+    ]
+
+kept_more : (names more : List (List ℕ)) → max_variables < length names → take max_variables (with_more bytes_eq names more) ≡ take max_variables names
+kept_more names [] many = refl
+kept_more names (x ∷ xs) many = kept_more (with_one bytes_eq names x) xs (omega (arith, many, one_grows names x)) ∙ kept_one names x many
+
+-- too many of the first are too many of both
+pub many_with_more : (names first second after : List (List ℕ)) → Overflows names first after → Overflows names (first ++ second) after
+many_with_more names first second after many =
+    let both = more_after bytes_eq names first second in
+    record {
+      many = omega (arith, many.many, grows (with_more bytes_eq names first) second, ap length both);
+      kept = many.kept ∙ sym (kept_more (with_more bytes_eq names first) second many.many) ∙ ap (take max_variables) (sym both);
+    }
+
+-- the same names with more of them
+same_overflow : (names more others ns after : List (List ℕ)) → with_more bytes_eq names more ≡ with_more bytes_eq ns others → Overflows names more after → Overflows ns others after
+same_overflow names more others ns after is many = record {
+  many = omega (arith, many.many, ap length is);
+  kept = many.kept ∙ ap (take max_variables) is;
+}
+
+-- one more than there may be
+pub full_overflows : (names : List (List ℕ)) (name : List ℕ) → is_listed bytes_eq name names ≡ false → length names ≡ max_variables → Overflows names (name ∷ []) names
+full_overflows names name fresh full =
+    let added = added_new names name fresh in
+    record {
+      many = omega (arith, full, ap length added, length-append names (name ∷ []));
+      kept = sym (ap (take max_variables) (sym added) ∙ take-append-le max_variables names (name ∷ []) (omega (arith, full)) ∙ take_all max_variables names (omega (arith, full)));
+    }
+
 -- names and then others
 module _ {A : Type 0} where
   pub adds_both : (names first second between : List (List ℕ)) (result : Result A ReasonKind) (after : List (List ℕ)) → between ≡ with_more bytes_eq names first
@@ -70,16 +107,11 @@ module _ {A : Type 0} where
   adds_both names first second between (Ok x) after is adds = adds ∙ ap (λ l. with_more bytes_eq l second) is ∙ sym (more_after bytes_eq names first second)
   adds_both names first second between (Err e) after is adds =
       let both : with_more bytes_eq between second ≡ with_more bytes_eq names (first ++ second) = ap (λ l. with_more bytes_eq l second) is ∙ sym (more_after bytes_eq names first second) in
-      (adds.0, omega (arith, adds.1, ap length both))
-
--- too many of the first are too many of both
-pub many_with_more : (names first second : List (List ℕ)) → max_variables < length (with_more bytes_eq names first) → max_variables < length (with_more bytes_eq names (first ++ second))
-many_with_more names first second many = omega (arith, many, grows (with_more bytes_eq names first) second, ap length (more_after bytes_eq names first second))
+      (adds.0, same_overflow between second (first ++ second) names after both adds.1)
 
 -- where names after others come to too many, all of them do
-pub many_of_all : (now first left start all : List (List ℕ)) → with_more bytes_eq now (first ++ left) ≡ with_more bytes_eq start all → max_variables < length (with_more bytes_eq now first)
-    → max_variables < length (with_more bytes_eq start all)
-many_of_all now first left start all is many = omega (arith, many_with_more now first left many, ap length is)
+pub many_of_all : (now first left start all after : List (List ℕ)) → with_more bytes_eq now (first ++ left) ≡ with_more bytes_eq start all → Overflows now first after → Overflows start all after
+many_of_all now first left start all after is many = same_overflow now (first ++ left) all start after is (many_with_more now first left after many)
 
 -- where the names are so far that, with those that are left, they are those with all of them: one step further
 pub further : (now first left start all after : List (List ℕ)) → with_more bytes_eq now (first ++ left) ≡ with_more bytes_eq start all → after ≡ with_more bytes_eq now first
@@ -114,19 +146,20 @@ module _ (lists : Lists) where
       ∙ ap (λ names. flat_map names_in names ++ names_of lists.others.now) (flat_map-append strings_in (map argument_tree lists.first.now) (map argument_tree lists.params.now))
       ∙ ap (λ names. names ++ names_of lists.others.now) (flat_map-append names_in (strings_of (map argument_tree lists.first.now)) (strings_of (map argument_tree lists.params.now)))
 
-  pub many_first : (names : List (List ℕ)) → max_variables < length (with_more bytes_eq names (names_of lists.first.now)) → max_variables < length (with_more bytes_eq names (flat_map names_in (strings_of (all_lists lists))))
-  many_first names many =
-      subst (λ (more : List (List ℕ)). max_variables < length (with_more bytes_eq names more)) (sym lists_names)
-      (many_with_more names (names_of lists.first.now ++ names_of lists.params.now) (names_of lists.others.now) (many_with_more names (names_of lists.first.now) (names_of lists.params.now) many))
+  pub many_first : (names after : List (List ℕ)) → Overflows names (names_of lists.first.now) after → Overflows names (flat_map names_in (strings_of (all_lists lists))) after
+  many_first names after many =
+      subst (λ (more : List (List ℕ)). Overflows names more after) (sym lists_names)
+      (many_with_more names (names_of lists.first.now ++ names_of lists.params.now) (names_of lists.others.now) after (many_with_more names (names_of lists.first.now) (names_of lists.params.now) after many))
 
   module _ (names between : List (List ℕ)) (first : between ≡ with_more bytes_eq names (names_of lists.first.now)) where
     both : with_more bytes_eq between (names_of lists.params.now) ≡ with_more bytes_eq names (names_of lists.first.now ++ names_of lists.params.now)
     both = ap (λ l. with_more bytes_eq l (names_of lists.params.now)) first ∙ sym (more_after bytes_eq names (names_of lists.first.now) (names_of lists.params.now))
 
-    pub many_second : max_variables < length (with_more bytes_eq between (names_of lists.params.now)) → max_variables < length (with_more bytes_eq names (flat_map names_in (strings_of (all_lists lists))))
-    many_second many =
-        subst (λ (more : List (List ℕ)). max_variables < length (with_more bytes_eq names more)) (sym lists_names)
-        (many_with_more names (names_of lists.first.now ++ names_of lists.params.now) (names_of lists.others.now) (omega (arith, many, ap length both)))
+    pub many_second : (after : List (List ℕ)) → Overflows between (names_of lists.params.now) after → Overflows names (flat_map names_in (strings_of (all_lists lists))) after
+    many_second after many =
+        subst (λ (more : List (List ℕ)). Overflows names more after) (sym lists_names)
+        (many_with_more names (names_of lists.first.now ++ names_of lists.params.now) (names_of lists.others.now) after
+        (same_overflow between (names_of lists.params.now) (names_of lists.first.now ++ names_of lists.params.now) names after both many))
 
     module _ {A : Type 0} (later : List (List ℕ)) (result : Result A ReasonKind) (after : List (List ℕ)) (second : later ≡ with_more bytes_eq between (names_of lists.params.now)) where
       pub adds_lists : Adds later (names_of lists.others.now) result after → Adds names (flat_map names_in (strings_of (all_lists lists))) result after

@@ -1,14 +1,21 @@
 -- The loops that are open.
-use Rattle.std.proofs.Common.{◌≡◌, ℕ, Bool, true, false, if◌then◌else◌, List, Option, Some, None, ap}
+use Rattle.std.proofs.Common.{◌≡◌, ℕ, Bool, true, false, if◌then◌else◌, List, [], Option, Some, None, refl, sym, ap}
 use Rattle.std.proofs.lemmas.Option.{same_Some}
 use Rattle.sieve_check.specs.Surroundings.{Context, in_block, inside, opens_many}
 
--- the surroundings within a block, where there are some
-pub inside_is : (opened : List (Option (List ℕ))) (s around : Context) → Some around ≡ inside opened s → around ≡ in_block opened s
-inside_is opened s around h = with (opens_many opened s) h where
-  with : (b : Bool) → Some around ≡ (if b then None else Some (in_block opened s)) → around ≡ in_block opened s
-  with false h = same_Some around (in_block opened s) h
-  with true h = absurd (cc)
+-- what stands in a block, where there are surroundings within it, and where there are none
+module _ {A : Type 0} (opened : List (Option (List ℕ))) (s : Context) (of : Context → List A) where
+  pub entered : (around : Context) → Some around ≡ inside opened s → (if opens_many opened s then [] else of (in_block opened s)) ≡ of around
+  entered around h = with (opens_many opened s) h where
+    with : (b : Bool) → Some around ≡ (if b then None else Some (in_block opened s)) → (if b then [] else of (in_block opened s)) ≡ of around
+    with false h = ap of (sym (same_Some around (in_block opened s) h))
+    with true h = absurd (cc)
+
+  pub not_entered : None ≡ inside opened s → (if opens_many opened s then [] else of (in_block opened s)) ≡ []
+  not_entered h = with (opens_many opened s) h where
+    with : (b : Bool) → None ≡ (if b then None else Some (in_block opened s)) → (if b then [] else of (in_block opened s)) ≡ []
+    with true h = refl
+    with false h = absurd (cc)
 
 -- there are some where there is room
 pub room_inside : (opened : List (Option (List ℕ))) (s : Context) → opens_many opened s ≡ false → inside opened s ≡ Some (in_block opened s)

@@ -1,6 +1,6 @@
 -- Reasons that were worked out by hand.
 use Rattle.std.proofs.Common.{◌≡◌, ℕ, List, [], ◌∷◌, Option, Some, refl}
-use Rattle.std.specs.Prelude.{codes}
+use Rattle.std.specs.Prelude.{codes, slice_get}
 use Rattle.sieve_parser.specs.Tree.{ArgumentTree, text, text_list, amount, label, invocation, TestsTree, no_test, one_test, test_list, last, next, CommandsTree, simple, block, no_command, command}
 use Rattle.sieve_check.specs.declared.names.Capability.TheVariants as capability
 use Rattle.sieve_check.specs.declared.names.Tag.TheVariants.{Comparator, Select, Name, First}
@@ -11,7 +11,11 @@ use Rattle.sieve_check.specs.declared.signature.Ending.TheVariants.{Block}
 use Rattle.sieve_check.specs.declared.causes.ReasonKind.{ReasonKind}
 use Rattle.sieve_check.specs.declared.causes.ReasonKind.TheVariants.{UnknownCommand, UnknownTest, MissingCapability, UnknownCapability, UnknownTag, ForeignTag, RepeatedTag, TwoModifiers, TagArgument, MissingOrder, MissingMime, LateTag, MissingArgument, ExtraArgument, WrongArgument, WrongTests, WrongEnding, Namespace, CaptureIndex, VariableName, NoSuchLoop, Misplaced, ManyLoops, LongName}
 use Rattle.sieve_check.specs.Causes.{Refused}
-use Rattle.sieve_check.specs.Rules.{reason_of}
+use Rattle.sieve_check.specs.Rules.{reasons_of}
+
+-- the first reason
+abbrev reason_of : CommandsTree → Option Refused
+reason_of script = slice_get (reasons_of script) 0
 
 -- NAME ARGUMENTS TESTS; at the fourth token
 abbrev plainly : List ℕ → List ArgumentTree → TestsTree → CommandsTree

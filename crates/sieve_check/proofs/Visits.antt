@@ -1,69 +1,115 @@
 -- Visits, one after another.
-use Rattle.std.proofs.Common.{◌≡◌, ℕ, List, [], ◌∷◌, ◌++◌, Option, Some, None, option_map, refl, sym, ap, subst, ◌∙◌}
-use Rattle.std.specs.Prelude.{Result, Ok, Err}
-use Rattle.std.specs.Option.{option_or}
+use Rattle.std.proofs.Common.{◌≡◌, ℕ, zero, suc, ◌≤◌, nat_lt, bytes_eq, if◌then◌else◌, List, [], ◌∷◌, ◌++◌, length, map, take, Some, None, option_map, refl, sym, ap, subst, ◌∙◌, ◌≢◌, arith, length-append}
+use Rattle.std.specs.Prelude.{is_some}
+use Rattle.std.specs.Option.{option_or, option_to_list}
+use Rattle.std.proofs.lemmas.Bool.{le-ltb}
+use Rattle.std.proofs.lemmas.List.{append-nil, append_assoc, length-map, map-append, take-append-le, take_all}
+use Rattle.arrayvec.specs.ArrayVec.{ArrayVec}
+use Rattle.octets.specs.Limits.{max_variables}
+use Rattle.octets.specs.Once.{with_more}
+use Rattle.sieve_check.specs.declared.causes.ReasonKind.TheVariants.{ManyVariables}
 use Rattle.sieve_check.specs.declared.causes.Refused.{Refused}
+use Rattle.sieve_check.specs.declared.findings.Findings.{Findings}
 use Rattle.sieve_check.specs.Causes as causes
-use Rattle.sieve_check.specs.Causes.{refused_for}
+use Rattle.sieve_check.specs.Causes.{plain, refused_for}
 use Rattle.sieve_check.specs.Reading.{refused_view}
-use Rattle.sieve_check.specs.Refusing.{Passes, names_after}
-use Rattle.sieve_check.specs.Rules.{Visit, names_with, visit_cause, first_refused}
+use Rattle.sieve_check.specs.Refusing.{AreVisited, listed, names_after, refused_in}
+use Rattle.sieve_check.specs.Rules.{Visit, max_reasons, names_past, names_with, refused_after, refused_among, visit_cause}
+use Rattle.sieve_check.proofs.NameSteps.{shown_len}
 
-or_assoc : (a b c : Option causes.Refused) → option_or (option_or a b) c ≡ option_or a (option_or b c)
-or_assoc None b c = refl
-or_assoc (Some e) b c = refl
-
--- the fault of visits after others, and the names after both
-refused_of_both : (names : List (List ℕ)) (vs ws : List Visit) → first_refused names (vs ++ ws) ≡ option_or (first_refused names vs) (first_refused (names_after names vs) ws)
+-- what is refused of visits after others, and the names after both
+refused_of_both : (names : List (List ℕ)) (vs ws : List Visit) → refused_among names (vs ++ ws) ≡ refused_among names vs ++ refused_among (names_after names vs) ws
 refused_of_both names [] ws = refl
 refused_of_both names (v ∷ vs) ws =
-    let own = option_map (refused_for v.token v.name) (visit_cause names v) in
-    ap (option_or own) (refused_of_both (names_with names v) vs ws) ∙ sym (or_assoc own (first_refused (names_with names v) vs) (first_refused (names_after (names_with names v) vs) ws))
+    let own = option_to_list (refused_after names v) in
+    ap (λ l. own ++ l) (refused_of_both (names_past names v) vs ws)
+    ∙ sym (append_assoc own (refused_among (names_past names v) vs) (refused_among (names_after (names_past names v) vs) ws))
 
 names_of_both : (names : List (List ℕ)) (vs ws : List Visit) → names_after names (vs ++ ws) ≡ names_after (names_after names vs) ws
 names_of_both names [] ws = refl
-names_of_both names (v ∷ vs) ws = names_of_both (names_with names v) vs ws
+names_of_both names (v ∷ vs) ws = names_of_both (names_past names v) vs ws
 
--- where the first visits pass, it is as it is with those behind them
-goes_on : (names : List (List ℕ)) (vs ws : List Visit) → first_refused names vs ≡ None → first_refused names (vs ++ ws) ≡ first_refused (names_after names vs) ws
-goes_on names vs ws none = refused_of_both names vs ws ∙ ap (λ o. option_or o (first_refused (names_after names vs) ws)) none
+-- what is left out of the first list is left out of both
+take_of_first : {A : Type 0} (n : ℕ) (xs ys : List A) → take n (take n xs ++ ys) ≡ take n (xs ++ ys)
+take_of_first zero xs ys = refl
+take_of_first (suc n) [] ys = refl
+take_of_first (suc n) (x ∷ xs) ys = ap (λ l. x ∷ l) (take_of_first n xs ys)
 
-module _ {A : Type 0} where
-  pub passes_on : (names : List (List ℕ)) (vs ws : List Visit) (between : List (List ℕ)) (result : Result A Refused) (after : List (List ℕ)) → (first_refused names vs ≡ None) × (between ≡ names_after names vs)
-      → Passes between ws result after → Passes names (vs ++ ws) result after
-  passes_on names vs ws between result after first second = step result (subst (λ (ns : List (List ℕ)). Passes ns ws result after) first.1 second)
-    where
-      step : (r : Result A Refused) → Passes (names_after names vs) ws r after → Passes names (vs ++ ws) r after
-      step (Ok x) passes = (goes_on names vs ws first.0 ∙ passes.0, passes.1 ∙ sym (names_of_both names vs ws))
-      step (Err e) fault = goes_on names vs ws first.0 ∙ fault
+-- what was refused, once some visits were made and others are left
+refused_then : (old between : Findings) (vs ws : List Visit) → AreVisited old vs between
+    → take max_reasons (refused_in between ++ refused_among (listed between.names) ws) ≡ take max_reasons (refused_in old ++ refused_among (listed old.names) (vs ++ ws))
+refused_then old between vs ws first =
+    let here = refused_among (listed old.names) vs in
+    let later = refused_among (names_after (listed old.names) vs) ws in
+    ap (λ l. take max_reasons (l ++ refused_among (listed between.names) ws)) first.refused
+    ∙ ap (λ l. take max_reasons (take max_reasons (refused_in old ++ here) ++ refused_among l ws)) first.names
+    ∙ take_of_first max_reasons (refused_in old ++ here) later
+    ∙ ap (take max_reasons) (append_assoc (refused_in old) here later)
+    ∙ ap (λ l. take max_reasons (refused_in old ++ l)) (sym (refused_of_both (listed old.names) vs ws))
 
--- where one of them has a fault, that is it
-pub stops : (names : List (List ℕ)) (vs ws : List Visit) (e : causes.Refused) → first_refused names vs ≡ Some e → first_refused names (vs ++ ws) ≡ Some e
-stops names vs ws e fault = refused_of_both names vs ws ∙ ap (λ o. option_or o (first_refused (names_after names vs) ws)) fault
+names_then : (old between : Findings) (vs ws : List Visit) → AreVisited old vs between → names_after (listed between.names) ws ≡ names_after (listed old.names) (vs ++ ws)
+names_then old between vs ws first = ap (λ l. names_after l ws) first.names ∙ sym (names_of_both (listed old.names) vs ws)
 
 -- visits that are those and then others
-module _ {A : Type 0} (names : List (List ℕ)) (all vs ws : List Visit) (is : all ≡ vs ++ ws) where
-  -- where one of the first has a fault, which was passed on
-  pub refused : (e y : Refused) (result : Result A Refused) (after : List (List ℕ)) → first_refused names vs ≡ Some (refused_view e) → result ≡ Err y → y ≡ e → Passes names all result after
-  refused e y result after fault here same =
-      subst (λ (r : Result A Refused). Passes names all r after) (sym (here ∙ ap (λ x. Err x) same)) (ap (first_refused names) is ∙ stops names vs ws (refused_view e) fault)
+pub both_visited : (old between new : Findings) (all vs ws : List Visit) → all ≡ vs ++ ws → AreVisited old vs between → AreVisited between ws new → AreVisited old all new
+both_visited old between new all vs ws is first second =
+    subst (λ (l : List Visit). AreVisited old l new) (sym is)
+    record { names = second.names ∙ names_then old between vs ws first; refused = second.refused ∙ refused_then old between vs ws first }
 
-  -- where the first pass
-  pub passed : (between : List (List ℕ)) (result : Result A Refused) (after : List (List ℕ)) → (first_refused names vs ≡ None) × (between ≡ names_after names vs)
-      → Passes between ws result after → Passes names all result after
-  passed between result after first second = subst (λ (l : List Visit). Passes names l result after) (sym is) (passes_on names vs ws between result after first second)
+-- one more that is refused, where there is room, and where there is none
+pub refused_more : (old : Findings) (items : List Refused) (found : Refused) (is : causes.Refused) → items ≡ old.refused.items ++ found ∷ [] → length old.refused.items ≢ 20 → refused_view found ≡ is → map refused_view items ≡ take max_reasons (refused_in old ++ is ∷ [])
+refused_more old items found is more room same =
+    let all : map refused_view items ≡ refused_in old ++ is ∷ [] = ap (map refused_view) more ∙ map-append refused_view old.refused.items (found ∷ []) ∙ ap (λ x. refused_in old ++ x ∷ []) same in
+    let few : length items ≤ max_reasons = omega (arith, old.few, room, ap length more, length-append old.refused.items (found ∷ [])) in
+    sym (ap (take max_reasons) (sym all) ∙ take_all max_reasons (map refused_view items) (omega (arith, few, length-map items refused_view)))
 
--- visits that are left, with the names so far, are refused and bring names as all of them do
-abbrev pub AreLeft : List (List ℕ) → List Visit → List (List ℕ) → List Visit → Type 0
-AreLeft now left start all = (first_refused now left ≡ first_refused start all) × (names_after now left ≡ names_after start all)
+pub refused_beyond : (old : Findings) (is : causes.Refused) → length old.refused.items ≡ 20 → refused_in old ≡ take max_reasons (refused_in old ++ is ∷ [])
+refused_beyond old is full =
+    let len : length (refused_in old) ≡ max_reasons = length-map old.refused.items refused_view ∙ full in
+    sym (take-append-le max_reasons (refused_in old) (is ∷ []) (omega (arith, len)) ∙ take_all max_reasons (refused_in old) (omega (arith, len)))
 
-pub one_less : (now : List (List ℕ)) (here vs left : List Visit) (start : List (List ℕ)) (all : List Visit) (between : List (List ℕ)) → here ≡ vs ++ left → (first_refused now vs ≡ None) × (between ≡ names_after now vs)
-    → AreLeft now here start all → AreLeft between left start all
-one_less now here vs left start all between is passes h =
-    subst (λ (names : List (List ℕ)). AreLeft names left start all) (sym passes.1)
-    (sym (goes_on now vs left passes.0) ∙ ap (first_refused now) (sym is) ∙ h.0, sym (names_of_both now vs left) ∙ ap (names_after now) (sym is) ∙ h.1)
+-- no visits
+pub none_visited : (findings : Findings) → AreVisited findings [] findings
+none_visited findings = record {
+  names = refl;
+  refused = sym (
+      ap (take max_reasons) (append-nil (refused_in findings))
+      ∙ take_all max_reasons (refused_in findings) (omega (arith, findings.few, length-map findings.refused.items refused_view))
+      );
+}
 
-pub found_among : {A : Type 0} (now : List (List ℕ)) (here vs left : List Visit) (start : List (List ℕ)) (all : List Visit) (e y : Refused) (result : Result A Refused) (after : List (List ℕ)) → here ≡ vs ++ left
-    → first_refused now vs ≡ Some (refused_view e) → AreLeft now here start all → result ≡ Err y → y ≡ e → Passes start all result after
-found_among now here vs left start all e y result after is fault h passed_on same =
-    rw (passed_on, same) (sym h.0 ∙ ap (first_refused now) is ∙ stops now vs left (refused_view e) fault)
+-- with the visits that are left, it is as it is with all of them
+pub record AreLeft (now : Findings) (left : List Visit) (start : Findings) (all : List Visit) : Type 0 where
+  pub names : names_after (listed now.names) left ≡ names_after (listed start.names) all
+  pub refused : take max_reasons (refused_in now ++ refused_among (listed now.names) left) ≡ take max_reasons (refused_in start ++ refused_among (listed start.names) all)
+
+pub all_left : (start : Findings) (all : List Visit) → AreLeft start all start all
+all_left start all = record { names = refl; refused = refl }
+
+pub fewer_left : (now between start : Findings) (here vs left all : List Visit) → here ≡ vs ++ left → AreVisited now vs between → AreLeft now here start all → AreLeft between left start all
+fewer_left now between start here vs left all is visited h = record {
+  names = names_then now between vs left visited ∙ ap (names_after (listed now.names)) (sym is) ∙ h.names;
+  refused = refused_then now between vs left visited ∙ ap (λ l. take max_reasons (refused_in now ++ refused_among (listed now.names) l)) (sym is) ∙ h.refused;
+}
+
+pub none_left : (now start : Findings) (left all : List Visit) → left ≡ [] → AreLeft now left start all → AreVisited start all now
+none_left now start left all is h =
+    let none = none_visited now in
+    record {
+      names = ap (names_after (listed now.names)) (sym is) ∙ h.names;
+      refused = none.refused ∙ ap (λ l. take max_reasons (refused_in now ++ refused_among (listed now.names) l)) (sym is) ∙ h.refused;
+    }
+
+-- a visit with which nothing is wrong, with names for which there is room
+pub one_passed : (old new : Findings) (v : Visit) → v.cause ≡ None → listed new.names ≡ with_more bytes_eq (listed old.names) v.names → new.refused ≡ old.refused → AreVisited old (v ∷ []) new
+one_passed old new v right is same =
+    let names = listed old.names in
+    let few : length (names_with names v) ≤ max_variables = omega (arith, new.names.few, shown_len new.names.names.items, ap length is) in
+    let past : names_past names v ≡ names_with names v = ap (λ o. if is_some o then names else take max_variables (names_with names v)) right ∙ take_all max_variables (names_with names v) few in
+    let none : visit_cause names v ≡ None = ap (λ o. option_or o (if nat_lt max_variables (length (names_with names v)) then Some (plain ManyVariables) else None)) right ∙ ap (λ b. if b then Some (plain ManyVariables) else None) (le-ltb max_variables (length (names_with names v)) few) in
+    record {
+      names = is ∙ sym past;
+      refused = ap (λ (r : ArrayVec Refused). map refused_view r.items) same
+          ∙ (none_visited old).refused
+          ∙ ap (λ o. take max_reasons (refused_in old ++ (option_to_list (option_map (refused_for v.token v.name) o) ++ []))) (sym none);
+    }

@@ -8,7 +8,7 @@ use Rattle.sieve_parser.specs.Tree.{ArgumentTree, InvocationTree}
 use Rattle.sieve_check.specs.declared.causes.Cause.{Cause}
 use Rattle.sieve_check.specs.declared.causes.ReasonKind.{ReasonKind}
 use Rattle.sieve_check.specs.declared.causes.ReasonKind.TheVariants.{ManyVariables}
-use Rattle.sieve_check.specs.declared.causes.Refused.{Refused}
+use Rattle.sieve_check.specs.declared.findings.Findings.{Findings}
 use Rattle.sieve_check.specs.declared.mentions.Mentions.{Mentions}
 use Rattle.sieve_check.specs.declared.loops.Loops.{Loops}
 use Rattle.sieve_check.specs.declared.signature.Ending.{Ending}
@@ -18,7 +18,7 @@ use Rattle.sieve_check.specs.declared.variable_names.VariableNames.{VariableName
 use Rattle.sieve_check.specs.Reading.{all_lists, cause_view, name_in, refused_view}
 use Rattle.sieve_check.specs.Causes as causes
 use Rattle.sieve_check.specs.Rules as rules
-use Rattle.sieve_check.specs.Rules.{Visit, command_visit, first_refused, head_visits, names_mentioned, names_with, strings_of, test_visit, test_visits}
+use Rattle.sieve_check.specs.Rules.{Visit, command_visit, head_visits, max_reasons, names_mentioned, names_past, refused_among, strings_of, test_visit, test_visits}
 use Rattle.sieve_check.specs.Surroundings.{Context, opens_many}
 
 -- the names of the loops that are open, the innermost first
@@ -67,20 +67,29 @@ abbrev pub visits_as : Option Ending → Context → InvocationTree → List Vis
 visits_as None s t = test_visits s t
 visits_as (Some ending) s t = head_visits s t ending
 
+-- the names with more of them are more than there may be: as many as may be are kept
+pub record Overflows (names more after : List (List ℕ)) : Type 0 where
+  pub many : max_variables < length (with_more bytes_eq names more)
+  pub kept : after ≡ take max_variables (with_more bytes_eq names more)
+
 -- the names with more of them, where they are within the limit; else that they aren't
 abbrev pub Adds : {A : Type 0} → List (List ℕ) → List (List ℕ) → Result A ReasonKind → List (List ℕ) → Type 0
 Adds names more result after =
     MatchResult result
     (λ _. after ≡ with_more bytes_eq names more)
-    (λ kind. (kind ≡ ManyVariables) × (max_variables < length (with_more bytes_eq names more)))
+    (λ kind. (kind ≡ ManyVariables) × Overflows names more after)
+
+-- what was refused so far
+abbrev pub refused_in : Findings → List causes.Refused
+refused_in findings = map refused_view findings.refused.items
 
 -- the names after visits
 abbrev pub names_after : List (List ℕ) → List Visit → List (List ℕ)
 names_after names [] = names
-names_after names (v ∷ vs) = names_after (names_with names v) vs
+names_after names (v ∷ vs) = names_after (names_past names v) vs
 
--- the names after visits, where nothing is wrong with any; else the first that is refused, and why
-abbrev pub Passes : {A : Type 0} → List (List ℕ) → List Visit → Result A Refused → List (List ℕ) → Type 0
-Passes names visits result after =
-    MatchResult result (λ _. (first_refused names visits ≡ None) × (after ≡ names_after names visits))
-    (λ refused. first_refused names visits ≡ Some (refused_view refused))
+-- after visits, the names are those after them, and what is refused of them was added to what was refused before, up
+-- to the limit
+pub record AreVisited (old : Findings) (visits : List Visit) (new : Findings) : Type 0 where
+  pub names : listed new.names ≡ names_after (listed old.names) visits
+  pub refused : refused_in new ≡ take max_reasons (refused_in old ++ refused_among (listed old.names) visits)

@@ -1,7 +1,7 @@
 -- What is wrong with the commands and tests of a script, and which fault is named.
-use Rattle.std.specs.Prelude.{ℕ, Bool, true, false, ◌||◌, not, nat_lt, bytes_eq, if◌then◌else◌, List, [], ◌∷◌, ◌++◌, map, length, take, drop, flat_map, Option, Some, None, is_some, option_map}
+use Rattle.std.specs.Prelude.{ℕ, Bool, true, false, ◌||◌, not, nat_lt, bytes_eq, if◌then◌else◌, List, [], ◌∷◌, ◌++◌, map, length, take, drop, flat_map, Option, Some, None, is_some, option_map, slice_get}
 use Rattle.std.specs.List.{find, list_any}
-use Rattle.std.specs.Option.{option_and_then, option_map_or, option_or}
+use Rattle.std.specs.Option.{option_and_then, option_map_or, option_or, option_to_list}
 use Rattle.octets.specs.Ascii.{lowercase_of}
 use Rattle.octets.specs.Limits.{max_name, max_segments, max_string, max_test_strings, max_variables}
 use Rattle.octets.specs.Once.{with_more}
@@ -455,10 +455,12 @@ abbrev pub after_invocation : Context → InvocationTree → Context
 after_invocation s (invocation token name args tests) = following s (command_named name) (strings_of args)
 
 abbrev mutual
-  -- the visits of a command: itself, its tests, its block
+  -- the visits of a command: itself, its tests, its block, but where that is a loop too many
   pub command_visits : Context → CommandTree → List Visit
   command_visits s (simple i) = head_visits s i Semicolon
-  command_visits s (block i cs) = head_visits s i Block ++ commands_visits (in_block (loops_opened i) s) cs
+  command_visits s (block i cs) =
+      head_visits s i Block
+      ++ (if opens_many (loops_opened i) s then [] else commands_visits (in_block (loops_opened i) s) cs)
 
   -- the visits of commands, in order
   pub commands_visits : Context → CommandsTree → List Visit
@@ -474,16 +476,27 @@ abbrev pub visit_cause : List (List ℕ) → Visit → Option Cause
 visit_cause names visit =
     option_or visit.cause (if nat_lt max_variables (length (names_with names visit)) then Some (plain ManyVariables) else None)
 
--- the first visit with which something is wrong, after names
-abbrev pub first_refused : List (List ℕ) → List Visit → Option Refused
-first_refused names [] = None
-first_refused names (v ∷ vs) = option_or (option_map (refused_for v.token v.name) (visit_cause names v))
-    (first_refused (names_with names v) vs)
+-- that a visit after names is refused, and why, if it is
+abbrev pub refused_after : List (List ℕ) → Visit → Option Refused
+refused_after names visit = option_map (refused_for visit.token visit.name) (visit_cause names visit)
 
--- the command or test that is refused of a script, and why, if one is
-abbrev pub reason_of : CommandsTree → Option Refused
-reason_of script = first_refused [] (commands_visits at_start script)
+-- the names after a visit: with its own, as far as there may be so many, if nothing is wrong with it by itself
+abbrev pub names_past : List (List ℕ) → Visit → List (List ℕ)
+names_past names visit = if is_some visit.cause then names else take max_variables (names_with names visit)
 
--- the fault of a script that is named, if it has one
+-- the visits that are refused, after names, and why
+abbrev pub refused_among : List (List ℕ) → List Visit → List Refused
+refused_among names [] = []
+refused_among names (v ∷ vs) = option_to_list (refused_after names v) ++ refused_among (names_past names v) vs
+
+-- the commands and tests that are refused of a script, in order, and why
+abbrev pub reasons_of : CommandsTree → List Refused
+reasons_of script = refused_among [] (commands_visits at_start script)
+
+-- the fault of a script that is named, if it has one: that of the first of them
 abbrev pub fault_of : CommandsTree → Option CheckError
-fault_of script = option_map refusal_for (reason_of script)
+fault_of script = option_map refusal_for (slice_get (reasons_of script) 0)
+
+-- the most that are told of a script
+abbrev pub max_reasons : ℕ
+max_reasons = 20

@@ -6,9 +6,10 @@ use crate::signature::{Ending, Positional, Tests};
 use sieve_parser::Head;
 
 /// What kind of fault a command or test has.
-#[derive(Clone, Copy)]
+#[derive(Clone, Copy, Default)]
 pub enum ReasonKind {
     /// No command has that name (RFC 5228, section 2.10.5).
+    #[default]
     UnknownCommand,
     /// No test has that name (RFC 5228, section 2.10.5).
     UnknownTest,
@@ -135,7 +136,7 @@ impl<'t> Cause<'t> {
 
 /// Why a command or test is refused: what kind of fault it has, its name as the script writes it, and what in it is at fault. That
 /// is a tag without its colon, a string, or the name of a variable or of a loop; it is empty where the kind names none.
-#[derive(Clone, Copy)]
+#[derive(Clone, Copy, Default)]
 pub struct Reason<'t> {
     pub kind: ReasonKind,
     pub name: &'t [u8],
@@ -143,7 +144,7 @@ pub struct Reason<'t> {
 }
 
 /// A command or test that is refused, by the number of its identifier's token, and why.
-#[derive(Clone, Copy)]
+#[derive(Clone, Copy, Default)]
 pub struct Refused<'t> {
     pub token: usize,
     pub reason: Reason<'t>,

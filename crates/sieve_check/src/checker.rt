@@ -1,30 +1,35 @@
 // Scripts, checked.
-ghost use Rattle.std.specs.Prelude.{◌≡◌, IfErr, IfOk, OnOk, None, option_map};
+ghost use Rattle.std.specs.Prelude.{◌≡◌, IfErr, IfOk, OnOk, None, map, take};
 ghost use Rattle.sieve_parser.specs.View.{commands_tree};
 ghost use Rattle.sieve_check.specs.CheckedScript.{IsCheckRefusal};
 ghost use Rattle.sieve_check.specs.FormOf.{IsFormOf};
 ghost use Rattle.sieve_check.specs.Reading.{refused_view};
-ghost use Rattle.sieve_check.specs.Rules.{fault_of, reason_of};
+ghost use Rattle.sieve_check.specs.Rules.{fault_of, max_reasons, reasons_of};
 ghost use Rattle.sieve_check.specs.TypedView.{commands_form};
 
 use crate::causes::Refused;
 use crate::checked::Checked;
 use crate::error::CheckError;
+use crate::findings::MAX_REASONS;
 use crate::{forming, rules};
+use arrayvec::ArrayVec;
 use sieve_parser::Script;
 use std::alloc::Global;
 
-/// The command or test at which the script is refused, and why, where it is. It takes no memory. `check` refuses just such a script,
-/// with the fault that the reason is ([`ReasonKind::fault`]).
+/// The commands and tests of the script that are refused, and why, in order, the first of them up to [`MAX_REASONS`]. It takes no
+/// memory. `check` refuses just such a script, with the fault that the first reason is ([`ReasonKind::fault`]).
 ///
-/// Commands are looked at in order, each before its tests and these before its block; the first with which something is wrong is
-/// refused, for the first that holds of: its name isn't known; it needs a capability that wasn't required; a `require` names something
+/// Commands are looked at in order, each before its tests and these before its block. One with which something is wrong is refused
+/// for the first that holds of: its name isn't known; it needs a capability that wasn't required; a `require` names something
 /// else than a capability; its arguments can't be read; other tests follow, or it ends otherwise; a string that is expanded has a
-/// wrong reference, or what is set is no name; it can't stand at its place; it is beyond a limit.
-pub fn reason_of(script: &Script) -> Option<Refused<'_>>
-    ensures { option_map refused_view result ≡ reason_of (commands_tree script.now) }
+/// wrong reference, or what is set is no name; it can't stand at its place; it is beyond a limit. What is required, and what stands
+/// before an `else`, goes by what is written, wrong or not. One that is refused brings no variables, and each that brings one too
+/// many is refused. The block of a loop too many isn't looked at.
+pub fn reasons_of(script: &Script) -> ArrayVec<Refused<'_>, MAX_REASONS>
+    ensures { map refused_view result.items
+        ≡ take max_reasons (reasons_of (commands_tree script.now)) }
 {
-    rules::script(script.commands()).err()
+    rules::script(script.commands()).refused
 }
 
 /// The script with its typed form, where nothing is wrong with it (RFC 5228; RFC 5229, sections 3 and 4; RFC 5703, sections 3
@@ -49,7 +54,7 @@ pub fn check(alloc: Global, script: Script) -> Result<Checked, CheckError>
     ensures faultless { OnOk result (fault_of (commands_tree script) ≡ None) }
     ensures refused { IfErr result (λ e. IsCheckRefusal (commands_tree script) e) }
 {
-    if let Some(refused) = reason_of(&script) {
+    if let Some(refused) = reasons_of(&script).first() {
         return Err(refused.refusal());
     }
     match forming::form_of(alloc, script.commands())? {

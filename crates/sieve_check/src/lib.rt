@@ -1,8 +1,8 @@
 //! The static rules of Sieve scripts, and the typed form of those that keep them (RFC 5228; RFC 5229; RFC 5703, sections 3 and 4).
 //!
-//! [`check`] gives a script as [`Checked`], or names the fault that `specs/Rules` says. [`reason_of`] says of the same walk why the
-//! script is refused: at which command or test, for what kind of reason, and what in it is at fault. The fault is a function of the
-//! kind ([`ReasonKind::fault`]), so nothing has to agree with it. Each rule is a cause, and the first that holds is named.
+//! [`check`] gives a script as [`Checked`], or names the fault that `specs/Rules` says. [`reasons_of`] says of the same walk all that
+//! is refused: which command or test, for what kind of reason, and what in it is at fault. The fault is a function of the first
+//! one's kind ([`ReasonKind::fault`]). Each rule is a cause, and the first that holds of a command or test is named.
 //! What is wrong with arguments is said where they are read (`specs/Arguments`).
 //!
 //! What a script means, and its code, go by its typed form alone (`specs/Typed`), which `specs/FormOf` reads off the tree. What each
@@ -20,6 +20,7 @@ mod causes;
 mod checked;
 mod checker;
 mod error;
+mod findings;
 mod forming;
 pub mod laws;
 mod loops;
@@ -38,8 +39,9 @@ mod variable_names;
 
 pub use causes::{Reason, ReasonKind, Refused};
 pub use checked::Checked;
-pub use checker::{check, reason_of};
+pub use checker::{check, reasons_of};
 pub use error::{CheckError, Fault};
+pub use findings::MAX_REASONS;
 pub use loops::MAX_LOOPS;
 pub use names::{Capability, CommandName, Piece, Tag, TestName, command_named, test_named};
 pub use references::{MAX_NAME, MAX_SEGMENTS};

@@ -1,13 +1,13 @@
 // The static rules: what is wrong with commands and tests (RFC 5228, section 8.2, and each command's own section).
-ghost use Rattle.std.specs.Prelude.{◌≡◌, ℕ, List, [], ◌∷◌, None, Some, map, option_map, true, IsOk, MatchResult};
+ghost use Rattle.std.specs.Prelude.{◌≡◌, [], ◌∷◌, map, option_map, take, true};
 ghost use Rattle.sieve_parser.specs.View.{argument_tree, command_tree, commands_tree, invocation_tree, more_tests_of};
-ghost use Rattle.sieve_check.specs.Causes.{refused_for};
-ghost use Rattle.sieve_check.specs.Reading.{cause_view, left_of, read_of, refused_view};
-ghost use Rattle.sieve_check.specs.Rules.{arguments_of, command_mentions, command_needs, command_visit, command_visits, commands_visits, ending_cause, expanding, head_visits, ill_formed_command, ill_formed_test, is_mime_tag, known_command_cause, known_test_cause, lacking_cause, lists_read, long_string_cause, many_loops_cause, many_strings_cause, may_stand, mentions_of, mime_where_given, misplaced, more_visits, names_mentioned, oversized_command, oversized_test, place_cause, read_command_cause, read_test_cause, reason_of, strings_of, test_may_stand, test_mentions, test_needs, test_place_cause, test_visit, test_visits, tests_cause, unknown_cause, where_required};
+ghost use Rattle.sieve_check.specs.Reading.{cause_view, left_of, read_of};
+ghost use Rattle.sieve_check.specs.Rules.{arguments_of, command_mentions, command_needs, command_visit, command_visits, commands_visits, ending_cause, expanding, head_visits, ill_formed_command, ill_formed_test, is_mime_tag, known_command_cause, known_test_cause, lacking_cause, lists_read, long_string_cause, many_loops_cause, many_strings_cause, max_reasons, may_stand, mentions_of, mime_where_given, misplaced, more_visits, names_mentioned, oversized_command, oversized_test, place_cause, read_command_cause, read_test_cause, reasons_of, strings_of, test_may_stand, test_mentions, test_needs, test_place_cause, test_visit, test_visits, tests_cause, unknown_cause, where_required};
 ghost use Rattle.sieve_check.specs.Signatures.{command_signature, is_positional};
-ghost use Rattle.sieve_check.specs.Refusing.{Finds, Passes, context_of, listed, mentions_in, visit_as, visits_as};
+ghost use Rattle.sieve_check.specs.Refusing.{AreVisited, Finds, context_of, mentions_in, refused_in, visit_as, visits_as};
 
-use crate::causes::{Cause, ReasonKind, Refused};
+use crate::causes::{Cause, ReasonKind};
+use crate::findings::Findings;
 use crate::mentions::Mentions;
 use crate::names::{Capability, CommandName, Tag, TestName, command_named, tag_named, test_named};
 use crate::signature::{
@@ -15,7 +15,6 @@ use crate::signature::{
 };
 use crate::string_faults::{StringFault, has_many_strings};
 use crate::surroundings::Surroundings;
-use crate::variable_names::VariableNames;
 use sieve_parser::{Argument, Command, Head, Invocation};
 
 /// The capabilities that a command needs.
@@ -457,120 +456,103 @@ fn found<'t>(
     }
 }
 
-// Nothing, where nothing is wrong with a command or test, apart from its tests and its block; the names that it brings are then
-// added.
+// Looks at a command or test, apart from its tests and its block.
 fn alone<'t>(
-    names: &mut VariableNames<'t>,
+    findings: &mut Findings<'t>,
     surroundings: Surroundings<'_>,
     head: &'t Head,
     tests: Tests,
     ending: Option<Ending>,
-) -> Result<(), Refused<'t>>
-    ensures { Passes (listed names.old)
+)
+    ensures { AreVisited findings.old
         (visit_as ending (context_of surroundings.entry) head.now.token head.now.name
-        (arguments_of head.now) tests ∷ []) result (listed names.new) }
+        (arguments_of head.now) tests ∷ []) findings.new }
 {
     match found(surroundings, head, tests, ending) {
-        Ok(mentions) => match mentions.add_to(names) {
-            Ok(()) => Ok(()),
-            Err(kind) => Err(Refused::of(head, Cause::plain(kind))),
-        },
-        Err(cause) => Err(Refused::of(head, cause)),
+        Ok(mentions) => {
+            if let Err(kind) = mentions.add_to(&mut findings.names) {
+                findings.refuse(head, Cause::plain(kind));
+            }
+        }
+        Err(cause) => findings.refuse(head, cause),
     }
 }
 
-// Nothing, where nothing is wrong with a command and its tests, apart from its block, or with a test and its own tests.
+// Looks at a command and its tests, apart from its block, or at a test and its own tests.
 #[cycle(tests)]
 fn invocation<'t>(
-    names: &mut VariableNames<'t>,
+    findings: &mut Findings<'t>,
     surroundings: Surroundings<'_>,
     tree: &'t Invocation,
     ending: Option<Ending>,
-) -> Result<(), Refused<'t>>
-    ensures { Passes (listed names.old)
-        (visits_as ending (context_of surroundings.entry) (invocation_tree tree.now)) result
-        (listed names.new) }
+)
+    ensures { AreVisited findings.old
+        (visits_as ending (context_of surroundings.entry) (invocation_tree tree.now))
+        findings.new }
 {
     match tree {
-        Invocation::Plain(head) => alone(names, surroundings, head, Tests::Nothing, ending),
+        Invocation::Plain(head) => alone(findings, surroundings, head, Tests::Nothing, ending),
         Invocation::WithTest(head, inner) => {
-            alone(names, surroundings, head, Tests::One, ending)?;
-            invocation(names, surroundings, inner, None)
+            alone(findings, surroundings, head, Tests::One, ending);
+            invocation(findings, surroundings, inner, None);
         }
         Invocation::WithTests(head, first, others) => {
-            alone(names, surroundings, head, Tests::Bracketed, ending)?;
-            invocation(names, surroundings, first, None)?;
-            tests(names, surroundings, others)
+            alone(findings, surroundings, head, Tests::Bracketed, ending);
+            invocation(findings, surroundings, first, None);
+            tests(findings, surroundings, others);
         }
     }
 }
 
-// Nothing, where nothing is wrong with the tests of a list after its first.
+// Looks at the tests of a list after its first.
 #[cycle(tests)]
-fn tests<'t>(
-    names: &mut VariableNames<'t>,
-    surroundings: Surroundings<'_>,
-    list: &'t [Invocation],
-) -> Result<(), Refused<'t>>
-    ensures { Passes (listed names.old)
+fn tests<'t>(findings: &mut Findings<'t>, surroundings: Surroundings<'_>, list: &'t [Invocation])
+    ensures { AreVisited findings.old
         (more_visits (context_of surroundings.entry) (more_tests_of (map invocation_tree list.now)))
-        result (listed names.new) }
+        findings.new }
 {
     'list: for tree in list {
-        invocation(names, surroundings, tree, None)?;
+        invocation(findings, surroundings, tree, None);
     }
-    Ok(())
 }
 
-// Nothing, where nothing is wrong with a command and what stands below it.
+// Looks at a command and what stands below it. The block of a loop too many isn't looked at.
 #[cycle(commands)]
-fn command<'t>(
-    names: &mut VariableNames<'t>,
-    surroundings: Surroundings<'t>,
-    tree: &'t Command,
-) -> Result<(), Refused<'t>>
-    ensures { Passes (listed names.old)
-        (command_visits (context_of surroundings.entry) (command_tree tree.now)) result
-        (listed names.new) }
+fn command<'t>(findings: &mut Findings<'t>, surroundings: Surroundings<'t>, tree: &'t Command)
+    ensures { AreVisited findings.old
+        (command_visits (context_of surroundings.entry) (command_tree tree.now)) findings.new }
 {
     match tree {
         Command::Simple(first) => {
-            invocation(names, surroundings, first, Some(Ending::Semicolon))
+            invocation(findings, surroundings, first, Some(Ending::Semicolon));
         }
         Command::Block(first, block) => {
-            invocation(names, surroundings, first, Some(Ending::Block))?;
-            match surroundings.in_block(first) {
-                Some(inside) => commands(names, inside, block),
-                None => unreachable!(),
+            invocation(findings, surroundings, first, Some(Ending::Block));
+            if let Some(inside) = surroundings.in_block(first) {
+                commands(findings, inside, block);
             }
         }
     }
 }
 
-// Nothing, where nothing is wrong with the commands of a script or block.
+// Looks at the commands of a script or block.
 #[cycle(commands)]
-fn commands<'t>(
-    names: &mut VariableNames<'t>,
-    surroundings: Surroundings<'t>,
-    trees: &'t [Command],
-) -> Result<(), Refused<'t>>
-    ensures { Passes (listed names.old)
-        (commands_visits (context_of surroundings.entry) (commands_tree trees.now)) result
-        (listed names.new) }
+fn commands<'t>(findings: &mut Findings<'t>, surroundings: Surroundings<'t>, trees: &'t [Command])
+    ensures { AreVisited findings.old
+        (commands_visits (context_of surroundings.entry) (commands_tree trees.now)) findings.new }
 {
     let mut around = surroundings;
     'trees: for tree in trees {
-        command(names, around, tree)?;
+        command(findings, around, tree);
         around = around.after(tree);
     }
-    Ok(())
 }
 
-/// Nothing, where nothing is wrong with the commands of a script; else the first command or test that is refused, and why.
-pub fn script(trees: &[Command]) -> Result<(), Refused<'_>>
-    ensures { MatchResult result (λ _. reason_of (commands_tree trees.now) ≡ None)
-        (λ refused. reason_of (commands_tree trees.now) ≡ Some (refused_view refused)) }
+/// The commands and tests of a script that are refused, in order, the first of them up to [`MAX_REASONS`](crate::MAX_REASONS).
+pub fn script(trees: &[Command]) -> Findings<'_>
+    ensures { refused_in result ≡ take max_reasons (reasons_of (commands_tree trees.now)) }
 {
-    let mut names = VariableNames::new();
-    commands(&mut names, Surroundings::at_start(), trees)
+    let mut findings = Findings::new();
+    commands(&mut findings, Surroundings::at_start(), trees);
+    findings
 }

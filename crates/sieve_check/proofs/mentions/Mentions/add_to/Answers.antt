@@ -14,7 +14,7 @@ pub returns-in_err-add_lists : goal.returns-in_err-add_lists
 returns-in_err-add_lists c =
     let p = err_from_is_err_and c.from_residual.result c.from_residual.ensures.1 in
     let strings = strings_of (all_lists c.args.self.expanded) in
-    rw (p.1, p.2) (c.in_err-add_lists.ensures.0, many_with_more (listed c.args.names.now) (flat_map names_in strings) (map lowercase_of (set_in c.args.self.set)) c.in_err-add_lists.ensures.1)
+    rw (p.1, p.2) (c.in_err-add_lists.ensures.0, many_with_more (listed c.args.names.now) (flat_map names_in strings) (map lowercase_of (set_in c.args.self.set)) (listed c.add_lists.new.self) c.in_err-add_lists.ensures.1)
 
 pub returns-in-Some : goal.returns-in-Some
 returns-in-Some c =

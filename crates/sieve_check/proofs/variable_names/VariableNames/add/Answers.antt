@@ -1,9 +1,9 @@
-use Rattle.std.proofs.Common.{◌≡◌, ◌∙◌, ◌∷◌, [], bytes_eq, sym, ap, length, length-append, arith, refl, false}
+use Rattle.std.proofs.Common.{◌≡◌, ◌∙◌, bytes_eq, sym, length, refl, false}
 use Rattle.std.proofs.lemmas.Bool.{eqb-true}
 use Rattle.octets.specs.Ascii.{lowercase_of}
 use Rattle.octets.specs.Once.{is_listed}
 use Rattle.sieve_check.specs.Refusing.{listed}
-use Rattle.sieve_check.proofs.NameSteps.{added_kept, added_new, shown_push, shown_len}
+use Rattle.sieve_check.proofs.NameSteps.{added_kept, added_new, full_overflows, shown_push, shown_len}
 use Rattle.sieve_check.proofs.variable_names.VariableNames.add.Goals as goal
 
 pub returns-then-has : goal.returns-then-has
@@ -12,10 +12,8 @@ returns-then-has c = added_kept (listed c.args.self.now) (lowercase_of c.args.na
 pub returns-then-is_full : goal.returns-then-is_full
 returns-then-is_full c =
     let fresh : is_listed bytes_eq (lowercase_of c.args.name.now) (listed c.args.self.now) ≡ false = sym c.has.ensures ∙ c.if-has.false in
-    let full : length c.args.self.now.names.items ≡ 128 = eqb-true _ _ (sym c.if-is_full.ensures.value) in (
-      refl,
-      omega (arith, full, shown_len c.args.self.now.names.items, ap length (added_new (listed c.args.self.now) (lowercase_of c.args.name.now) fresh), length-append (listed c.args.self.now) (lowercase_of c.args.name.now ∷ [])),
-    )
+    let full : length c.args.self.now.names.items ≡ 128 = eqb-true _ _ (sym c.if-is_full.ensures.value) in
+    (refl, full_overflows (listed c.args.self.now) (lowercase_of c.args.name.now) fresh (shown_len c.args.self.now.names.items ∙ full))
 
 pub returns : goal.returns
 returns c =

@@ -16,7 +16,7 @@ returns-in_err-add_argument c =
     rw (p.1, p.2) (
       c.in_err-add_argument.ensures.0,
       many_of_all (listed c.loop-argument.self) (flat_map names_in (strings_in (argument_tree c.argument-item.result))) (flat_map names_in (strings_of (map argument_tree (drop (i + 1) c.args.arguments.now)))) (listed c.args.self.now)
-          (flat_map names_in (strings_of (map argument_tree c.args.arguments.now)))
+          (flat_map names_in (strings_of (map argument_tree c.args.arguments.now))) (listed c.add_argument.new.self)
           (ap (with_more bytes_eq (listed c.loop-argument.self)) (sym here) ∙ c.loop-argument.invariant) c.in_err-add_argument.ensures.1,
     )
 

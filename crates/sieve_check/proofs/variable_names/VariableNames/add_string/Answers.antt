@@ -15,6 +15,6 @@ returns-in_err-add c =
     ap (flat_map names_of) c.in-Some.ensures.0 ∙ ap (λ segment. names_of (segment_of segment) ++ names_in c.in-Some.after.now) c.in-Variable.is in
     rw (p.1, p.2) (
       c.in_err-add.ensures.0,
-      many_of_all (listed c.segments.self) (lowercase_of c.in-Variable.name.now ∷ []) (names_in c.in-Some.after.now) (listed c.args.self.now) (names_in c.args.string.now)
+      many_of_all (listed c.segments.self) (lowercase_of c.in-Variable.name.now ∷ []) (names_in c.in-Some.after.now) (listed c.args.self.now) (names_in c.args.string.now) (listed c.add.new.self)
           (ap (with_more bytes_eq (listed c.segments.self)) (sym left) ∙ c.segments.invariant) c.in_err-add.ensures.1,
     )

@@ -13,7 +13,7 @@ returns-in_err-add_string c =
     let here = strings_names c.args.strings.now i c.string-item.result c.as_slice.result.now c.loop-string-test.true c.string-item.is c.as_slice.ensures in
     rw (p.1, p.2) (
       c.in_err-add_string.ensures.0,
-      many_of_all (listed c.loop-string.self) (names_in c.as_slice.result.now) (flat_map names_in (drop (i + 1) c.args.strings.now)) (listed c.args.self.now) (flat_map names_in c.args.strings.now)
+      many_of_all (listed c.loop-string.self) (names_in c.as_slice.result.now) (flat_map names_in (drop (i + 1) c.args.strings.now)) (listed c.args.self.now) (flat_map names_in c.args.strings.now) (listed c.add_string.new.self)
           (ap (with_more bytes_eq (listed c.loop-string.self)) (sym here) ∙ c.loop-string.invariant) c.in_err-add_string.ensures.1,
     )
 
