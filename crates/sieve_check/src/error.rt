@@ -12,7 +12,7 @@ pub enum CheckError {
     #[error("an allocation was refused")]
     Memory,
     /// A command or test of this name isn't known (RFC 5228, section 2.10.5).
-    #[error("token {place} names no command or test")]
+    #[error("token {place} names nothing that is known")]
     UnknownCommand { place: usize },
     /// The command or test needs a capability that wasn't required (RFC 5228, section 2.10.5).
     #[error("token {place} needs a capability that wasn't required")]
@@ -25,12 +25,12 @@ pub enum CheckError {
     /// a name that is no identifier (RFC 5229, sections 3 and 4). Wrong places are, outside of all loops, those of `store`, of
     /// the tests of the current part and of `break`, and that of a `break` with a name that no loop around it has (RFC 5703,
     /// section 3).
-    #[error("the command or test at token {place} is wrong")]
+    #[error("what begins at token {place} is wrong")]
     BadArguments { place: usize },
     /// A string of the command or test has more octets than the limit, or the lists of a test have more strings; or a
     /// string of it that is expanded has more segments, or a name of a variable has more octets; or this is the command or
     /// test with which the script has more variables, or a loop within as many others as may be open.
-    #[error("the command or test at token {place} is beyond a limit")]
+    #[error("what begins at token {place} is beyond a limit")]
     Limit { place: usize },
 }
 
