@@ -1,22 +1,15 @@
 -- What comes of a task, from what the depot did and what was written.
-use Rattle.std.proofs.Common.{◌≡◌, ◌≢◌, ◌⊎◌, ℕ, inl, inr, refl, subst, Result, Ok, Err, OnOk, OnErr}
+use Rattle.std.proofs.Common.{◌≡◌, ◌≢◌, ◌⊎◌, ℕ, inl, inr, refl, subst}
 use Rattle.sqlite.specs.State.{HasCleanDisk}
 use Rattle.part_store.specs.Standing.{Spares}
 use Rattle.depot_actions.specs.Causes.{HasCause, IsExport}
 use Rattle.depot_actions.specs.DepotState.{Command, Reply}
-use Rattle.encodings.specs.Device.{HasBegun, HasBroken, HasTaken}
+use Rattle.encodings.specs.Device.{HasBegun, HasBroken}
 use Rattle.refusals.specs.declared.refusal.Refusal.{Refusal}
 use Rattle.refusals.specs.declared.refusal.Refusal.TheVariants.{Memory, MessageTooLarge, TooManyParts, NotCanonical, Lexical, ScriptTooLong, Syntax, TooDeep, UnknownCommand, MissingCapability, UnknownCapability, BadArguments, Limit, Spelling, Index, Form, End, Loop, Jump, NoPart, Stack, Listing, NoSuchEntry, NumberFull, Collision, Database, UserName, Write, Read}
 use Rattle.depot_cli.specs.Jobs.{HasTold}
 use Rattle.depot_cli.specs.Printed.{reply_text}
 use Rattle.depot_cli.specs.Tasks.{Desk, HasDone, HasPerformed}
-
--- a command was done, and its reply was written or broke off
-pub finished : {T E : Type 0} (written : Result T E) (command : Command) (reply : Reply) (status : ℕ) (old new : Desk) → HasDone command reply old.store new.store
-    → OnOk written (HasTaken (reply_text command reply) old.out new.out) → OnErr written (HasBroken (reply_text command reply) old.out new.out)
-    → OnOk written ((status ≡ 0) × (new.err ≡ old.err)) → OnErr written ((status ≡ 1) × HasTold Write old.err new.err) → HasPerformed command status old new
-finished (Ok x) command reply status old new done taken broken ok err = inl (ok.0, (reply, done, taken, ok.1))
-finished (Err e) command reply status old new done taken broken ok err = inr (err.0, inl (reply, done, broken, err.1))
 
 -- whether a refusal is one that may come after some of an export was written
 comes_late : (e : Refusal) → (e ≡ Write) ⊎ (e ≡ Memory) ⊎ ((e ≢ Write) × (e ≢ Memory))

@@ -1,17 +1,17 @@
 -- A refusal of a script has one explanation.
 use Rattle.std.proofs.Common.{◌≡◌, ◌∙◌, ℕ, List, ap, sym, subst, refl, inl, inr}
-use Rattle.std.specs.Prelude.{Option, Some, None}
+use Rattle.std.specs.Prelude.{Option, Some, None, flat_map}
 use Rattle.std.specs.List.{slice_get}
 use Rattle.refusals.specs.declared.refusal.Refusal.{Refusal}
 use Rattle.refusals.specs.declared.refusal.Refusal.TheVariants as refused
-use Rattle.sieve_check.specs.Causes.{Reason}
+use Rattle.sieve_check.specs.Causes.{Refused}
 use Rattle.sieve_check.specs.declared.error.Fault.{Fault}
 use Rattle.sieve_check.specs.declared.error.Fault.TheVariants.{UnknownCommand, MissingCapability, UnknownCapability, BadArguments, Limit}
 use Rattle.sieve_lexer.specs.Tokens.{AreTokens}
 use Rattle.sieve_lexer.specs.declared.token.Token.{Token}
 use Rattle.sieve_parser.specs.Scripts.{IsParsed}
 use Rattle.sieve_parser.specs.Tree.{CommandsTree}
-use Rattle.sieve_explain.specs.Explaining.{Explains, HasTokens, HasTree, TellsDepth, TellsReason, TellsSyntax, TellsWhy, reason_in, reason_told, start_of, syntax_told, told}
+use Rattle.sieve_explain.specs.Explaining.{Explains, HasTokens, HasTree, TellsDepth, TellsReason, TellsSyntax, TellsWhy, reason_told, reasons_in, start_of, syntax_told, told}
 use Rattle.sieve_explain.specs.Faults.{too_deep_blanks}
 
 -- the laws that a script has one list of tokens, and one tree
@@ -41,16 +41,15 @@ one_depth : OneList → (name script : List ℕ) (number : ℕ) (text other : Li
 one_depth law name script number text other (tokens, (has, e)) (others, (has', e')) =
     e ∙ ap (λ (l : List Token). told name script (start_of script (slice_get l number)) too_deep_blanks) (one_list law script tokens others has has') ∙ sym e'
 
-one_why : OneList → (name script : List ℕ) (number : ℕ) (reason : Option Reason) (text other : List ℕ) → TellsWhy name script number reason text → TellsWhy name script number reason other → text ≡ other
-one_why law name script number None text other e e' = e ∙ sym e'
-one_why law name script number (Some reason) text other (tokens, (has, e)) (others, (has', e')) =
-    e ∙ ap (λ (l : List Token). reason_told name script reason l number) (one_list law script tokens others has has') ∙ sym e'
+one_why : OneList → (name script : List ℕ) (reasons : List Refused) (text other : List ℕ) → TellsWhy name script reasons text → TellsWhy name script reasons other → text ≡ other
+one_why law name script reasons text other (tokens, (has, e)) (others, (has', e')) =
+    e ∙ ap (λ (l : List Token). flat_map (reason_told name script l) reasons) (one_list law script tokens others has has') ∙ sym e'
 
 one_reason : OneList → OneTree → (name script : List ℕ) (fault : Fault) (number : ℕ) (text other : List ℕ)
     → TellsReason name script fault number text → TellsReason name script fault number other → text ≡ other
 one_reason law same name script fault number text other (tree, (grown, tells)) (tree', (grown', tells')) =
-    one_why law name script number (reason_in tree fault number) text other tells
-    (subst (λ (t : Option CommandsTree). TellsWhy name script number (reason_in t fault number) other) (one_tree same script tree' tree grown' grown) tells')
+    one_why law name script (reasons_in tree fault number) text other tells
+    (subst (λ (t : Option CommandsTree). TellsWhy name script (reasons_in t fault number) other) (one_tree same script tree' tree grown' grown) tells')
 
 pub one_text : OneList → OneTree → (name script : List ℕ) (refusal : Refusal) (text other : List ℕ) → Explains name script refusal text → Explains name script refusal other → text ≡ other
 one_text law same name script (refused.Lexical place) text other p q = p ∙ sym q

@@ -1,6 +1,6 @@
 -- What is told of a refusal is printable, where the script's name is.
 use Rattle.std.proofs.Common.{◌∙◌, ℕ, List, [], ◌∷◌, ◌++◌, length, replicate, ap, refl}
-use Rattle.std.specs.Prelude.{Option, Some, None, ◌&&◌, codes, min, take, drop}
+use Rattle.std.specs.Prelude.{Option, Some, None, ◌&&◌, codes, flat_map, min, take, drop}
 use Rattle.std.specs.List.{slice_get}
 use Rattle.std.specs.Fmt.{decimal}
 use Rattle.octets.specs.Limits.{max_script}
@@ -9,11 +9,11 @@ use Rattle.refusals.specs.declared.refusal.Refusal.TheVariants as refused
 use Rattle.sieve_check.specs.declared.error.Fault.{Fault}
 use Rattle.sieve_check.specs.declared.error.Fault.TheVariants.{UnknownCommand, MissingCapability, UnknownCapability, BadArguments, Limit}
 use Rattle.bytecode_listing.specs.declared.error.FaultKind.{FaultKind}
-use Rattle.sieve_explain.specs.Explaining.{Explains, TellsReason, TellsWhy, fault_blanks, heading, marked_token, opened, reason_in, remark, same_fault, start_of, syntax_told, told, listing_told}
+use Rattle.sieve_explain.specs.Explaining.{Explains, TellsReason, TellsWhy, fault_blanks, heading, marked_token, opened, reason_told, reasons_in, remark, same_fault, start_of, syntax_told, told, listing_told}
 use Rattle.sieve_explain.specs.Faults.{lexical_blanks, listing_blanks, syntax_blanks, too_deep_blanks, too_long_blanks, unclosed_blanks, unit_blanks}
 use Rattle.sieve_explain.specs.Marks.{has_unit, unclosed}
 use Rattle.sieve_lexer.specs.declared.token.Token.{Token}
-use Rattle.sieve_check.specs.Causes.{Reason, fault_of_kind}
+use Rattle.sieve_check.specs.Causes.{Reason, Refused, fault_of_kind}
 use Rattle.sieve_explain.specs.Places.{column, line_at, line_number, octets_before}
 use Rattle.sieve_explain.specs.Printable.{are_printable}
 use Rattle.sieve_explain.specs.Reasons.{reason_blanks}
@@ -67,13 +67,18 @@ fine_fault : (script : List ℕ) (reason : Reason) (tokens : List Token) (number
 fine_fault script reason tokens number =
     blanks_if (same_fault (fault_of_kind reason.kind) BadArguments && has_unit script (drop 1 (drop number tokens))) unit_blanks (reason_blanks reason) (refl, refl) (fine_reason reason)
 
-fine_why : (name script : List ℕ) (number : ℕ) (reason : Option Reason) (text : List ℕ) → Fine name → TellsWhy name script number reason text → Fine text
-fine_why name script number None text p e = ap are_printable e
-fine_why name script number (Some reason) text p (tokens, (has, e)) =
-    ap are_printable e ∙ fine_told name script (start_of script (marked_token script reason tokens number)) (fault_blanks script reason tokens number) p (fine_fault script reason tokens number)
+fine_reasons : (name script : List ℕ) (tokens : List Token) (reasons : List Refused) → Fine name → Fine (flat_map (reason_told name script tokens) reasons)
+fine_reasons name script tokens [] p = refl
+fine_reasons name script tokens (found ∷ others) p =
+    fine_append (reason_told name script tokens found) (flat_map (reason_told name script tokens) others)
+    (fine_told name script (start_of script (marked_token script found.reason tokens found.token)) (fault_blanks script found.reason tokens found.token) p (fine_fault script found.reason tokens found.token))
+    (fine_reasons name script tokens others p)
+
+fine_why : (name script : List ℕ) (reasons : List Refused) (text : List ℕ) → Fine name → TellsWhy name script reasons text → Fine text
+fine_why name script reasons text p (tokens, (has, e)) = ap are_printable e ∙ fine_reasons name script tokens reasons p
 
 fine_reasoned : (name script : List ℕ) (fault : Fault) (number : ℕ) (text : List ℕ) → Fine name → TellsReason name script fault number text → Fine text
-fine_reasoned name script fault number text p (tree, (grown, tells)) = fine_why name script number (reason_in tree fault number) text p tells
+fine_reasoned name script fault number text p (tree, (grown, tells)) = fine_why name script (reasons_in tree fault number) text p tells
 
 pub printable : (name script : List ℕ) (refusal : Refusal) (text : List ℕ) → Fine name → Explains name script refusal text → Fine text
 printable name script (refused.Lexical place) text p e =

@@ -1,5 +1,5 @@
 -- What is told of a refused script.
-use Rattle.std.specs.Prelude.{◌≡◌, ◌⊎◌, ℕ, ◌≤◌, Bool, true, false, ◌==◌, ◌&&◌, List, [], ◌++◌, if◌then◌else◌, length, drop, min, Option, Some, None, MatchOption, codes}
+use Rattle.std.specs.Prelude.{◌≡◌, ◌⊎◌, ℕ, ◌≤◌, Bool, true, false, ◌==◌, ◌&&◌, List, [], ◌∷◌, ◌++◌, if◌then◌else◌, flat_map, length, take, drop, min, Option, Some, None, MatchOption, codes}
 use Rattle.std.specs.Fmt.{decimal}
 use Rattle.std.specs.List.{slice_get}
 use Rattle.std.specs.Option.{option_or}
@@ -16,7 +16,7 @@ use Rattle.sieve_parser.specs.Tree.{CommandsTree}
 use Rattle.sieve_check.specs.declared.causes.ReasonKind.{ReasonKind}
 use Rattle.sieve_check.specs.declared.causes.ReasonKind.TheVariants as kind
 use Rattle.sieve_check.specs.Causes.{Reason, Refused, fault_of_kind}
-use Rattle.sieve_check.specs.Rules.{reason_of}
+use Rattle.sieve_check.specs.Rules.{max_reasons, reasons_of}
 use Rattle.sieve_explain.specs.Faults.{lexical_blanks, listing_blanks, syntax_blanks, too_deep_blanks, too_long_blanks, unclosed_blanks, unit_blanks}
 use Rattle.sieve_explain.specs.Marks.{has_unit, string_among, unclosed}
 use Rattle.sieve_explain.specs.Places.{column, line_number}
@@ -60,16 +60,16 @@ same_fault BadArguments BadArguments = true
 same_fault Limit Limit = true
 same_fault _ _ = false
 
--- the reason, where it is for that fault at that token
-abbrev pub reason_for : Fault → ℕ → Option Refused → Option Reason
-reason_for fault token None = None
-reason_for fault token (Some found) =
-    if found.token == token && same_fault (fault_of_kind found.reason.kind) fault then Some found.reason else None
+-- what is refused of a script, where the first is for that fault at that token; else nothing
+abbrev pub reasons_for : Fault → ℕ → List Refused → List Refused
+reasons_for fault token [] = []
+reasons_for fault token (found ∷ others) =
+    if found.token == token && same_fault (fault_of_kind found.reason.kind) fault then found ∷ others else []
 
--- why the script is refused, where that fault at that token is what it is refused for
-abbrev pub reason_in : Option CommandsTree → Fault → ℕ → Option Reason
-reason_in None fault token = None
-reason_in (Some commands) fault token = reason_for fault token (reason_of commands)
+-- what is refused of the script, where it is refused for that fault at that token
+abbrev pub reasons_in : Option CommandsTree → Fault → ℕ → List Refused
+reasons_in None fault token = []
+reasons_in (Some commands) fault token = reasons_for fault token (take max_reasons (reasons_of commands))
 
 -- where the brace stands that is never closed
 abbrev pub opened : List ℕ → List ℕ → Option Token → List ℕ
@@ -108,20 +108,21 @@ fault_blanks script reason tokens number =
     if same_fault (fault_of_kind reason.kind) BadArguments && has_unit script (drop 1 (drop number tokens)) then unit_blanks
     else reason_blanks reason
 
-abbrev pub reason_told : List ℕ → List ℕ → Reason → List Token → ℕ → List ℕ
-reason_told name script reason tokens number =
-    told name script (start_of script (marked_token script reason tokens number)) (fault_blanks script reason tokens number)
+-- why a command or test is refused
+abbrev pub reason_told : List ℕ → List ℕ → List Token → Refused → List ℕ
+reason_told name script tokens found =
+    told name script (start_of script (marked_token script found.reason tokens found.token))
+    (fault_blanks script found.reason tokens found.token)
 
--- the reason, where there is one; else nothing
-abbrev pub TellsWhy : List ℕ → List ℕ → ℕ → Option Reason → List ℕ → Type 0
-TellsWhy name script number None text = text ≡ []
-TellsWhy name script number (Some reason) text = (tokens : List Token) × (HasTokens script tokens
-    × (text ≡ reason_told name script reason tokens number))
+-- why each of them is
+abbrev pub TellsWhy : List ℕ → List ℕ → List Refused → List ℕ → Type 0
+TellsWhy name script reasons text = (tokens : List Token) × (HasTokens script tokens
+    × (text ≡ flat_map (reason_told name script tokens) reasons))
 
--- 15 to 19: nothing where the script isn't refused so
+-- 15 to 19: all that is refused, the first at that token; nothing where the script isn't refused so
 abbrev pub TellsReason : List ℕ → List ℕ → Fault → ℕ → List ℕ → Type 0
 TellsReason name script fault number text = (tree : Option CommandsTree) × (HasTree script tree
-    × TellsWhy name script number (reason_in tree fault number) text)
+    × TellsWhy name script (reasons_in tree fault number) text)
 
 -- what is told of a listing of a program, whose fault is of that kind: its place, a sentence and the line
 abbrev pub listing_told : List ℕ → List ℕ → ℕ → FaultKind → List ℕ

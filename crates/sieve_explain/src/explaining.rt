@@ -1,9 +1,10 @@
 // What is told of a refused script.
-ghost use Rattle.std.specs.Prelude.{◌≡◌, ◌≤◌, ◌++◌, IfOk, IfSome, OnOk, drop, length, option_map};
+ghost use Rattle.std.specs.Prelude.{◌≡◌, ◌≤◌, ◌++◌, ◌==◌, ◌&&◌, IfOk, IfSome, OnOk, drop, flat_map, length, map, take};
 ghost use Rattle.std.specs.List.{slice_get};
+ghost use Rattle.sieve_check.specs.Causes.{fault_of_kind};
 ghost use Rattle.sieve_check.specs.Reading.{reason_view, refused_view};
 ghost use Rattle.sieve_parser.specs.View.{commands_tree};
-ghost use Rattle.sieve_explain.specs.Explaining.{Explains, HasTokens, TellsDepth, TellsReason, TellsSyntax, TellsWhy, fault_blanks, heading, listing_told, marked_token, opened, reason_for, reason_told, remark, same_fault, start_of, syntax_told, told};
+ghost use Rattle.sieve_explain.specs.Explaining.{Explains, HasTokens, TellsDepth, TellsReason, TellsSyntax, TellsWhy, fault_blanks, heading, listing_told, marked_token, opened, reason_told, reasons_for, remark, same_fault, start_of, syntax_told, told};
 ghost use Rattle.sieve_explain.specs.Marks.{string_among, unclosed};
 ghost use Rattle.sieve_explain.specs.Sentences.{blanks_of, filled};
 
@@ -19,7 +20,7 @@ use crate::sentence::{Sentence, push_sentence};
 use bytecode_listing::FaultKind;
 use itoa::Buffer;
 use refusals::Refusal;
-use sieve_check::{Fault, Reason, ReasonKind, Refused, reason_of};
+use sieve_check::{Fault, Reason, ReasonKind, Refused, reasons_of};
 use sieve_lexer::laws::tokens_have_no_fault;
 use sieve_lexer::{LexicalError, MAX_SCRIPT, Token, tokens};
 use sieve_parser::laws::parsed_scripts_have_no_fault;
@@ -139,7 +140,8 @@ fn start_of(script: &[u8], token: Option<Token>) -> usize
     }
 }
 
-/// Why a script is refused, for whoever wrote it: where, a sentence, the line and a mark under the place.
+/// Why a script is refused, for whoever wrote it: where, a sentence, the line and a mark under the place. Where the checker refuses it,
+/// so is each further command and test that is refused told, in order, up to [`MAX_REASONS`](sieve_check::MAX_REASONS) in all.
 /// Empty for a refusal that this script doesn't get.
 ///
 /// # Errors
@@ -321,56 +323,87 @@ fn fault_sentence<'a>(
     }
 }
 
-// What is told of a command or test for that reason.
+// Why a command or test is refused.
 fn reason_told(
     alloc: Global,
     name: &str,
     script: &[u8],
-    reason: Reason<'_>,
     tokens: &[Token],
-    number: usize,
+    found: Refused<'_>,
 ) -> Result<Vec<u8>, AllocError>
     requires { HasTokens script.now tokens.now }
     ensures { IfOk result (λ text. text.items
-        ≡ reason_told name.now script.now (reason_view reason.entry) tokens.now number) }
+        ≡ reason_told name.now script.now tokens.now (refused_view found.entry)) }
 {
-    let place = start_of(script, marked_token(script, reason, tokens, number));
-    let sentence = fault_sentence(script, reason, tokens, number);
+    let place = start_of(
+        script,
+        marked_token(script, found.reason, tokens, found.token),
+    );
+    let sentence = fault_sentence(script, found.reason, tokens, found.token);
     told(alloc, name, script, place, &sentence)
 }
 
-// The reason, where it is for that fault at that token.
-fn reason_for(fault: Fault, number: usize, found: Option<Refused<'_>>) -> Option<Reason<'_>>
-    ensures { option_map reason_view result
-        ≡ reason_for fault number (option_map refused_view found.entry) }
+// Why each of the commands and tests is refused.
+fn reasons_told(
+    alloc: Global,
+    name: &str,
+    script: &[u8],
+    tokens: &[Token],
+    reasons: &[Refused<'_>],
+) -> Result<Vec<u8>, AllocError>
+    requires { HasTokens script.now tokens.now }
+    ensures { IfOk result (λ text. text.items
+        ≡ flat_map (reason_told name.now script.now tokens.now) (map refused_view reasons.now)) }
 {
-    let found = found?;
-    if found.token == number && is_same_fault(found.reason.kind.fault(), fault) {
-        Some(found.reason)
-    } else {
-        None
+    let mut text = Vec::new(alloc);
+    for found in reasons {
+        let reason = reason_told(alloc, name, script, tokens, *found)?;
+        text.extend_from_slice(&reason)?;
+    }
+    Ok(text)
+}
+
+// Whether what is refused first is so for that fault at that token.
+fn is_refused_for(fault: Fault, number: usize, first: Refused<'_>) -> bool
+    ensures { result ≡ ((refused_view first.entry).token == number
+        && same_fault (fault_of_kind (refused_view first.entry).reason.kind) fault) }
+{
+    first.token == number && is_same_fault(first.reason.kind.fault(), fault)
+}
+
+// How many are told: all, where the first is for that fault at that token; else none.
+fn number_told(fault: Fault, number: usize, reasons: &[Refused<'_>]) -> usize
+    ensures within { result ≤ length reasons.now }
+    ensures told { take result (map refused_view reasons.now)
+        ≡ reasons_for fault number (map refused_view reasons.now) }
+{
+    match reasons.first() {
+        Some(first) => {
+            if is_refused_for(fault, number, *first) {
+                reasons.len()
+            } else {
+                0
+            }
+        }
+        None => 0,
     }
 }
 
-// What is told of a command or test for the reason, where there is one.
+// What is told of the commands and tests that are refused.
 fn why_told(
     alloc: Global,
     name: &str,
     script: &[u8],
-    number: usize,
-    reason: Option<Reason<'_>>,
+    reasons: &[Refused<'_>],
 ) -> Result<Vec<u8>, AllocError>
-    ensures { IfOk result (λ text. TellsWhy name.now script.now number
-        (option_map reason_view reason.entry) text.items) }
+    ensures { IfOk result (λ text. TellsWhy name.now script.now (map refused_view reasons.now)
+        text.items) }
 {
-    let Some(reason) = reason else {
-        return Ok(Vec::new(alloc));
-    };
     let tokens = tokens_of(alloc, script)?;
-    reason_told(alloc, name, script, reason, &tokens, number)
+    reasons_told(alloc, name, script, &tokens, reasons)
 }
 
-// What is told of a command or test that isn't accepted.
+// What is told of the commands and tests that aren't accepted.
 fn reason_explanation(
     alloc: Global,
     name: &str,
@@ -382,14 +415,15 @@ fn reason_explanation(
 {
     match parse(alloc, script) {
         Ok(tree) => {
-            let reason = reason_for(fault, number, reason_of(&tree));
-            why_told(alloc, name, script, number, reason)
+            let reasons = reasons_of(&tree);
+            let told = number_told(fault, number, &reasons);
+            why_told(alloc, name, script, &reasons[..told])
         }
         Err(error) => match error {
             ParseError::Memory => Err(AllocError),
             _ => {
                 parsed_scripts_have_no_fault();
-                why_told(alloc, name, script, number, None)
+                why_told(alloc, name, script, &[])
             }
         },
     }

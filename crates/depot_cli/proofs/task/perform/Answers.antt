@@ -1,7 +1,7 @@
 use Rattle.std.proofs.Common.{inl, inr, refl}
 use Rattle.depot_actions.specs.DepotState.{Text}
 use Rattle.depot_actions.specs.DepotState as depot
-use Rattle.depot_cli.proofs.TaskLemmas.{finished, stopped}
+use Rattle.depot_cli.proofs.TaskLemmas.{stopped}
 use Rattle.depot_cli.proofs.task.perform.Goals as goal
 
 pub returns-in-Ok-clause-performed : goal.returns-in-Ok-clause-performed
