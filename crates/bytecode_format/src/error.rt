@@ -12,7 +12,7 @@ pub enum FormatError {
     #[error("an allocation was refused")]
     Memory,
     /// The octets spell no program, or the parts exceed a program's limits.
-    #[error("the octets spell no program")]
+    #[error("no program is spelled so, or it is beyond the limits")]
     Spelling,
 }
 

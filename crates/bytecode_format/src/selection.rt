@@ -25,7 +25,7 @@ pub enum Scope {
     PartAndBelow,
 }
 
-/// What a test takes of a field (RFC 5703, section 4.2).
+/// What a test takes of a field (RFC 5703, section 4.1).
 #[derive(Clone, Copy)]
 pub enum Selector {
     /// Its value.

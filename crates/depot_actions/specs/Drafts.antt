@@ -1,5 +1,5 @@
 -- The entries that actions file (RFC 5228, sections 2.10.2 and 4.1; RFC 2183, section 2.3).
-use Rattle.std.specs.Prelude.{ℕ, List, [], ◌++◌, Option, None, Some, codes, map, slice_get, unwrap_or}
+use Rattle.std.specs.Prelude.{ℕ, List, [], Option, None, Some, codes, map, slice_get, unwrap_or}
 use Rattle.bytecode_format.specs.declared.action.Action.{Action}
 use Rattle.bytecode_format.specs.declared.action.Action.TheVariants.{Keep, File, Store}
 use Rattle.mime_params.specs.MediaValue.{disposition_of, media_text, value_named}

@@ -4,7 +4,7 @@ use Rattle.sqlite.specs.State.{HasCleanDisk, State, Survives}
 use Rattle.part_store.specs.Standing.{Spares}
 use Rattle.depot_actions.specs.Causes.{HasCause, MayRefuse}
 use Rattle.depot_actions.specs.DepotState.{Does, Program, ProgramOf}
-use Rattle.encodings.specs.Device.{HasBroken, HasTaken, Output}
+use Rattle.encodings.specs.Device.{HasBroken, HasTaken}
 use Rattle.refusals.specs.declared.refusal.Refusal.{Refusal}
 use Rattle.refusals.specs.declared.refusal.Refusal.TheVariants.{NoSuchEntry, Write}
 use Rattle.depot_cli.specs.Host.{HasMade, HasNotMade, HostState}

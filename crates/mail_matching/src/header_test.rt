@@ -17,7 +17,7 @@ use crate::texts::Texts;
 use mime_decode::Message;
 use std::alloc::{AllocError, Global};
 
-/// The first value selected in the parts in scope that matches a key (RFC 5228, section 5.7; RFC 5703, section 4.2).
+/// The first value selected in the parts in scope that matches a key (RFC 5228, section 5.7; RFC 5703, section 4.1).
 ///
 /// Values are taken part by part, in each name by name, for each field by field, and for each parameter name by name; for each
 /// value the keys in order. A value is unfolded at most once for each name that selects it, and none after the one that matches,

@@ -50,7 +50,7 @@ AsRefusalInside Is old new e = IsTrue old.in_transaction → Is old new (refusal
 
 -- ---- what a call promises
 
--- All but what a crash may leave is promised only where the disk has returned what was written.
+-- What a call leaves, and what a crash may leave, is promised only where the disk has returned what was written.
 module _ {S : Type 0} (g : Ghosts S) (old new : Held S) where
   -- whatever it answers
   abbrev pub Always : (State → State → Type 0) → Type 0
@@ -88,7 +88,7 @@ module _ {S : Type 0} (g : Ghosts S) (old new : Held S) where
     RefusedWhere why Is = HasCleanDisk (state g new)
         → IfErr result (λ e. e ≡ why → (before : Entries) → Stands (state g old).now before → Is before)
 
-  -- whatever the disk does, a crash leaves what it could leave before, or this
+  -- a crash leaves what it could leave before, or this
   abbrev pub MayCommit : (State → Trees → Type 0) → Type 0
   MayCommit Commits = Survives (state g old) (state g new) (λ trees. Commits (state g old) trees)
 

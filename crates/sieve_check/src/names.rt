@@ -86,7 +86,7 @@ pub enum Tag {
     Mime,
     /// `:anychild` (RFC 5703, section 4.1).
     AnyChild,
-    /// `:type`, `:subtype`, `:contenttype`, and `:param`, which takes the parameters' names (RFC 5703, section 4.2).
+    /// `:type`, `:subtype`, `:contenttype`, and `:param`, which takes the parameters' names (RFC 5703, section 4.1).
     Select(Piece),
     /// `:name`, which takes the name of a loop (RFC 5703, section 3).
     Name,

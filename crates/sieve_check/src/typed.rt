@@ -23,7 +23,7 @@ pub enum Segment {
     Capture(u8),
 }
 
-/// What a test takes of a field, with the names of the parameters (RFC 5703, section 4.2).
+/// What a test takes of a field, with the names of the parameters (RFC 5703, section 4.1).
 #[derive(Drop)]
 pub enum Selection {
     /// Its value.

@@ -46,7 +46,7 @@ expanded effects template = take max_string (flat_map (value_of effects) templat
 abbrev pub all_expanded : Effects → List Template → List (List ℕ)
 all_expanded effects templates = map (expanded effects) templates
 
--- what a test takes of a field, its parameters by their names (RFC 5703, section 4.2)
+-- what a test takes of a field, its parameters by their names (RFC 5703, section 4.1)
 abbrev pub selector_of : Effects → Selected → scopes.Selector
 selector_of effects selected =
     selection.selector_of (typed.selector_of selected) (all_expanded effects (params_of selected))
