@@ -27,7 +27,7 @@ use Rattle.sieve_check.specs.FormOf.{InnerForms, none, one, bracketed, template_
 use Rattle.sieve_check.specs.Names.{command_named}
 use Rattle.sieve_check.specs.Arguments.{arguments_cause}
 use Rattle.sieve_check.specs.Causes.{plain}
-use Rattle.sieve_check.specs.Rules.{Visit, fault_of, known_command_cause, read_command_cause, ill_formed_command, tests_cause, ending_cause, mention_cause, misplaced, place_cause, long_string_cause, large_mention_cause, many_loops_cause, lacking, lacking_cause, unknown_cause, command_needs, may_stand, opened_by, loops_by, expanding, mentions_of, strings_read, lists_read, where_required, command_mentions, names_by, names_mentioned, same_tests, same_ending, kind_of, strings_of, tests_visits, head_visits, command_visits, commands_visits, after_invocation, invocation_of, loops_opened}
+use Rattle.sieve_check.specs.Rules.{Visit, fault_of, known_command_cause, read_command_cause, ill_formed_command, tests_cause, ending_cause, mention_cause, misplaced, place_cause, long_string_cause, large_mention_cause, many_loops_cause, lacking, lacking_cause, unknown_cause, command_needs, may_stand, opened_by, loops_by, expanding, mentions_of, strings_read, lists_read, where_required, command_mentions, names_by, names_mentioned, same_tests, same_ending, kind_of, strings_of, tests_visits, head_visits, command_visits, commands_visits, after_invocation, invocation_of, loops_opened, looks_inside}
 use Rattle.sieve_check.specs.Signatures.{◌>>=◌, Read, is_positional, reading, command_signature, ending_of}
 use Rattle.sieve_check.specs.Surroundings.{Context, first_lacking, at_start, in_block, inside, is_meant, loops_left, opens_many, following}
 use Rattle.sieve_check.specs.Typed.{Template, CommandForm, keep, discard, file_into, set, take_first, store, for_every_part, leave, stop, choice, CommandForms, no_command, command, no_branch, otherwise, branch}
@@ -40,7 +40,7 @@ use Rattle.sieve_check.proofs.TagSteps.{number_read}
 use Rattle.sieve_check.proofs.Options.{all_taken, map_some, both_none, map_none, if_none, unless_none, not_false, not_both, some_of}
 use Rattle.sieve_check.proofs.Templates.{names_at, mentioned_at, expanding_names, nothing_mentioned, template_names, template_bounded}
 use Rattle.sieve_check.proofs.Unread.{right_behind}
-use Rattle.sieve_check.proofs.TestExistence.{known, WellFormed, IsInnerIn, well_formed, none_large, none_long, inner_kind, IsBoundedInner, inner_variables, unnamed, Inner, inner_exists}
+use Rattle.sieve_check.proofs.TestExistence.{known, WellFormed, IsInnerIn, well_formed, none_large, none_long, inner_kind, IsBoundedInner, inner_variables, unnamed, Inner, inner_exists, all_looked_at}
 
 -- ---- what follows from there being no fault
 
@@ -375,13 +375,14 @@ pub record Known (s : Context) (word : List ℕ) (args : List ArgumentTree) (tes
   pub form : CommandWellFormed s name args (kind_of tests) ending
   pub inner : Inner s tests
   -- what the command and its tests bring
-  pub names : own_names s name form.form.read ++ inner_variables inner.inner ≡ names_by (λ known. command_mentions s known args) (command_named word) ++ names_brought (tests_visits s tests)
+  pub names : own_names s name form.form.read ++ inner_variables inner.inner ≡ names_by (λ known. command_mentions s known args) (command_named word) ++ names_brought (if looks_inside command_signature (command_named word) then tests_visits s tests else [])
 
 known_command : (s : Context) (token : ℕ) (word : List ℕ) (args : List ArgumentTree) (tests : TestsTree) (ending : Ending) → AreFaultless (head_visits s (invocation token word args tests) ending) → Known s word args tests ending
 known_command s token word args tests ending h =
     let name = known UnknownCommand (λ known. known_command_cause s known args (kind_of tests) ending) (command_named word) h.0 in
     let form = command_well_formed s name.0 args (kind_of tests) ending name.2 in
-    let inner = inner_exists s tests h.1 in
+    let looked = all_looked_at command_signature s (command_named word) name.0 tests name.1 form.same in
+    let inner = inner_exists s tests (subst AreFaultless looked h.1) in
     record {
       name = name.0;
       is_name = name.1;
@@ -390,7 +391,7 @@ known_command s token word args tests ending h =
       names = ap (λ xs. mentioned_at (expands s) (mentions_of name.0 (strings_of xs)) ++ inner_variables inner.inner) (sym form.alone)
           ∙ ap (λ o. names_mentioned (where_required s (mentions_of name.0 (strings_read o))) ++ inner_variables inner.inner) (sym form.form.is)
           ∙ ap (λ o. names_by (λ known. command_mentions s known args) o ++ inner_variables inner.inner) (sym name.1)
-          ∙ ap (λ names. names_by (λ known. command_mentions s known args) (command_named word) ++ names) inner.variables;
+          ∙ ap (λ names. names_by (λ known. command_mentions s known args) (command_named word) ++ names) (inner.variables ∙ ap names_brought (sym looked));
     }
 
 -- what follows by the name follows by the word

@@ -1,5 +1,5 @@
 -- The visits of tests and commands, piece by piece.
-use Rattle.std.proofs.Common.{◌≡◌, ℕ, ◌+◌, ◌<◌, if◌then◌else◌, List, [], ◌∷◌, ◌++◌, drop, length, get_or, ap, ◌∙◌}
+use Rattle.std.proofs.Common.{◌≡◌, ℕ, ◌+◌, ◌<◌, Bool, true, false, if◌then◌else◌, List, [], ◌∷◌, ◌++◌, drop, length, get_or, refl, ap, ◌∙◌}
 use Rattle.std.specs.Global.{Vec, Box}
 use Rattle.std.specs.Prelude.{Option, Some, None}
 use Rattle.sieve_parser.specs.View.{invocation_tree, command_tree, commands_tree}
@@ -13,25 +13,38 @@ use Rattle.sieve_parser.proofs.CommandSteps.{tree_block}
 use Rattle.sieve_check.specs.declared.signature.Tests.TheVariants.{Nothing, One, Bracketed}
 use Rattle.sieve_check.specs.declared.signature.Ending.{Ending}
 use Rattle.sieve_check.specs.declared.signature.Ending.TheVariants.{Block}
-use Rattle.sieve_check.specs.Refusing.{visit_as, visits_as}
-use Rattle.sieve_check.specs.Rules.{arguments_of, test_visits, more_visits, head_visits, command_visits, commands_visits, invocation_of, loops_opened, after_invocation}
+use Rattle.sieve_check.specs.Refusing.{looks_inside_as, visit_as, visits_as}
+use Rattle.sieve_check.specs.Rules.{Visit, arguments_of, test_visits, more_visits, head_visits, command_visits, commands_visits, invocation_of, loops_opened, after_invocation}
 use Rattle.sieve_check.specs.Surroundings.{Context, in_block, opens_many}
 use Rattle.sieve_check.proofs.FromIndex.{others_of, split_at}
 
+either_way : {A : Type 0} (x : A) (b : Bool) → (if b then x else x) ≡ x
+either_way x true = refl
+either_way x false = refl
+
 -- a command or test without tests, with one test, and with tests in round brackets
 pub nothing_inside : (ending : Option Ending) (s : Context) (i : Invocation) (h : Head) → i ≡ Plain h → visits_as ending s (invocation_tree i) ≡ visit_as ending s h.token h.name (arguments_of h) Nothing ∷ []
-nothing_inside None s i h is = ap (λ x. test_visits s x) (ap invocation_tree is ∙ tree_plain h)
-nothing_inside (Some ending) s i h is = ap (λ x. head_visits s x ending) (ap invocation_tree is ∙ tree_plain h)
+nothing_inside None s i h is =
+    ap (λ x. test_visits s x) (ap invocation_tree is ∙ tree_plain h) ∙ ap (λ vs. visit_as None s h.token h.name (arguments_of h) Nothing ∷ vs) (either_way [] (looks_inside_as None h.name))
+nothing_inside (Some ending) s i h is =
+    ap (λ x. head_visits s x ending) (ap invocation_tree is ∙ tree_plain h) ∙ ap (λ vs. visit_as (Some ending) s h.token h.name (arguments_of h) Nothing ∷ vs) (either_way [] (looks_inside_as (Some ending) h.name))
 
 pub test_inside : (ending : Option Ending) (s : Context) (i : Invocation) (h : Head) (t : Box Invocation) → i ≡ WithTest h t
-    → visits_as ending s (invocation_tree i) ≡ visit_as ending s h.token h.name (arguments_of h) One ∷ test_visits s (invocation_tree t.value)
+    → visits_as ending s (invocation_tree i) ≡ visit_as ending s h.token h.name (arguments_of h) One ∷ (if looks_inside_as ending h.name then test_visits s (invocation_tree t.value) else [])
 test_inside None s i h t is = ap (λ x. test_visits s x) (ap invocation_tree is ∙ tree_test h t)
 test_inside (Some ending) s i h t is = ap (λ x. head_visits s x ending) (ap invocation_tree is ∙ tree_test h t)
 
 pub tests_inside : (ending : Option Ending) (s : Context) (i : Invocation) (h : Head) (t : Box Invocation) (ts : Vec Invocation) → i ≡ WithTests h t ts
-    → visits_as ending s (invocation_tree i) ≡ visit_as ending s h.token h.name (arguments_of h) Bracketed ∷ (test_visits s (invocation_tree t.value) ++ more_visits s (others_of ts.items))
+    → visits_as ending s (invocation_tree i) ≡ visit_as ending s h.token h.name (arguments_of h) Bracketed ∷ (if looks_inside_as ending h.name then test_visits s (invocation_tree t.value) ++ more_visits s (others_of ts.items) else [])
 tests_inside None s i h t ts is = ap (λ x. test_visits s x) (ap invocation_tree is ∙ tree_tests h t ts)
 tests_inside (Some ending) s i h t ts is = ap (λ x. head_visits s x ending) (ap invocation_tree is ∙ tree_tests h t ts)
+
+-- visits that are made, and that aren't
+pub where_made : (all : List Visit) (v : Visit) (inside : List Visit) (b : Bool) → b ≡ true → all ≡ v ∷ (if b then inside else []) → all ≡ v ∷ inside
+where_made all v inside b made is = is ∙ ap (λ b. v ∷ (if b then inside else [])) made
+
+pub where_left : (all : List Visit) (v : Visit) (inside : List Visit) (b : Bool) → b ≡ false → all ≡ v ∷ (if b then inside else []) → all ≡ v ∷ []
+where_left all v inside b left is = is ∙ ap (λ b. v ∷ (if b then inside else [])) left
 
 -- the tests of a list from an index on
 pub rest_visits : (s : Context) (list : List Invocation) (i : ℕ) (x : Invocation) → i < length list → x ≡ get_or list i x

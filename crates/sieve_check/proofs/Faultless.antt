@@ -1,12 +1,13 @@
 -- Visits that are refused for nothing, and the names that they bring.
-use Rattle.std.proofs.Common.{◌≡◌, ◌∙◌, ℕ, ◌≤◌, if◌then◌else◌, List, [], ◌∷◌, ◌++◌, length, nat_lt, take, bytes_eq, Option, None, Some, refl, sym, ap, subst, arith}
+use Rattle.std.proofs.Common.{◌≡◌, ◌∙◌, ℕ, ◌≤◌, if◌then◌else◌, List, [], ◌∷◌, ◌++◌, length, nat_lt, take, bytes_eq, Option, None, Some, refl, sym, ap, subst, arith, inl, inr}
 use Rattle.std.specs.Prelude.{flat_map, is_some, map, option_map, slice_get}
 use Rattle.std.specs.Option.{option_to_list}
 use Rattle.std.proofs.lemmas.List.{take_all}
-use Rattle.std.proofs.lemmas.Bool.{ltb-false}
+use Rattle.std.proofs.lemmas.Bool.{cases_Bool, ltb-false}
+use Rattle.std.proofs.lemmas.Option.{none-some}
 use Rattle.std.proofs.lemmas.Cmp.{nat_list_eq_equiv}
 use Rattle.octets.specs.Limits.{max_variables}
-use Rattle.octets.specs.Once.{each_once, with_more}
+use Rattle.octets.specs.Once.{each_once, is_listed, with_more}
 use Rattle.octets.proofs.Once.{more_after, all_added}
 use Rattle.sieve_parser.specs.Tree.{CommandsTree}
 use Rattle.sieve_check.specs.declared.causes.ReasonKind.TheVariants.{ManyVariables}
@@ -15,8 +16,9 @@ use Rattle.sieve_check.specs.declared.error.CheckError.{CheckError}
 use Rattle.sieve_check.specs.declared.error.CheckError.TheVariants.{Memory, UnknownCommand, MissingCapability, UnknownCapability, BadArguments, Limit}
 use Rattle.sieve_check.specs.CheckedScript.{IsCheckRefusal}
 use Rattle.sieve_check.specs.Reading.{refused_view}
+use Rattle.sieve_check.specs.Causes as causes
 use Rattle.sieve_check.specs.Causes.{plain, refusal_for, refused_for}
-use Rattle.sieve_check.specs.Rules.{Visit, max_reasons, names_past, names_with, visit_cause, refused_after, refused_among, reasons_of, fault_of, commands_visits}
+use Rattle.sieve_check.specs.Rules.{Visit, max_reasons, names_past, names_with, visit_cause, refused_after, refused_among, reasons_of, same_reason, fault_of, commands_visits}
 use Rattle.sieve_check.specs.Surroundings.{at_start}
 use Rattle.sieve_check.proofs.Options.{both_none, map_none, if_none}
 
@@ -60,9 +62,22 @@ none_first : {A : Type 0} (xs : List A) → slice_get xs 0 ≡ None → xs ≡ [
 none_first [] h = refl
 none_first (x ∷ xs) h = absurd (cc)
 
+-- the first of a list is told first
+told_first : (x : causes.Refused) (told more : List causes.Refused) → slice_get (with_more same_reason (x ∷ told) more) 0 ≡ Some x
+told_first x told [] = refl
+told_first x told (y ∷ ys) =
+    elim (cases_Bool (is_listed same_reason y (x ∷ told))) [
+      | inl listed ↦ rw listed (told_first x told ys)
+      | inr fresh ↦ rw fresh (told_first x (told ++ y ∷ []) ys)
+    ]
+
+none_among : (all : List causes.Refused) → slice_get (with_more same_reason [] all) 0 ≡ None → all ≡ []
+none_among [] h = refl
+none_among (x ∷ xs) h = absurd (none-some x (sym h ∙ told_first x [] xs))
+
 -- where there is no fault, nothing is refused
-pub unrefused : (script : CommandsTree) → fault_of script ≡ None → reasons_of script ≡ []
-unrefused script h = none_first (reasons_of script) (map_none refusal_for (slice_get (reasons_of script) 0) h)
+pub unrefused : (script : CommandsTree) → fault_of script ≡ None → refused_among [] (commands_visits at_start script) ≡ []
+unrefused script h = none_among (refused_among [] (commands_visits at_start script)) (map_none refusal_for (slice_get (reasons_of script) 0) h)
 
 pub few_in_script : (script : CommandsTree) → fault_of script ≡ None → length (each_once bytes_eq (names_brought (commands_visits at_start script))) ≤ max_variables
 few_in_script script h =

@@ -2,6 +2,7 @@ pub mod FromIndex
 pub mod Forms
 pub mod TestLists
 pub mod SequenceSteps
+pub mod OnceSteps
 pub mod Visits
 pub mod OpenLoops
 pub mod FaultSteps

@@ -21,6 +21,7 @@ use Rattle.sieve_check.specs.Reading.{all_lists}
 use Rattle.sieve_check.specs.Refusing.{Adds, Overflows, shown}
 use Rattle.sieve_check.specs.Rules.{strings_in, strings_of}
 use Rattle.sieve_check.proofs.FromIndex.{split_at}
+use Rattle.sieve_check.proofs.OnceSteps.{grows, kept_more}
 
 -- ---- whether a name is among them
 
@@ -39,18 +40,6 @@ passed_at_index name names i d lt differs =
 
 -- ---- names that are added
 
-one_grows : (names : List (List ℕ)) (name : List ℕ) → length names ≤ length (with_one bytes_eq names name)
-one_grows names name =
-    elim (cases_Bool (is_listed bytes_eq name names)) [
-      | inl listed ↦ rw listed (omega arith)
-      | inr fresh ↦ rw fresh (omega (arith, length-append names (name ∷ [])))
-    ]
-
--- names are no fewer with more of them
-grows : (names more : List (List ℕ)) → length names ≤ length (with_more bytes_eq names more)
-grows names [] = omega arith
-grows names (x ∷ xs) = omega (arith, one_grows names x, grows (with_one bytes_eq names x) xs)
-
 pub added_kept : (names : List (List ℕ)) (name : List ℕ) → is_listed bytes_eq name names ≡ true → names ≡ with_more bytes_eq names (name ∷ [])
 added_kept names name listed = sym (rw listed refl)
 
@@ -63,25 +52,13 @@ shown_push names more name is = ap shown is ∙ map-append (λ (name : Bor (List
 pub shown_len : (names : List (Bor (List ℕ))) → length (shown names) ≡ length names
 shown_len names = length-map names (λ (name : Bor (List ℕ)). lowercase_of name.now)
 
--- as many names as there may be stay where there are more
-kept_one : (names : List (List ℕ)) (name : List ℕ) → max_variables < length names → take max_variables (with_one bytes_eq names name) ≡ take max_variables names
-kept_one names name many =
-    elim (cases_Bool (is_listed bytes_eq name names)) [
-      | inl listed ↦ rw listed refl
-      | inr fresh ↦ rw fresh (take-append-le max_variables names (name ∷ []) (omega (arith, many)))
-    ]
-
-kept_more : (names more : List (List ℕ)) → max_variables < length names → take max_variables (with_more bytes_eq names more) ≡ take max_variables names
-kept_more names [] many = refl
-kept_more names (x ∷ xs) many = kept_more (with_one bytes_eq names x) xs (omega (arith, many, one_grows names x)) ∙ kept_one names x many
-
 -- too many of the first are too many of both
 pub many_with_more : (names first second after : List (List ℕ)) → Overflows names first after → Overflows names (first ++ second) after
 many_with_more names first second after many =
     let both = more_after bytes_eq names first second in
     record {
-      many = omega (arith, many.many, grows (with_more bytes_eq names first) second, ap length both);
-      kept = many.kept ∙ sym (kept_more (with_more bytes_eq names first) second many.many) ∙ ap (take max_variables) (sym both);
+      many = omega (arith, many.many, grows bytes_eq (with_more bytes_eq names first) second, ap length both);
+      kept = many.kept ∙ sym (kept_more bytes_eq max_variables (with_more bytes_eq names first) second (omega (arith, many.many))) ∙ ap (take max_variables) (sym both);
     }
 
 -- the same names with more of them

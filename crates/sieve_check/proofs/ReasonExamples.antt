@@ -1,6 +1,6 @@
 -- Reasons that were worked out by hand.
 use Rattle.std.proofs.Common.{◌≡◌, ℕ, List, [], ◌∷◌, Option, Some, refl}
-use Rattle.std.specs.Prelude.{codes, slice_get}
+use Rattle.std.specs.Prelude.{codes, map, slice_get}
 use Rattle.sieve_parser.specs.Tree.{ArgumentTree, text, text_list, amount, label, invocation, TestsTree, no_test, one_test, test_list, last, next, CommandsTree, simple, block, no_command, command}
 use Rattle.sieve_check.specs.declared.names.Capability.TheVariants as capability
 use Rattle.sieve_check.specs.declared.names.Tag.TheVariants.{Comparator, Select, Name, First}
@@ -10,7 +10,8 @@ use Rattle.sieve_check.specs.declared.signature.Tests.TheVariants as tests
 use Rattle.sieve_check.specs.declared.signature.Ending.TheVariants.{Block}
 use Rattle.sieve_check.specs.declared.causes.ReasonKind.{ReasonKind}
 use Rattle.sieve_check.specs.declared.causes.ReasonKind.TheVariants.{UnknownCommand, UnknownTest, MissingCapability, UnknownCapability, UnknownTag, ForeignTag, RepeatedTag, TwoModifiers, TagArgument, MissingOrder, MissingMime, LateTag, MissingArgument, ExtraArgument, WrongArgument, WrongTests, WrongEnding, Namespace, CaptureIndex, VariableName, NoSuchLoop, Misplaced, ManyLoops, LongName}
-use Rattle.sieve_check.specs.Causes.{Refused}
+use Rattle.sieve_check.specs.declared.error.CheckError.TheVariants.{UnknownCommand as Unknown, MissingCapability as Lacking, BadArguments}
+use Rattle.sieve_check.specs.Causes.{Refused, refusal_for}
 use Rattle.sieve_check.specs.Rules.{reasons_of}
 
 -- the first reason
@@ -208,3 +209,28 @@ second_test = refl
 
 in_block : reason_of (nested (codes "false")) ≡ because_at 9 UnknownCommand (codes "kep") []
 in_block = refl
+
+-- ---- more than one
+
+-- keep discard; for `keep; discard;`: what stands behind it isn't looked at
+semicolon_forgotten : map refusal_for (reasons_of (plainly (codes "keep") [] (one_test (invocation 5 (codes "discard") [] no_test)))) ≡ BadArguments 4 ∷ []
+semicolon_forgotten = refl
+
+-- if true {} elseif true {} else {}: the `else` is as if the word weren't there
+misspelled : map refusal_for
+    (reasons_of
+    (command (block (invocation 0 (codes "if") [] (one_test (invocation 1 (codes "true") [] no_test))) no_command)
+    (command (block (invocation 4 (codes "elseif") [] (one_test (invocation 5 (codes "true") [] no_test))) no_command)
+    (command (block (invocation 8 (codes "else") [] no_test) no_command) no_command))))
+    ≡ Unknown 4 ∷ []
+misspelled = refl
+
+-- a capability that is lacking is told once, each other fault by itself
+lacking_once : map refusal_for
+    (reasons_of
+    (command (simple (invocation 0 (codes "fileinto") (text (codes "a") ∷ []) no_test))
+    (command (simple (invocation 3 (codes "set") [] no_test))
+    (command (simple (invocation 6 (codes "fileinto") [] no_test))
+    (command (simple (invocation 9 (codes "keep") (text (codes "a") ∷ []) no_test)) no_command)))))
+    ≡ Lacking 0 ∷ Lacking 3 ∷ BadArguments 9 ∷ []
+lacking_once = refl

@@ -23,7 +23,7 @@ use Rattle.sieve_check.specs.FormOf.{InnerForms, none, one, bracketed, number_in
 use Rattle.sieve_check.specs.Names.{test_named}
 use Rattle.sieve_check.specs.Arguments.{arguments_cause}
 use Rattle.sieve_check.specs.Causes.{Cause, about, plain}
-use Rattle.sieve_check.specs.Rules.{Visit, where_required, names_by, cause_by_name, known_test_cause, read_test_cause, ill_formed_test, tests_cause, test_place_cause, long_string_cause, many_strings_cause, large_cause, large_mention_cause, lacking_cause, string_has, test_needs, test_may_stand, has_many_strings, Mentions, no_mention, expanding, strings_read, lists_read, test_mentions, names_mentioned, same_tests, kind_of, strings_of, test_visits, tests_visits, more_visits}
+use Rattle.sieve_check.specs.Rules.{Visit, where_required, names_by, cause_by_name, known_test_cause, read_test_cause, ill_formed_test, tests_cause, test_place_cause, long_string_cause, many_strings_cause, large_cause, large_mention_cause, lacking_cause, string_has, test_needs, test_may_stand, has_many_strings, Mentions, no_mention, expanding, strings_read, lists_read, test_mentions, names_mentioned, same_tests, kind_of, strings_of, test_visits, tests_visits, more_visits, looks_inside, takes_tests}
 use Rattle.sieve_check.specs.Signatures.{◌>>=◌, Read, is_positional, is_complete, reading, test_signature}
 use Rattle.sieve_check.specs.Surroundings.{Context}
 use Rattle.sieve_check.specs.Typed.{TestForm, constant, negation, all_of, any_of, header, exists, size, string, part_size, part_body, part_digest, TestForms, no_test as no_other, test}
@@ -270,13 +270,27 @@ record Others (s : Context) (ts : MoreTests) : Type 0 where
 both_names : (vs ws : List Visit) → names_brought vs ++ names_brought ws ≡ names_brought (vs ++ ws)
 both_names vs ws = sym (flat_map-append (λ (v : Visit). v.names) vs ws)
 
+-- where the tests are those that are taken, all are looked at
+module _ {Name : Type 0} (signature : Name → Signature) (s : Context) where
+  pub all_looked_at : (o : Option Name) (name : Name) (tests : TestsTree) → o ≡ Some name → same_tests (signature name).tests (kind_of tests) ≡ true
+      → (if looks_inside signature o then tests_visits s tests else []) ≡ tests_visits s tests
+  all_looked_at o name tests is same = ap (λ o. if looks_inside signature o then tests_visits s tests else []) is ∙ step (signature name).tests tests same
+    where
+      step : (taken : Tests) (tests : TestsTree) → same_tests taken (kind_of tests) ≡ true → (if takes_tests taken then tests_visits s tests else []) ≡ tests_visits s tests
+      step Nothing no_test h = refl
+      step Nothing (one_test t) h = absurd (cc)
+      step Nothing (test_list t ts) h = absurd (cc)
+      step One tests h = refl
+      step Bracketed tests h = refl
+
 mutual
   pub test_exists : (s : Context) (i : InvocationTree) → AreFaultless (test_visits s i) → Made (length s.loops) (names_brought (test_visits s i)) (test_form_of s i)
   test_exists s (invocation token word args tests) h =
       let name = known UnknownTest (λ known. known_test_cause s known args (kind_of tests)) (test_named word) h.0 in
       let well = test_well_formed s name.0 args (kind_of tests) name.2 in
       let read = well.form.read in
-      let inner = inner_exists s tests h.1 in
+      let looked = all_looked_at test_signature s (test_named word) name.0 tests name.1 well.same in
+      let inner = inner_exists s tests (subst AreFaultless looked h.1) in
       let f = made s name.0 read inner.inner well.form.complete well.form.alone (ap (same_tests (test_signature name.0).tests) inner.kind ∙ well.same) well.params well.few well.sound inner.bounded well.stands inner.around in
       record {
         form = f.form;
@@ -287,7 +301,7 @@ mutual
         variables = f.variables
             ∙ ap (λ o. names_mentioned (where_required s (expanding (strings_read o))) ++ inner_variables inner.inner) (sym well.form.is)
             ∙ ap (λ o. names_by (λ known. test_mentions s known args) o ++ inner_variables inner.inner) (sym name.1)
-            ∙ ap (λ names. names_by (λ known. test_mentions s known args) (test_named word) ++ names) inner.variables;
+            ∙ ap (λ names. names_by (λ known. test_mentions s known args) (test_named word) ++ names) (inner.variables ∙ ap names_brought (sym looked));
       }
 
   pub inner_exists : (s : Context) (tests : TestsTree) → AreFaultless (tests_visits s tests) → Inner s tests

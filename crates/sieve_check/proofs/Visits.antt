@@ -1,12 +1,13 @@
 -- Visits, one after another.
-use Rattle.std.proofs.Common.{◌≡◌, ℕ, zero, suc, ◌≤◌, nat_lt, bytes_eq, if◌then◌else◌, List, [], ◌∷◌, ◌++◌, length, map, take, Some, None, option_map, refl, sym, ap, subst, ◌∙◌, ◌≢◌, arith, length-append}
+use Rattle.std.proofs.Common.{◌≡◌, ℕ, zero, suc, ◌≤◌, nat_lt, bytes_eq, true, false, if◌then◌else◌, List, [], ◌∷◌, ◌++◌, length, map, take, Some, None, option_map, refl, sym, ap, subst, ◌∙◌, ◌≢◌, arith, length-append}
 use Rattle.std.specs.Prelude.{is_some}
 use Rattle.std.specs.Option.{option_or, option_to_list}
 use Rattle.std.proofs.lemmas.Bool.{le-ltb}
 use Rattle.std.proofs.lemmas.List.{append-nil, append_assoc, length-map, map-append, take-append-le, take_all}
 use Rattle.arrayvec.specs.ArrayVec.{ArrayVec}
 use Rattle.octets.specs.Limits.{max_variables}
-use Rattle.octets.specs.Once.{with_more}
+use Rattle.octets.specs.Once.{is_listed, with_one, with_more}
+use Rattle.octets.proofs.Once.{listed_kept, more_after, unlisted_added}
 use Rattle.sieve_check.specs.declared.causes.ReasonKind.TheVariants.{ManyVariables}
 use Rattle.sieve_check.specs.declared.causes.Refused.{Refused}
 use Rattle.sieve_check.specs.declared.findings.Findings.{Findings}
@@ -14,8 +15,9 @@ use Rattle.sieve_check.specs.Causes as causes
 use Rattle.sieve_check.specs.Causes.{plain, refused_for}
 use Rattle.sieve_check.specs.Reading.{refused_view}
 use Rattle.sieve_check.specs.Refusing.{AreVisited, listed, names_after, refused_in}
-use Rattle.sieve_check.specs.Rules.{Visit, max_reasons, names_past, names_with, refused_after, refused_among, visit_cause}
+use Rattle.sieve_check.specs.Rules.{Visit, max_reasons, names_past, names_with, refused_after, refused_among, same_reason, visit_cause}
 use Rattle.sieve_check.proofs.NameSteps.{shown_len}
+use Rattle.sieve_check.proofs.OnceSteps.{kept_one, more_of_first}
 
 -- what is refused of visits after others, and the names after both
 refused_of_both : (names : List (List ℕ)) (vs ws : List Visit) → refused_among names (vs ++ ws) ≡ refused_among names vs ++ refused_among (names_after names vs) ws
@@ -29,23 +31,17 @@ names_of_both : (names : List (List ℕ)) (vs ws : List Visit) → names_after n
 names_of_both names [] ws = refl
 names_of_both names (v ∷ vs) ws = names_of_both (names_past names v) vs ws
 
--- what is left out of the first list is left out of both
-take_of_first : {A : Type 0} (n : ℕ) (xs ys : List A) → take n (take n xs ++ ys) ≡ take n (xs ++ ys)
-take_of_first zero xs ys = refl
-take_of_first (suc n) [] ys = refl
-take_of_first (suc n) (x ∷ xs) ys = ap (λ l. x ∷ l) (take_of_first n xs ys)
-
 -- what was refused, once some visits were made and others are left
 refused_then : (old between : Findings) (vs ws : List Visit) → AreVisited old vs between
-    → take max_reasons (refused_in between ++ refused_among (listed between.names) ws) ≡ take max_reasons (refused_in old ++ refused_among (listed old.names) (vs ++ ws))
+    → take max_reasons (with_more same_reason (refused_in between) (refused_among (listed between.names) ws)) ≡ take max_reasons (with_more same_reason (refused_in old) (refused_among (listed old.names) (vs ++ ws)))
 refused_then old between vs ws first =
     let here = refused_among (listed old.names) vs in
     let later = refused_among (names_after (listed old.names) vs) ws in
-    ap (λ l. take max_reasons (l ++ refused_among (listed between.names) ws)) first.refused
-    ∙ ap (λ l. take max_reasons (take max_reasons (refused_in old ++ here) ++ refused_among l ws)) first.names
-    ∙ take_of_first max_reasons (refused_in old ++ here) later
-    ∙ ap (take max_reasons) (append_assoc (refused_in old) here later)
-    ∙ ap (λ l. take max_reasons (refused_in old ++ l)) (sym (refused_of_both (listed old.names) vs ws))
+    ap (λ l. take max_reasons (with_more same_reason l (refused_among (listed between.names) ws))) first.refused
+    ∙ ap (λ l. take max_reasons (with_more same_reason (take max_reasons (with_more same_reason (refused_in old) here)) (refused_among l ws))) first.names
+    ∙ more_of_first same_reason max_reasons (with_more same_reason (refused_in old) here) later
+    ∙ ap (take max_reasons) (sym (more_after same_reason (refused_in old) here later))
+    ∙ ap (λ l. take max_reasons (with_more same_reason (refused_in old) l)) (sym (refused_of_both (listed old.names) vs ws))
 
 names_then : (old between : Findings) (vs ws : List Visit) → AreVisited old vs between → names_after (listed between.names) ws ≡ names_after (listed old.names) (vs ++ ws)
 names_then old between vs ws first = ap (λ l. names_after l ws) first.names ∙ sym (names_of_both (listed old.names) vs ws)
@@ -56,32 +52,34 @@ both_visited old between new all vs ws is first second =
     subst (λ (l : List Visit). AreVisited old l new) (sym is)
     record { names = second.names ∙ names_then old between vs ws first; refused = second.refused ∙ refused_then old between vs ws first }
 
--- one more that is refused, where there is room, and where there is none
-pub refused_more : (old : Findings) (items : List Refused) (found : Refused) (is : causes.Refused) → items ≡ old.refused.items ++ found ∷ [] → length old.refused.items ≢ 20 → refused_view found ≡ is → map refused_view items ≡ take max_reasons (refused_in old ++ is ∷ [])
-refused_more old items found is more room same =
+-- what was refused is within the limit
+all_in : (old : Findings) → take max_reasons (refused_in old) ≡ refused_in old
+all_in old = take_all max_reasons (refused_in old) (omega (arith, old.few, length-map old.refused.items refused_view))
+
+-- one more that is refused, where there is room for something else, where there is none, and where it is lacking already
+pub refused_more : (old : Findings) (items : List Refused) (found : Refused) (is : causes.Refused) → items ≡ old.refused.items ++ found ∷ [] → length old.refused.items ≢ 20 → is_listed same_reason is (refused_in old) ≡ false → refused_view found ≡ is
+    → map refused_view items ≡ take max_reasons (with_one same_reason (refused_in old) is)
+refused_more old items found is more room fresh same =
     let all : map refused_view items ≡ refused_in old ++ is ∷ [] = ap (map refused_view) more ∙ map-append refused_view old.refused.items (found ∷ []) ∙ ap (λ x. refused_in old ++ x ∷ []) same in
     let few : length items ≤ max_reasons = omega (arith, old.few, room, ap length more, length-append old.refused.items (found ∷ [])) in
-    sym (ap (take max_reasons) (sym all) ∙ take_all max_reasons (map refused_view items) (omega (arith, few, length-map items refused_view)))
+    sym (ap (take max_reasons) (sym (unlisted_added same_reason (refused_in old) is fresh) ∙ sym all) ∙ take_all max_reasons (map refused_view items) (omega (arith, few, length-map items refused_view)))
 
-pub refused_beyond : (old : Findings) (is : causes.Refused) → length old.refused.items ≡ 20 → refused_in old ≡ take max_reasons (refused_in old ++ is ∷ [])
+pub refused_beyond : (old : Findings) (is : causes.Refused) → length old.refused.items ≡ 20 → refused_in old ≡ take max_reasons (with_one same_reason (refused_in old) is)
 refused_beyond old is full =
     let len : length (refused_in old) ≡ max_reasons = length-map old.refused.items refused_view ∙ full in
-    sym (take-append-le max_reasons (refused_in old) (is ∷ []) (omega (arith, len)) ∙ take_all max_reasons (refused_in old) (omega (arith, len)))
+    sym (kept_one same_reason max_reasons (refused_in old) is (omega (arith, len)) ∙ all_in old)
+
+pub refused_before : (old : Findings) (is : causes.Refused) → is_listed same_reason is (refused_in old) ≡ true → refused_in old ≡ take max_reasons (with_one same_reason (refused_in old) is)
+refused_before old is listed = sym (ap (take max_reasons) (sym (listed_kept same_reason (refused_in old) is listed)) ∙ all_in old)
 
 -- no visits
 pub none_visited : (findings : Findings) → AreVisited findings [] findings
-none_visited findings = record {
-  names = refl;
-  refused = sym (
-      ap (take max_reasons) (append-nil (refused_in findings))
-      ∙ take_all max_reasons (refused_in findings) (omega (arith, findings.few, length-map findings.refused.items refused_view))
-      );
-}
+none_visited findings = record { names = refl; refused = sym (all_in findings) }
 
 -- with the visits that are left, it is as it is with all of them
 pub record AreLeft (now : Findings) (left : List Visit) (start : Findings) (all : List Visit) : Type 0 where
   pub names : names_after (listed now.names) left ≡ names_after (listed start.names) all
-  pub refused : take max_reasons (refused_in now ++ refused_among (listed now.names) left) ≡ take max_reasons (refused_in start ++ refused_among (listed start.names) all)
+  pub refused : take max_reasons (with_more same_reason (refused_in now) (refused_among (listed now.names) left)) ≡ take max_reasons (with_more same_reason (refused_in start) (refused_among (listed start.names) all))
 
 pub all_left : (start : Findings) (all : List Visit) → AreLeft start all start all
 all_left start all = record { names = refl; refused = refl }
@@ -89,7 +87,7 @@ all_left start all = record { names = refl; refused = refl }
 pub fewer_left : (now between start : Findings) (here vs left all : List Visit) → here ≡ vs ++ left → AreVisited now vs between → AreLeft now here start all → AreLeft between left start all
 fewer_left now between start here vs left all is visited h = record {
   names = names_then now between vs left visited ∙ ap (names_after (listed now.names)) (sym is) ∙ h.names;
-  refused = refused_then now between vs left visited ∙ ap (λ l. take max_reasons (refused_in now ++ refused_among (listed now.names) l)) (sym is) ∙ h.refused;
+  refused = refused_then now between vs left visited ∙ ap (λ l. take max_reasons (with_more same_reason (refused_in now) (refused_among (listed now.names) l))) (sym is) ∙ h.refused;
 }
 
 pub none_left : (now start : Findings) (left all : List Visit) → left ≡ [] → AreLeft now left start all → AreVisited start all now
@@ -97,7 +95,7 @@ none_left now start left all is h =
     let none = none_visited now in
     record {
       names = ap (names_after (listed now.names)) (sym is) ∙ h.names;
-      refused = none.refused ∙ ap (λ l. take max_reasons (refused_in now ++ refused_among (listed now.names) l)) (sym is) ∙ h.refused;
+      refused = none.refused ∙ ap (λ l. take max_reasons (with_more same_reason (refused_in now) (refused_among (listed now.names) l))) (sym is) ∙ h.refused;
     }
 
 -- a visit with which nothing is wrong, with names for which there is room
@@ -111,5 +109,5 @@ one_passed old new v right is same =
       names = is ∙ sym past;
       refused = ap (λ (r : ArrayVec Refused). map refused_view r.items) same
           ∙ (none_visited old).refused
-          ∙ ap (λ o. take max_reasons (refused_in old ++ (option_to_list (option_map (refused_for v.token v.name) o) ++ []))) (sym none);
+          ∙ ap (λ o. take max_reasons (with_more same_reason (refused_in old) (option_to_list (option_map (refused_for v.token v.name) o) ++ []))) (sym none);
     }

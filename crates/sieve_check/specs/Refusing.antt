@@ -1,6 +1,7 @@
 -- What the functions answer that look for faults.
-use Rattle.std.specs.Prelude.{◌≡◌, ℕ, ◌<◌, true, false, List, [], ◌∷◌, ◌++◌, length, map, take, bytes_eq, Option, Some, None, Result, MatchOption, MatchResult}
+use Rattle.std.specs.Prelude.{◌≡◌, ℕ, ◌<◌, Bool, true, false, List, [], ◌∷◌, ◌++◌, length, map, take, bytes_eq, Option, Some, None, Result, MatchOption, MatchResult}
 use Rattle.std.specs.Borrow.{Bor}
+use Rattle.std.specs.List.{list_any}
 use Rattle.octets.specs.Ascii.{lowercase_of}
 use Rattle.octets.specs.Limits.{max_variables}
 use Rattle.octets.specs.Once.{with_more}
@@ -18,7 +19,9 @@ use Rattle.sieve_check.specs.declared.variable_names.VariableNames.{VariableName
 use Rattle.sieve_check.specs.Reading.{all_lists, cause_view, name_in, refused_view}
 use Rattle.sieve_check.specs.Causes as causes
 use Rattle.sieve_check.specs.Rules as rules
-use Rattle.sieve_check.specs.Rules.{Visit, command_visit, head_visits, max_reasons, names_mentioned, names_past, refused_among, strings_of, test_visit, test_visits}
+use Rattle.sieve_check.specs.Rules.{Visit, command_visit, head_visits, looks_inside, max_reasons, names_mentioned, names_past, refused_among, same_lack, same_reason, strings_of, test_visit, test_visits}
+use Rattle.sieve_check.specs.Names.{command_named, test_named}
+use Rattle.sieve_check.specs.Signatures.{command_signature, test_signature}
 use Rattle.sieve_check.specs.Surroundings.{Context, opens_many}
 
 -- the names of the loops that are open, the innermost first
@@ -67,6 +70,11 @@ abbrev pub visits_as : Option Ending → Context → InvocationTree → List Vis
 visits_as None s t = test_visits s t
 visits_as (Some ending) s t = head_visits s t ending
 
+-- whether the tests are looked at of a command, which has an ending, or of a test
+abbrev pub looks_inside_as : Option Ending → List ℕ → Bool
+looks_inside_as None name = looks_inside test_signature (test_named name)
+looks_inside_as (Some ending) name = looks_inside command_signature (command_named name)
+
 -- the names with more of them are more than there may be: as many as may be are kept
 pub record Overflows (names more after : List (List ℕ)) : Type 0 where
   pub many : max_variables < length (with_more bytes_eq names more)
@@ -83,13 +91,18 @@ Adds names more result after =
 abbrev pub refused_in : Findings → List causes.Refused
 refused_in findings = map refused_view findings.refused.items
 
+-- it was told that this is lacking
+abbrev pub lack_in : ReasonKind → List causes.Refused → Bool
+lack_in kind told = list_any (λ (found : causes.Refused). same_lack kind found.reason.kind) told
+
 -- the names after visits
 abbrev pub names_after : List (List ℕ) → List Visit → List (List ℕ)
 names_after names [] = names
 names_after names (v ∷ vs) = names_after (names_past names v) vs
 
--- after visits, the names are those after them, and what is refused of them was added to what was refused before, up
--- to the limit
+-- after visits, the names are those after them, and what is refused of them was added to what was refused before, but
+-- for what was lacking there, and up to the limit
 pub record AreVisited (old : Findings) (visits : List Visit) (new : Findings) : Type 0 where
   pub names : listed new.names ≡ names_after (listed old.names) visits
-  pub refused : refused_in new ≡ take max_reasons (refused_in old ++ refused_among (listed old.names) visits)
+  pub refused : refused_in new
+      ≡ take max_reasons (with_more same_reason (refused_in old) (refused_among (listed old.names) visits))

@@ -31,7 +31,7 @@ use Rattle.sieve_check.specs.Arguments.{arguments_cause}
 use Rattle.sieve_check.specs.Causes.{Cause, Refused, about, plain, refusal_for, refused_for}
 use Rattle.sieve_check.specs.Names.{capability_named, command_named, tag_named, test_named}
 use Rattle.sieve_check.specs.Signatures.{Read, command_signature, ending_of, test_signature, reading}
-use Rattle.sieve_check.specs.Surroundings.{Context, at_start, first_lacking, following, has_capability, in_block, in_loop, loops_left, opens_many}
+use Rattle.sieve_check.specs.Surroundings.{Context, at_start, first_lacking, following, has_capability, same_capability, in_block, in_loop, loops_left, opens_many}
 
 -- the strings of arguments, with those in brackets
 abbrev pub strings_in : ArgumentTree → List (List ℕ)
@@ -418,10 +418,22 @@ kind_of no_test = Nothing
 kind_of (one_test t) = One
 kind_of (test_list t ts) = Bracketed
 
+abbrev pub takes_tests : Tests → Bool
+takes_tests Nothing = false
+takes_tests One = true
+takes_tests Bracketed = true
+
+-- the tests of a command or test are looked at, by what its name is known as, but where it takes none: what stands
+-- there may be meant as something else
+abbrev pub looks_inside : {Name : Type 0} → (Name → Signature) → Option Name → Bool
+looks_inside signature None = true
+looks_inside signature (Some name) = takes_tests (signature name).tests
+
 abbrev mutual
   -- the visits of a test, before those of its own tests
   pub test_visits : Context → InvocationTree → List Visit
-  test_visits s (invocation token name args tests) = test_visit s token name args (kind_of tests) ∷ tests_visits s tests
+  test_visits s (invocation token name args tests) = test_visit s token name args (kind_of tests)
+      ∷ (if looks_inside test_signature (test_named name) then tests_visits s tests else [])
 
   -- the visits of tests, in order
   pub tests_visits : Context → TestsTree → List Visit
@@ -436,7 +448,7 @@ abbrev mutual
 -- a command itself, and then its tests
 abbrev pub head_visits : Context → InvocationTree → Ending → List Visit
 head_visits s (invocation token name args tests) ending = command_visit s token name args (kind_of tests) ending
-    ∷ tests_visits s tests
+    ∷ (if looks_inside command_signature (command_named name) then tests_visits s tests else [])
 
 abbrev pub invocation_of : CommandTree → InvocationTree
 invocation_of (simple i) = i
@@ -489,9 +501,18 @@ abbrev pub refused_among : List (List ℕ) → List Visit → List Refused
 refused_among names [] = []
 refused_among names (v ∷ vs) = option_to_list (refused_after names v) ++ refused_among (names_past names v) vs
 
--- the commands and tests that are refused of a script, in order, and why
+-- the same is lacking: a capability, or room for variables
+abbrev pub same_lack : ReasonKind → ReasonKind → Bool
+same_lack (MissingCapability capability) (MissingCapability other) = same_capability capability other
+same_lack ManyVariables ManyVariables = true
+same_lack _ _ = false
+
+abbrev pub same_reason : Refused → Refused → Bool
+same_reason found other = same_lack found.reason.kind other.reason.kind
+
+-- the commands and tests that are refused of a script, in order, and why; what is lacking is told once
 abbrev pub reasons_of : CommandsTree → List Refused
-reasons_of script = refused_among [] (commands_visits at_start script)
+reasons_of script = with_more same_reason [] (refused_among [] (commands_visits at_start script))
 
 -- the fault of a script that is named, if it has one: that of the first of them
 abbrev pub fault_of : CommandsTree → Option CheckError

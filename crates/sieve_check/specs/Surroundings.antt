@@ -29,6 +29,16 @@ has_capability Depot all = all.depot
 has_capability OctetComparator all = true
 has_capability CasemapComparator all = true
 
+abbrev pub same_capability : Capability → Capability → Bool
+same_capability FileInto FileInto = true
+same_capability Variables Variables = true
+same_capability Mime Mime = true
+same_capability ForEveryPart ForEveryPart = true
+same_capability Depot Depot = true
+same_capability OctetComparator OctetComparator = true
+same_capability CasemapComparator CasemapComparator = true
+same_capability _ _ = false
+
 -- the first of the capabilities that isn't there, if one isn't
 abbrev pub first_lacking : List Capability → Capabilities → Option Capability
 first_lacking [] all = None
@@ -98,7 +108,7 @@ loops_left name (loop ∷ loops) = if is_meant name loop then Some 1 else option
 abbrev pub elsewhere : Context → Context
 elsewhere s = record s { takes_require = false; after_if = false }
 
--- after a command that is known by that name, and has these strings
+-- after a command that is known by that name, and has these strings; after one that isn't known, as before it
 abbrev pub following : Context → Option CommandName → List (List ℕ) → Context
 following s (Some Require) strings = record s { required = requiring strings s.required; after_if = false }
 following s (Some If) strings = record s { takes_require = false; after_if = true }
@@ -113,4 +123,4 @@ following s (Some ForEveryPartCommand) strings = elsewhere s
 following s (Some Break) strings = elsewhere s
 following s (Some Store) strings = elsewhere s
 following s (Some Take) strings = elsewhere s
-following s None strings = elsewhere s
+following s None strings = s

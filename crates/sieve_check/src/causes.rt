@@ -47,7 +47,7 @@ pub enum ReasonKind {
     Namespace,
     /// The subject is a string that refers to a capture after the last one.
     CaptureIndex,
-    /// The subject, which `set` gives for a name, is no identifier (RFC 5229, section 4).
+    /// The subject, which `set` or `take` gives for a name, is no identifier (RFC 5229, section 4).
     VariableName,
     /// No loop around a `break` has the subject for its name (RFC 5703, section 3).
     NoSuchLoop,

@@ -23,8 +23,10 @@ use std::alloc::Global;
 /// for the first that holds of: its name isn't known; it needs a capability that wasn't required; a `require` names something
 /// else than a capability; its arguments can't be read; other tests follow, or it ends otherwise; a string that is expanded has a
 /// wrong reference, or what is set is no name; it can't stand at its place; it is beyond a limit. What is required, and what stands
-/// before an `else`, goes by what is written, wrong or not. One that is refused brings no variables, and each that brings one too
-/// many is refused. The block of a loop too many isn't looked at.
+/// before an `else`, goes by what is written, wrong or not; a loop has its name where its arguments can be read; one that isn't known
+/// changes nothing for those after it. One with which something is wrong by itself brings no variables; of one that brings too many,
+/// those count for which there is room. A capability that is lacking is told once, and so is that variables are too many. The block
+/// of a loop too many isn't looked at.
 pub fn reasons_of(script: &Script) -> ArrayVec<Refused<'_>, MAX_REASONS>
     ensures { map refused_view result.items
         ≡ take max_reasons (reasons_of (commands_tree script.now)) }

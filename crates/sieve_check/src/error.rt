@@ -21,10 +21,11 @@ pub enum CheckError {
     #[error("token {place} requires what is no capability")]
     UnknownCapability { place: usize },
     /// The command or test stands at a wrong place, or with other arguments, tests or another end than it takes; or a
-    /// string of it that is expanded has a reference into a namespace or to a capture after the last one; or `set` gives
-    /// a name that is no identifier (RFC 5229, sections 3 and 4). Wrong places are, outside of all loops, those of `store`, of
-    /// the tests of the current part and of `break`, and that of a `break` with a name that no loop around it has (RFC 5703,
-    /// section 3).
+    /// string of it that is expanded has a reference into a namespace or to a capture after the last one; or `set` or
+    /// `take` gives a name that is no identifier (RFC 5229, sections 3 and 4). Wrong places are those of a `require` after
+    /// another command or in a block, of an `elsif` and an `else` that don't follow an `if` or `elsif`, outside of all
+    /// loops those of `store`, `take`, `break` and the tests of the current part, and that of a `break` with a name that no
+    /// loop around it has (RFC 5228, sections 3.1 and 3.2; RFC 5703, section 3).
     #[error("what begins at token {place} is wrong")]
     BadArguments { place: usize },
     /// A string of the command or test has more octets than the limit, or the lists of a test have more strings; or a

@@ -108,7 +108,7 @@ pub enum Piece {
 }
 
 /// The capabilities that can be required.
-#[derive(Clone, Copy)]
+#[derive(Clone, Copy, PartialEq, Eq)]
 pub enum Capability {
     /// `fileinto` (RFC 5228, section 4.1).
     FileInto,

@@ -2,9 +2,9 @@
 ghost use Rattle.std.specs.Prelude.{◌≡◌, [], ◌∷◌, map, option_map, take, true};
 ghost use Rattle.sieve_parser.specs.View.{argument_tree, command_tree, commands_tree, invocation_tree, more_tests_of};
 ghost use Rattle.sieve_check.specs.Reading.{cause_view, left_of, read_of};
-ghost use Rattle.sieve_check.specs.Rules.{arguments_of, command_mentions, command_needs, command_visit, command_visits, commands_visits, ending_cause, expanding, head_visits, ill_formed_command, ill_formed_test, is_mime_tag, known_command_cause, known_test_cause, lacking_cause, lists_read, long_string_cause, many_loops_cause, many_strings_cause, max_reasons, may_stand, mentions_of, mime_where_given, misplaced, more_visits, names_mentioned, oversized_command, oversized_test, place_cause, read_command_cause, read_test_cause, reasons_of, strings_of, test_may_stand, test_mentions, test_needs, test_place_cause, test_visit, test_visits, tests_cause, unknown_cause, where_required};
+ghost use Rattle.sieve_check.specs.Rules.{arguments_of, command_mentions, command_needs, command_visit, command_visits, commands_visits, ending_cause, expanding, head_visits, ill_formed_command, ill_formed_test, is_mime_tag, known_command_cause, known_test_cause, lacking_cause, lists_read, long_string_cause, many_loops_cause, many_strings_cause, max_reasons, may_stand, mentions_of, mime_where_given, misplaced, more_visits, names_mentioned, oversized_command, oversized_test, place_cause, read_command_cause, read_test_cause, reasons_of, strings_of, takes_tests, test_may_stand, test_mentions, test_needs, test_place_cause, test_visit, test_visits, tests_cause, unknown_cause, where_required};
 ghost use Rattle.sieve_check.specs.Signatures.{command_signature, is_positional};
-ghost use Rattle.sieve_check.specs.Refusing.{AreVisited, Finds, context_of, mentions_in, refused_in, visit_as, visits_as};
+ghost use Rattle.sieve_check.specs.Refusing.{AreVisited, Finds, context_of, looks_inside_as, mentions_in, refused_in, visit_as, visits_as};
 
 use crate::causes::{Cause, ReasonKind};
 use crate::findings::Findings;
@@ -17,8 +17,8 @@ use crate::string_faults::{StringFault, has_many_strings};
 use crate::surroundings::Surroundings;
 use sieve_parser::{Argument, Command, Head, Invocation};
 
-/// The capabilities that a command needs.
-pub fn command_needs(name: CommandName) -> &'static [Capability]
+// The capabilities that a command needs.
+fn command_needs(name: CommandName) -> &'static [Capability]
     ensures { result.now ≡ command_needs name }
 {
     match name {
@@ -59,8 +59,8 @@ fn mime_where_given(arguments: &[Argument]) -> &'static [Capability]
     &[]
 }
 
-/// The capabilities that a test with these arguments needs.
-pub fn test_needs(name: TestName, head: &Head) -> &'static [Capability]
+// The capabilities that a test with these arguments needs.
+fn test_needs(name: TestName, head: &Head) -> &'static [Capability]
     ensures { result.now ≡ test_needs name (arguments_of head.now) }
 {
     match name {
@@ -478,6 +478,32 @@ fn alone<'t>(
     }
 }
 
+// Whether a command or test takes tests.
+fn takes_tests(signature: Signature) -> bool
+    ensures { result ≡ takes_tests signature.tests }
+{
+    match signature.tests {
+        Tests::Nothing => false,
+        Tests::One | Tests::Bracketed => true,
+    }
+}
+
+// Whether the tests of a command or test are looked at: of one that takes none, what stands there may be meant as something else.
+fn looks_inside(head: &Head, ending: Option<Ending>) -> bool
+    ensures { result ≡ looks_inside_as ending head.now.name }
+{
+    match ending {
+        Some(_) => match command_named(head.name.as_slice()) {
+            Some(name) => takes_tests(command_signature(name)),
+            None => true,
+        },
+        None => match test_named(head.name.as_slice()) {
+            Some(name) => takes_tests(test_signature(name)),
+            None => true,
+        },
+    }
+}
+
 // Looks at a command and its tests, apart from its block, or at a test and its own tests.
 #[cycle(tests)]
 fn invocation<'t>(
@@ -494,12 +520,16 @@ fn invocation<'t>(
         Invocation::Plain(head) => alone(findings, surroundings, head, Tests::Nothing, ending),
         Invocation::WithTest(head, inner) => {
             alone(findings, surroundings, head, Tests::One, ending);
-            invocation(findings, surroundings, inner, None);
+            if looks_inside(head, ending) {
+                invocation(findings, surroundings, inner, None);
+            }
         }
         Invocation::WithTests(head, first, others) => {
             alone(findings, surroundings, head, Tests::Bracketed, ending);
-            invocation(findings, surroundings, first, None);
-            tests(findings, surroundings, others);
+            if looks_inside(head, ending) {
+                invocation(findings, surroundings, first, None);
+                tests(findings, surroundings, others);
+            }
         }
     }
 }

@@ -102,8 +102,8 @@ impl Capabilities {
         }
     }
 
-    /// These and those that the arguments of a `require` name.
-    pub fn requiring(self, arguments: &[Argument]) -> Capabilities
+    // These and those that the arguments of a `require` name.
+    fn requiring(self, arguments: &[Argument]) -> Capabilities
         ensures { result ≡ requiring (strings_of (map argument_tree arguments.now)) self }
     {
         let mut all = self;
@@ -114,8 +114,8 @@ impl Capabilities {
     }
 }
 
-/// What an invocation begins with.
-pub fn head_in(invocation: &Invocation) -> &Head
+// What an invocation begins with.
+fn head_in(invocation: &Invocation) -> &Head
     ensures { (tests : TestsTree) × (invocation_tree invocation.now ≡ head_tree result.now tests) }
 {
     match invocation {
@@ -249,7 +249,7 @@ impl<'t> Surroundings<'t> {
         }
     }
 
-    // Those of the command after one that begins so.
+    // Those of the command after one that begins so: where that isn't known, these.
     fn following(self, head: &Head) -> Surroundings<'t>
         ensures { context_of result
             ≡ following (context_of self.entry) (command_named head.now.name)
@@ -257,7 +257,7 @@ impl<'t> Surroundings<'t> {
     {
         let after = self.within(self.loops);
         let Some(name) = command_named(head.name.as_slice()) else {
-            return after;
+            return self;
         };
         match name {
             CommandName::Require => Surroundings {

@@ -1,11 +1,11 @@
-use Rattle.std.proofs.Common.{◌++◌, ◌∷◌, [], ◌+◌, List, refl, ap, subst, sym, drop}
+use Rattle.std.proofs.Common.{◌∙◌, ◌++◌, ◌∷◌, [], ◌+◌, List, refl, ap, subst, sym, drop}
 use Rattle.std.proofs.lemmas.List.{drop_all}
 use Rattle.sieve_parser.specs.View.{invocation_tree}
 use Rattle.sieve_parser.specs.declared.tree.Invocation.{Invocation}
 use Rattle.sieve_check.specs.declared.signature.Tests.TheVariants.{One, Bracketed}
-use Rattle.sieve_check.specs.Refusing.{AreVisited, context_of, visit_as, visits_as}
+use Rattle.sieve_check.specs.Refusing.{AreVisited, context_of, looks_inside_as, visit_as, visits_as}
 use Rattle.sieve_check.specs.Rules.{Visit, arguments_of, test_visits, more_visits}
-use Rattle.sieve_check.proofs.FaultSteps.{nothing_inside, rest_visits, test_inside, tests_inside}
+use Rattle.sieve_check.proofs.FaultSteps.{nothing_inside, rest_visits, test_inside, tests_inside, where_left, where_made}
 use Rattle.sieve_check.proofs.FromIndex.{others_of}
 use Rattle.sieve_check.proofs.Visits.{both_visited, fewer_left, none_left}
 use Rattle.sieve_check.proofs.rules.+tests.Goals as goal
@@ -15,27 +15,52 @@ invocation-returns-in-Plain t c =
     subst (λ (visits : List Visit). AreVisited c.args.findings.now visits c.alone.new.findings)
     (sym (nothing_inside c.args.ending (context_of c.args.surroundings) c.args.tree.now c.in-Plain.head c.in-Plain.is)) c.alone.ensures
 
-pub invocation-returns-in-WithTest : goal.invocation-returns-in-WithTest
-invocation-returns-in-WithTest t c =
+pub invocation-returns-then-looks_inside : goal.invocation-returns-then-looks_inside
+invocation-returns-then-looks_inside t c =
     let w = c.in-WithTest in
     let s = context_of c.args.surroundings in
-    both_visited c.args.findings.now c.alone-in-WithTest.new.findings c.invocation.new.findings (visits_as c.args.ending s (invocation_tree c.args.tree.now))
-    (visit_as c.args.ending s w.head.token w.head.name (arguments_of w.head) One ∷ []) (test_visits s (invocation_tree w.inner.value)) (test_inside c.args.ending s c.args.tree.now w.head w.inner w.is) c.alone-in-WithTest.ensures
+    let all = visits_as c.args.ending s (invocation_tree c.args.tree.now) in
+    let own = visit_as c.args.ending s w.head.token w.head.name (arguments_of w.head) One in
+    let inner = test_visits s (invocation_tree w.inner.value) in
+    both_visited c.args.findings.now c.alone-in-WithTest.new.findings c.invocation.new.findings all (own ∷ []) inner
+    (where_made all own inner (looks_inside_as c.args.ending w.head.name) (sym c.looks_inside.ensures ∙ c.if-looks_inside.true) (test_inside c.args.ending s c.args.tree.now w.head w.inner w.is)) c.alone-in-WithTest.ensures
     (subst (λ (x : Invocation). AreVisited c.alone-in-WithTest.new.findings (test_visits s (invocation_tree x)) c.invocation.new.findings) c.deref.ensures c.invocation.ensures)
 
-pub invocation-returns-in-WithTests : goal.invocation-returns-in-WithTests
-invocation-returns-in-WithTests t c =
+pub invocation-returns-else-looks_inside : goal.invocation-returns-else-looks_inside
+invocation-returns-else-looks_inside t c =
+    let w = c.in-WithTest in
+    let s = context_of c.args.surroundings in
+    let all = visits_as c.args.ending s (invocation_tree c.args.tree.now) in
+    let own = visit_as c.args.ending s w.head.token w.head.name (arguments_of w.head) One in
+    let inner = test_visits s (invocation_tree w.inner.value) in
+    subst (λ (visits : List Visit). AreVisited c.args.findings.now visits c.alone-in-WithTest.new.findings)
+    (sym (where_left all own inner (looks_inside_as c.args.ending w.head.name) (sym c.looks_inside.ensures ∙ c.if-looks_inside.false) (test_inside c.args.ending s c.args.tree.now w.head w.inner w.is))) c.alone-in-WithTest.ensures
+
+pub invocation-returns-then-looks_inside-2 : goal.invocation-returns-then-looks_inside-2
+invocation-returns-then-looks_inside-2 t c =
     let w = c.in-WithTests in
     let s = context_of c.args.surroundings in
-    let own = c.alone-in-WithTests.new.findings in
-    let between = c.invocation-in-WithTests.new.findings in
+    let after = c.alone-in-WithTests.new.findings in
+    let between = c.invocation-then-looks_inside-2.new.findings in
+    let all = visits_as c.args.ending s (invocation_tree c.args.tree.now) in
+    let own = visit_as c.args.ending s w.head.token w.head.name (arguments_of w.head) Bracketed in
     let first = test_visits s (invocation_tree w.first.value) in
     let others = more_visits s (others_of w.others.items) in
-    both_visited c.args.findings.now own c.tests.new.findings (visits_as c.args.ending s (invocation_tree c.args.tree.now))
-    (visit_as c.args.ending s w.head.token w.head.name (arguments_of w.head) Bracketed ∷ []) (first ++ others) (tests_inside c.args.ending s c.args.tree.now w.head w.first w.others w.is) c.alone-in-WithTests.ensures
-    (both_visited own between c.tests.new.findings (first ++ others) first others refl
-    (subst (λ (x : Invocation). AreVisited own (test_visits s (invocation_tree x)) between) c.deref-in-WithTests.ensures c.invocation-in-WithTests.ensures)
-    (subst (λ (xs : List Invocation). AreVisited between (more_visits s (others_of xs)) c.tests.new.findings) c.deref-in-WithTests-2.ensures.value c.tests.ensures))
+    both_visited c.args.findings.now after c.tests.new.findings all (own ∷ []) (first ++ others)
+    (where_made all own (first ++ others) (looks_inside_as c.args.ending w.head.name) (sym c.looks_inside-in-WithTests.ensures ∙ c.if-looks_inside-2.true) (tests_inside c.args.ending s c.args.tree.now w.head w.first w.others w.is)) c.alone-in-WithTests.ensures
+    (both_visited after between c.tests.new.findings (first ++ others) first others refl
+    (subst (λ (x : Invocation). AreVisited after (test_visits s (invocation_tree x)) between) c.deref-then-looks_inside-2.ensures c.invocation-then-looks_inside-2.ensures)
+    (subst (λ (xs : List Invocation). AreVisited between (more_visits s (others_of xs)) c.tests.new.findings) c.deref-then-looks_inside-2-2.ensures.value c.tests.ensures))
+
+pub invocation-returns-else-looks_inside-2 : goal.invocation-returns-else-looks_inside-2
+invocation-returns-else-looks_inside-2 t c =
+    let w = c.in-WithTests in
+    let s = context_of c.args.surroundings in
+    let all = visits_as c.args.ending s (invocation_tree c.args.tree.now) in
+    let own = visit_as c.args.ending s w.head.token w.head.name (arguments_of w.head) Bracketed in
+    let inner = test_visits s (invocation_tree w.first.value) ++ more_visits s (others_of w.others.items) in
+    subst (λ (visits : List Visit). AreVisited c.args.findings.now visits c.alone-in-WithTests.new.findings)
+    (sym (where_left all own inner (looks_inside_as c.args.ending w.head.name) (sym c.looks_inside-in-WithTests.ensures ∙ c.if-looks_inside-2.false) (tests_inside c.args.ending s c.args.tree.now w.head w.first w.others w.is))) c.alone-in-WithTests.ensures
 
 pub tests-list-preserved : goal.tests-list-preserved
 tests-list-preserved t c =
