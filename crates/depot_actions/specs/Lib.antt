@@ -5,7 +5,7 @@ pub mod Causes
 pub mod History
 pub mod Runs
 pub mod Overviews
+-- how programs get the latest version
+pub mod Renewing
 -- how what actions ask for is filed; nothing public rests on this
 pub mod Filing
--- how programs get the latest version; nothing public rests on this
-pub mod Renewing

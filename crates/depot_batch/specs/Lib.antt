@@ -2,4 +2,5 @@ pub mod Words
 pub mod Requests
 pub mod Sentences
 pub mod Batch
+-- how a line's answer is put together; nothing public rests on this
 pub mod Answers

@@ -7,12 +7,12 @@ pub mod Jobs
 pub mod Tasks
 pub mod Words
 pub mod Running
--- how lines are gathered, what they are made of, and how files that are being made are named;
--- nothing public rests on these
-pub mod Gathering
-pub mod Pieces
-pub mod Files
 pub mod Inspecting
 pub mod NoDepots
 pub mod Carrying
 pub mod Saving
+-- what lines are made of
+pub mod Pieces
+-- how lines are gathered, and how files that are being made are named; nothing public rests on these
+pub mod Gathering
+pub mod Files

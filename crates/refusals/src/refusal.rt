@@ -42,8 +42,8 @@ pub enum Refusal {
     #[error("refused 17 UnknownCapability at {place}")]
     UnknownCapability { place: usize },
     /// The command or test stands at a wrong place, or with other arguments, tests or another end than it takes; or a reference
-    /// in one of its strings has a namespace or is to a capture above the last one; or `set` gives a name that is no identifier; or
-    /// no open loop has the name of a `break`.
+    /// in one of its strings has a namespace or is to a capture above the last one; or `set` or `take` gives a name that is no
+    /// identifier; or no open loop has the name of a `break`.
     #[error("refused 18 BadArguments at {place}")]
     BadArguments { place: usize },
     /// The command or test has too long a string, or too many strings in its lists; or one of its strings has too many segments, or

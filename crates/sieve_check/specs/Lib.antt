@@ -12,7 +12,7 @@ pub mod Arguments
 pub mod Rules
 pub mod CheckedScript
 pub mod Reading
-pub mod Refusing
 -- how the checker goes; nothing public rests on these
+pub mod Refusing
 pub mod Forming
 pub mod Sequences
