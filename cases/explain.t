@@ -976,3 +976,55 @@ How the line and the name of the file are printed.
     ^
     2> refused 15 UnknownCommand at 0
     [1]
+
+More than one fault.
+
+## each that is refused
+    $ cat > script << 'END'
+    > if header :contains "Subject" "bill" {
+    >     fileinto "Bills";
+    >     fileinto "Paid";
+    >     vacation;
+    > } elseif size :over 5M {
+    >     discard
+    >     keep;
+    > } else {
+    >     stop "now";
+    > }
+    > END
+    $ depot explain script
+    script:2:5: error: `fileinto` needs `require "fileinto"` before it
+        fileinto "Bills";
+        ^
+    script:4:5: error: depot has no `vacation`: it sends no mail
+        vacation;
+        ^
+    script:5:3: error: unknown command `elseif`, did you mean `elsif`?
+    } elseif size :over 5M {
+      ^
+    script:6:5: error: `discard` takes no test: is a semicolon missing at its end?
+        discard
+        ^
+    script:9:5: error: `stop` has too many arguments: it takes none
+        stop "now";
+        ^
+    2> refused 16 MissingCapability at 6
+    [1]
+
+## at most twenty
+    $ awk 'BEGIN { for (n = 1; n <= 25; n++) print "kep;" }' > script
+    $ depot explain script | grep -c 'error: unknown command `kep`'
+    20
+    2> refused 15 UnknownCommand at 0
+
+## the block of a loop too many
+    $ printf 'require "foreverypart"; foreverypart { foreverypart { foreverypart {\n foreverypart { kep; }\n kep; } } }' > script
+    $ depot explain script
+    script:2:2: error: more than 3 loops stand inside of one another here
+     foreverypart { kep; }
+     ^
+    script:3:2: error: unknown command `kep`, did you mean `keep`?
+     kep; } } }
+     ^
+    2> refused 19 Limit at 9
+    [1]
