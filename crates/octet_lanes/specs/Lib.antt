@@ -1,4 +1,4 @@
 pub mod Encoding
 pub mod Held
--- what operations on lanes give; nothing public rests on it
+-- what operations on lanes give
 pub mod Lanes

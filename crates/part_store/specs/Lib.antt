@@ -1,4 +1,5 @@
 pub mod Tables
+-- private: the texts of the statements
 pub mod Statements
 pub mod Changes
 pub mod Entries
