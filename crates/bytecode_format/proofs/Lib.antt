@@ -5,5 +5,6 @@ pub mod Lengths
 pub mod ActionLemmas
 pub mod ModifierLemmas
 pub mod SelectionLemmas
+pub mod StringLemmas
 pub mod Examples
 pub mod Versions

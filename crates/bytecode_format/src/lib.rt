@@ -4,7 +4,7 @@
 //! (`specs/Spelling`), and written as that spelling; octets spell at most one program.
 //! [`ActionList`] keeps the actions of a run, and makes them final (`specs/Actions`). [`Modifiers`] are
 //! what is done to a text before it becomes a variable's value (`specs/Modifiers`). [`FieldTest`] and [`TestCounts`] are what an
-//! instruction says of a test, each under its number (`specs/Selection`).
+//! instruction says of a test, each under its number (`specs/Selection`). A [`StringTable`] gathers the strings of a program.
 #![tactic(auto)]
 
 mod action;
@@ -18,6 +18,7 @@ mod operation;
 mod program;
 mod reading;
 mod selection;
+mod string_table;
 mod writing;
 
 pub use action::Action;
@@ -28,3 +29,4 @@ pub use modifiers::{Case, Modifiers};
 pub use operation::Operation;
 pub use program::Program;
 pub use selection::{FieldTest, Scope, Selector, TestCounts, match_number, match_of};
+pub use string_table::StringTable;

@@ -11,7 +11,7 @@ use Rattle.bytecode_listing.specs.declared.error.ReadError.TheVariants.{Memory, 
 use Rattle.bytecode_listing.specs.declared.drafts.Draft.{Draft}
 use Rattle.bytecode_listing.specs.declared.drafts.Line.{Line}
 use Rattle.bytecode_listing.specs.declared.drafts.Line.TheVariants.{Label, Step}
-use Rattle.bytecode_listing.specs.Labels.{◌>>=◌, count, place_from, place_of, double_after, string_in, instruction_of, instructions_of}
+use Rattle.bytecode_listing.specs.Labels.{◌>>=◌, count, place_from, place_of, double_after, instruction_of, instructions_of}
 use Rattle.bytecode_listing.specs.Readers.{Fails}
 
 -- ---- one more line
@@ -109,25 +109,3 @@ step_fails (At left) strings all rest draft done total h so_far =
 
 pub all_done : (done : List Instruction) (total : Result (List Instruction) ℕ) → after done (Ok []) ≡ total → total ≡ Ok done
 all_done done total so_far = sym so_far ∙ ap (λ (is : List Instruction). let r : Result (List Instruction) ℕ = Ok is in r) (append-nil done)
-
--- ---- strings
-
--- a string that is listed already is found where it was
-found_other : (listed : List (List ℕ)) (x q : List ℕ) → bytes_eq q x ≡ false → string_in (listed ++ x ∷ []) q ≡ string_in listed q
-found_other [] x q h = ap (λ b. if b then Some 0 else None) h
-found_other (y ∷ listed) x q h = ap (λ o. if bytes_eq q y then Some 0 else option_map suc o) (found_other listed x q h)
-
-pub found_again : (listed : List (List ℕ)) (x q : List ℕ) → is_listed bytes_eq x listed ≡ true → string_in (listed ++ x ∷ []) q ≡ string_in listed q
-found_again [] x q h = absurd cc
-found_again (y ∷ listed) x q h = by_first (bytes_eq x y) refl h (λ k. found_again listed x q k)
-  where
-    choose : (a b : Bool) (m n : Option ℕ) → (a ≡ false → b ≡ false) → (b ≡ false → m ≡ n) → (if a then Some 0 else option_map suc m) ≡ (if a then Some 0 else option_map suc n)
-    choose true b m n f g = refl
-    choose false b m n f g = ap (option_map suc) (g (f refl))
-
-    by_first : (first : Bool) → bytes_eq x y ≡ first → (first || is_listed bytes_eq x listed) ≡ true → (is_listed bytes_eq x listed ≡ true → string_in (listed ++ x ∷ []) q ≡ string_in listed q)
-        → (if bytes_eq q y then Some 0 else option_map suc (string_in (listed ++ x ∷ []) q)) ≡ (if bytes_eq q y then Some 0 else option_map suc (string_in listed q))
-    by_first true e h more = choose (bytes_eq q y) (bytes_eq q x) (string_in (listed ++ x ∷ []) q) (string_in listed q)
-        (λ k. nat_list_eq_equiv.symm q x ∙ nat_list_eq_equiv.congr x y q e ∙ nat_list_eq_equiv.symm y q ∙ k)
-        (λ k. found_other listed x q k)
-    by_first false e h more = ap (λ o. if bytes_eq q y then Some 0 else option_map suc o) (more h)

@@ -11,8 +11,8 @@ ghost use Rattle.bytecode_listing.specs.Readers.{Gives, IsPlaces};
 
 use crate::drafts::{Draft, Line, Target};
 use crate::error::ReadError;
-use crate::strings::Strings;
-use bytecode_format::Instruction;
+use crate::strings::strings_in;
+use bytecode_format::{Instruction, StringTable};
 use octets::Octets;
 use std::alloc::Global;
 use std::collections::BTreeMap;
@@ -62,7 +62,7 @@ fn place_named(places: &Places<'_>, name: &[u8], left: usize) -> Result<u32, Rea
 }
 
 // The number that c of an instruction is.
-fn c_of(strings: &Strings<'_>, places: &Places<'_>, target: &Target) -> Result<u32, ReadError>
+fn c_of(strings: &StringTable<'_>, places: &Places<'_>, target: &Target) -> Result<u32, ReadError>
     ensures { (lines : List Line) → IsPlaces places.now lines
         → Gives (λ c. c) result (c_of strings.now lines target.now) }
 {
@@ -75,7 +75,7 @@ fn c_of(strings: &Strings<'_>, places: &Places<'_>, target: &Target) -> Result<u
 
 // The instruction that a draft is.
 fn instruction_of(
-    strings: &Strings<'_>,
+    strings: &StringTable<'_>,
     places: &Places<'_>,
     draft: &Draft,
 ) -> Result<Instruction, ReadError>
@@ -94,7 +94,7 @@ fn instruction_of(
 // The instructions among lines, with the place of each name and string.
 fn instructions_in(
     alloc: Global,
-    strings: &Strings<'_>,
+    strings: &StringTable<'_>,
     places: &Places<'_>,
     lines: &[Line],
 ) -> Result<Vec<Instruction>, ReadError>
@@ -122,7 +122,7 @@ pub fn resolved(
     requires single { double_after [] lines.now ≡ None }
     ensures { Gives (λ x. (x.0.items, x.1.items)) result (resolved table.now lines.now) }
 {
-    let strings = Strings::of(alloc, table, lines)?;
+    let strings = strings_in(alloc, table, lines)?;
     let instructions = instructions_in(alloc, &strings, places, lines)?;
     Ok((strings.to_list(alloc)?, instructions))
 }

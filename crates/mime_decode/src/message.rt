@@ -1,11 +1,12 @@
 // A message that was read.
-ghost use Rattle.std.specs.Prelude.{◌≡◌, ◌<◌, length, false, IfOk, IfErr, IsErrAnd, IsOk};
+ghost use Rattle.std.specs.Prelude.{◌≡◌, ◌<◌, ◌≤◌, ◌-◌, length, false, IfSome, IfOk, IfErr, IsErrAnd, IsOk};
 ghost use Rattle.std.specs.List.{HoldsAt};
 ghost use Rattle.std.specs.Cow.{cow_slice_items, IsBorrowedSlice};
-ghost use Rattle.octets.specs.Limits.{max_message};
+ghost use Rattle.octets.specs.Limits.{max_message, max_parts};
 ghost use Rattle.mime_tree.specs.PartTree.{tree_of};
 ghost use Rattle.mime_decode.specs.Content.{digest_of, is_decoded};
 ghost use Rattle.mime_decode.specs.Mail.{IsMail, IsReadable, mail_of, size_of};
+ghost use Rattle.mime_decode.specs.Scope.{numbers_from, visited};
 ghost use Rattle.mime_decode.specs.Refusals.{IsMessageRefusal};
 ghost use Rattle.mime_tree.specs.declared.error.MessageError.TheVariants.{MessageTooLarge};
 
@@ -15,6 +16,7 @@ use mime_tree::{MessageError, Tree};
 use std::alloc::{AllocError, Global};
 use std::borrow::CowSlice;
 use std::marker::Model;
+use std::ops::Range;
 
 /// A message, over octets that are lent: bodies aren't copied, and nothing is decoded before it is asked for.
 ///
@@ -76,6 +78,25 @@ impl<'a> Message<'a> {
         ensures mail { IsMail self.now }
     {
         self.tree.parts()
+    }
+
+    /// The parts that a loop visits which begins on this part, by their numbers: those below it; all,
+    /// where it begins outside of loops (RFC 5703, section 3).
+    pub fn visited(&self, part: Option<usize>) -> Range<usize>
+        requires { IfSome part (λ part. part < length self.now.parts) }
+        ensures parts { numbers_from result.start (result.end - result.start)
+            ≡ visited part self.now }
+        ensures within { result.end ≤ length self.now.parts }
+        ensures ordered { result.start ≤ result.end }
+        ensures few { length self.now.parts ≤ max_parts }
+    {
+        match part {
+            None => 0..self.parts(),
+            Some(part) => {
+                let first = part + 1;
+                first..first + self.tree.below(part)
+            }
+        }
     }
 
     /// How the body of a part is encoded (RFC 2045, section 6.1).

@@ -30,7 +30,12 @@ impl Model for OpenPart {
 
     ghost Value = { OpenPart };
 
-    ghost view = { λ p. record { at = p.at; levels = p.levels; default = default_media p.default; boundary = option_map (λ v. v.items) p.boundary } };
+    ghost view = { λ p. record {
+      at = p.at;
+      levels = p.levels;
+      default = default_media p.default;
+      boundary = option_map (λ v. v.items) p.boundary;
+    } };
 
     ghost use Rattle.std.specs.Prelude.{◌<◌};
     ghost use Rattle.octets.specs.Limits.{max_depth};

@@ -41,7 +41,16 @@ impl<'a> Model for Part<'a> {
 
     ghost Value = { Part };
 
-    ghost view = { λ p. record { depth = p.depth; below = p.below; place = p.place; raw = p.raw.now; header = p.header; media = media_or (default_media p.default) (first_value (codes "Content-Type") p.header.fields); encoding = p.encoding } };
+    ghost view = { λ p. record {
+      depth = p.depth;
+      below = p.below;
+      place = p.place;
+      raw = p.raw.now;
+      header = p.header;
+      media = media_or (default_media p.default)
+          (first_value (codes "Content-Type") p.header.fields);
+      encoding = p.encoding;
+    } };
 
     ghost use Rattle.mime_tree.specs.PartTree.{without_params};
 

@@ -1,5 +1,5 @@
 -- Tables as they grow.
-use Rattle.std.specs.Prelude.{ℕ, nat_eq, bytes_eq, List, [], ◌++◌, flat_map, Option}
+use Rattle.std.specs.Prelude.{ℕ, nat_eq, List, [], ◌++◌, flat_map, Option}
 use Rattle.octets.specs.Once as once
 use Rattle.sieve_check.specs.declared.typed.Segment.{Segment}
 use Rattle.sieve_check.specs.Variables.{segment_variables, string_variables, strings_variables, test_variables, tests_variables, command_variables, commands_variables, branches_variables}
@@ -15,13 +15,6 @@ found_in table n = once.found_in nat_eq table n
 -- the table with one more number, which is left out where the table has it
 abbrev pub with_number : List ℕ → ℕ → List ℕ
 with_number table n = once.with_one nat_eq table n
-
--- the same of strings
-abbrev pub string_in : List (List ℕ) → List ℕ → Option ℕ
-string_in table s = once.found_in bytes_eq table s
-
-abbrev pub with_string : List (List ℕ) → List ℕ → List (List ℕ)
-with_string table s = once.with_one bytes_eq table s
 
 -- the numbers, texts and variables of a piece, as they stand in it
 pub record Uses : Type 0 where

@@ -15,7 +15,6 @@ pub mod laws;
 mod lengths;
 mod numbering;
 mod numbers;
-mod strings;
 mod tables;
 
 pub use compiler::compile;

@@ -2,7 +2,7 @@
 ghost use Rattle.std.specs.Prelude.{◌≡◌, ◌<◌, ◌≤◌, ◌^◌, length, All, IfOk};
 
 use crate::numbers::Numbers;
-use crate::strings::Strings;
+use bytecode_format::StringTable;
 use octets::Octets;
 use std::alloc::{AllocError, Global};
 use std::marker::Model;
@@ -13,8 +13,8 @@ use std::marker::Model;
 #[derive(Drop)]
 pub struct Tables<'a> {
     pub numbers: Numbers,
-    pub strings: Strings<'a>,
-    pub variables: Strings<'a>,
+    pub strings: StringTable<'a>,
+    pub variables: StringTable<'a>,
 }
 
 impl<'a> Model for Tables<'a> {
@@ -35,8 +35,8 @@ impl<'a> Tables<'a> {
     {
         Tables {
             numbers: Numbers::new(alloc),
-            strings: Strings::new(alloc),
-            variables: Strings::new(alloc),
+            strings: StringTable::new(alloc),
+            variables: StringTable::new(alloc),
         }
     }
 
@@ -68,7 +68,7 @@ impl<'a> Tables<'a> {
     pub fn variable_count(&self) -> usize
         ensures { result ≡ length self.now.variables }
     {
-        self.variables.count()
+        self.variables.len()
     }
 
     /// The texts in order, as copies.

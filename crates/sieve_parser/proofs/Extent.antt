@@ -74,6 +74,28 @@ module _ (s : List ℕ) where
   pub tokens_fit : (ts : List Token) → AreTokens s ts → lexemes_octets (lexemes s ts) ≤ length s
   tokens_fit ts h = omega (arith, tokens_forward ts 0 0 h.0 h.1.0, gap_forward h.0 (length s) h.1.1)
 
+-- each stands for an octet
+octet_some : (l : Lexeme) → 1 ≤ lexeme_octets l
+octet_some (string s) = omega arith
+octet_some (identifier n name) = omega arith
+octet_some (tag name) = omega arith
+octet_some (number n) = omega arith
+octet_some semicolon = omega arith
+octet_some comma = omega arith
+octet_some opening_brace = omega arith
+octet_some closing_brace = omega arith
+octet_some opening_parenthesis = omega arith
+octet_some closing_parenthesis = omega arith
+octet_some opening_bracket = omega arith
+octet_some closing_bracket = omega arith
+
+octets_number : (ls : List Lexeme) → length ls ≤ lexemes_octets ls
+octets_number [] = omega arith
+octets_number (l ∷ ls) = omega (arith, octet_some l, octets_number ls)
+
+pub few_lexemes : (s : List ℕ) (ts : List Token) → AreTokens s ts → length (lexemes s ts) ≤ length s
+few_lexemes s ts h = omega (arith, tokens_fit s ts h, octets_number (lexemes s ts))
+
 -- what lexemes with their depths stand for
 abbrev pub octets_of : List Placed → ℕ
 octets_of [] = 0
@@ -92,21 +114,6 @@ octets_fit s cs h =
     let ts = h.1.0 in
     let same : lexemes_octets (lexemes s ts) ≡ octets_of (commands_spelled 0 cs) = ap lexemes_octets h.1.1.1 ∙ octets_placed (commands_spelled 0 cs) in
     omega (arith, tokens_fit s ts h.1.1.0, same)
-
--- each stands for an octet
-octet_some : (l : Lexeme) → 1 ≤ lexeme_octets l
-octet_some (string s) = omega arith
-octet_some (identifier n name) = omega arith
-octet_some (tag name) = omega arith
-octet_some (number n) = omega arith
-octet_some semicolon = omega arith
-octet_some comma = omega arith
-octet_some opening_brace = omega arith
-octet_some closing_brace = omega arith
-octet_some opening_parenthesis = omega arith
-octet_some closing_parenthesis = omega arith
-octet_some opening_bracket = omega arith
-octet_some closing_bracket = omega arith
 
 length_within : (xs : List Placed) → length xs ≤ octets_of xs
 length_within [] = omega arith

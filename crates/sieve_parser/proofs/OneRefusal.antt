@@ -4,8 +4,7 @@ use Rattle.sieve_lexer.specs.Tokens.{AreTokens, IsFault}
 use Rattle.sieve_lexer.specs.declared.token.Token.{Token}
 use Rattle.sieve_parser.specs.Lexemes.{Lexeme}
 use Rattle.sieve_parser.specs.Tree.{CommandsTree}
-use Rattle.sieve_parser.specs.Grammar.{IsScript, commands_spelled}
-use Rattle.sieve_parser.specs.Faults.{AreWithinDepth, IsSyntaxFault, IsTooDeep}
+use Rattle.sieve_parser.specs.Faults.{IsSyntaxFault, IsTooDeep}
 use Rattle.sieve_parser.specs.Parsing.{lexemes}
 use Rattle.sieve_parser.specs.Scripts.{IsParsed, IsParseRefusal}
 use Rattle.sieve_parser.specs.declared.error.ParseError.{ParseError}

@@ -1,12 +1,14 @@
 // The parser.
-ghost use Rattle.std.specs.Prelude.{◌≡◌, ◌<◌, length, IfErr, IfOk, IsErrAnd};
+ghost use Rattle.std.specs.Prelude.{◌≡◌, ◌<◌, ◌≤◌, length, IfErr, IfOk, IsErrAnd};
 ghost use Rattle.octets.specs.Limits.{max_script};
+ghost use Rattle.sieve_lexer.specs.Tokens.{AreTokens};
 ghost use Rattle.sieve_parser.specs.Scripts.{IsParsed, IsParseRefusal};
 ghost use Rattle.sieve_parser.specs.View.{commands_tree};
 
 use crate::command::commands;
 use crate::error::ParseError;
 use crate::tree::Script;
+use sieve_lexer::Token;
 use std::alloc::Global;
 
 /// The syntax tree of a script (RFC 5228, section 8.2).
@@ -22,7 +24,19 @@ pub fn parse(alloc: Global, script: &[u8]) -> Result<Script, ParseError>
         → IsErrAnd result (λ e. e ≡ ParseError.ScriptTooLong) }
 {
     let tokens = sieve_lexer::tokens(alloc, script)?;
-    let (commands, next) = commands(alloc, script, &tokens, 0, 0)?;
+    parse_tokens(alloc, script, &tokens)
+}
+
+/// The same of a script whose tokens were read.
+///
+/// [`ParseError::Syntax`], [`ParseError::TooDeep`] and [`ParseError::Memory`] come as from [`parse`].
+pub fn parse_tokens(alloc: Global, script: &[u8], tokens: &[Token]) -> Result<Script, ParseError>
+    requires tokens { AreTokens script.now tokens.now }
+    requires short { length script.now ≤ max_script }
+    ensures parsed { IfOk result (λ parsed. IsParsed script.now (commands_tree parsed)) }
+    ensures refused { IfErr result (λ e. IsParseRefusal script.now e) }
+{
+    let (commands, next) = commands(alloc, script, tokens, 0, 0)?;
     if next < tokens.len() {
         return Err(ParseError::Syntax { place: next });
     }

@@ -1,28 +1,28 @@
-// Strings of a script: texts, or names of variables.
-ghost use Rattle.std.specs.Prelude.{◌≡◌, ◌≤◌, [], length, map, OnOk, OnErr, IfOk};
+// Tables of strings.
+ghost use Rattle.std.specs.Prelude.{◌≡◌, ◌≤◌, [], ◌∷◌, ◌++◌, length, map, OnOk, OnErr, IfOk};
 
 use octets::Octets;
 use std::alloc::{AllocError, Global};
 use std::collections::BTreeMap;
 use std::marker::Model;
 
-/// The different strings of a script, in the order of their first use, lent by the script.
+/// A table of strings that are lent: those of a program, or the names of its variables.
 ///
 /// A contract sees the list of them. A string takes time in the logarithm of their number.
 #[derive(Drop)]
-pub struct Strings<'a> {
+pub struct StringTable<'a> {
     listed: Vec<&'a [u8]>,
-    // Where each of them stands in the list.
+    // Where each of them stands in the list first.
     places: BTreeMap<&'a [u8], usize>,
 }
 
-impl<'a> Model for Strings<'a> {
-    ghost use Rattle.std.specs.Prelude.{◌≡◌, ℕ, List, map};
+impl<'a> Model for StringTable<'a> {
+    ghost use Rattle.std.specs.Prelude.{◌≡◌, ℕ, List, bytes_eq, map};
     ghost use Rattle.std.specs.Borrow.{Bor};
     ghost use Rattle.std.specs.BTreeMap.{get_by};
     ghost use Rattle.std.specs.Ordering.{nat_cmp};
     ghost use Rattle.std.specs.Cmp.Lexicographic.{slice_cmp};
-    ghost use Rattle.sieve_compiler.specs.Growing.{string_in};
+    ghost use Rattle.octets.specs.Once.{found_in};
 
     ghost Value = { List (List ℕ) };
 
@@ -30,19 +30,18 @@ impl<'a> Model for Strings<'a> {
 
     ghost invariant = { λ s. (text : List ℕ)
         → get_by (λ (key : Bor (List ℕ)). slice_cmp nat_cmp text key.now) s.places
-        ≡ string_in (map (λ (text : Bor (List ℕ)). text.now) s.listed.items) text };
+        ≡ found_in bytes_eq (map (λ (text : Bor (List ℕ)). text.now) s.listed.items) text };
 }
 
-impl<'a> Strings<'a> {
+impl<'a> StringTable<'a> {
     ghost use Rattle.std.specs.Prelude.{bytes_eq};
-    ghost use Rattle.octets.specs.Once.{place_in};
-    ghost use Rattle.sieve_compiler.specs.Growing.{with_string};
+    ghost use Rattle.octets.specs.Once.{found_in, place_in, with_one};
 
     /// No string. Takes no memory.
-    pub fn new(alloc: Global) -> Strings<'a>
+    pub fn new(alloc: Global) -> StringTable<'a>
         ensures { result ≡ [] }
     {
-        Strings {
+        StringTable {
             listed: Vec::new(alloc),
             places: BTreeMap::new(alloc),
         }
@@ -50,9 +49,11 @@ impl<'a> Strings<'a> {
 
     /// Lists the string, unless it is listed.
     ///
-    /// An error comes only where memory was refused; the list is then as it was.
+    /// # Errors
+    ///
+    /// An allocation was refused; the table is then as it was.
     pub fn add(&mut self, text: &'a [u8]) -> Result<(), AllocError>
-        ensures ok { OnOk result (self.new ≡ with_string self.old text.now) }
+        ensures ok { OnOk result (self.new ≡ with_one bytes_eq self.old text.now) }
         ensures err { OnErr result (self.new ≡ self.old) }
     {
         if self.places.contains_key(text) {
@@ -64,25 +65,47 @@ impl<'a> Strings<'a> {
         Ok(())
     }
 
+    /// Lists one more string, which may be listed already.
+    ///
+    /// # Errors
+    ///
+    /// An allocation was refused.
+    pub fn push(&mut self, text: &'a [u8]) -> Result<(), AllocError>
+        ensures { OnOk result (self.new ≡ self.old ++ text.now ∷ []) }
+    {
+        if self.places.contains_key(text) {
+            return Ok(self.listed.push(text)?);
+        }
+        self.add(text)
+    }
+
     /// How many strings are listed.
-    pub fn count(&self) -> usize
+    pub fn len(&self) -> usize
         ensures { result ≡ length self.now }
     {
         self.listed.len()
     }
 
-    /// The place of the string; the list's end, where it isn't listed.
+    /// The first place of the string, if it is listed.
+    pub fn get(&self, text: &[u8]) -> Option<usize>
+        ensures { result ≡ found_in bytes_eq self.now text.now }
+    {
+        self.places.get(text).copied()
+    }
+
+    /// The first place of the string; the table's end, where it isn't listed.
     pub fn place_of(&self, text: &[u8]) -> usize
         ensures place { result ≡ place_in bytes_eq self.now text.now }
         ensures within { result ≤ length self.now }
     {
-        let place = self.places.get(text).copied();
-        place.unwrap_or(self.listed.len())
+        self.get(text).unwrap_or(self.listed.len())
     }
 
-    /// The strings in order, as copies.
+    /// Copies of the strings in order.
     ///
-    /// An error comes only where memory was refused.
+    /// # Errors
+    ///
+    /// An allocation was refused.
     pub fn to_list(&self, alloc: Global) -> Result<Vec<Octets>, AllocError>
         ensures { IfOk result (λ list. list.items ≡ self.now) }
     {

@@ -1,6 +1,6 @@
 use Rattle.std.proofs.Common.{◌≡◌, take, drop}
 use Rattle.bytecode_listing.specs.Labels.{strings_in}
-use Rattle.bytecode_listing.proofs.strings.Strings.of.Given as goal
+use Rattle.bytecode_listing.proofs.strings.strings_in.Given as goal
 
 abbrev pub invariant-table : goal.invariant-table
 invariant-table l = l.strings ≡ take l.text-index l.table
