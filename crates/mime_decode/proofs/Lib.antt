@@ -2,3 +2,4 @@ pub mod Contents
 mod Examples
 pub mod MailLemmas
 mod Feeding
+pub mod Visited

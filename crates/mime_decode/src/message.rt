@@ -2,7 +2,7 @@
 ghost use Rattle.std.specs.Prelude.{◌≡◌, ◌<◌, ◌≤◌, ◌-◌, length, false, IfSome, IfOk, IfErr, IsErrAnd, IsOk};
 ghost use Rattle.std.specs.List.{HoldsAt};
 ghost use Rattle.std.specs.Cow.{cow_slice_items, IsBorrowedSlice};
-ghost use Rattle.octets.specs.Limits.{max_message, max_parts};
+ghost use Rattle.octets.specs.Limits.{max_message};
 ghost use Rattle.mime_tree.specs.PartTree.{tree_of};
 ghost use Rattle.mime_decode.specs.Content.{digest_of, is_decoded};
 ghost use Rattle.mime_decode.specs.Mail.{IsMail, IsReadable, mail_of, size_of};
@@ -88,7 +88,7 @@ impl<'a> Message<'a> {
             ≡ visited part self.now }
         ensures within { result.end ≤ length self.now.parts }
         ensures ordered { result.start ≤ result.end }
-        ensures few { length self.now.parts ≤ max_parts }
+        ensures mail { IsMail self.now }
     {
         match part {
             None => 0..self.parts(),

@@ -79,13 +79,6 @@ impl<'a, 'm> Subject<'a, 'm> {
             ≡ visited self.entry.part self.entry.message.now }
         ensures within { result.end ≤ length self.entry.message.now.parts }
     {
-        let parts = self.message.parts();
-        match self.part {
-            None => 0..parts,
-            Some(part) => {
-                let first = part + 1;
-                first..first + self.message.tree().below(part)
-            }
-        }
+        self.message.visited(self.part)
     }
 }

@@ -19,35 +19,6 @@ use Rattle.sieve_vm.specs.declared.frame.Frame as code
 use Rattle.sieve_vm.specs.State.{Frame, current_part}
 use Rattle.sieve_vm.specs.Visits.{Visits, frame_of, frames_of, HasContent, IsKnown, part_in}
 
--- ---- the parts below a part
-
-pub record IsBelow (mail : Mail) (place found : ℕ) : Type 0 where
-  pub part : Part
-  pub here : slice_get mail.parts place ≡ Some part
-  pub below_is : found ≡ part.below
-
-below_at : (parts : List tree.Part) (place found : ℕ) → place < length parts → HoldsAt (λ (p : tree.Part). found ≡ p.below) parts place → (part : Part) × (slice_get (map part_of parts) place ≡ Some part) × (found ≡ part.below)
-below_at [] place found lt at = absurd (omega (arith, lt))
-below_at (part ∷ parts) zero found lt at = (part_of part, refl, at part)
-below_at (part ∷ parts) (suc place) found lt at = below_at parts place found (omega (arith, lt)) at
-
-pub tree_number : (mail : Mail) → mail ≡ mail_of mail.octets → length (tree.tree_of mail.octets) ≡ length mail.parts
-tree_number mail is = sym (parts_number mail.octets) ∙ ap (λ (m : Mail). length m.parts) (sym is)
-
-pub is_below : (mail : Mail) (place found : ℕ) → mail ≡ mail_of mail.octets → place < length mail.parts → HoldsAt (λ (p : tree.Part). found ≡ p.below) (tree.tree_of mail.octets) place → IsBelow mail place found
-is_below mail place found is lt at =
-    let b = below_at (tree.tree_of mail.octets) place found (omega (arith, lt, tree_number mail is)) at in
-    let all : mail.parts ≡ map part_of (tree.tree_of mail.octets) = ap (λ (m : Mail). m.parts) is ∙ parts_are mail.octets in
-    record { part = b.0; here = ap (λ parts. slice_get parts place) all ∙ b.1; below_is = b.2 }
-
-pub below_visited : (mail : Mail) (place found : ℕ) → IsBelow mail place found → numbers_from (place + 1) found ≡ visited (Some place) mail
-below_visited mail place found is =
-    let next : place + 1 ≡ suc place = omega arith in
-    rw is.here (ap (λ n. numbers_from n found) next ∙ ap (numbers_from (suc place)) is.below_is)
-
-pub below_few : (mail : Mail) (place found : ℕ) → IsMail mail → IsBelow mail place found → place + 1 + found ≤ length mail.parts
-below_few mail place found known is = let nests = known.nests place is.part is.here in omega (arith, nests.within, is.below_is)
-
 -- ---- loops that are closed
 
 pub record Closes (items : List code.Frame) (number : ℕ) (frame : Frame) (frames : List Frame) : Type 0 where

@@ -5,7 +5,7 @@ ghost use Rattle.bytecode_verifier.specs.Acceptance.{IsAccepted};
 ghost use Rattle.mime_decode.specs.Mail.{Mail, IsMail};
 ghost use Rattle.sieve_vm.specs.State.{State, goes, ends, traps, start};
 ghost use Rattle.sieve_vm.specs.Machine.{step};
-ghost use Rattle.sieve_vm.specs.Runs.{Run, RunEnds};
+ghost use Rattle.sieve_vm.specs.Runs.{Reaches, RunEnds};
 ghost use Rattle.sieve_vm.specs.Potential.{potential, limit_of};
 ghost use Rattle.sieve_vm.specs.Chained.{AreChained};
 ghost use Rattle.sieve_vm.specs.Plain.{IsChain, IsPlain};
@@ -15,41 +15,39 @@ ghost use Rattle.sieve_vm.specs.Stores.{NamesPart};
 
 /// Accepted programs never trap: no state that a run reaches from the start steps to a trap.
 pub fn accepted_programs_never_trap()
-    ensures { (code : Code) (mail : Mail) → IsAccepted code → IsMail mail → (n : ℕ) (state : State)
-        → Run code mail n (start code) state → step code mail state ≢ traps }
+    ensures { (code : Code) (mail : Mail) (steps : ℕ) (state : State)
+        → Reaches code mail steps state → step code mail state ≢ traps }
 {}
 
 /// The potential is the budget at the start, and falls by each charge.
 pub fn potential_falls_by_each_charge()
     ensures start { (code : Code) (mail : Mail) → IsAccepted code
         → potential code mail (start code) ≡ limit_of code mail }
-    ensures step { (code : Code) (mail : Mail) → IsAccepted code → IsMail mail
-        → (n : ℕ) (state after : State) → Run code mail n (start code) state
-        → step code mail state ≡ goes after
+    ensures step { (code : Code) (mail : Mail) (steps : ℕ) (state after : State)
+        → Reaches code mail steps state → step code mail state ≡ goes after
         → potential code mail after + after.charge ≤ potential code mail state + state.charge }
-    ensures end { (code : Code) (mail : Mail) → IsAccepted code → IsMail mail
-        → (n : ℕ) (state end : State) → Run code mail n (start code) state
-        → step code mail state ≡ ends end → end.charge ≤ potential code mail state + state.charge }
+    ensures end { (code : Code) (mail : Mail) (steps : ℕ) (state end : State)
+        → Reaches code mail steps state → step code mail state ≡ ends end
+        → end.charge ≤ potential code mail state + state.charge }
 {}
 
 /// Each prefix of a run charges at most the budget, and a run has at most as many steps, that to its end
 /// included.
 pub fn runs_stay_within_the_budget()
-    ensures charge { (code : Code) (mail : Mail) → IsAccepted code → IsMail mail
-        → (n : ℕ) (state : State) → Run code mail n (start code) state
-        → state.charge ≤ limit_of code mail }
-    ensures steps { (code : Code) (mail : Mail) → IsAccepted code → IsMail mail
-        → (n : ℕ) (state : State) → Run code mail n (start code) state → n ≤ limit_of code mail }
-    ensures ends { (code : Code) (mail : Mail) → IsAccepted code → IsMail mail
-        → (n : ℕ) (state end : State) → Run code mail n (start code) state
-        → step code mail state ≡ ends end → suc n ≤ limit_of code mail }
+    ensures charge { (code : Code) (mail : Mail) (steps : ℕ) (state : State)
+        → Reaches code mail steps state → state.charge ≤ limit_of code mail }
+    ensures steps { (code : Code) (mail : Mail) (steps : ℕ) (state : State)
+        → Reaches code mail steps state → steps ≤ limit_of code mail }
+    ensures ends { (code : Code) (mail : Mail) (steps : ℕ) (state end : State)
+        → Reaches code mail steps state → step code mail state ≡ ends end
+        → suc steps ≤ limit_of code mail }
 {}
 
 /// Turns are chains of parts: the current part of each open loop is below that of the loop around it, what a
 /// loop has left comes after its current part, and what is below that part is among it.
 pub fn turns_are_chains()
-    ensures { (code : Code) (mail : Mail) → IsAccepted code → IsMail mail → (n : ℕ) (state : State)
-        → Run code mail n (start code) state → AreChained mail state.frames }
+    ensures { (code : Code) (mail : Mail) (steps : ℕ) (state : State)
+        → Reaches code mail steps state → AreChained mail state.frames }
 {}
 
 /// The run of an accepted program reaches its end, within the budget.
@@ -66,8 +64,8 @@ pub fn runs_have_one_end()
 
 /// Each action of a run that stores a part names one of the message.
 pub fn runs_store_parts_of_the_message()
-    ensures { (code : Code) (mail : Mail) → IsAccepted code → IsMail mail → (n : ℕ) (state : State)
-        → Run code mail n (start code) state → All (NamesPart mail) state.actions }
+    ensures { (code : Code) (mail : Mail) (steps : ℕ) (state : State)
+        → Reaches code mail steps state → All (NamesPart mail) state.actions }
 {}
 
 /// And so does each final action.

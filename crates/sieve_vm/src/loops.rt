@@ -98,11 +98,8 @@ impl<'s, 'm> Loops<'s, 'm> {
             ≡ visited (current_part self.now.frames) self.now.mail }
         ensures few { result.0 + result.1 ≤ max_parts }
     {
-        let parts = self.message.parts();
-        match self.current() {
-            None => (0, parts),
-            Some(part) => (part + 1, self.message.tree().below(part)),
-        }
+        let parts = self.message.visited(self.current());
+        (parts.start, parts.end - parts.start)
     }
 
     /// Opens a loop on its first part, if there is one.
