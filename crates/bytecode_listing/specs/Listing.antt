@@ -8,8 +8,10 @@ use Rattle.bytecode_format.specs.declared.instruction.Instruction.{Instruction}
 use Rattle.bytecode_format.specs.declared.operation.Operation.{Operation}
 use Rattle.bytecode_format.specs.declared.operation.Operation.TheVariants.{Literal, Jump, JumpIfTrue, JumpIfFalse, Size, PartSize}
 use Rattle.bytecode_verifier.specs.Budget.{share_at}
-use Rattle.bytecode_verifier.specs.declared.error.Refusal.{Refusal}
-use Rattle.bytecode_verifier.specs.declared.error.Refusal.TheVariants.{Memory, Index, Form, End, Loop, Jump as JumpRefused, NoPart, Stack}
+use Rattle.bytecode_verifier.specs.declared.error.Refusal.{Refusal as BrokenRule}
+use Rattle.refusals.specs.Causes.{of_verifier}
+use Rattle.refusals.specs.Lines.{name_of as refusal_name, number_of, place_of}
+use Rattle.refusals.specs.declared.refusal.Refusal.{Refusal}
 use Rattle.bytecode_verifier.specs.declared.share.Share.{Share}
 use Rattle.bytecode_listing.specs.Names.{name_of}
 use Rattle.bytecode_listing.specs.Wording.{a_words, after_a, said_a}
@@ -134,21 +136,18 @@ share_text share = added (codes "A") share.loops share.cap.fixed ++ scaled_text 
 abbrev pub share_notes : Code → Notes
 share_notes code place = Some (share_text (share_at code place))
 
--- where a program is refused, and the number and the name of that; nowhere where memory was refused
-abbrev pub refused_at : Refusal → Option (ℕ × List ℕ)
-refused_at Memory = None
-refused_at (Index place) = Some (place, codes "refused 21 Index")
-refused_at (Form place) = Some (place, codes "refused 22 Form")
-refused_at (End place) = Some (place, codes "refused 23 End")
-refused_at (Loop place) = Some (place, codes "refused 24 Loop")
-refused_at (JumpRefused place) = Some (place, codes "refused 25 Jump")
-refused_at (NoPart place) = Some (place, codes "refused 26 NoPart")
-refused_at (Stack place) = Some (place, codes "refused 27 Stack")
+-- the number and the name of a refusal
+abbrev pub kind_text : Refusal → List ℕ
+kind_text refusal = codes "refused " ++ decimal (number_of refusal) ++ codes " " ++ refusal_name refusal
+
+-- where a program is refused, and for what; nowhere where memory was refused
+abbrev pub refused_at : BrokenRule → Option (ℕ × List ℕ)
+refused_at rule = option_map (λ place. (place, kind_text (of_verifier rule))) (place_of (of_verifier rule))
 
 -- the refusal, at its place
-abbrev pub refusal_notes : Refusal → Notes
-refusal_notes refusal place =
-    option_and_then (λ at. if at.0 == place then Some at.1 else None) (refused_at refusal)
+abbrev pub refusal_notes : BrokenRule → Notes
+refusal_notes rule place =
+    option_and_then (λ at. if at.0 == place then Some at.1 else None) (refused_at rule)
 
 -- ---- lines
 
@@ -188,8 +187,8 @@ abbrev pub accepted_listing : Code → List ℕ
 accepted_listing code = listing_with (share_notes code) code
 
 -- that of a refused program, with the refusal at its place
-abbrev pub refused_listing : Refusal → Code → List ℕ
-refused_listing refusal code = listing_with (refusal_notes refusal) code
+abbrev pub refused_listing : BrokenRule → Code → List ℕ
+refused_listing rule code = listing_with (refusal_notes rule) code
 
 -- each is an octet
 abbrev pub AreOctets : List ℕ → Type 0

@@ -22,7 +22,7 @@ pub enum FaultKind {
 #[derive(Debug, Drop, Error)]
 pub enum ListingError {
     /// An allocation was refused.
-    #[error("memory was refused")]
+    #[error("an allocation was refused")]
     Memory,
     /// What stands at this place can't stand there: a token, a label that is there a second time or
     /// a name that is no label. Or the program that is listed exceeds the limits of programs; then

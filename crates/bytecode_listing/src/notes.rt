@@ -1,10 +1,11 @@
 // What a listing says of instructions beside what they refer to, as comments.
-ghost use Rattle.std.specs.Prelude.{◌≡◌, ◌++◌, OnOk, codes, option_map};
-ghost use Rattle.bytecode_listing.specs.Listing.{added, comment, refusal_notes, refused_at, scaled_text, share_text};
+ghost use Rattle.std.specs.Prelude.{◌≡◌, ◌++◌, OnOk, codes};
+ghost use Rattle.bytecode_listing.specs.Listing.{added, comment, kind_text, refusal_notes, scaled_text, share_text};
 ghost use Rattle.bytecode_listing.specs.Noted.{notes_in};
 
 use crate::writing::put_number;
-use bytecode_verifier::{Refusal, Share};
+use bytecode_verifier::{Refusal as BrokenRule, Share};
+use refusals::Refusal;
 use std::alloc::AllocError;
 
 /// What is said of instructions.
@@ -15,7 +16,7 @@ pub enum Notes<'a> {
     /// What each adds to the budget.
     Shares(&'a [Share]),
     /// Why the program is refused, at the place of that.
-    Refusal(&'a Refusal),
+    Refusal(&'a BrokenRule),
 }
 
 /// Appends what is said of the instruction at a place, as a comment.
@@ -29,7 +30,7 @@ pub fn put_note(out: &mut Vec<u8>, notes: Notes<'_>, place: usize) -> Result<(),
             Some(share) => put_share(out, *share),
             None => Ok(()),
         },
-        Notes::Refusal(refusal) => put_refusal(out, refusal, place),
+        Notes::Refusal(rule) => put_refusal(out, rule, place),
     }
 }
 
@@ -64,31 +65,23 @@ fn put_scaled(out: &mut Vec<u8>, loops: u32, number: u64) -> Result<(), AllocErr
 }
 
 // Appends the comment of a refusal, at its place.
-fn put_refusal(out: &mut Vec<u8>, refusal: &Refusal, place: usize) -> Result<(), AllocError>
+fn put_refusal(out: &mut Vec<u8>, rule: &BrokenRule, place: usize) -> Result<(), AllocError>
     ensures { OnOk result
-        (out.new.items ≡ out.old.items ++ comment (refusal_notes refusal.now place)) }
+        (out.new.items ≡ out.old.items ++ comment (refusal_notes rule.now place)) }
 {
-    match refused_at(refusal) {
-        Some((at, words)) if at == place => {
-            out.extend_from_slice(b" ; ")?;
-            out.extend_from_slice(words.as_bytes())
-        }
+    let refusal = Refusal::from(*rule);
+    match refusal.place() {
+        Some(at) if at == place => put_kind(out, &refusal),
         _ => Ok(()),
     }
 }
 
-// Where a program is refused, and the number and the name of that; None where memory was refused.
-fn refused_at(refusal: &Refusal) -> Option<(usize, &'static str)>
-    ensures { option_map (λ x. (x.0, x.1.now)) result ≡ refused_at refusal.now }
+// Appends the number and the name of a refusal.
+fn put_kind(out: &mut Vec<u8>, refusal: &Refusal) -> Result<(), AllocError>
+    ensures { OnOk result (out.new.items ≡ out.old.items ++ (codes " ; " ++ kind_text refusal.now)) }
 {
-    match refusal {
-        Refusal::Memory => None,
-        Refusal::Index { place } => Some((*place, "refused 21 Index")),
-        Refusal::Form { place } => Some((*place, "refused 22 Form")),
-        Refusal::End { place } => Some((*place, "refused 23 End")),
-        Refusal::Loop { place } => Some((*place, "refused 24 Loop")),
-        Refusal::Jump { place } => Some((*place, "refused 25 Jump")),
-        Refusal::NoPart { place } => Some((*place, "refused 26 NoPart")),
-        Refusal::Stack { place } => Some((*place, "refused 27 Stack")),
-    }
+    out.extend_from_slice(b" ; refused ")?;
+    put_number(out, u64::from(refusal.number()))?;
+    out.push(b' ')?;
+    out.extend_from_slice(refusal.name().as_bytes())
 }

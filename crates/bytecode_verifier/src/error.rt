@@ -6,7 +6,7 @@ use std::alloc::{AllocError, AllocFailed};
 use thiserror::Error;
 
 /// Why a program isn't accepted: the rule that is broken, and the place of the instruction.
-#[derive(Debug, Drop, Error)]
+#[derive(Clone, Copy, Debug, Drop, Error)]
 pub enum Refusal {
     /// An allocation was refused.
     #[error("an allocation was refused")]
