@@ -9,12 +9,9 @@ use Rattle.std.specs.declared.alloc.AllocError.{AllocError}
 use Rattle.std.specs.List.{HoldsAt}
 use Rattle.std.specs.Cow.{cow_slice_items}
 use Rattle.std.specs.Option.{option_and_then}
-use Rattle.mime_tree.specs.PartTree as tree
 use Rattle.octets.specs.Limits.{max_value}
 use Rattle.mime_decode.specs.Content.{digest_of}
-use Rattle.mime_decode.specs.Mail.{Mail, Part, IsMail, mail_of, part_of}
-use Rattle.mime_decode.specs.Scope.{numbers_from, visited}
-use Rattle.mime_decode.proofs.MailLemmas.{parts_are, parts_number}
+use Rattle.mime_decode.specs.Mail.{Mail, Part}
 use Rattle.sieve_vm.specs.declared.frame.Frame as code
 use Rattle.sieve_vm.specs.State.{Frame, current_part}
 use Rattle.sieve_vm.specs.Visits.{Visits, frame_of, frames_of, HasContent, IsKnown, part_in}
