@@ -3,7 +3,7 @@ use Rattle.std.proofs.Common.{◌≡◌, ◌∙◌, ◌+◌, ap, ℕ, zero, suc,
 use Rattle.std.proofs.Math.Seq.{take-add}
 use Rattle.std.proofs.KnownBytes.{Consumes-kept, Consumes-nil, Consumes-trans}
 use Rattle.encodings.specs.Device.{counted}
-use Rattle.depot_cli.specs.Supply.{HasFailedToGive, HasGiven, HasStoppedGiving, Supply}
+use Rattle.encodings.specs.Supply.{HasFailedToGive, HasGiven, HasStoppedGiving, Supply}
 
 -- counting in two steps is counting at once
 pub counted-counted : (n m count : ℕ) → counted m (counted n count) ≡ counted (n + m) count

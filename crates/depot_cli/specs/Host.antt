@@ -2,7 +2,7 @@
 use Rattle.std.specs.Prelude.{◌≡◌, ◌⊎◌, ℕ, List, [], ◌∷◌, ◌++◌, Option, None, Some, IfSome, OnSome}
 use Rattle.std.specs.Option.{option_map}
 use Rattle.encodings.specs.Device.{Output, counted}
-use Rattle.depot_cli.specs.Supply.{Supply}
+use Rattle.encodings.specs.Supply.{Supply}
 use Rattle.refusals.specs.declared.refusal.Refusal.{Refusal}
 use Rattle.refusals.specs.declared.refusal.Refusal.TheVariants.{Memory, Read, Write}
 use Rattle.depot_cli.specs.declared.host.Input.{Input}

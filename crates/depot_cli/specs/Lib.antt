@@ -1,5 +1,4 @@
 pub mod Limits
-pub mod Supply
 pub mod LimitedReading
 pub mod Host
 pub mod Printed

@@ -2,8 +2,7 @@
 ghost use Rattle.std.specs.Prelude.{◌≡◌, suc, IfErr, IfOk, OnErr, OnOk};
 ghost use Rattle.depot_cli.specs.Host.{HasKept, HasNotMade, HasNotOpened, HostState, IsFreshOutput, IsFreshSupply, makes, opens, origin_of, with_call, with_faults, with_supply};
 
-use crate::source::Source;
-use encodings::{DeviceFailed, Sink};
+use encodings::{DeviceFailed, Sink, Source};
 use refusals::Refusal;
 use std::alloc::Global;
 

@@ -30,7 +30,6 @@ mod process_words;
 mod reading;
 mod running;
 mod saving;
-mod source;
 mod system;
 mod task;
 
@@ -48,6 +47,5 @@ pub use reading::read_limited;
 pub use refusals::Refusal;
 pub use running::{Next, read_input, run, tell_usage};
 pub use saving::{Saving, save};
-pub use source::{OfRead, Source};
 pub use system::System;
 pub use task::{Reply, Task, perform, put_reply, reply_to};

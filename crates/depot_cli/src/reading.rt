@@ -1,10 +1,9 @@
 // Reading up to a limit.
 ghost use Rattle.std.specs.Prelude.{◌≡◌, ◌+◌, ◌<◌, ◌≤◌, drop, take, vec_len, IfErr, IfOk, OnErr, OnOk};
 ghost use Rattle.depot_cli.specs.LimitedReading.{HasGivenUp};
-ghost use Rattle.depot_cli.specs.Supply.{HasEnded, HasFailedToGive, HasGiven};
+ghost use Rattle.encodings.specs.Supply.{HasEnded, HasFailedToGive, HasGiven};
 
-use crate::source::Source;
-use encodings::DeviceFailed;
+use encodings::{DeviceFailed, Source};
 use refusals::Refusal;
 use std::alloc::{AllocError, Global};
 

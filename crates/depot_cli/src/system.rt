@@ -8,8 +8,7 @@ ghost use Rattle.refusals.specs.declared.refusal.Refusal.TheVariants.{Memory};
 
 use crate::host::{Host, Input};
 use crate::new_file::{NewFile, begin, discard, persist};
-use crate::source::OfRead;
-use encodings::DeviceFailed;
+use encodings::{DeviceFailed, OfRead};
 use refusals::Refusal;
 use std::alloc::Global;
 use std::fs::Files;

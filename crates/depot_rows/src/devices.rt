@@ -1,7 +1,6 @@
 // Devices that do little at a time, and fail.
 
-use depot_cli::{OfRead, Source};
-use encodings::{DeviceFailed, OfWrite, Sink};
+use encodings::{DeviceFailed, OfRead, OfWrite, Sink, Source};
 use std::io;
 use std::io::{Error, ErrorKind, Read, Write};
 

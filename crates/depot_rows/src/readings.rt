@@ -1,7 +1,8 @@
 // Reading up to a limit.
 
 use crate::devices::Interrupted;
-use depot_cli::{OfRead, Refusal, read_limited};
+use depot_cli::{Refusal, read_limited};
+use encodings::OfRead;
 use mime_decode::MAX_MESSAGE;
 use std::io;
 use std::io::{Error, ErrorKind, Read};

@@ -4,8 +4,8 @@ ghost use Rattle.std.specs.Option.{option_copied};
 ghost use Rattle.depot_cli.specs.Host.{makes, opens, origin_of, with_call, with_faults};
 ghost use Rattle.depot_rows.specs.Shelf.{call_of, state_of};
 
-use depot_cli::{Host, Input, OfRead, Refusal};
-use encodings::{DeviceFailed, OfWrite};
+use depot_cli::{Host, Input, Refusal};
+use encodings::{DeviceFailed, OfRead, OfWrite};
 use std::alloc::{AllocError, Global};
 use std::io;
 use std::io::Write;

@@ -1,5 +1,5 @@
 use Rattle.std.proofs.Common.{◌+◌, ◌-◌, ◌≤◌, take, vec_len}
-use Rattle.depot_cli.specs.Supply.{HasGiven}
+use Rattle.encodings.specs.Supply.{HasGiven}
 use Rattle.depot_cli.proofs.reading.read_limited.Given as goal
 
 abbrev pub invariant-pieces : goal.invariant-pieces

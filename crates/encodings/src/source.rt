@@ -1,9 +1,9 @@
 // Sources, and a reader as one.
 ghost use Rattle.std.specs.Prelude.{◌≡◌, ◌<◌, ◌≤◌, false, length, take, IfOk, OnErr};
 ghost use Rattle.std.specs.Io.KnownBytes.{Consumes, IsAtEnd, Keeps};
-ghost use Rattle.depot_cli.specs.Supply.{HasEnded, HasFailedToGive, HasGiven, Supply};
+ghost use Rattle.encodings.specs.Supply.{HasEnded, HasFailedToGive, HasGiven, Supply};
 
-use encodings::{DeviceFailed, MAX_TRIES};
+use crate::sink::{DeviceFailed, MAX_TRIES};
 use std::io::{ErrorKind, Read};
 
 /// What gives octets.
