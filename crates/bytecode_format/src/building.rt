@@ -7,9 +7,8 @@ ghost use Rattle.bytecode_format.specs.Spelling.{string, Fits, IsProgram};
 
 use crate::error::FormatError;
 use crate::instruction::Instruction;
-use crate::program::{
-    MAX_INSTRUCTIONS, MAX_PROGRAM, MAX_TABLE, MAX_VARIABLES, OPENING, Program, is_version,
-};
+use crate::limits::MAX_VARIABLES;
+use crate::program::{MAX_INSTRUCTIONS, MAX_PROGRAM, MAX_TABLE, OPENING, Program, is_version};
 use octets::{MAX_STRING, Octets};
 
 /// How many octets the version takes.
@@ -90,7 +89,7 @@ impl Program {
         } in IfErr result
             (λ e. (e ≡ FormatError.Spelling) × ¬ IsProgram code) }
     {
-        if !is_version(version) || variables > MAX_VARIABLES {
+        if !is_version(version) || usize::from(variables) > MAX_VARIABLES {
             return Err(FormatError::Spelling);
         }
         if numbers.len() > MAX_TABLE

@@ -7,16 +7,13 @@ use octets::Octets;
 use std::marker::Model;
 
 /// The version of the format that has all operations but Take.
-const VERSION_ONE: u8 = 1;
+pub const VERSION_ONE: u8 = 1;
 
 /// The version that has all operations.
-const VERSION_TWO: u8 = 2;
+pub const VERSION_TWO: u8 = 2;
 
 /// The most octets that a program has.
 pub(crate) const MAX_PROGRAM: usize = 4_194_304;
-
-/// The most variables that a program has.
-pub(crate) const MAX_VARIABLES: u16 = 128;
 
 /// The most numbers that a program has, and the most strings.
 pub(crate) const MAX_TABLE: usize = 65_535;

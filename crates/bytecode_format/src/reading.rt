@@ -8,7 +8,8 @@ ghost use Rattle.bytecode_format.specs.Readers.{Gives, after, octet_at, number_a
 
 use crate::error::FormatError;
 use crate::instruction::Instruction;
-use crate::program::{MAX_INSTRUCTIONS, MAX_PROGRAM, MAX_VARIABLES, OPENING, Program, is_version};
+use crate::limits::MAX_VARIABLES;
+use crate::program::{MAX_INSTRUCTIONS, MAX_PROGRAM, OPENING, Program, is_version};
 use octets::{MAX_STRING, Octets};
 use std::alloc::Global;
 
@@ -116,7 +117,7 @@ fn counts_of(octets: &[u8]) -> Result<(Counts, &[u8]), FormatError>
     let (numbers, rest) = u16_of(rest)?;
     let (strings, rest) = u16_of(rest)?;
     let (instructions, rest) = u32_of(rest)?;
-    if variables > MAX_VARIABLES || instructions as usize > MAX_INSTRUCTIONS {
+    if usize::from(variables) > MAX_VARIABLES || instructions as usize > MAX_INSTRUCTIONS {
         return Err(FormatError::Spelling);
     }
     let counts = Counts {

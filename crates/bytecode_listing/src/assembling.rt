@@ -17,13 +17,13 @@ use octets::Octets;
 use std::alloc::Global;
 
 /// The lowest version of the format.
-const LOWEST_VERSION: u64 = 1;
+const LOWEST_VERSION: u64 = bytecode_format::VERSION_ONE as u64;
 
 /// The highest version of the format.
-const HIGHEST_VERSION: u64 = 2;
+const HIGHEST_VERSION: u64 = bytecode_format::VERSION_TWO as u64;
 
 /// The most variables that a program has.
-const MAX_VARIABLES: u64 = 128;
+const MAX_VARIABLES: u64 = bytecode_format::MAX_VARIABLES as u64;
 
 // Reads the table of numbers.
 fn numbers_of(alloc: Global, octets: &[u8]) -> Result<(Vec<u64>, &[u8]), ReadError>

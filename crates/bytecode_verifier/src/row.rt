@@ -8,19 +8,19 @@ use bytecode_format::{
 use octets::MAX_VALUE;
 
 /// The most strings in the lists of a test.
-const MAX_TEST_STRINGS: u16 = 512;
+const MAX_TEST_STRINGS: u16 = bytecode_format::MAX_TEST_STRINGS as u16;
 
 /// The most texts that are joined.
-const MAX_SEGMENTS: u32 = 256;
+const MAX_SEGMENTS: u32 = bytecode_format::MAX_SEGMENTS as u32;
 
 /// How many captures there are.
-const CAPTURES: u32 = 10;
+const CAPTURES: u32 = glob_match::MAX_CAPTURES as u32;
 
 /// The version that has all operations.
-const VERSION_TWO: u8 = 2;
+const VERSION_TWO: u8 = bytecode_format::VERSION_TWO;
 
 /// The most loops that are open at a place.
-pub const MAX_LOOPS: u32 = 3;
+pub const MAX_LOOPS: u32 = bytecode_format::MAX_LOOPS as u32;
 
 /// Which values a field of an instruction takes.
 #[derive(Clone, Copy)]

@@ -16,21 +16,6 @@ use Rattle.depot_actions.specs.Drafts.{part_draft, stored_draft}
 use Rattle.depot_actions.specs.Filing.{AreKept, IsStored, Keeps, KeepsAction}
 use Rattle.depot_actions.specs.declared.stored_part.StoredPart.{StoredPart}
 
--- ---- a part of the tree is one of the mail
-
-at_mapped : (P : Part → Type 0) (parts : List tree.Part) (place : ℕ) → place < length parts → HoldsAt (λ (p : tree.Part). P (part_of p)) parts place → HoldsAt P (map part_of parts) place
-at_mapped P [] place lt h = absurd (omega (arith, lt))
-at_mapped P (part ∷ parts) zero lt h = λ d. h part
-at_mapped P (part ∷ parts) (suc place) lt h = at_mapped P parts place (omega (arith, lt)) h
-
-pub tree_number : (mail : Mail) → mail ≡ mail_of mail.octets → length (tree.tree_of mail.octets) ≡ length mail.parts
-tree_number mail is = sym (ap (λ (m : Mail). length m.parts) is ∙ parts_number mail.octets)
-
-pub at_part : (mail : Mail) → mail ≡ mail_of mail.octets → (P : Part → Type 0) (place : ℕ) → place < length mail.parts → HoldsAt (λ (p : tree.Part). P (part_of p)) (tree.tree_of mail.octets) place → HoldsAt P mail.parts place
-at_part mail is P place lt h =
-    subst (λ parts. HoldsAt P parts place) (sym (ap (λ (m : Mail). m.parts) is ∙ parts_are mail.octets))
-    (at_mapped P (tree.tree_of mail.octets) place (omega (arith, lt, tree_number mail is)) h)
-
 -- ---- what is kept
 
 abbrev nothing : Option StoredPart

@@ -14,7 +14,7 @@ use refusals::Refusal;
 use std::alloc::Global;
 
 /// The version that programs get.
-const LATEST_VERSION: u8 = 2;
+const LATEST_VERSION: u8 = bytecode_format::VERSION_TWO;
 
 /// Of the users whose programs have another version the programs with the latest one.
 ///

@@ -4,14 +4,9 @@ use Rattle.std.specs.List.{HoldsAt}
 use Rattle.std.proofs.lemmas.List.{length-map}
 use Rattle.mime_tree.specs.PartTree as tree
 use Rattle.mime_decode.specs.Mail.{Mail, Part, mail_of, part_of}
-use Rattle.mime_decode.proofs.MailLemmas.{parts_are}
+use Rattle.mime_decode.proofs.MailLemmas.{at_mapped, parts_are}
 use Rattle.mime_params.specs.declared.media.MediaType.{MediaType}
 use Rattle.depot_cli.specs.Printed.{line, part_text, parts_text_from}
-
-at_mapped : (P : Part → Type 0) (parts : List tree.Part) (place : ℕ) → place < length (map part_of parts) → HoldsAt (λ part. P (part_of part)) parts place → HoldsAt P (map part_of parts) place
-at_mapped P [] place lt h = absurd (omega (arith, lt))
-at_mapped P (part ∷ parts) zero lt h = λ d. h part
-at_mapped P (part ∷ parts) (suc place) lt h = at_mapped P parts place (omega (arith, lt)) h
 
 -- the parts of a mail are those of its tree
 pub parts_of_tree : {mail : Mail} (octets : List ℕ) → mail ≡ mail_of octets → mail.parts ≡ map part_of (tree.tree_of octets)
@@ -25,7 +20,7 @@ pub holds_at : {mail : Mail} (octets : List ℕ) (P : Part → Type 0) (place : 
     → HoldsAt (λ part. P (part_of part)) (tree.tree_of octets) place → HoldsAt P mail.parts place
 holds_at {mail} octets P place is lt at =
     let parts = parts_of_tree octets is in
-    subst (λ all. HoldsAt P all place) (sym parts) (at_mapped P (tree.tree_of octets) place (subst (λ all. place < length all) parts lt) at)
+    subst (λ all. HoldsAt P all place) (sym parts) (at_mapped P (tree.tree_of octets) place (omega (arith, lt, as_many octets is)) at)
 
 -- a line was added of what is known of a part: it is the part's line
 pub line_added : {T E : Type 0} (r : Result T E) (old new : List ℕ) (parts : List Part) (place depth : ℕ) (media : MediaType) (content : List ℕ)

@@ -13,25 +13,10 @@ use Rattle.header_fields.specs.Extent.{fields_extent}
 use Rattle.mime_tree.specs.PartTree as tree
 use Rattle.mime_decode.specs.Mail.{IsMail, Mail, Part, mail_of, part_of}
 use Rattle.mime_decode.specs.Scope.{Scope, current_or_root, first_and_below, parts_in_scope}
-use Rattle.mime_decode.proofs.MailLemmas.{parts_are, parts_number}
+use Rattle.mime_decode.proofs.MailLemmas.{at_part, tree_number}
 use Rattle.mail_matching.specs.Headers.{all_fields, headers_from, headers_in_scope}
 use Rattle.mail_matching.specs.HeaderTests.{fields_in_scope, has_field}
 use Rattle.mail_matching.proofs.Extents.{dropped_within, fields_few, headers_extent}
-
--- ---- the parts of a mail are those of its tree
-
-pub tree_number : (mail : Mail) → mail ≡ mail_of mail.octets → length (tree.tree_of mail.octets) ≡ length mail.parts
-tree_number mail is = sym (parts_number mail.octets) ∙ ap (λ (m : Mail). length m.parts) (sym is)
-
-at_mapped : (P : Part → Type 0) (parts : List tree.Part) (place : ℕ) → place < length parts → HoldsAt (λ part. P (part_of part)) parts place → HoldsAt P (map part_of parts) place
-at_mapped P [] place lt h = absurd (omega (arith, lt))
-at_mapped P (part ∷ parts) zero lt h = λ d. h part
-at_mapped P (part ∷ parts) (suc place) lt h = at_mapped P parts place (omega (arith, lt)) h
-
-pub at_part : (mail : Mail) → mail ≡ mail_of mail.octets → (P : Part → Type 0) (place : ℕ) → place < length mail.parts → HoldsAt (λ (p : tree.Part). P (part_of p)) (tree.tree_of mail.octets) place → HoldsAt P mail.parts place
-at_part mail is P place lt h =
-    subst (λ parts. HoldsAt P parts place) (sym (ap (λ (m : Mail). m.parts) is ∙ parts_are mail.octets))
-    (at_mapped P (tree.tree_of mail.octets) place (omega (arith, lt, tree_number mail is)) h)
 
 -- ---- an element that is there
 

@@ -10,7 +10,7 @@ use Rattle.header_fields.specs.Extent.{fields_extent}
 use Rattle.mime_tree.specs.PartTree as tree
 use Rattle.mime_tree.specs.Order as order
 use Rattle.mime_tree.proofs.Places.{tree_extent, tree_nests, tree_within}
-use Rattle.mime_decode.specs.Mail.{Part, Mail, IsMail, IsReadable, IsWithin, Nests, mail_of, part_of, parts_extent, size_of}
+use Rattle.mime_decode.specs.Mail.{Part, Mail, IsMail, IsReadable, IsWithin, below_of, mail_of, part_of, parts_extent, size_of}
 use Rattle.mime_tree.specs.Refusals.{IsTreeRefusal}
 use Rattle.mime_tree.specs.declared.error.MessageError.{MessageError}
 use Rattle.mime_tree.specs.declared.error.MessageError.TheVariants.{Memory, MessageTooLarge, TooManyParts}
@@ -46,7 +46,7 @@ from_tree : (parts : List tree.Part) (place : ℕ) (part : Part) → slice_get (
 from_tree parts place part e = of_option parts place part (slice_get parts place) refl (sym (slice_get-map part_of parts place) ∙ e)
 
 -- parts of a mail nest as those of the tree do
-nests_as : (parts : List tree.Part) (place : ℕ) (part : tree.Part) → order.Nests parts place part → Nests (map part_of parts) place (part_of part)
+nests_as : (parts : List tree.Part) (place : ℕ) (part : tree.Part) → order.Nests order.below_of parts place part → order.Nests below_of (map part_of parts) place (part_of part)
 nests_as parts place part nests =
     let number = length-map parts part_of in
     record {
@@ -58,11 +58,11 @@ nests_as parts place part nests =
           omega (arith, stays, below);
     }
 
-mail_nests : (octets : List ℕ) (place : ℕ) (part : Part) → slice_get (mail_of octets).parts place ≡ Some part → Nests (mail_of octets).parts place part
+mail_nests : (octets : List ℕ) (place : ℕ) (part : Part) → slice_get (mail_of octets).parts place ≡ Some part → order.Nests below_of (mail_of octets).parts place part
 unfolding mail_of
 mail_nests octets place part e =
     let from = from_tree (tree.tree_of octets) place part e in
-    subst (Nests (map part_of (tree.tree_of octets)) place) from.same (nests_as (tree.tree_of octets) place from.part_in (tree_nests octets place from.part_in from.here))
+    subst (order.Nests below_of (map part_of (tree.tree_of octets)) place) from.same (nests_as (tree.tree_of octets) place from.part_in (tree_nests octets place from.part_in from.here))
 
 within_as : (octets : List ℕ) (part : tree.Part) → order.IsInMessage octets part → IsWithin (mail_of octets) (part_of part)
 unfolding mail_of
@@ -124,10 +124,19 @@ holds_number {octets} {parts} h = sym (ap length (holds_parts h) ∙ length-map 
 pub holds_mail : {octets : List ℕ} {parts : List tree.Part} {mail : Mail} → Holds octets parts mail → IsMail mail
 holds_mail {octets} h = subst IsMail h.mail_is (is_mail octets h.readable)
 
-at_mapped : (P : Part → Type 0) (parts : List tree.Part) (place : ℕ) → place < length parts → HoldsAt (λ part. P (part_of part)) parts place → HoldsAt P (map part_of parts) place
+pub at_mapped : (P : Part → Type 0) (parts : List tree.Part) (place : ℕ) → place < length parts → HoldsAt (λ part. P (part_of part)) parts place → HoldsAt P (map part_of parts) place
 at_mapped P [] place lt h = absurd (omega (arith, lt))
 at_mapped P (part ∷ parts) zero lt h = λ d. h part
 at_mapped P (part ∷ parts) (suc place) lt h = at_mapped P parts place (omega (arith, lt)) h
+
+-- the parts of a mail are those of its tree
+pub tree_number : (mail : Mail) → mail ≡ mail_of mail.octets → length (tree.tree_of mail.octets) ≡ length mail.parts
+tree_number mail is = sym (parts_number mail.octets) ∙ ap (λ (m : Mail). length m.parts) (sym is)
+
+pub at_part : (mail : Mail) → mail ≡ mail_of mail.octets → (P : Part → Type 0) (place : ℕ) → place < length mail.parts → HoldsAt (λ (p : tree.Part). P (part_of p)) (tree.tree_of mail.octets) place → HoldsAt P mail.parts place
+at_part mail is P place lt h =
+    subst (λ parts. HoldsAt P parts place) (sym (ap (λ (m : Mail). m.parts) is ∙ parts_are mail.octets))
+    (at_mapped P (tree.tree_of mail.octets) place (omega (arith, lt, tree_number mail is)) h)
 
 -- what holds of a part of the tree holds of that of the mail
 pub holds_at : {octets : List ℕ} {parts : List tree.Part} {mail : Mail} (P : Part → Type 0) (place : ℕ) → Holds octets parts mail → place < length mail.parts → HoldsAt (λ part. P (part_of part)) parts place → HoldsAt P mail.parts place

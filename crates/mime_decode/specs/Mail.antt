@@ -5,6 +5,7 @@ use Rattle.header_fields.specs.Fields.{Field}
 use Rattle.header_fields.specs.Extent.{fields_extent}
 use Rattle.mime_params.specs.declared.media.MediaType.{MediaType}
 use Rattle.mime_params.specs.declared.encoding.TransferEncoding.{TransferEncoding}
+use Rattle.mime_tree.specs.Order.{Nests}
 use Rattle.mime_tree.specs.PartTree as tree
 use Rattle.mime_tree.specs.Readable as readable
 use Rattle.mime_decode.specs.Content.{content_of}
@@ -34,10 +35,9 @@ size_of mail = length mail.octets
 abbrev pub parts_extent : List Part → ℕ
 parts_extent parts = sum_by (λ (p : Part). fields_extent p.fields) parts
 
--- the parts below a part come right after it, and below one of those are none but they
-pub record Nests (parts : List Part) (place : ℕ) (part : Part) : Type 0 where
-  pub within : place + part.below < length parts
-  pub inner : (other : ℕ) (inside : Part) → place < other → other ≤ place + part.below → slice_get parts other ≡ Some inside → other + inside.below ≤ place + part.below
+-- how many parts are below a part
+abbrev pub below_of : Part → ℕ
+below_of part = part.below
 
 -- a part's content is no longer than its body, and that no longer than the message
 pub record IsWithin (mail : Mail) (part : Part) : Type 0 where
@@ -49,7 +49,7 @@ pub record IsMail (mail : Mail) : Type 0 where
   pub small : size_of mail ≤ max_message
   pub has_root : 0 < length mail.parts
   pub few_parts : length mail.parts ≤ max_parts
-  pub nests : (place : ℕ) (part : Part) → slice_get mail.parts place ≡ Some part → Nests mail.parts place part
+  pub nests : (place : ℕ) (part : Part) → slice_get mail.parts place ≡ Some part → Nests below_of mail.parts place part
   pub within : (place : ℕ) (part : Part) → slice_get mail.parts place ≡ Some part → IsWithin mail part
   pub fields : parts_extent mail.parts ≤ size_of mail
 

@@ -13,7 +13,7 @@ use Rattle.header_fields.proofs.Lengths.{body_start_within, values_fit}
 use Rattle.mime_params.specs.declared.media.MediaType.{MediaType}
 use Rattle.mime_tree.specs.PartTree.{Part, Stretch, text_plain, default_below, children_of, part_at, with_below, parts_of, tree_of}
 use Rattle.mime_tree.specs.Readable.{IsTree}
-use Rattle.mime_tree.specs.Order.{AreApart, parts_extent, Nests, IsInMessage, IsWhole}
+use Rattle.mime_tree.specs.Order.{AreApart, parts_extent, Nests, below_of, IsInMessage, IsWhole}
 use Rattle.mime_tree.proofs.Ranges.{IsIn, in_itself, in_through, AreIn, raw_stretch, children_stand}
 use Rattle.mime_tree.proofs.Below.{parts_more}
 
@@ -102,7 +102,7 @@ extent_fits whole from to (part ∷ parts) fit apart =
 -- ---- the parts below a part
 
 abbrev AllNest : List Part → Type 0
-AllNest parts = (place : ℕ) (part : Part) → slice_get parts place ≡ Some part → Nests parts place part
+AllNest parts = (place : ℕ) (part : Part) → slice_get parts place ≡ Some part → Nests below_of parts place part
 
 get_left : (parts others : List Part) (place : ℕ) → place < length parts → slice_get (parts ++ others) place ≡ slice_get parts place
 get_left [] others place lt = absurd (omega arith)
@@ -207,7 +207,7 @@ tree_whole octets part is =
       raw = sym (ap (λ (p : Part). p.raw) same);
     }
 
-pub tree_nests : (octets : List ℕ) (place : ℕ) (part : Part) → slice_get (tree_of octets) place ≡ Some part → Nests (tree_of octets) place part
+pub tree_nests : (octets : List ℕ) (place : ℕ) (part : Part) → slice_get (tree_of octets) place ≡ Some part → Nests below_of (tree_of octets) place part
 tree_nests octets = parts_nest (max_depth - 1) text_plain (message octets)
 
 -- the header of a part of a tree is no longer than it

@@ -14,10 +14,17 @@ AreApart from to (part ∷ parts) = (from ≤ part.place) × AreApart (part.plac
 abbrev pub parts_extent : List Part → ℕ
 parts_extent parts = sum_by (λ (part : Part). fields_extent part.header.fields) parts
 
--- the parts below a part come right after it, and below one of those are none but they
-pub record Nests (parts : List Part) (place : ℕ) (part : Part) : Type 0 where
-  pub within : place + part.below < length parts
-  pub inner : (other : ℕ) (inside : Part) → place < other → other ≤ place + part.below → slice_get parts other ≡ Some inside → other + inside.below ≤ place + part.below
+-- by how many parts are below one: those below a part come right after it, and below one of those
+-- are none but they
+module _ {A : Type 0} (below : A → ℕ) where
+  pub record Nests (parts : List A) (place : ℕ) (part : A) : Type 0 where
+    pub within : place + below part < length parts
+    pub inner : (other : ℕ) (inside : A) → place < other → other ≤ place + below part
+        → slice_get parts other ≡ Some inside → other + below inside ≤ place + below part
+
+-- how many parts are below a part
+abbrev pub below_of : Part → ℕ
+below_of part = part.below
 
 -- a part's octets stand at its place in the message, and its body is no longer than they
 pub record IsInMessage (octets : List ℕ) (part : Part) : Type 0 where

@@ -2,7 +2,7 @@
 ghost use Rattle.std.specs.Prelude.{◌≡◌, ◌≤◌, ℕ, All, List, length, map, slice_get, Some};
 ghost use Rattle.mime_tree.specs.PartTree.{Part, tree_of};
 ghost use Rattle.mime_tree.specs.Enclosing.{Enclosed, IsEnded, enclosed_in};
-ghost use Rattle.mime_tree.specs.Order.{AreApart, IsInMessage, IsWhole, Nests, parts_extent};
+ghost use Rattle.mime_tree.specs.Order.{AreApart, IsInMessage, IsWhole, Nests, below_of, parts_extent};
 
 /// The headers of different parts are disjoint.
 pub fn headers_are_apart()
@@ -23,7 +23,7 @@ pub fn first_part_is_the_message()
 /// The parts below a part come right after it, and below one of those are none but they.
 pub fn parts_nest()
     ensures { (octets : List ℕ) (place : ℕ) (part : Part) → slice_get (tree_of octets) place
-        ≡ Some part → Nests (tree_of octets) place part }
+        ≡ Some part → Nests below_of (tree_of octets) place part }
 {}
 
 /// Each part is a stretch of the message, where it says that it begins; its body is no longer than it, and it isn't too deep.

@@ -6,6 +6,7 @@ use Rattle.std.proofs.lemmas.Grind.{flat_map-append}
 use Rattle.std.proofs.Math.Seq.{take-append-add}
 use Rattle.octets.specs.Blank.{is_blank}
 use borrow.Rule.Slice.PartMut.{put_mid, post_of}
+use Rattle.text_lines.proofs.Slices.{take_join}
 use Rattle.quoted_printable.specs.QuotedPrintable.{escape_of, is_literal, joined, run_of, stands, token_of, tokens_of}
 use Rattle.quoted_printable.proofs.Encoded.{prefix_kept, run_ended, run_goes, run_stops, take_here, token_here, tokens_drop}
 
@@ -91,15 +92,6 @@ standing_tokens (suc n) (octet ∷ following ∷ rest) room lt fits stand =
       rw first (ap (λ l. octet ∷ l) more.0),
       rw (first, le-leb 1 room within) (omega (arith, goes)),
     )
-
-take_none : {A : Type 0} (n : ℕ) → take {A = A} n [] ≡ []
-take_none zero = refl
-take_none (suc n) = refl
-
-take_join : {A : Type 0} (n m : ℕ) (xs : List A) → take n xs ++ take m (drop n xs) ≡ take (n + m) xs
-take_join zero m xs = rw zero-add refl
-take_join (suc n) m [] = take_none m ∙ sym (take_none (suc n + m))
-take_join (suc n) m (x ∷ xs) = let e : suc n + m ≡ suc (n + m) = omega arith in rw (e, take_join n m xs) refl
 
 pub filled_run : (octets : List ℕ) (room : ℕ) (line new : List ℕ) (taken len n : ℕ) → IsFilled octets room line taken len → length new ≡ 112
     → n < length (drop taken octets) → len + n ≤ room → ((i : ℕ) → i < n → stands (get_or (drop taken octets) i 0) false ≡ true)

@@ -7,7 +7,7 @@ use Rattle.std.proofs.lemmas.List.{append_assoc, length-append}
 use Rattle.octets.specs.Blank.{is_blank}
 use Rattle.octets.specs.Escapes.{is_hex, octet_of_digits}
 use Rattle.quoted_printable.specs.QuotedPrintable.{decoding_of, unescaped}
-use Rattle.quoted_printable.specs.Pieces.{AreFor, Reads, StandsFor}
+use Rattle.quoted_printable.specs.Pieces.{AreFor, Reads, Decodes}
 use Rattle.quoted_printable.proofs.Decoded.{unescaped-other}
 use Rattle.quoted_printable.proofs.Heads.{decoded-escape, decoded-plain}
 
@@ -31,30 +31,30 @@ both_digits high low e = elim (cases_Bool (is_hex high)) [
 -- ---- one octet
 
 pub escape_stands : (text rest : List ℕ) (octet : ℕ) → 2 ≤ length text → Some octet ≡ octet_of_digits (get_or text 0 0) (get_or text 1 0) → rest ≡ drop 2 text
-    → StandsFor (61 ∷ text) octet rest
+    → Decodes (61 ∷ text) octet rest
 escape_stands [] rest octet long e back = absurd (omega arith)
 escape_stands (high ∷ []) rest octet long e back = absurd (omega arith)
 escape_stands (high ∷ low ∷ text) rest octet long e back =
     let (both, is) = digits_some high low octet e in
     let digits = both_digits high low both in
-    subst (λ l. StandsFor (61 ∷ high ∷ low ∷ text) octet l) (sym back)
+    subst (λ l. Decodes (61 ∷ high ∷ low ∷ text) octet l) (sym back)
     (record {
       line = rw both (ap (λ n. n ∷ unescaped text) (sym is));
       anywhere = λ after. decoded-escape high low (text ++ after) digits.0 digits.1 ∙ ap (λ n. n ∷ decoding_of (text ++ after)) (sym is);
       shorter = omega arith;
     })
 
-pub plain_stands : (text rest : List ℕ) (octet : ℕ) → text ≡ octet ∷ rest → octet ≢ 61 → is_blank octet ≡ false → StandsFor text octet rest
+pub plain_stands : (text rest : List ℕ) (octet : ℕ) → text ≡ octet ∷ rest → octet ≢ 61 → is_blank octet ≡ false → Decodes text octet rest
 plain_stands text rest octet e no_equals no_blank =
-    subst (λ l. StandsFor l octet rest) (sym e)
+    subst (λ l. Decodes l octet rest) (sym e)
     (record {
       line = unescaped-other octet rest no_equals;
       anywhere = λ after. decoded-plain octet (rest ++ after) (record { no_equals = no_equals; no_blank = no_blank });
       shorter = omega arith;
     })
 
-pub equals_stands : (text after rest : List ℕ) (first octet : ℕ) → text ≡ first ∷ after → first ≡ 61 → StandsFor (61 ∷ after) octet rest → StandsFor text octet rest
-equals_stands text after rest first octet e is stands = subst (λ l. StandsFor l octet rest) (sym (e ∙ ap (λ x. x ∷ after) is)) stands
+pub equals_stands : (text after rest : List ℕ) (first octet : ℕ) → text ≡ first ∷ after → first ≡ 61 → Decodes (61 ∷ after) octet rest → Decodes text octet rest
+equals_stands text after rest first octet e is stands = subst (λ l. Decodes l octet rest) (sym (e ∙ ap (λ x. x ∷ after) is)) stands
 
 pub no_blank : (octet : ℕ) → octet ≢ 32 → octet ≢ 9 → is_blank octet ≡ false
 no_blank octet no_space no_tab = rw (ne_eqb octet 32 no_space, ne_eqb octet 9 no_tab) refl
@@ -64,7 +64,7 @@ no_blank octet no_space no_tab = rw (ne_eqb octet 32 no_space, ne_eqb octet 9 no
 pub are_none : (text : List ℕ) → AreFor text [] text
 are_none text = record { line = refl; anywhere = λ after. refl; shorter = omega arith }
 
-pub are_more : (text octets rest left : List ℕ) (octet : ℕ) → AreFor text octets rest → StandsFor rest octet left → AreFor text (octets ++ octet ∷ []) left
+pub are_more : (text octets rest left : List ℕ) (octet : ℕ) → AreFor text octets rest → Decodes rest octet left → AreFor text (octets ++ octet ∷ []) left
 are_more text octets rest left octet so_far next = record {
   line = so_far.line ∙ ap (λ l. octets ++ l) next.line ∙ sym (append_assoc octets (octet ∷ []) (unescaped left));
   anywhere = λ after. so_far.anywhere after ∙ ap (λ l. octets ++ l) (next.anywhere after) ∙ sym (append_assoc octets (octet ∷ []) (decoding_of (left ++ after)));

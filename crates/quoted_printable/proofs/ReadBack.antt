@@ -8,7 +8,8 @@ use Rattle.std.proofs.lemmas.List.Elements.{All-head, All-tail}
 use Rattle.text_lines.proofs.FirstLine.{no_break_of}
 use Rattle.octets.specs.Blank.{is_blank}
 use Rattle.octets.specs.Escapes.{is_hex}
-use Rattle.quoted_printable.specs.QuotedPrintable.{IsOctets, decoding_of, encoding_of, first_line, hex_of, in_lines, is_last_line, is_literal, is_none, joined, run_of, soft_break, stands, token_of, tokens_of, tokens_of_line}
+use Rattle.octet_lanes.specs.Encoding.{IsOctets}
+use Rattle.quoted_printable.specs.QuotedPrintable.{decoding_of, encoding_of, first_line, hex_of, in_lines, is_last_line, is_literal, is_none, joined, run_of, soft_break, stands, token_of, tokens_of, tokens_of_line}
 use Rattle.quoted_printable.proofs.Encoded.{in_lines_none, length-tokens_of, run_some, tokens_drop}
 use Rattle.quoted_printable.proofs.Heads.{IsFirm, IsPlain, decoded-blank, decoded-escape, decoded-none, decoded-plain, decoded-soft, firm_after, firm_here}
 

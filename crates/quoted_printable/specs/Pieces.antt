@@ -66,7 +66,7 @@ HaveFed held (piece ∷ pieces) left was now =
     (held_next : List ℕ) × (next : List ℕ) × HasFed held piece held_next was next × HaveFed held_next pieces left next now
 
 -- A text begins with octets that stand for this one, whatever comes after it, and this is left after them.
-pub record StandsFor (text : List ℕ) (octet : ℕ) (rest : List ℕ) : Type 0 where
+pub record Decodes (text : List ℕ) (octet : ℕ) (rest : List ℕ) : Type 0 where
   pub line : unescaped text ≡ octet ∷ unescaped rest
   pub anywhere : (after : List ℕ) → decoding_of (text ++ after) ≡ octet ∷ decoding_of (rest ++ after)
   pub shorter : length rest < length text

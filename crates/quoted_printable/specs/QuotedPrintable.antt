@@ -114,7 +114,3 @@ in_lines (suc n) tokens = first_line tokens ++ in_lines n (drop (tokens_of_line 
 -- the quoted-printable text of octets: their tokens in lines, of which there are no more than octets
 unfoldable pub encoding_of : List ℕ → List ℕ
 encoding_of octets = in_lines (length octets) (tokens_of octets)
-
--- a list of octets
-abbrev pub IsOctets : List ℕ → Type 0
-IsOctets = All (λ octet. octet < 256)

@@ -1,7 +1,7 @@
 // Texts read.
 ghost use Rattle.std.specs.Prelude.{◌≡◌, ◌∷◌, ◌++◌, ◌<◌, ◌≤◌, IfOk, IfSome, OnOk, IsTrue, length, slice_index, take};
 ghost use Rattle.text_lines.specs.Lines.{text_line};
-ghost use Rattle.quoted_printable.specs.Pieces.{AreFor, Extends, StandsFor};
+ghost use Rattle.quoted_printable.specs.Pieces.{AreFor, Extends, Decodes};
 ghost use Rattle.quoted_printable.specs.QuotedPrintable.{decoded_line, decoding_of, ends_in_equals, unescaped};
 
 use crate::decoder::QpDecoder;
@@ -137,7 +137,7 @@ pub(crate) fn first_octets(text: &[u8]) -> ([u8; STRETCH], usize, &[u8])
 // The octet that the first ones of a text stand for, and what follows those; nothing where it depends on what comes after them.
 #[inline(always)]
 fn first_octet(text: &[u8]) -> Option<(u8, &[u8])>
-    ensures { IfSome result (λ read. StandsFor text.now read.0 read.1.now) }
+    ensures { IfSome result (λ read. Decodes text.now read.0 read.1.now) }
 {
     let (octet, after) = text.split_first()?;
     if *octet == EQUALS {
@@ -152,7 +152,7 @@ fn first_octet(text: &[u8]) -> Option<(u8, &[u8])>
 // The octet whose digits follow a `=`.
 #[inline(always)]
 fn after_equals(text: &[u8]) -> Option<(u8, &[u8])>
-    ensures { IfSome result (λ read. StandsFor (61 ∷ text.now) read.0 read.1.now) }
+    ensures { IfSome result (λ read. Decodes (61 ∷ text.now) read.0 read.1.now) }
 {
     if text.len() < 2 {
         return None;

@@ -1,6 +1,7 @@
 //! What holds of the definitions alone.
 ghost use Rattle.std.specs.Prelude.{◌≡◌, ◌++◌, ◌≤◌, ℕ, [], List, drop, length};
-ghost use Rattle.quoted_printable.specs.QuotedPrintable.{IsOctets, decoding_of, encoding_of, first_line, joined, tokens_of, tokens_of_line};
+ghost use Rattle.octet_lanes.specs.Encoding.{IsOctets};
+ghost use Rattle.quoted_printable.specs.QuotedPrintable.{decoding_of, encoding_of, first_line, joined, tokens_of, tokens_of_line};
 ghost use Rattle.quoted_printable.specs.Pieces.{HasFed, HaveFed};
 
 /// What was written is read back.

@@ -17,7 +17,7 @@ use sieve_check::{Checked, Command};
 use std::alloc::{AllocError, Global};
 
 /// The version of the format that programs are written in.
-const WRITTEN_VERSION: u8 = 2;
+const WRITTEN_VERSION: u8 = bytecode_format::VERSION_TWO;
 
 /// The program of a checked script: exactly its code, which is accepted, and whose run on every message ends with
 /// the final actions of the script's meaning.

@@ -20,7 +20,7 @@ use Rattle.bytecode_format.specs.Actions.{first_occurrences, with_implicit_keep,
 use Rattle.sieve_meaning.specs.declared.evaluator.Evaluator.{Evaluator}
 use Rattle.sieve_meaning.specs.declared.evaluator.Flow.{Flow}
 use Rattle.sieve_meaning.specs.declared.evaluator.Flow.TheVariants.{GoesOn, Stopped, Leaves}
-use Rattle.sieve_meaning.specs.Evaluation.{StandsFor, StandsAt, Gives}
+use Rattle.sieve_meaning.specs.Evaluation.{HasEvaluated, StandsAt, Gives}
 use Rattle.sieve_meaning.specs.Meaning.{Effects, after_turn, and_then, or_else, Ending, normal, stopped, broken, effects_of, followed_by, left, test_does, all_do, any_do, command_does, commands_do, choice_does, turns}
 use Rattle.sieve_meaning.proofs.Shapes.{form_for_every_part}
 
@@ -57,7 +57,7 @@ branches_bounded bs i b last lt is h = (subst AreBoundedBranches (first_branch b
 
 -- after a test that doesn't decide, what is left gives the verdict
 pub all_on : (mail : Mail) (part : Option ℕ) (ts : List Test) (i : ℕ) (t : Test) (value : Bool) (m : Evaluator) (f : Effects) → i < length ts → t ≡ get_or ts i t → Gives (test_does mail part (test_form t) f) value m → value ≡ true
-    → (x : Effects) × StandsFor x m × (all_do mail part (tests_of (map test_form (drop (i + 1) ts))) x ≡ all_do mail part (tests_of (map test_form (drop i ts))) f)
+    → (x : Effects) × HasEvaluated x m × (all_do mail part (tests_of (map test_form (drop (i + 1) ts))) x ≡ all_do mail part (tests_of (map test_form (drop i ts))) f)
 all_on mail part ts i t value m f lt is gives on =
     let v = test_does mail part (test_form t) f in
     let rest = tests_of (map test_form (drop (i + 1) ts)) in
@@ -66,7 +66,7 @@ all_on mail part ts i t value m f lt is gives on =
     (v.effects, gives.1, sym (ap (λ xs. all_do mail part xs f) (first_test ts i t lt is) ∙ step))
 
 pub any_on : (mail : Mail) (part : Option ℕ) (ts : List Test) (i : ℕ) (t : Test) (value : Bool) (m : Evaluator) (f : Effects) → i < length ts → t ≡ get_or ts i t → Gives (test_does mail part (test_form t) f) value m → value ≡ false
-    → (x : Effects) × StandsFor x m × (any_do mail part (tests_of (map test_form (drop (i + 1) ts))) x ≡ any_do mail part (tests_of (map test_form (drop i ts))) f)
+    → (x : Effects) × HasEvaluated x m × (any_do mail part (tests_of (map test_form (drop (i + 1) ts))) x ≡ any_do mail part (tests_of (map test_form (drop i ts))) f)
 any_on mail part ts i t value m f lt is gives on =
     let v = test_does mail part (test_form t) f in
     let rest = tests_of (map test_form (drop (i + 1) ts)) in
@@ -76,7 +76,7 @@ any_on mail part ts i t value m f lt is gives on =
 
 -- after a branch whose test is false, the branches that are left do what all of them do
 pub passed : (mail : Mail) (part : Option ℕ) (bs : List Branch) (i : ℕ) (b : Branch) (last : BranchForms) (value : Bool) (m : Evaluator) (f : Effects) → i < length bs → b ≡ get_or bs i b → Gives (test_does mail part (test_form b.test) f) value m → value ≡ false
-    → (x : Effects) × StandsFor x m × (choice_does mail part (branch_forms (drop (i + 1) bs) last) x ≡ choice_does mail part (branch_forms (drop i bs) last) f)
+    → (x : Effects) × HasEvaluated x m × (choice_does mail part (branch_forms (drop (i + 1) bs) last) x ≡ choice_does mail part (branch_forms (drop i bs) last) f)
 passed mail part bs i b last value m f lt is gives false_here =
     let v = test_does mail part (test_form b.test) f in
     let fails : v.value ≡ false = gives.0 ∙ false_here in
@@ -84,7 +84,7 @@ passed mail part bs i b last value m f lt is gives false_here =
     (v.effects, gives.1, sym (ap (λ x. choice_does mail part x f) (first_branch bs i b last lt is) ∙ step))
 
 -- after a command that goes on
-goes_on : (x : Ending) (flow : Flow) (m : Evaluator) → flow ≡ GoesOn → StandsAt x flow m → (f : Effects) × StandsFor f m × (x ≡ normal f)
+goes_on : (x : Ending) (flow : Flow) (m : Evaluator) → flow ≡ GoesOn → StandsAt x flow m → (f : Effects) × HasEvaluated f m × (x ≡ normal f)
 goes_on (normal f) GoesOn m e h = (f, h, refl)
 goes_on (normal f) Stopped m e h = absurd h
 goes_on (broken n f) GoesOn m e h = absurd h
@@ -96,7 +96,7 @@ goes_on (broken k f) (Leaves n) m e h = absurd cc
 goes_on (stopped f) (Leaves n) m e h = absurd h
 
 pub commands_on : (mail : Mail) (part : Option ℕ) (cs : List Command) (i : ℕ) (c : Command) (flow : Flow) (m : Evaluator) (f : Effects) → i < length cs → c ≡ get_or cs i c → StandsAt (command_does mail part (command_form c) f) flow m → flow ≡ GoesOn
-    → (x : Effects) × StandsFor x m × (commands_do mail part (commands_form (drop (i + 1) cs)) x ≡ commands_do mail part (commands_form (drop i cs)) f)
+    → (x : Effects) × HasEvaluated x m × (commands_do mail part (commands_form (drop (i + 1) cs)) x ≡ commands_do mail part (commands_form (drop i cs)) f)
 commands_on mail part cs i c flow m f lt is h on =
     let next = goes_on (command_does mail part (command_form c) f) flow m on h in
     let rest = commands_form (drop (i + 1) cs) in
@@ -109,7 +109,7 @@ branch_bounded bs i b last lt is h = (subst AreBoundedBranches (first_branch bs 
 
 -- a branch whose test is true is what is done
 pub taken : (mail : Mail) (part : Option ℕ) (bs : List Branch) (i : ℕ) (b : Branch) (last : BranchForms) (value : Bool) (m : Evaluator) (f : Effects) → i < length bs → b ≡ get_or bs i b → Gives (test_does mail part (test_form b.test) f) value m → value ≡ true
-    → (x : Effects) × StandsFor x m × (choice_does mail part (branch_forms (drop i bs) last) f ≡ commands_do mail part (commands_form b.block.items) x)
+    → (x : Effects) × HasEvaluated x m × (choice_does mail part (branch_forms (drop i bs) last) f ≡ commands_do mail part (commands_form b.block.items) x)
 taken mail part bs i b last value m f lt is gives true_here =
     let v = test_does mail part (test_form b.test) f in
     let holds : v.value ≡ true = gives.0 ∙ true_here in
@@ -121,7 +121,7 @@ pub none_left : (mail : Mail) (part : Option ℕ) (bs : List Branch) (i : ℕ) (
 none_left mail part bs i last e le = ap (λ x. choice_does mail part (branch_forms x last) e) (drop_all i bs le)
 
 -- an evaluator at an ending stands for what was done by then
-pub stood : (ending : Ending) (flow : Flow) (m : Evaluator) → StandsAt ending flow m → StandsFor (effects_of ending) m
+pub stood : (ending : Ending) (flow : Flow) (m : Evaluator) → StandsAt ending flow m → HasEvaluated (effects_of ending) m
 stood (normal e) GoesOn m h = h
 stood (normal e) Stopped m h = absurd h
 stood (broken n e) GoesOn m h = absurd h
@@ -133,7 +133,7 @@ stood (broken k e) (Leaves n) m h = h.1
 stood (stopped e) (Leaves n) m h = absurd h
 
 -- the final actions that it gives
-pub made_final : (e : Effects) (m : Evaluator) (actions : List Action) → StandsFor e m → actions ≡ with_implicit_keep m.actions m.implicit_keep → actions ≡ final_actions e.actions e.implicit_keep
+pub made_final : (e : Effects) (m : Evaluator) (actions : List Action) → HasEvaluated e m → actions ≡ with_implicit_keep m.actions m.implicit_keep → actions ≡ final_actions e.actions e.implicit_keep
 made_final e m actions stands h = h ∙ ap (λ l. with_implicit_keep l m.implicit_keep) stands.actions ∙ ap (λ k. with_implicit_keep (first_occurrences e.actions) k) stands.implicit_keep
 
 -- ---- the turns of a loop
@@ -159,7 +159,7 @@ first_turn turn number last f lt = ap (λ numbers. turns turn numbers f) (next_n
 
 -- after a turn that goes on, those that are left end as the loop does
 pub turn_on : (turn : ℕ → Effects → Ending) (number last : ℕ) (f : Effects) (flow : Flow) (m : Evaluator) → number < last → StandsAt (turn number f) flow m → flow ≡ GoesOn
-    → (x : Effects) × StandsFor x m × (turns turn (numbers_from (number + 1) (last - (number + 1))) x ≡ turns turn (numbers_from number (last - number)) f)
+    → (x : Effects) × HasEvaluated x m × (turns turn (numbers_from (number + 1) (last - (number + 1))) x ≡ turns turn (numbers_from number (last - number)) f)
 turn_on turn number last f flow m lt h on =
     let next = goes_on (turn number f) flow m on h in
     (next.0, next.1, sym (first_turn turn number last f lt ∙ ap (λ x. after_turn x (λ e. turns turn (numbers_from (number + 1) (last - (number + 1))) e)) next.2))
@@ -179,7 +179,7 @@ turn_stopped turn number last f flow m lt h is =
 abbrev pub left_flow : ℕ → Flow
 left_flow loops = if nat_lt 1 loops then Leaves (loops - 1) else GoesOn
 
-left_on : (loops : ℕ) (e : Effects) (m : Evaluator) → StandsFor e m → StandsAt (left loops e) (left_flow loops) m
+left_on : (loops : ℕ) (e : Effects) (m : Evaluator) → HasEvaluated e m → StandsAt (left loops e) (left_flow loops) m
 left_on loops e m h = elim (cases_Bool (nat_lt 1 loops)) [
   | inl more ↦ rw more (refl, h)
   | inr last ↦ rw last h

@@ -9,7 +9,7 @@ use Rattle.sieve_meaning.specs.Values.{found_in}
 use Rattle.sieve_meaning.specs.Meaning.{Effects, Verdict, Ending, normal, stopped, broken}
 
 -- the evaluator stands for these effects
-pub record StandsFor (effects : Effects) (evaluator : Evaluator) : Type 0 where
+pub record HasEvaluated (effects : Effects) (evaluator : Evaluator) : Type 0 where
   pub actions : evaluator.actions ≡ first_occurrences effects.actions
   pub implicit_keep : evaluator.implicit_keep ≡ effects.implicit_keep
   pub captures : captures_of evaluator.captures ≡ effects.captures
@@ -17,11 +17,11 @@ pub record StandsFor (effects : Effects) (evaluator : Evaluator) : Type 0 where
 
 -- the evaluator gives this verdict
 abbrev pub Gives : Verdict → Bool → Evaluator → Type 0
-Gives verdict value evaluator = (verdict.value ≡ value) × StandsFor verdict.effects evaluator
+Gives verdict value evaluator = (verdict.value ≡ value) × HasEvaluated verdict.effects evaluator
 
 -- the evaluator stands for this ending
 abbrev pub StandsAt : Ending → Flow → Evaluator → Type 0
-StandsAt (normal effects) GoesOn evaluator = StandsFor effects evaluator
-StandsAt (stopped effects) Stopped evaluator = StandsFor effects evaluator
-StandsAt (broken loops effects) (Leaves left) evaluator = (left ≡ loops) × StandsFor effects evaluator
+StandsAt (normal effects) GoesOn evaluator = HasEvaluated effects evaluator
+StandsAt (stopped effects) Stopped evaluator = HasEvaluated effects evaluator
+StandsAt (broken loops effects) (Leaves left) evaluator = (left ≡ loops) × HasEvaluated effects evaluator
 StandsAt _ _ evaluator = ⊥

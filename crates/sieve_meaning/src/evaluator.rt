@@ -48,12 +48,12 @@ impl<'s, 'm> Evaluator<'s, 'm> {
     ghost use Rattle.octets.specs.Limits.{max_value};
     ghost use Rattle.bytecode_format.specs.Modifiers.{modified};
     ghost use Rattle.sieve_meaning.specs.Meaning.{Effects, no_effects, command_does, commands_do, current, expanded, stored, turns, with_taken, with_value};
-    ghost use Rattle.sieve_meaning.specs.Evaluation.{StandsFor, StandsAt};
+    ghost use Rattle.sieve_meaning.specs.Evaluation.{HasEvaluated, StandsAt};
     ghost use Rattle.mime_decode.specs.Scope.{visited};
 
     /// Before the first command.
     pub fn new(alloc: Global) -> Evaluator<'s, 'm>
-        ensures { StandsFor no_effects result }
+        ensures { HasEvaluated no_effects result }
     {
         Evaluator {
             actions: ActionList::new(alloc),
@@ -65,8 +65,8 @@ impl<'s, 'm> Evaluator<'s, 'm> {
 
     // Lists an action, and takes the implicit keep away.
     fn list(&mut self, action: Action) -> Result<(), AllocError>
-        ensures { (e : Effects) → StandsFor e self.old
-            → OnOk result (StandsFor (record
+        ensures { (e : Effects) → HasEvaluated e self.old
+            → OnOk result (HasEvaluated (record
             e { actions = e.actions ++ action ∷ []; implicit_keep = false }) self.new) }
     {
         self.actions.push(action)?;
@@ -82,8 +82,8 @@ impl<'s, 'm> Evaluator<'s, 'm> {
         name: &'s [u8],
         value: &[Segment],
     ) -> Result<(), AllocError>
-        ensures { (e : Effects) → StandsFor e self.old
-            → OnOk result (StandsFor (record
+        ensures { (e : Effects) → HasEvaluated e self.old
+            → OnOk result (HasEvaluated (record
             e {
               variables = with_value name.now
                   (take max_value (modified modifiers (expanded e value.now))) e.variables;
@@ -104,8 +104,8 @@ impl<'s, 'm> Evaluator<'s, 'm> {
         most: u16,
         name: &'s [u8],
     ) -> Result<(), AllocError>
-        ensures { (e : Effects) → StandsFor e self.old
-            → OnOk result (StandsFor (record
+        ensures { (e : Effects) → HasEvaluated e self.old
+            → OnOk result (HasEvaluated (record
             e {
               variables = with_taken most name.now
                   (current subject.entry.message.now subject.entry.part) e.variables;
@@ -124,8 +124,8 @@ impl<'s, 'm> Evaluator<'s, 'm> {
 
     // Lists that the part is stored in the folder; nothing, where there is no part.
     fn store(&mut self, part: Option<usize>, folder: Octets) -> Result<(), AllocError>
-        ensures { (e : Effects) → StandsFor e self.old
-            → OnOk result (StandsFor (record e { actions = e.actions ++ stored part folder })
+        ensures { (e : Effects) → HasEvaluated e self.old
+            → OnOk result (HasEvaluated (record e { actions = e.actions ++ stored part folder })
             self.new) }
     {
         if let Some(part) = part {
@@ -143,7 +143,7 @@ impl<'s, 'm> Evaluator<'s, 'm> {
         subject: Subject<'_, 'm>,
     ) -> Result<Flow, AllocError>
         requires { AreBoundedCommands (commands_form block.now) }
-        ensures { (e : Effects) → StandsFor e self.old
+        ensures { (e : Effects) → HasEvaluated e self.old
             → IfOk result (λ flow. StandsAt
             (turns (λ number f. commands_do subject.entry.message.now (Some number)
             (commands_form block.now) f)
@@ -169,7 +169,7 @@ impl<'s, 'm> Evaluator<'s, 'm> {
         subject: Subject<'_, 'm>,
     ) -> Result<Flow, AllocError>
         requires { IsBoundedCommand (command_form command.now) }
-        ensures { (e : Effects) → StandsFor e self.old
+        ensures { (e : Effects) → HasEvaluated e self.old
             → IfOk result (λ flow. StandsAt
             (command_does subject.entry.message.now subject.entry.part
             (command_form command.now) e) flow self.new) }
@@ -217,7 +217,7 @@ impl<'s, 'm> Evaluator<'s, 'm> {
         subject: Subject<'_, 'm>,
     ) -> Result<Flow, AllocError>
         requires { AreBoundedCommands (commands_form commands.now) }
-        ensures { (e : Effects) → StandsFor e self.old
+        ensures { (e : Effects) → HasEvaluated e self.old
             → IfOk result (λ flow. StandsAt
             (commands_do subject.entry.message.now subject.entry.part
             (commands_form commands.now) e) flow self.new) }

@@ -23,12 +23,12 @@ impl<'s, 'm> Evaluator<'s, 'm> {
     ghost use Rattle.std.specs.Prelude.{IfOk};
     ghost use Rattle.sieve_check.specs.TypedView.{templates_of};
     ghost use Rattle.sieve_meaning.specs.Meaning.{Effects, all_expanded, expanded, value_of};
-    ghost use Rattle.sieve_meaning.specs.Evaluation.{StandsFor};
+    ghost use Rattle.sieve_meaning.specs.Evaluation.{HasEvaluated};
 
     // Appends what stands for a segment, up to the limit of an expanded string.
     fn append_segment(&self, segment: &Segment, text: &mut Vec<u8>) -> Result<(), AllocError>
         requires { length text.old.items ≤ max_string }
-        ensures text { (e : Effects) → StandsFor e self.now
+        ensures text { (e : Effects) → HasEvaluated e self.now
             → OnOk result (text.new.items
             ≡ take max_string (text.old.items ++ value_of e segment.now)) }
         ensures room { OnOk result (length text.new.items ≤ max_string) }
@@ -47,7 +47,7 @@ impl<'s, 'm> Evaluator<'s, 'm> {
     ///
     /// An error comes only where memory was refused.
     pub fn expanded(&self, alloc: Global, string: &[Segment]) -> Result<Octets, AllocError>
-        ensures text { (e : Effects) → StandsFor e self.now
+        ensures text { (e : Effects) → HasEvaluated e self.now
             → IfOk result (λ text. text ≡ expanded e string.now) }
         ensures short { IfOk result (λ text. length text ≤ max_string) }
     {
@@ -67,7 +67,7 @@ impl<'s, 'm> Evaluator<'s, 'm> {
         strings: &[Vec<Segment>],
     ) -> Result<Vec<Octets>, AllocError>
         requires { length strings.now ≤ max_stack }
-        ensures expanded { (e : Effects) → StandsFor e self.now
+        ensures expanded { (e : Effects) → HasEvaluated e self.now
             → IfOk result (λ texts. texts.items ≡ all_expanded e (templates_of strings.now)) }
         ensures texts { IfOk result (λ texts. AreTexts texts.items) }
     {

@@ -14,7 +14,7 @@ impl<'s, 'm> Evaluator<'s, 'm> {
     ghost use Rattle.sieve_check.specs.Bounded.{IsBoundedList};
     ghost use Rattle.sieve_check.specs.TypedView.{templates_of};
     ghost use Rattle.sieve_meaning.specs.Meaning.{Effects, all_expanded, current, is_size, matched, of_part, verdict};
-    ghost use Rattle.sieve_meaning.specs.Evaluation.{Gives, StandsFor};
+    ghost use Rattle.sieve_meaning.specs.Evaluation.{Gives, HasEvaluated};
 
     /// Whether the part's content is over or under the number of octets.
     ///
@@ -26,7 +26,7 @@ impl<'s, 'm> Evaluator<'s, 'm> {
         order: Order,
         number: u64,
     ) -> Result<bool, AllocError>
-        ensures { (e : Effects) → StandsFor e self.now
+        ensures { (e : Effects) → HasEvaluated e self.now
             → IfOk result (λ value. Gives
             (of_part (λ p. verdict (is_size order number (length p.content)) e) e
             (current subject.entry.message.now subject.entry.part)) value self.now) }
@@ -48,7 +48,7 @@ impl<'s, 'm> Evaluator<'s, 'm> {
         keys: &[Vec<Segment>],
     ) -> Result<bool, AllocError>
         requires { IsBoundedList (templates_of keys.now) }
-        ensures { (e : Effects) → StandsFor e self.old
+        ensures { (e : Effects) → HasEvaluated e self.old
             → IfOk result (λ value. Gives
             (of_part (λ p. matched (body_match how p (all_expanded e (templates_of keys.now))
             e.captures) e) e (current subject.entry.message.now subject.entry.part))
@@ -72,7 +72,7 @@ impl<'s, 'm> Evaluator<'s, 'm> {
         keys: &[Vec<Segment>],
     ) -> Result<bool, AllocError>
         requires { IsBoundedList (templates_of keys.now) }
-        ensures { (e : Effects) → StandsFor e self.old
+        ensures { (e : Effects) → HasEvaluated e self.old
             → IfOk result (λ value. Gives
             (of_part (λ p. matched (digest_match p (all_expanded e (templates_of keys.now))
             e.captures) e) e (current subject.entry.message.now subject.entry.part))

@@ -19,7 +19,7 @@ impl<'s, 'm> Evaluator<'s, 'm> {
     ghost use Rattle.sieve_check.specs.Bounded.{AreBoundedLists, IsBoundedTest, AreBoundedTests};
     ghost use Rattle.sieve_check.specs.TypedView.{templates_of, test_form, tests_of};
     ghost use Rattle.sieve_meaning.specs.Meaning.{Effects, all_do, all_expanded, any_do, matched, test_does};
-    ghost use Rattle.sieve_meaning.specs.Evaluation.{Gives, StandsFor};
+    ghost use Rattle.sieve_meaning.specs.Evaluation.{Gives, HasEvaluated};
 
     /// Whether the test is true of the message.
     ///
@@ -32,7 +32,7 @@ impl<'s, 'm> Evaluator<'s, 'm> {
         subject: Subject<'_, 'm>,
     ) -> Result<bool, AllocError>
         requires { IsBoundedTest (test_form test.now) }
-        ensures { (e : Effects) → StandsFor e self.old
+        ensures { (e : Effects) → HasEvaluated e self.old
             → IfOk result (λ value. Gives
             (test_does subject.entry.message.now subject.entry.part (test_form test.now) e)
             value self.new) }
@@ -95,7 +95,7 @@ impl<'s, 'm> Evaluator<'s, 'm> {
         subject: Subject<'_, 'm>,
     ) -> Result<bool, AllocError>
         requires { AreBoundedTests (tests_of (map test_form list.now)) }
-        ensures { (e : Effects) → StandsFor e self.old
+        ensures { (e : Effects) → HasEvaluated e self.old
             → IfOk result (λ value. Gives
             (all_do subject.entry.message.now subject.entry.part
             (tests_of (map test_form list.now)) e) value self.new) }
@@ -117,7 +117,7 @@ impl<'s, 'm> Evaluator<'s, 'm> {
         subject: Subject<'_, 'm>,
     ) -> Result<bool, AllocError>
         requires { AreBoundedTests (tests_of (map test_form list.now)) }
-        ensures { (e : Effects) → StandsFor e self.old
+        ensures { (e : Effects) → HasEvaluated e self.old
             → IfOk result (λ value. Gives
             (any_do subject.entry.message.now subject.entry.part
             (tests_of (map test_form list.now)) e) value self.new) }
@@ -143,7 +143,7 @@ impl<'s, 'm> Evaluator<'s, 'm> {
         requires lists { AreBoundedLists (templates_of names.now) (templates_of keys.now) }
         requires params { length params.now ≤ max_test_strings }
         requires current { test.reach.current ≡ subject.part }
-        ensures { (e : Effects) → StandsFor e self.old
+        ensures { (e : Effects) → HasEvaluated e self.old
             → IfOk result (λ value. Gives
             (matched (header_match test.how (scope_of test.reach.scope) subject.entry.part
             (selector_of test.selector (all_expanded e (templates_of params.now)))
@@ -167,7 +167,7 @@ impl<'s, 'm> Evaluator<'s, 'm> {
         keys: &[Vec<Segment>],
     ) -> Result<bool, AllocError>
         requires { AreBoundedLists (templates_of sources.now) (templates_of keys.now) }
-        ensures { (e : Effects) → StandsFor e self.old
+        ensures { (e : Effects) → HasEvaluated e self.old
             → IfOk result (λ value. Gives
             (matched (first_match how (all_expanded e (templates_of sources.now))
             (all_expanded e (templates_of keys.now)) e.captures) e) value self.new) }
@@ -180,7 +180,7 @@ impl<'s, 'm> Evaluator<'s, 'm> {
 
     /// Keeps the captures that a test has set, and says whether it has matched.
     pub fn settle(&mut self, outcome: Outcome<'m>) -> bool
-        ensures { (e : Effects) → StandsFor e self.old
+        ensures { (e : Effects) → HasEvaluated e self.old
             → Gives (matched (after outcome.entry e.captures) e) result self.new }
     {
         match outcome {

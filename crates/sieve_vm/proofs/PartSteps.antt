@@ -31,7 +31,7 @@ use Rattle.sieve_vm.specs.Stack.{OnTop, texts_on_top, length_on_top}
 use Rattle.sieve_vm.specs.Visits.{part_in}
 use Rattle.sieve_vm.specs.Charge.{cost_with_part, octets_taken, charge_of}
 use Rattle.sieve_vm.specs.Machine.{Effect, on, fails, push, with_texts, with_number, with_meant, tested, test_body, with_part, set_content, with_text, store, store_part, compares, effect}
-use Rattle.sieve_vm.specs.Standing.{once, StandsFor, IsIn, HasHad}
+use Rattle.sieve_vm.specs.Standing.{once, Represents, IsIn, HasHad}
 use Rattle.mail_matching.specs.FirstMatch.{first_match}
 use Rattle.sieve_vm.proofs.Taking.{names_there, folder_there}
 use Rattle.sieve_vm.proofs.Pushed.{texts_are}
@@ -93,7 +93,7 @@ module _ (code : Code) (mail : Mail) (is : IsAccepted code) (known : IsMail mail
       keys_top takes = let a = after code mail is known m s at i here o e in names_there i.c there.entries a.0 s.stack (sym (takes there.entries) ∙ a.1) there.describes
 
       pub keys_some : ((es : Entries) → left_by code (Some o) i es ≡ option_and_then (λ (keys : Texts). with_entry Truth keys.rest) (take_texts i.c es)) → IsProgram code
-          → (w : Mail) × ((t : State) × ((top : OnTop) × (StandsFor w t m × (texts_on_top i.c t.stack ≡ Some top) × AreTexts top.texts)))
+          → (w : Mail) × ((t : State) × ((top : OnTop) × (Represents w t m × (texts_on_top i.c t.stack ≡ Some top) × AreTexts top.texts)))
       keys_some takes fits = let n = keys_top takes in (mail, (s, (n.0, (at.stands, n.1, texts_are i.c s.stack n.0 (few code mail is known m s at i here fits) (short code mail is known m s at i here fits) n.1))))
 
       -- a test of the current part with keys
@@ -101,9 +101,9 @@ module _ (code : Code) (mail : Mail) (is : IsAccepted code) (known : IsMail mail
           → effect code mail o i s ≡ with_part (λ number part t. with_texts (λ keys u. tested u (first_match how (value part ∷ []) keys u.captures)) t (texts_on_top i.c t.stack)) mail s s.frames
           → charge_of code mail o i s ≡ 1 + option_map_or (cost_with_part cost mail (current_part s.frames)) (texts_on_top i.c s.stack) 0
           → (done : Done) (m' : Machine)
-          → ((t : State) (top : OnTop) (part : Part) → StandsFor mail t m → texts_on_top i.c t.stack ≡ Some top → part_in m.loops ≡ Some part
+          → ((t : State) (top : OnTop) (part : Part) → Represents mail t m → texts_on_top i.c t.stack ≡ Some top → part_in m.loops ≡ Some part
           → (done ≡ charged_at (cost part top.texts))
-          × StandsFor mail (record t { stack = truth (is_some (first_match how (value part ∷ []) top.texts t.captures)) ∷ top.below; captures = unwrap_or (first_match how (value part ∷ []) top.texts t.captures) t.captures }) m')
+          × Represents mail (record t { stack = truth (is_some (first_match how (value part ∷ []) top.texts t.captures)) ∷ top.below; captures = unwrap_or (first_match how (value part ∷ []) top.texts t.captures) t.captures }) m')
           → HasHad mail (effect code mail o i s) (charge_of code mail o i s) done m'
       had_keys takes how value cost does charges done m' tests =
           let n = keys_top takes in
@@ -117,7 +117,7 @@ module _ (code : Code) (mail : Mail) (is : IsAccepted code) (known : IsMail mail
           rw (same, price) (had_tested code mail is known m s at i here (record s { stack = n.0.below }) found (cost p n.0.texts) done m' fits now.0 now.1)
 
     pub had_part_size : (e : operation_of i.op ≡ Some PartSize) (number : ℕ) (done : Done) (m' : Machine) → number ≡ get_or code.numbers i.c 0
-        → ((t : State) (part : Part) → StandsFor mail t m → part_in m.loops ≡ Some part → (done ≡ once On) × StandsFor mail (record t { stack = truth (compares i number (length part.content)) ∷ t.stack }) m')
+        → ((t : State) (part : Part) → Represents mail t m → part_in m.loops ≡ Some part → (done ≡ once On) × Represents mail (record t { stack = truth (compares i number (length part.content)) ∷ t.stack }) m')
         → HasHad mail (effect code mail PartSize i s) 1 done m'
     had_part_size e number done m' right tests =
         let p = part_here PartSize e refl in
@@ -132,9 +132,9 @@ module _ (code : Code) (mail : Mail) (is : IsAccepted code) (known : IsMail mail
     body_match_some e = rw (meant_by (match_numbered i.a) (part_body_known code is s.place i here_is e).0).1 refl
 
     pub had_part_body : (e : operation_of i.op ≡ Some PartBody) (how : Match) → match_numbered i.a ≡ Some how → (done : Done) (m' : Machine)
-        → ((t : State) (top : OnTop) (part : Part) → StandsFor mail t m → texts_on_top i.c t.stack ≡ Some top → part_in m.loops ≡ Some part
+        → ((t : State) (top : OnTop) (part : Part) → Represents mail t m → texts_on_top i.c t.stack ≡ Some top → part_in m.loops ≡ Some part
         → (done ≡ charged_at (body_cost part top.texts))
-        × StandsFor mail (record t { stack = truth (is_some (body_match how part top.texts t.captures)) ∷ top.below; captures = unwrap_or (body_match how part top.texts t.captures) t.captures }) m')
+        × Represents mail (record t { stack = truth (is_some (body_match how part top.texts t.captures)) ∷ top.below; captures = unwrap_or (body_match how part top.texts t.captures) t.captures }) m')
         → HasHad mail (effect code mail PartBody i s) (charge_of code mail PartBody i s) done m'
     had_part_body e how says done m' tests =
         had_keys PartBody e refl (λ es. refl) how (λ part. part.content) body_cost
@@ -142,9 +142,9 @@ module _ (code : Code) (mail : Mail) (is : IsAccepted code) (known : IsMail mail
         refl done m' tests
 
     pub had_part_digest : (e : operation_of i.op ≡ Some PartDigest) (done : Done) (m' : Machine)
-        → ((t : State) (top : OnTop) (part : Part) → StandsFor mail t m → texts_on_top i.c t.stack ≡ Some top → part_in m.loops ≡ Some part
+        → ((t : State) (top : OnTop) (part : Part) → Represents mail t m → texts_on_top i.c t.stack ≡ Some top → part_in m.loops ≡ Some part
         → (done ≡ charged_at (digest_cost part top.texts))
-        × StandsFor mail (record t { stack = truth (is_some (digest_match part top.texts t.captures)) ∷ top.below; captures = unwrap_or (digest_match part top.texts t.captures) t.captures }) m')
+        × Represents mail (record t { stack = truth (is_some (digest_match part top.texts t.captures)) ∷ top.below; captures = unwrap_or (digest_match part top.texts t.captures) t.captures }) m')
         → HasHad mail (effect code mail PartDigest i s) (charge_of code mail PartDigest i s) done m'
     had_part_digest e done m' tests = had_keys PartDigest e refl (λ es. refl) exactly (λ part. digest_of part.content) digest_cost refl refl done m' tests
 
@@ -155,8 +155,8 @@ module _ (code : Code) (mail : Mail) (is : IsAccepted code) (known : IsMail mail
     store_some e = let f = store_top e in (mail, (s, (f.0, (f.1.0, (at.stands, f.1.1)))))
 
     pub had_store : operation_of i.op ≡ Some Store → (done : Done) (m' : Machine)
-        → ((t : State) (folder : List ℕ) (rest : List Value) (part : ℕ) → StandsFor mail t m → t.stack ≡ text folder ∷ rest → current_part t.frames ≡ Some part
-        → (done ≡ charged_at (length folder)) × StandsFor mail (record t { stack = rest; actions = t.actions ++ action.Store folder part ∷ [] }) m')
+        → ((t : State) (folder : List ℕ) (rest : List Value) (part : ℕ) → Represents mail t m → t.stack ≡ text folder ∷ rest → current_part t.frames ≡ Some part
+        → (done ≡ charged_at (length folder)) × Represents mail (record t { stack = rest; actions = t.actions ++ action.Store folder part ∷ [] }) m')
         → HasHad mail (effect code mail Store i s) (charge_of code mail Store i s) done m'
     had_store e done m' stores =
         let f = store_top e in
@@ -169,12 +169,12 @@ module _ (code : Code) (mail : Mail) (is : IsAccepted code) (known : IsMail mail
     taken_within : operation_of i.op ≡ Some Take → i.c < length s.variables
     taken_within e = omega (arith, take_variable_known code is s.place i here_is e, there.texts.number)
 
-    pub take_some : operation_of i.op ≡ Some Take → (w : Mail) × ((t : State) × (StandsFor w t m × (i.c < length t.variables)))
+    pub take_some : operation_of i.op ≡ Some Take → (w : Mail) × ((t : State) × (Represents w t m × (i.c < length t.variables)))
     take_some e = (mail, (s, (at.stands, taken_within e)))
 
     pub had_take : operation_of i.op ≡ Some Take → (done : Done) (m' : Machine)
-        → ((t : State) (part : Part) → StandsFor mail t m → part_in m.loops ≡ Some part
-        → (done ≡ charged_at (min i.b (length part.content))) × StandsFor mail (record t { variables = slice_set t.variables i.c (take i.b part.content) }) m')
+        → ((t : State) (part : Part) → Represents mail t m → part_in m.loops ≡ Some part
+        → (done ≡ charged_at (min i.b (length part.content))) × Represents mail (record t { variables = slice_set t.variables i.c (take i.b part.content) }) m')
         → HasHad mail (effect code mail Take i s) (charge_of code mail Take i s) done m'
     had_take e done m' takes =
         let p = part_here Take e (take_needs_part code is s.place i here_is e) in

@@ -31,7 +31,7 @@ use Rattle.sieve_vm.specs.State.{Value, truth, text, State, current_part}
 use Rattle.sieve_vm.specs.Stack.{OnTop, texts_on_top, Lists, lists_on_top}
 use Rattle.sieve_vm.specs.Charge.{cost_of_names, cost_of_matching, cost_of_comparing, octets_on_top, charge_of}
 use Rattle.sieve_vm.specs.Machine.{fails, push, branch, with_truth, with_texts, with_lists, with_number, with_string, with_meant, join, test_names, tested, test_values, test_sources, found_in, is_sound_jump, compares, effect}
-use Rattle.sieve_vm.specs.Standing.{once, StandsFor, IsIn, HasHad}
+use Rattle.sieve_vm.specs.Standing.{once, Represents, IsIn, HasHad}
 use Rattle.mail_matching.specs.FirstMatch.{first_match}
 use Rattle.std.specs.List.{concat}
 use Rattle.octets.specs.Limits.{max_string, max_value}
@@ -61,7 +61,7 @@ module _ (code : Code) (mail : Mail) (is : IsAccepted code) (known : IsMail mail
 
     -- the top entry is a truth value of a state that the machine stands for
     abbrev HasTop : Type 0
-    HasTop = (w : Mail) × ((t : State) × ((b : Bool) × ((rest : List Value) × (StandsFor w t m × (t.stack ≡ truth b ∷ rest)))))
+    HasTop = (w : Mail) × ((t : State) × ((b : Bool) × ((rest : List Value) × (Represents w t m × (t.stack ≡ truth b ∷ rest)))))
 
     top_there : (es : Entries) × TopTruth s.stack es → HasTop
     top_there top = (mail, (s, (top.1.value, (top.1.rest, (at.stands, top.1.is)))))
@@ -77,7 +77,7 @@ module _ (code : Code) (mail : Mail) (is : IsAccepted code) (known : IsMail mail
 
     -- what pushing does to the machine
     abbrev Pushes : Value → Done → Machine → Machine → Type 0
-    Pushes value done before after = (done ≡ once On) × ((t : State) → StandsFor mail t before → StandsFor mail (record t { stack = value ∷ t.stack }) after)
+    Pushes value done before after = (done ≡ once On) × ((t : State) → Represents mail t before → Represents mail (record t { stack = value ∷ t.stack }) after)
 
     had_push : (value : Value) (done : Done) (m' : Machine) → Leads code mail s (push value s) → Pushes value done m m' → HasHad mail (push value s) 1 done m'
     had_push value done m' fits pushes = rw (pushed code mail s value s fits, pushes.0) (pushes.1 s at.stands, refl)
@@ -99,7 +99,7 @@ module _ (code : Code) (mail : Mail) (is : IsAccepted code) (known : IsMail mail
 
     -- a text that the variables or the captures hold, pushed
     abbrev PushesHere : Value → Done → Machine → Type 0
-    PushesHere value done after = (done ≡ once On) × StandsFor mail (record s { stack = value ∷ s.stack }) after
+    PushesHere value done after = (done ≡ once On) × Represents mail (record s { stack = value ∷ s.stack }) after
 
     had_push_here : (value : Value) (done : Done) (m' : Machine) → Leads code mail s (push value s) → PushesHere value done m' → HasHad mail (push value s) 1 done m'
     had_push_here value done m' fits pushes = rw (pushed code mail s value s fits, pushes.0) (pushes.1, refl)
@@ -117,17 +117,17 @@ module _ (code : Code) (mail : Mail) (is : IsAccepted code) (known : IsMail mail
 
     -- what taking a truth value does to the machine
     abbrev Takes : Bool → Machine → Type 0
-    Takes value after = (t : State) (b : Bool) (rest : List Value) → StandsFor mail t m → t.stack ≡ truth b ∷ rest → (value ≡ b) × StandsFor mail (record t { stack = rest }) after
+    Takes value after = (t : State) (b : Bool) (rest : List Value) → Represents mail t m → t.stack ≡ truth b ∷ rest → (value ≡ b) × Represents mail (record t { stack = rest }) after
 
     pub had_not : operation_of i.op ≡ Some Not → (value : Bool) (taken : Machine) (done : Done) (m' : Machine) → Takes value taken → Pushes (truth (not value)) done taken m' → HasHad mail (effect code mail Not i s) 1 done m'
     had_not e value taken done m' takes pushes =
         let top = (not_top e).1 in
         let took = takes s top.value top.rest at.stands top.is in
-        let stands : StandsFor mail (record s { stack = truth (not top.value) ∷ top.rest }) m' = rw (← took.0) (pushes.1 (record s { stack = top.rest }) took.1) in
+        let stands : Represents mail (record s { stack = truth (not top.value) ∷ top.rest }) m' = rw (← took.0) (pushes.1 (record s { stack = top.rest }) took.1) in
         rw (top.is, pushes.0) (stands, refl)
 
     pub had_branch : (o : Operation) (wanted : Bool) → operation_of i.op ≡ Some o → is_jump (row_in_version code.version o) ≡ true → left_by code (Some o) i there.entries ≡ without_truth there.entries → (done : Done) (m' : Machine)
-        → ((t : State) (b : Bool) (rest : List Value) → StandsFor mail t m → t.stack ≡ truth b ∷ rest → HasHad mail (branch i.c wanted b (record t { stack = rest })) 1 done m')
+        → ((t : State) (b : Bool) (rest : List Value) → Represents mail t m → t.stack ≡ truth b ∷ rest → HasHad mail (branch i.c wanted b (record t { stack = rest })) 1 done m')
         → HasHad mail (cond (is_sound_jump code s i) (with_truth (branch i.c wanted) s s.stack) fails) 1 done m'
     had_branch o wanted e jump takes done m' had =
         let top = (branch_top code mail is known m s at i here o e takes).1 in
@@ -143,7 +143,7 @@ module _ (code : Code) (mail : Mail) (is : IsAccepted code) (known : IsMail mail
 
     -- the top entry is a text of a state that the machine stands for
     abbrev pub HasFolder : Type 0
-    HasFolder = (w : Mail) × ((t : State) × ((folder : List ℕ) × ((rest : List Value) × (StandsFor w t m × (t.stack ≡ text folder ∷ rest)))))
+    HasFolder = (w : Mail) × ((t : State) × ((folder : List ℕ) × ((rest : List Value) × (Represents w t m × (t.stack ≡ text folder ∷ rest)))))
 
     folder_top : operation_of i.op ≡ Some File → (folder : List ℕ) × ((rest : List Value) × (s.stack ≡ text folder ∷ rest))
     folder_top e = let a = after code mail is known m s at i here File e in folder_there there.entries a.0 s.stack a.1 there.describes
@@ -152,8 +152,8 @@ module _ (code : Code) (mail : Mail) (is : IsAccepted code) (known : IsMail mail
     folder_some e = let f = folder_top e in (mail, (s, (f.0, (f.1.0, (at.stands, f.1.1)))))
 
     pub had_file : operation_of i.op ≡ Some File → (done : Done) (m' : Machine)
-        → ((t : State) (folder : List ℕ) (rest : List Value) → StandsFor mail t m → t.stack ≡ text folder ∷ rest
-        → (done ≡ charged_at (length folder)) × StandsFor mail (record t { stack = rest; actions = t.actions ++ action.File folder ∷ []; implicit_keep = false }) m')
+        → ((t : State) (folder : List ℕ) (rest : List Value) → Represents mail t m → t.stack ≡ text folder ∷ rest
+        → (done ≡ charged_at (length folder)) × Represents mail (record t { stack = rest; actions = t.actions ++ action.File folder ∷ []; implicit_keep = false }) m')
         → HasHad mail (effect code mail File i s) (charge_of code mail File i s) done m'
     had_file e done m' files =
         let f = folder_top e in
@@ -162,7 +162,7 @@ module _ (code : Code) (mail : Mail) (is : IsAccepted code) (known : IsMail mail
 
     -- the text on top is for a variable that is there
     abbrev HasValue : Type 0
-    HasValue = (w : Mail) × ((t : State) × ((value : List ℕ) × ((rest : List Value) × (StandsFor w t m × (t.stack ≡ text value ∷ rest) × (i.c < length t.variables)))))
+    HasValue = (w : Mail) × ((t : State) × ((value : List ℕ) × ((rest : List Value) × (Represents w t m × (t.stack ≡ text value ∷ rest) × (i.c < length t.variables)))))
 
     value_top : operation_of i.op ≡ Some Set → (value : List ℕ) × ((rest : List Value) × (s.stack ≡ text value ∷ rest))
     value_top e = let a = after code mail is known m s at i here Set e in folder_there there.entries a.0 s.stack a.1 there.describes
@@ -180,8 +180,8 @@ module _ (code : Code) (mail : Mail) (is : IsAccepted code) (known : IsMail mail
     modifiers_some e = rw (modifiers_there e).1 refl
 
     pub had_set : operation_of i.op ≡ Some Set → (done : Done) (m' : Machine)
-        → ((t : State) (value : List ℕ) (rest : List Value) (modifiers : Modifiers) → StandsFor mail t m → t.stack ≡ text value ∷ rest → modifiers_numbered i.a ≡ Some modifiers
-        → (done ≡ charged_at (length value)) × StandsFor mail (record t { stack = rest; variables = slice_set t.variables i.c (take max_value (modified modifiers value)) }) m')
+        → ((t : State) (value : List ℕ) (rest : List Value) (modifiers : Modifiers) → Represents mail t m → t.stack ≡ text value ∷ rest → modifiers_numbered i.a ≡ Some modifiers
+        → (done ≡ charged_at (length value)) × Represents mail (record t { stack = rest; variables = slice_set t.variables i.c (take max_value (modified modifiers value)) }) m')
         → HasHad mail (effect code mail Set i s) (charge_of code mail Set i s) done m'
     had_set e done m' sets =
         let v = value_top e in
@@ -193,12 +193,12 @@ module _ (code : Code) (mail : Mail) (is : IsAccepted code) (known : IsMail mail
     parts_top : operation_of i.op ≡ Some Join → (top : OnTop) × (texts_on_top i.b s.stack ≡ Some top)
     parts_top e = let a = after code mail is known m s at i here Join e in parts_there i.b there.entries a.0 s.stack a.1 there.describes
 
-    pub parts_some : IsProgram code → operation_of i.op ≡ Some Join → (w : Mail) × ((t : State) × ((top : OnTop) × (StandsFor w t m × (texts_on_top i.b t.stack ≡ Some top) × AreTexts top.texts)))
+    pub parts_some : IsProgram code → operation_of i.op ≡ Some Join → (w : Mail) × ((t : State) × ((top : OnTop) × (Represents w t m × (texts_on_top i.b t.stack ≡ Some top) × AreTexts top.texts)))
     parts_some fits e = let n = parts_top e in (mail, (s, (n.0, (at.stands, n.1, texts_are i.b s.stack n.0 (few fits) (short fits) n.1))))
 
     pub had_join : operation_of i.op ≡ Some Join → (done : Done) (m' : Machine)
-        → ((t : State) (top : OnTop) → StandsFor mail t m → texts_on_top i.b t.stack ≡ Some top
-        → (done ≡ charged_at (octets_on_top top)) × StandsFor mail (record t { stack = text (take max_string (concat top.texts)) ∷ top.below }) m')
+        → ((t : State) (top : OnTop) → Represents mail t m → texts_on_top i.b t.stack ≡ Some top
+        → (done ≡ charged_at (octets_on_top top)) × Represents mail (record t { stack = text (take max_string (concat top.texts)) ∷ top.below }) m')
         → HasHad mail (effect code mail Join i s) (charge_of code mail Join i s) done m'
     had_join e done m' joins =
         let n = parts_top e in
@@ -208,7 +208,7 @@ module _ (code : Code) (mail : Mail) (is : IsAccepted code) (known : IsMail mail
 
     -- names are on top of a state that the machine stands for
     abbrev HasNames : Type 0
-    HasNames = (w : Mail) × ((t : State) × ((top : OnTop) × (StandsFor w t m × (texts_on_top i.b t.stack ≡ Some top) × AreTexts top.texts)))
+    HasNames = (w : Mail) × ((t : State) × ((top : OnTop) × (Represents w t m × (texts_on_top i.b t.stack ≡ Some top) × AreTexts top.texts)))
 
     names_top : operation_of i.op ≡ Some Exists → (top : OnTop) × (texts_on_top i.b s.stack ≡ Some top)
     names_top e = let a = after code mail is known m s at i here Exists e in names_there i.b there.entries a.0 s.stack a.1 there.describes
@@ -220,8 +220,8 @@ module _ (code : Code) (mail : Mail) (is : IsAccepted code) (known : IsMail mail
     scope_some e = rw (exists_known code is s.place i here_is e).1.0 refl
 
     pub had_exists : operation_of i.op ≡ Some Exists → (scope : Scope) → scope_numbered i.a ≡ Some scope → (done : Done) (m' : Machine)
-        → ((t : State) (top : OnTop) → StandsFor mail t m → texts_on_top i.b t.stack ≡ Some top
-        → (done ≡ charged_at (cost_of_names scope (current_part t.frames) mail top)) × StandsFor mail (record t { stack = truth (exists_in (scope_of scope) (current_part t.frames) top.texts mail) ∷ top.below }) m')
+        → ((t : State) (top : OnTop) → Represents mail t m → texts_on_top i.b t.stack ≡ Some top
+        → (done ≡ charged_at (cost_of_names scope (current_part t.frames) mail top)) × Represents mail (record t { stack = truth (exists_in (scope_of scope) (current_part t.frames) top.texts mail) ∷ top.below }) m')
         → HasHad mail (effect code mail Exists i s) (charge_of code mail Exists i s) done m'
     had_exists e scope says done m' tests =
         let n = names_top e in
@@ -232,7 +232,7 @@ module _ (code : Code) (mail : Mail) (is : IsAccepted code) (known : IsMail mail
 
     -- names, parameters and keys are on top of a state that the machine stands for
     abbrev HasLists : Type 0
-    HasLists = (w : Mail) × ((t : State) × ((top : Lists) × (StandsFor w t m × (lists_on_top i.b (params_in i.c) (keys_in i.c) t.stack ≡ Some top) × AreTexts top.names × AreTexts top.params × AreTexts top.keys)))
+    HasLists = (w : Mail) × ((t : State) × ((top : Lists) × (Represents w t m × (lists_on_top i.b (params_in i.c) (keys_in i.c) t.stack ≡ Some top) × AreTexts top.names × AreTexts top.params × AreTexts top.keys)))
 
     lists_top : operation_of i.op ≡ Some Header → (top : Lists) × (lists_on_top i.b (params_in i.c) (keys_in i.c) s.stack ≡ Some top)
     lists_top e = let a = after code mail is known m s at i here Header e in lists_there i.b (params_in i.c) (keys_in i.c) there.entries a.0 s.stack a.1 there.describes
@@ -244,7 +244,7 @@ module _ (code : Code) (mail : Mail) (is : IsAccepted code) (known : IsMail mail
         (mail, (s, (l.0, (at.stands, l.1, are.names, are.params, are.keys))))
 
     pub had_tested : (t : State) (found : Option (List (List ℕ))) (cost : ℕ) (done : Done) (m' : Machine) → Leads code mail s (tested t found) → done ≡ charged_at cost
-        → StandsFor mail (record t { stack = truth (is_some found) ∷ t.stack; captures = unwrap_or found t.captures }) m' → HasHad mail (tested t found) (1 + cost) done m'
+        → Represents mail (record t { stack = truth (is_some found) ∷ t.stack; captures = unwrap_or found t.captures }) m' → HasHad mail (tested t found) (1 + cost) done m'
     had_tested t None cost done m' fits e stands = rw (pushed code mail s (truth false) t fits, e) (stands, refl)
     had_tested t (Some captures) cost done m' fits e stands = rw (pushed code mail s (truth true) (record t { captures = captures }) fits, e) (stands, refl)
 
@@ -252,8 +252,8 @@ module _ (code : Code) (mail : Mail) (is : IsAccepted code) (known : IsMail mail
     field_test_some e = let fields = header_known code is s.place i here_is e in rw fields.says refl
 
     pub had_header : operation_of i.op ≡ Some Header → (test : FieldTest) → field_test_numbered i.a ≡ Some test → (done : Done) (m' : Machine)
-        → ((t : State) (top : Lists) → StandsFor mail t m → lists_on_top i.b (params_in i.c) (keys_in i.c) t.stack ≡ Some top
-        → (done ≡ charged_at (cost_of_matching test (current_part t.frames) mail top)) × StandsFor mail (record t { stack = truth (is_some (found_in mail test top t)) ∷ top.below; captures = unwrap_or (found_in mail test top t) t.captures }) m')
+        → ((t : State) (top : Lists) → Represents mail t m → lists_on_top i.b (params_in i.c) (keys_in i.c) t.stack ≡ Some top
+        → (done ≡ charged_at (cost_of_matching test (current_part t.frames) mail top)) × Represents mail (record t { stack = truth (is_some (found_in mail test top t)) ∷ top.below; captures = unwrap_or (found_in mail test top t) t.captures }) m')
         → HasHad mail (effect code mail Header i s) (charge_of code mail Header i s) done m'
     had_header e test says done m' tests =
         let l = lists_top e in
@@ -266,7 +266,7 @@ module _ (code : Code) (mail : Mail) (is : IsAccepted code) (known : IsMail mail
     sources_top : operation_of i.op ≡ Some String → (top : Lists) × (lists_on_top i.b 0 i.c s.stack ≡ Some top)
     sources_top e = let a = after code mail is known m s at i here String e in lists_there i.b 0 i.c there.entries a.0 s.stack a.1 there.describes
 
-    pub sources_some : IsProgram code → operation_of i.op ≡ Some String → (w : Mail) × ((t : State) × ((top : Lists) × (StandsFor w t m × (lists_on_top i.b 0 i.c t.stack ≡ Some top) × AreTexts top.names × AreTexts top.keys)))
+    pub sources_some : IsProgram code → operation_of i.op ≡ Some String → (w : Mail) × ((t : State) × ((top : Lists) × (Represents w t m × (lists_on_top i.b 0 i.c t.stack ≡ Some top) × AreTexts top.names × AreTexts top.keys)))
     sources_some fits e =
         let l = sources_top e in
         let are = lists_are i.b 0 i.c s.stack l.0 (few fits) (short fits) l.1 in
@@ -280,8 +280,8 @@ module _ (code : Code) (mail : Mail) (is : IsAccepted code) (known : IsMail mail
     sources_match_some e = rw (meant_by (match_numbered i.a) (sources_known code is s.place i here_is e)).1 refl
 
     pub had_string : operation_of i.op ≡ Some String → (how : Match) → match_numbered i.a ≡ Some how → (done : Done) (m' : Machine)
-        → ((t : State) (top : Lists) → StandsFor mail t m → lists_on_top i.b 0 i.c t.stack ≡ Some top
-        → (done ≡ charged_at (cost_of_comparing top)) × StandsFor mail (record t { stack = truth (is_some (matched_by how top t)) ∷ top.below; captures = unwrap_or (matched_by how top t) t.captures }) m')
+        → ((t : State) (top : Lists) → Represents mail t m → lists_on_top i.b 0 i.c t.stack ≡ Some top
+        → (done ≡ charged_at (cost_of_comparing top)) × Represents mail (record t { stack = truth (is_some (matched_by how top t)) ∷ top.below; captures = unwrap_or (matched_by how top t) t.captures }) m')
         → HasHad mail (effect code mail String i s) (charge_of code mail String i s) done m'
     had_string e how says done m' tests =
         let l = sources_top e in

@@ -24,7 +24,7 @@ use Rattle.sieve_vm.specs.State.{Value, State, goes, ends, traps, start}
 use Rattle.sieve_vm.specs.Visits.{Visits}
 use Rattle.sieve_vm.specs.Charge.{charge_of}
 use Rattle.sieve_vm.specs.Machine.{Effect, on, jumps, halts, fails, push, is_sound_jump, effect, turn, turn_of, turn_at, step}
-use Rattle.sieve_vm.specs.Standing.{held_of, StandsFor, IsIn, IsRunning, GoesFrom, StepsOn, IsOver}
+use Rattle.sieve_vm.specs.Standing.{held_of, Represents, IsIn, IsRunning, GoesFrom, StepsOn, IsOver}
 use Rattle.sieve_vm.specs.Ending.{IsOutcome}
 use Rattle.sieve_vm.proofs.Taking.{Describes}
 use Rattle.sieve_vm.proofs.Reached.{IsReached, IsSound, Costs, Leads, TopTruth, top_truth, without_truth-some}
@@ -98,19 +98,19 @@ module _ (code : Code) (mail : Mail) (is : IsAccepted code) (known : IsMail mail
           ([], top_truth [] s.stack (subst (λ (x : Entries). Describes x s.stack) w.0 there.describes))
 
 -- what the machine stands for when it has had an effect
-on_of : (mail : Mail) (e : Effect) (m : Machine) → GoesFrom mail e On m → (s : State) × ((e ≡ on s) × StandsFor mail s m)
+on_of : (mail : Mail) (e : Effect) (m : Machine) → GoesFrom mail e On m → (s : State) × ((e ≡ on s) × Represents mail s m)
 on_of mail (on s) m h = (s, (refl, h))
 on_of mail (jumps target s) m h = absurd h
 on_of mail (halts s) m h = absurd h
 on_of mail fails m h = absurd h
 
-to_of : (mail : Mail) (e : Effect) (place : ℕ) (m : Machine) → GoesFrom mail e (To place) m → (s : State) × ((e ≡ jumps place s) × StandsFor mail s m)
+to_of : (mail : Mail) (e : Effect) (place : ℕ) (m : Machine) → GoesFrom mail e (To place) m → (s : State) × ((e ≡ jumps place s) × Represents mail s m)
 to_of mail (on s) place m h = absurd h
 to_of mail (jumps target s) place m h = (s, (ap (λ t. jumps t s) (sym h.0), h.1))
 to_of mail (halts s) place m h = absurd h
 to_of mail fails place m h = absurd h
 
-ends_of : (mail : Mail) (e : Effect) (m : Machine) → GoesFrom mail e Ends m → (s : State) × ((e ≡ halts s) × StandsFor mail s m)
+ends_of : (mail : Mail) (e : Effect) (m : Machine) → GoesFrom mail e Ends m → (s : State) × ((e ≡ halts s) × Represents mail s m)
 ends_of mail (on s) m h = absurd h
 ends_of mail (jumps target s) m h = absurd h
 ends_of mail (halts s) m h = (s, (refl, h))
@@ -121,7 +121,7 @@ module _ (code : Code) (mail : Mail) (is : IsAccepted code) (known : IsMail mail
   sound_turn : IsSound code mail s (turn cost e)
   sound_turn = subst (IsSound code mail s) stepped (step_is_sound code mail is known s (reached code mail is known at.steps s at.run))
 
-  continues : (to : State) (after : Machine) → step code mail s ≡ goes to → Costs code mail s to.charge → StandsFor mail to after → StepsOn code mail m after
+  continues : (to : State) (after : Machine) → step code mail s ≡ goes to → Costs code mail s to.charge → Represents mail to after → StepsOn code mail m after
   continues to after one costs stands =
       let dearer = costs.dearer in
       record {

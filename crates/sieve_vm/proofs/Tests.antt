@@ -12,10 +12,10 @@ use Rattle.sieve_vm.specs.Machine.{next_part}
 use Rattle.sieve_vm.specs.Visits.{Visits, Continues, HasSameLoops}
 use Rattle.sieve_vm.specs.State.{Value, truth, Frame, State}
 use Rattle.sieve_vm.specs.Stack.{OnTop, texts_on_top, Lists, lists_on_top}
-use Rattle.sieve_vm.specs.Standing.{Held, held_of, held_by, StandsFor, GoesFrom}
+use Rattle.sieve_vm.specs.Standing.{Held, held_of, held_by, Represents, GoesFrom}
 use Rattle.sieve_vm.proofs.Steps.{charged_at}
 
-module _ (mail : Mail) (s : State) (m : Machine) (stands : StandsFor mail s m) where
+module _ (mail : Mail) (s : State) (m : Machine) (stands : Represents mail s m) where
   -- the stack is that of the state
   pub stack_is : (held_of m.work).stack ≡ s.stack
   stack_is = ap (λ (h : Held). h.stack) stands.work
@@ -28,7 +28,7 @@ module _ (mail : Mail) (s : State) (m : Machine) (stands : StandsFor mail s m) w
 
   -- what the workspace holds has changed, and nothing else
   pub holds_now : (work : Workspace) (change : Held → Held) → held_of work ≡ change (held_of m.work)
-      → StandsFor mail (record s { stack = (change (held_by s)).stack; variables = (change (held_by s)).variables; captures = (change (held_by s)).captures }) (record m { work = work })
+      → Represents mail (record s { stack = (change (held_by s)).stack; variables = (change (held_by s)).variables; captures = (change (held_by s)).captures }) (record m { work = work })
   holds_now work change now =
       record {
         place = stands.place;
@@ -41,7 +41,7 @@ module _ (mail : Mail) (s : State) (m : Machine) (stands : StandsFor mail s m) w
       }
 
   -- the open loops are as they were
-  pub same_loops : (loops : Visits) → HasSameLoops m.loops loops → StandsFor mail s (record m { loops = loops })
+  pub same_loops : (loops : Visits) → HasSameLoops m.loops loops → Represents mail s (record m { loops = loops })
   same_loops loops same =
       record {
         place = stands.place;
@@ -54,7 +54,7 @@ module _ (mail : Mail) (s : State) (m : Machine) (stands : StandsFor mail s m) w
       }
 
   -- the open loops have changed
-  pub loops_now : (loops : Visits) (frames : List Frame) (held : List Bool) → loops ≡ record m.loops { frames = frames; held = held } → StandsFor mail (record s { frames = frames }) (record m { loops = loops })
+  pub loops_now : (loops : Visits) (frames : List Frame) (held : List Bool) → loops ≡ record m.loops { frames = frames; held = held } → Represents mail (record s { frames = frames }) (record m { loops = loops })
   loops_now loops frames held now =
       record {
         place = stands.place;
@@ -86,11 +86,11 @@ module _ (mail : Mail) (s : State) (m : Machine) (stands : StandsFor mail s m) w
   -- what a test has set is kept, and whether it has matched is pushed
   pub settled : (below : List Value) (work : Workspace) (outcome : Outcome) (cost total : ℕ) (found : Option (List (List ℕ))) (done : Done) (m' : Machine)
       → held_of work ≡ record (held_of m.work) { stack = below } → after outcome s.captures ≡ found → cost ≡ total
-      → (done ≡ charged_at cost) × ((w : Mail) (t : State) → StandsFor w t (record m { work = work }) → StandsFor w (record t { stack = truth (is_some (after outcome t.captures)) ∷ t.stack; captures = unwrap_or (after outcome t.captures) t.captures }) m')
-      → (done ≡ charged_at total) × StandsFor mail (After below found) m'
+      → (done ≡ charged_at cost) × ((w : Mail) (t : State) → Represents w t (record m { work = work }) → Represents w (record t { stack = truth (is_some (after outcome t.captures)) ∷ t.stack; captures = unwrap_or (after outcome t.captures) t.captures }) m')
+      → (done ≡ charged_at total) × Represents mail (After below found) m'
   settled below work outcome cost total found done m' dropped right spent settles = (
     settles.0 ∙ ap charged_at spent,
-    subst (λ o. StandsFor mail (After below o) m') right (settles.1 mail (record s { stack = below }) (holds_now work (λ (h : Held). record h { stack = below }) dropped)),
+    subst (λ o. Represents mail (After below o) m') right (settles.1 mail (record s { stack = below }) (holds_now work (λ (h : Held). record h { stack = below }) dropped)),
   )
 
 -- the place that it answers is that of its Each

@@ -58,7 +58,7 @@ abbrev pub once : Flow → Done
 once flow = record { flow = flow; cost = 0 }
 
 -- the machine stands for the state of a run on the message
-pub record StandsFor (mail : Mail) (state : State) (machine : Machine) : Type 0 where
+pub record Represents (mail : Mail) (state : State) (machine : Machine) : Type 0 where
   pub place : machine.place ≡ state.place
   pub work : held_of machine.work ≡ held_by state
   pub mail_is : machine.loops.mail ≡ mail
@@ -80,7 +80,7 @@ pub record IsNewMachine (machine : Machine) : Type 0 where
 pub record IsIn (code : Code) (mail : Mail) (state : State) (machine : Machine) : Type 0 where
   pub steps : ℕ
   pub run : Run code mail steps (start code) state
-  pub stands : StandsFor mail state machine
+  pub stands : Represents mail state machine
 
 -- the machine stands for a state of the program's run
 abbrev pub IsRunning : Code → Mail → Machine → Type 0
@@ -88,9 +88,9 @@ IsRunning code mail machine = (state : State) × IsIn code mail state machine
 
 -- the machine has had the effect, but for its place and charge, and answers where the run goes
 abbrev pub GoesFrom : Mail → Effect → Flow → Machine → Type 0
-GoesFrom mail (on state) On machine = StandsFor mail state machine
-GoesFrom mail (jumps target state) (To place) machine = (place ≡ target) × StandsFor mail state machine
-GoesFrom mail (halts state) Ends machine = StandsFor mail state machine
+GoesFrom mail (on state) On machine = Represents mail state machine
+GoesFrom mail (jumps target state) (To place) machine = (place ≡ target) × Represents mail state machine
+GoesFrom mail (halts state) Ends machine = Represents mail state machine
 GoesFrom mail _ _ machine = ⊥
 
 -- the same, and it answers what that is charged beyond one
@@ -106,4 +106,4 @@ pub record StepsOn (code : Code) (mail : Mail) (before after : Machine) : Type 0
 pub record IsOver (code : Code) (mail : Mail) (machine : Machine) : Type 0 where
   pub end : State
   pub over : RunEnds code mail end
-  pub stands : StandsFor mail end machine
+  pub stands : Represents mail end machine

@@ -14,14 +14,12 @@ use crate::joining::{as_many, first};
 use crate::known::{keep, known, octets_known};
 use crate::shared_text::copied;
 use arrayvec::ArrayVec;
+use bytecode_format::MAX_LOOPS;
 use mime_decode::{Message, digest_of};
 use octets::Octets;
 use std::alloc::{AllocError, Global};
 use std::borrow::CowSlice;
 use std::marker::Model;
-
-/// The most open loops.
-const MAX_LOOPS: usize = 3;
 
 /// The open loops of a run on a message, which of them hold the content of their current part, and what is known of the parts' contents.
 /// A contract sees all of that.

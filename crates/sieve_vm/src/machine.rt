@@ -66,7 +66,7 @@ impl<'p, 's, 'm> Machine<'p, 's, 'm> {
     ghost use Rattle.sieve_vm.specs.Stack.{OnTop, Lists, texts_on_top};
     ghost use Rattle.sieve_vm.specs.Charge.{octets_on_top, charge_of};
     ghost use Rattle.sieve_vm.specs.Machine.{branch, effect, jumps, next_part, open_loop};
-    ghost use Rattle.sieve_vm.specs.Standing.{IsNewMachine, StandsFor, IsIn, IsRunning, HasHad, StepsOn, IsOver};
+    ghost use Rattle.sieve_vm.specs.Standing.{IsNewMachine, Represents, IsIn, IsRunning, HasHad, StepsOn, IsOver};
 
     /// Goes before the first instruction of the program.
     ///
@@ -180,8 +180,8 @@ impl<'p, 's, 'm> Machine<'p, 's, 'm> {
     #[inline(always)]
     pub fn push(&mut self, value: bool) -> Result<Done, AllocError>
         ensures done { IfOk result (λ done. (done ≡ once Flow.On)
-            × ((mail : Mail) (s : State) → StandsFor mail s self.old
-            → StandsFor mail (record s { stack = truth value ∷ s.stack }) self.new)) }
+            × ((mail : Mail) (s : State) → Represents mail s self.old
+            → Represents mail (record s { stack = truth value ∷ s.stack }) self.new)) }
         ensures loops { self.new.loops ≡ self.old.loops }
     {
         self.work.push(Entry::Truth(value))?;
@@ -192,8 +192,8 @@ impl<'p, 's, 'm> Machine<'p, 's, 'm> {
     #[inline(always)]
     fn push_text(&mut self, octets: &'p [u8]) -> Result<Done, AllocError>
         ensures { IfOk result (λ done. (done ≡ once Flow.On)
-            × ((mail : Mail) (s : State) → StandsFor mail s self.old
-            → StandsFor mail (record s { stack = text octets.now ∷ s.stack }) self.new)) }
+            × ((mail : Mail) (s : State) → Represents mail s self.old
+            → Represents mail (record s { stack = text octets.now ∷ s.stack }) self.new)) }
     {
         self.work.push(Entry::Text(SharedText::Lent(octets)))?;
         Ok(once(Flow::On))
@@ -203,8 +203,8 @@ impl<'p, 's, 'm> Machine<'p, 's, 'm> {
     #[inline(always)]
     fn push_variable(&mut self, number: usize) -> Result<Done, AllocError>
         ensures { IfOk result (λ done. (done ≡ once Flow.On)
-            × ((mail : Mail) (s : State) → StandsFor mail s self.old
-            → StandsFor mail (record
+            × ((mail : Mail) (s : State) → Represents mail s self.old
+            → Represents mail (record
             s { stack = text (slice_index_or s.variables number []) ∷ s.stack })
             self.new)) }
     {
@@ -216,8 +216,8 @@ impl<'p, 's, 'm> Machine<'p, 's, 'm> {
     #[inline(always)]
     fn push_capture(&mut self, alloc: Global, number: u8) -> Result<Done, AllocError>
         ensures { IfOk result (λ done. (done ≡ once Flow.On)
-            × ((mail : Mail) (s : State) → StandsFor mail s self.old
-            → StandsFor mail (record
+            × ((mail : Mail) (s : State) → Represents mail s self.old
+            → Represents mail (record
             s { stack = text (slice_index_or s.captures number []) ∷ s.stack })
             self.new)) }
     {
@@ -230,10 +230,10 @@ impl<'p, 's, 'm> Machine<'p, 's, 'm> {
     fn take(&mut self) -> bool
         requires { (mail : Mail) × ((s : State)
             × ((b : Bool) × ((rest : List Value)
-            × (StandsFor mail s self.old × (s.stack ≡ truth b ∷ rest))))) }
+            × (Represents mail s self.old × (s.stack ≡ truth b ∷ rest))))) }
         ensures { (mail : Mail) (s : State) (b : Bool) (rest : List Value)
-            → StandsFor mail s self.old → s.stack ≡ truth b ∷ rest
-            → (result ≡ b) × StandsFor mail (record s { stack = rest }) self.new }
+            → Represents mail s self.old → s.stack ≡ truth b ∷ rest
+            → (result ≡ b) × Represents mail (record s { stack = rest }) self.new }
     {
         self.work.take_truth()
     }
@@ -243,9 +243,9 @@ impl<'p, 's, 'm> Machine<'p, 's, 'm> {
     fn branch(&mut self, target: u32, wanted: bool) -> Done
         requires { (mail : Mail) × ((s : State)
             × ((b : Bool) × ((rest : List Value)
-            × (StandsFor mail s self.old × (s.stack ≡ truth b ∷ rest))))) }
+            × (Represents mail s self.old × (s.stack ≡ truth b ∷ rest))))) }
         ensures { (mail : Mail) (s : State) (b : Bool) (rest : List Value)
-            → StandsFor mail s self.old → s.stack ≡ truth b ∷ rest
+            → Represents mail s self.old → s.stack ≡ truth b ∷ rest
             → HasHad mail (branch target wanted b (record s { stack = rest })) 1 result self.new }
     {
         if self.take() == wanted {
@@ -259,8 +259,8 @@ impl<'p, 's, 'm> Machine<'p, 's, 'm> {
     #[inline(always)]
     fn keep(&mut self) -> Result<Done, AllocError>
         ensures { IfOk result (λ done. (done ≡ once Flow.On)
-            × ((mail : Mail) (s : State) → StandsFor mail s self.old
-            → StandsFor mail (record
+            × ((mail : Mail) (s : State) → Represents mail s self.old
+            → Represents mail (record
             s { actions = s.actions ++ Action.Keep ∷ []; implicit_keep = false })
             self.new)) }
     {
@@ -272,11 +272,11 @@ impl<'p, 's, 'm> Machine<'p, 's, 'm> {
     fn file(&mut self, alloc: Global) -> Result<Done, AllocError>
         requires { (mail : Mail) × ((s : State)
             × ((t : List ℕ) × ((rest : List Value)
-            × (StandsFor mail s self.old × (s.stack ≡ text t ∷ rest))))) }
+            × (Represents mail s self.old × (s.stack ≡ text t ∷ rest))))) }
         ensures { IfOk result (λ done. (mail : Mail) (s : State) (t : List ℕ) (rest : List Value)
-            → StandsFor mail s self.old → s.stack ≡ text t ∷ rest
+            → Represents mail s self.old → s.stack ≡ text t ∷ rest
             → (done ≡ record { flow = Flow.On; cost = length t })
-            × StandsFor mail (record s {
+            × Represents mail (record s {
               stack = rest;
               actions = s.actions ++ Action.File t
                   ∷ [];
@@ -293,8 +293,8 @@ impl<'p, 's, 'm> Machine<'p, 's, 'm> {
     // Lists an action.
     #[inline(always)]
     fn list(&mut self, action: Action) -> Result<(), AllocError>
-        ensures { OnOk result ((mail : Mail) (s : State) → StandsFor mail s self.old
-            → StandsFor mail (record s { actions = s.actions ++ action ∷ [] }) self.new) }
+        ensures { OnOk result ((mail : Mail) (s : State) → Represents mail s self.old
+            → Represents mail (record s { actions = s.actions ++ action ∷ [] }) self.new) }
     {
         Ok(self.actions.push(action)?)
     }
@@ -303,8 +303,8 @@ impl<'p, 's, 'm> Machine<'p, 's, 'm> {
     #[inline(always)]
     fn discard(&mut self) -> Done
         ensures flow { result ≡ once Flow.On }
-        ensures stands { (mail : Mail) (s : State) → StandsFor mail s self.old
-            → StandsFor mail (record s { implicit_keep = false }) self.new }
+        ensures stands { (mail : Mail) (s : State) → Represents mail s self.old
+            → Represents mail (record s { implicit_keep = false }) self.new }
     {
         self.implicit_keep = false;
         once(Flow::On)
@@ -315,13 +315,13 @@ impl<'p, 's, 'm> Machine<'p, 's, 'm> {
         requires part { IsSome (current_part self.old.loops.frames) }
         requires top { (mail : Mail)
             × ((s : State) × ((t : List ℕ)
-            × ((rest : List Value) × (StandsFor mail s self.old
+            × ((rest : List Value) × (Represents mail s self.old
             × (s.stack ≡ text t ∷ rest))))) }
         ensures { IfOk result (λ done. (mail : Mail) (s : State) (t : List ℕ) (rest : List Value)
-            (part : ℕ) → StandsFor mail s self.old → s.stack ≡ text t ∷ rest
+            (part : ℕ) → Represents mail s self.old → s.stack ≡ text t ∷ rest
             → current_part s.frames ≡ Some part
             → (done ≡ record { flow = Flow.On; cost = length t })
-            × StandsFor mail (record s {
+            × Represents mail (record s {
               stack = rest;
               actions = s.actions
                   ++ Action.Store t part ∷ [];
@@ -342,7 +342,7 @@ impl<'p, 's, 'm> Machine<'p, 's, 'm> {
         requires room { length self.old.loops.frames < max_loops }
         requires current { IfSome (current_part self.old.loops.frames)
             (λ part. part < length self.old.loops.mail.parts) }
-        ensures { (mail : Mail) (s : State) → StandsFor mail s self.old
+        ensures { (mail : Mail) (s : State) → Represents mail s self.old
             → HasHad mail (open_loop next (visited (current_part s.frames) mail) s) 1 result
             self.new }
     {
@@ -359,7 +359,7 @@ impl<'p, 's, 'm> Machine<'p, 's, 'm> {
         requires { (frame : Frame) × ((frames : List Frame)
             × ((self.old.loops.frames ≡ frame ∷ frames) × (frame.each < max_instructions))) }
         ensures { (mail : Mail) (s : State) (frame : Frame) (frames : List Frame)
-            → StandsFor mail s self.old → s.frames ≡ frame ∷ frames
+            → Represents mail s self.old → s.frames ≡ frame ∷ frames
             → HasHad mail (next_part frame frames frame.rest s) 1 result self.new }
     {
         match self.loops.next_part() {
@@ -375,7 +375,7 @@ impl<'p, 's, 'm> Machine<'p, 's, 'm> {
             × ((frames : List Frame) × ((drop (number - 1) self.old.loops.frames ≡ frame ∷ frames)
             × (frame.next < max_instructions))) }
         ensures { (mail : Mail) (s : State) (frame : Frame) (frames : List Frame)
-            → StandsFor mail s self.old → drop (number - 1) s.frames ≡ frame ∷ frames
+            → Represents mail s self.old → drop (number - 1) s.frames ≡ frame ∷ frames
             → HasHad mail (jumps (suc frame.next) (record s { frames = frames })) 1 result
             self.new }
     {
@@ -386,12 +386,12 @@ impl<'p, 's, 'm> Machine<'p, 's, 'm> {
     // Joins so many texts on top of the stack.
     fn join(&mut self, alloc: Global, number: usize) -> Result<Done, AllocError>
         requires { (mail : Mail) × ((s : State)
-            × ((top : OnTop) × (StandsFor mail s self.old
+            × ((top : OnTop) × (Represents mail s self.old
             × (texts_on_top number s.stack ≡ Some top) × AreTexts top.texts))) }
         ensures { IfOk result (λ done. (mail : Mail) (s : State) (top : OnTop)
-            → StandsFor mail s self.old → texts_on_top number s.stack ≡ Some top
+            → Represents mail s self.old → texts_on_top number s.stack ≡ Some top
             → (done ≡ record { flow = Flow.On; cost = octets_on_top top })
-            × StandsFor mail (record s {
+            × Represents mail (record s {
               stack = text (take max_string (concat top.texts))
                   ∷ top.below;
             }) self.new) }
@@ -408,13 +408,13 @@ impl<'p, 's, 'm> Machine<'p, 's, 'm> {
         requires modifiers { IsSome (modifiers_numbered instruction.now.a) }
         requires top { (mail : Mail)
             × ((s : State) × ((t : List ℕ)
-            × ((rest : List Value) × (StandsFor mail s self.old × (s.stack ≡ text t ∷ rest)
+            × ((rest : List Value) × (Represents mail s self.old × (s.stack ≡ text t ∷ rest)
             × (instruction.now.c < length s.variables))))) }
         ensures { IfOk result (λ done. (mail : Mail) (s : State) (t : List ℕ) (rest : List Value)
-            (modifiers : Modifiers) → StandsFor mail s self.old → s.stack ≡ text t ∷ rest
+            (modifiers : Modifiers) → Represents mail s self.old → s.stack ≡ text t ∷ rest
             → modifiers_numbered instruction.now.a ≡ Some modifiers
             → (done ≡ record { flow = Flow.On; cost = length t })
-            × StandsFor mail (record s {
+            × Represents mail (record s {
               stack = rest;
               variables = slice_set s.variables
                   instruction.now.c (take max_value (modified modifiers t));
@@ -433,16 +433,16 @@ impl<'p, 's, 'm> Machine<'p, 's, 'm> {
         requires part { IsSome (part_in self.old.loops) }
         requires few { instruction.now.b ≤ max_value }
         requires variable { (mail : Mail)
-            × ((s : State) × (StandsFor mail s self.old
+            × ((s : State) × (Represents mail s self.old
             × (instruction.now.c < length s.variables))) }
         ensures { IfOk result (λ done. (mail : Mail) (s : State) (part : Part)
-            → StandsFor mail s self.old → part_in self.old.loops ≡ Some part
+            → Represents mail s self.old → part_in self.old.loops ≡ Some part
             → (done ≡ record {
               flow = Flow.On;
               cost = min instruction.now.b
                   (length part.content);
             })
-            × StandsFor mail (record s {
+            × Represents mail (record s {
               variables = slice_set s.variables instruction.now.c
                   (take instruction.now.b part.content);
             }) self.new) }

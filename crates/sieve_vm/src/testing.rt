@@ -29,7 +29,7 @@ impl<'p, 's, 'm> Machine<'p, 's, 'm> {
     ghost use Rattle.sieve_vm.specs.Stack.{OnTop, Lists, texts_on_top, lists_on_top};
     ghost use Rattle.sieve_vm.specs.Charge.{cost_of_names, cost_of_matching, cost_of_comparing};
     ghost use Rattle.sieve_vm.specs.Machine.{found_in};
-    ghost use Rattle.sieve_vm.specs.Standing.{StandsFor};
+    ghost use Rattle.sieve_vm.specs.Standing.{Represents};
 
     /// Takes names, and pushes whether the parts in scope have a field of each.
     pub fn exists(
@@ -42,16 +42,16 @@ impl<'p, 's, 'm> Machine<'p, 's, 'm> {
             (λ part. part < length message.now.parts) }
         requires top { (mail : Mail)
             × ((s : State) × ((top : OnTop)
-            × (StandsFor mail s self.old
+            × (Represents mail s self.old
             × (texts_on_top instruction.now.b s.stack ≡ Some top)
             × AreTexts top.texts))) }
-        ensures { IfOk result (λ done. (s : State) (top : OnTop) → StandsFor message.now s self.old
+        ensures { IfOk result (λ done. (s : State) (top : OnTop) → Represents message.now s self.old
             → texts_on_top instruction.now.b s.stack ≡ Some top
             → (done ≡ record {
               flow = Flow.On;
               cost = cost_of_names scope (current_part s.frames) message.now top;
             })
-            × StandsFor message.now (record
+            × Represents message.now (record
             s {
               stack = truth (exists_in (scope_of scope)
                   (current_part s.frames) top.texts message.now) ∷ top.below;
@@ -85,18 +85,18 @@ impl<'p, 's, 'm> Machine<'p, 's, 'm> {
             (λ part. part < length message.now.parts) }
         requires top { (mail : Mail)
             × ((s : State) × ((top : Lists)
-            × (StandsFor mail s self.old
+            × (Represents mail s self.old
             × (lists_on_top instruction.now.b (params_in instruction.now.c)
             (keys_in instruction.now.c) s.stack ≡ Some top) × AreTexts top.names
             × AreTexts top.params × AreTexts top.keys))) }
-        ensures { IfOk result (λ done. (s : State) (top : Lists) → StandsFor message.now s self.old
+        ensures { IfOk result (λ done. (s : State) (top : Lists) → Represents message.now s self.old
             → lists_on_top instruction.now.b (params_in instruction.now.c)
             (keys_in instruction.now.c) s.stack ≡ Some top
             → (done ≡ record {
               flow = Flow.On;
               cost = cost_of_matching test (current_part s.frames) message.now top;
             })
-            × StandsFor message.now (record
+            × Represents message.now (record
             s {
               stack = truth (is_some (found_in message.now test top s))
                   ∷ top.below;
@@ -126,14 +126,14 @@ impl<'p, 's, 'm> Machine<'p, 's, 'm> {
         how: Match,
     ) -> Result<Done, AllocError>
         requires { (mail : Mail) × ((s : State)
-            × ((top : Lists) × (StandsFor mail s self.old
+            × ((top : Lists) × (Represents mail s self.old
             × (lists_on_top instruction.now.b 0 instruction.now.c s.stack ≡ Some top)
             × AreTexts top.names × AreTexts top.keys))) }
         ensures { IfOk result (λ done. (mail : Mail) (s : State) (top : Lists)
-            → StandsFor mail s self.old
+            → Represents mail s self.old
             → lists_on_top instruction.now.b 0 instruction.now.c s.stack ≡ Some top
             → (done ≡ record { flow = Flow.On; cost = cost_of_comparing top })
-            × StandsFor mail (record s {
+            × Represents mail (record s {
               stack = truth
                   (is_some (first_match how top.names top.keys s.captures)) ∷ top.below;
               captures = unwrap_or (first_match how top.names top.keys s.captures)
@@ -156,8 +156,8 @@ impl<'p, 's, 'm> Machine<'p, 's, 'm> {
     ) -> Result<Done, AllocError>
         requires { IsSome (part_in self.old.loops) }
         ensures { IfOk result (λ done. (mail : Mail) (s : State) (part : Part)
-            → StandsFor mail s self.old → part_in self.old.loops ≡ Some part
-            → (done ≡ once Flow.On) × StandsFor mail
+            → Represents mail s self.old → part_in self.old.loops ≡ Some part
+            → (done ≡ once Flow.On) × Represents mail
             (record s {
               stack = truth (compares instruction.now number (length part.content))
                   ∷ s.stack;
@@ -178,14 +178,14 @@ impl<'p, 's, 'm> Machine<'p, 's, 'm> {
             × ((part_in self.old.loops ≡ Some part) × (length part.content ≤ max_message)) }
         requires top { (mail : Mail)
             × ((s : State) × ((top : OnTop)
-            × (StandsFor mail s self.old
+            × (Represents mail s self.old
             × (texts_on_top instruction.now.c s.stack ≡ Some top)
             × AreTexts top.texts))) }
         ensures done { IfOk result (λ done. (mail : Mail) (s : State) (top : OnTop) (part : Part)
-            → StandsFor mail s self.old → texts_on_top instruction.now.c s.stack ≡ Some top
+            → Represents mail s self.old → texts_on_top instruction.now.c s.stack ≡ Some top
             → part_in self.old.loops ≡ Some part
             → (done ≡ record { flow = Flow.On; cost = body_cost part top.texts })
-            × StandsFor mail (record s {
+            × Represents mail (record s {
               stack = truth
                   (is_some (body_match how part top.texts s.captures)) ∷ top.below;
               captures = unwrap_or (body_match how part top.texts s.captures)
@@ -207,13 +207,13 @@ impl<'p, 's, 'm> Machine<'p, 's, 'm> {
         requires part { IsSome (part_in self.old.loops) }
         requires top { (mail : Mail)
             × ((s : State) × ((top : OnTop)
-            × (StandsFor mail s self.old × (texts_on_top number s.stack ≡ Some top)
+            × (Represents mail s self.old × (texts_on_top number s.stack ≡ Some top)
             × AreTexts top.texts))) }
         ensures { IfOk result (λ done. (mail : Mail) (s : State) (top : OnTop) (part : Part)
-            → StandsFor mail s self.old → texts_on_top number s.stack ≡ Some top
+            → Represents mail s self.old → texts_on_top number s.stack ≡ Some top
             → part_in self.old.loops ≡ Some part
             → (done ≡ record { flow = Flow.On; cost = digest_cost part top.texts })
-            × StandsFor mail (record s {
+            × Represents mail (record s {
               stack = truth
                   (is_some (digest_match part top.texts s.captures))
                   ∷ top.below;
@@ -232,8 +232,8 @@ impl<'p, 's, 'm> Machine<'p, 's, 'm> {
     pub fn settle(&mut self, answer: Answer<'m>) -> Result<Done, AllocError>
         ensures done { IfOk result (λ done.
             (done ≡ record { flow = Flow.On; cost = answer.entry.cost })
-            × ((mail : Mail) (s : State) → StandsFor mail s self.old
-            → StandsFor mail (record
+            × ((mail : Mail) (s : State) → Represents mail s self.old
+            → Represents mail (record
             s {
               stack = truth (is_some (after answer.entry.outcome s.captures))
                   ∷ s.stack;

@@ -18,7 +18,7 @@ take_none : {A : Type 0} (n : ℕ) → take {A = A} n [] ≡ []
 take_none zero = refl
 take_none (suc n) = refl
 
-take_join : {A : Type 0} (n m : ℕ) (xs : List A) → take n xs ++ take m (drop n xs) ≡ take (n + m) xs
+pub take_join : {A : Type 0} (n m : ℕ) (xs : List A) → take n xs ++ take m (drop n xs) ≡ take (n + m) xs
 take_join zero m xs = rw zero-add refl
 take_join (suc n) m [] = rw (take_none m, take_none (suc n + m)) refl
 take_join (suc n) m (x ∷ xs) = let e : suc n + m ≡ suc (n + m) = omega arith in rw (e, take_join n m xs) refl

@@ -3,7 +3,7 @@ use Rattle.mime_decode.specs.Mail.{Part}
 use Rattle.mime_tree.specs.PartTree.{without_params}
 use Rattle.depot_actions.specs.Drafts.{name_of}
 use Rattle.mime_params.specs.MediaValue.{media_text}
-use Rattle.depot_actions.proofs.Keeping.{at_part, tree_number}
+use Rattle.mime_decode.proofs.MailLemmas.{at_part, tree_number}
 use Rattle.depot_actions.proofs.stored_part.StoredPart.read.Goals as goal
 
 pub part_name-requires : goal.part_name-requires

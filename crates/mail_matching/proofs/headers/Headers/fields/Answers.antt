@@ -1,7 +1,8 @@
 use Rattle.std.proofs.Common.{◌≡◌, ◌<◌, ◌+◌, [], refl, subst, ap, arith, length}
 use Rattle.std.specs.Prelude.{slice_index_or}
 use Rattle.mime_decode.specs.Mail.{Part}
-use Rattle.mail_matching.proofs.Scopes.{at_part, header_at, headers_number, tree_number}
+use Rattle.mime_decode.proofs.MailLemmas.{at_part, tree_number}
+use Rattle.mail_matching.proofs.Scopes.{header_at, headers_number}
 use Rattle.mail_matching.proofs.headers.Headers.fields.Goals as goal
 
 pub header-requires : goal.header-requires

@@ -2,7 +2,7 @@ use Rattle.std.proofs.Common.{◌≡◌, ◌∷◌, Bool, subst, ap, ◌∙◌}
 use Rattle.mail_matching.specs.HeaderTests.{exists_in, exists_cost}
 use Rattle.mail_matching.specs.Selection.{scope_of}
 use Rattle.sieve_vm.specs.State.{truth, current_part}
-use Rattle.sieve_vm.specs.Standing.{Held, StandsFor, texts_of}
+use Rattle.sieve_vm.specs.Standing.{Held, Represents, texts_of}
 use Rattle.sieve_vm.proofs.Steps.{charged_at}
 use Rattle.sieve_vm.proofs.Tests.{texts_there, holds_now}
 use Rattle.sieve_vm.proofs.machine.Machine.exists.Goals as goal
@@ -20,5 +20,5 @@ returns c = λ s top stands e.
     c.exists-found.ensures.cost ∙ ap (λ x. exists_cost scope x (texts_of c.texts-names.result) mail) current ∙ ap (λ ts. exists_cost scope (current_part s.frames) ts mail) same in
     let left = holds_now mail s c.args.self.now stands c.drop_texts.new.self (λ (h : Held). record h { stack = top.below }) (c.drop_texts.ensures top there) in (
       ap charged_at spent,
-      subst (λ (b : Bool). StandsFor mail (record s { stack = truth b ∷ top.below }) c.push.new.self) right (c.in_ok-push.ensures.done.1 mail (record s { stack = top.below }) left),
+      subst (λ (b : Bool). Represents mail (record s { stack = truth b ∷ top.below }) c.push.new.self) right (c.in_ok-push.ensures.done.1 mail (record s { stack = top.below }) left),
     )

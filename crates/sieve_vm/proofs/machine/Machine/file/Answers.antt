@@ -1,7 +1,7 @@
 use Rattle.std.proofs.Common.{[], ◌∷◌, ◌++◌, length, ap, subst, ◌∙◌}
 use Rattle.bytecode_format.specs.declared.action.Action.TheVariants as action
 use Rattle.sieve_vm.specs.declared.machine.Done.{Done}
-use Rattle.sieve_vm.specs.Standing.{Held, StandsFor}
+use Rattle.sieve_vm.specs.Standing.{Held, Represents}
 use Rattle.sieve_vm.proofs.Steps.{charged_at}
 use Rattle.sieve_vm.proofs.Tests.{stack_is, holds_now}
 use Rattle.sieve_vm.proofs.machine.Machine.file.Goals as goal
@@ -14,5 +14,5 @@ returns c = λ mail s t rest stands top.
     let charge = c.len-cost.ensures ∙ ap length took.0 in (
       ap (λ (done : Done). let d : Done = record { flow = done.flow; cost = c.len-cost.result } in d) c.discard-flow.ensures.flow ∙ ap charged_at charge,
       c.discard-flow.ensures.stands mail (record s { stack = rest; actions = s.actions ++ action.File t ∷ [] })
-          (subst (λ folder. StandsFor mail (record s { stack = rest; actions = s.actions ++ action.File folder ∷ [] }) c.list.new.self) took.0 (c.in_ok-list.ensures mail (record s { stack = rest }) left)),
+          (subst (λ folder. Represents mail (record s { stack = rest; actions = s.actions ++ action.File folder ∷ [] }) c.list.new.self) took.0 (c.in_ok-list.ensures mail (record s { stack = rest }) left)),
     )
